@@ -14,7 +14,7 @@ use Rattle.sched_model.specs.Plan.{Plan, count, period, offset, worst}
 use Rattle.sched_model.specs.Priority.{stands_before}
 use Rattle.sched_model.specs.States.{StateOf, row_at, no_row, opening, opening_row, after_run, after_finish, key_in, earliest_in}
 use Rattle.sched_model.proofs.Tables.{get-table}
-use Rattle.sched_model.proofs.PriorityLemmas.{before-self, before-not, before-total}
+use Rattle.sched_model.proofs.Orders.{before-self, before-not, before-total}
 use Rattle.ready_queue.specs.declared.entry.Entry.{Entry}
 use Rattle.ready_queue.specs.Orders.{due_before}
 use Rattle.ready_queue.specs.Entries.{QueueOf, IsAbsent, IsOfFirst, placed, ComesFirst}

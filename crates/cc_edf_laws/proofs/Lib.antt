@@ -1,4 +1,3 @@
 pub mod Rows
-pub mod CycleLaws
 pub mod Publishing
-pub mod Counting
+pub mod CycleLaws

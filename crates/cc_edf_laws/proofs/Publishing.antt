@@ -12,11 +12,11 @@ use Rattle.sched_model.specs.CycleDemand.{charged, edf_cycle}
 use Rattle.sched_model.specs.Demand.{demand_by, published}
 use Rattle.sched_model.specs.Schedule.{IsScheduleBy}
 use Rattle.sched_model.specs.States.{row_at, state_of}
-use Rattle.sched_model.proofs.Service.{exec-most}
-use Rattle.sched_model.proofs.Joining.{row_at-state_of}
+use Rattle.sched_model.proofs.Schedules.{exec-most}
+use Rattle.sched_model.proofs.States.{row_at-state_of}
 use Rattle.governor.specs.Schedule.{Publishes, PublishingLaws}
 use Rattle.governor.specs.Serving.{ServesEdf}
-use Rattle.governor.proofs.OneSchedule.{publishing_laws}
+use Rattle.governor.proofs.Course.{publishing_laws}
 use Rattle.cc_edf_laws.specs.Cycle.{charged_of, charged_rate_in, edf_cycle_demand}
 
 -- a complete job is charged its demand, which it has had

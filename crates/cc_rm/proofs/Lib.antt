@@ -1,3 +1,2 @@
-pub mod Walking
 pub mod Handing
 pub mod Counting

@@ -3,7 +3,7 @@ use Rattle.std.proofs.Common.{◌≡◌, ◌⊎◌, inl, inr, ℕ, zero, suc, �
 use Rattle.std.proofs.lemmas.Bool.{cases_lt}
 use Rattle.grid_fraction.specs.Numbers.{sum_below}
 use Rattle.sched_model.specs.Priority.{stands_before, sum_before, allotment}
-use Rattle.sched_model.proofs.GreedyLemmas.{up_to-before}
+use Rattle.sched_model.proofs.Allotments.{up_to-before}
 
 full_of : (c b g u x : ℕ) → 0 < min c (b + g) - min c b → u + x ≤ b → min c (u + x) - min c u ≡ x
 full_of c b g u x pos le = omega arith

@@ -16,20 +16,18 @@ use Rattle.sched_model.specs.StaticDemand.{static_speed, rm_static}
 use Rattle.sched_model.specs.Backlog.{backlog}
 use Rattle.sched_model.specs.Admission.{IsAdmitted}
 use Rattle.sched_model.specs.States.{StateOf, row_at, earliest_in, key_in}
-use Rattle.sched_model.proofs.PriorityLemmas.{before-total}
-use Rattle.sched_model.proofs.Allotments.{allotment_of}
-use Rattle.sched_model.proofs.DownSets.{down-set-gets}
+use Rattle.sched_model.proofs.Orders.{before-total}
+use Rattle.sched_model.proofs.Allotments.{allotment_of, down-set-gets}
 use Rattle.sched_model.proofs.LevelSums.{sum_where-mono, sum_where-plus, sum_where-tight}
 use Rattle.governor.specs.Steps.{wleft_at, release_of, share_in, left_in, IsLegalIn, after_tick, IsBeforeAll, Belongs, IsAtDecision}
-use Rattle.governor.proofs.Rows.{done_none}
-use Rattle.governor.proofs.Belonging.{tick_at, legal_most, earliest-later}
+use Rattle.governor.proofs.Belonging.{done_none, tick_at, legal_most, earliest-later}
 use Rattle.governor.proofs.Ticks.{tick-falls, tick-closes}
 use Rattle.governor.specs.Rm.{level}
 use Rattle.cc_rm_laws.specs.Allotments.{base_of, allotted_units, allotted_in, allotment_left_in, rm_cycle_demand}
 use Rattle.cc_rm_laws.specs.Conditions.{CcRmCalm, CcRmSafe}
 use Rattle.cc_rm_laws.proofs.Allotting.{allotment-full, allotment-none, some-term}
 use Rattle.cc_rm_laws.proofs.Lefts.{left_by, left-part, left-full, left-some, left-idle, left-open}
-use Rattle.cc_rm_laws.proofs.Deadlines.{allotted-most, cc_rm_completes}
+use Rattle.cc_rm_laws.proofs.Deadlines.{allotted-most, cc_rm_completes, cc_rm_opens, cc_rm_releases}
 use Rattle.dvs_base.specs.declared.kind.GovernorKind.TheVariants.{Cycle}
 use Rattle.dvs_base.specs.PlanWords.{IsPair}
 use Rattle.freq_table.specs.Tables.{speed_at, lowest_entry, lowest_pick}
@@ -37,7 +35,6 @@ use Rattle.freq_table.proofs.Chosen.{speeds_rise, below_highest, lowest_within, 
 use Rattle.sched_model.proofs.Limits.{some_task}
 use Rattle.governor.specs.Laws.{GovernorLaws}
 use Rattle.governor.specs.Serving.{ServesRm}
-use Rattle.cc_rm_laws.proofs.Marks.{cc_rm_opens, cc_rm_releases}
 
 -- what is left still fits into the rest of the time, where it is 0 or fell by the speed
 room_falls : (left_in left' f x y : ℕ) → x ≡ y + 1

@@ -2,6 +2,5 @@ pub mod Allotting
 pub mod Lefts
 pub mod Backlog
 pub mod Deadlines
-pub mod Marks
 pub mod CcRmLaws
 pub mod Publishing

@@ -22,13 +22,13 @@ use Rattle.sched_model.specs.States.{StateOf, row_at, row_wleft, state_of, earli
 use Rattle.sched_model.proofs.Limits.{some_period}
 use Rattle.sched_model.proofs.JobLaws.{lt-due, latest-stays, latest-next, release-suc, last_release-le}
 use Rattle.sched_model.proofs.Tables.{get-table}
-use Rattle.sched_model.proofs.Joining.{row_at-state_of}
-use Rattle.sched_model.proofs.Service.{exec-drop}
+use Rattle.sched_model.proofs.States.{row_at-state_of}
+use Rattle.sched_model.proofs.Schedules.{exec-drop}
 use Rattle.sched_model.proofs.Allotments.{allotment-same}
 use Rattle.governor.specs.Steps.{wleft_at}
 use Rattle.governor.specs.Schedule.{Publishes, PublishingLaws}
 use Rattle.governor.specs.Serving.{ServesRm}
-use Rattle.governor.proofs.OneSchedule.{publishing_laws}
+use Rattle.governor.proofs.Course.{publishing_laws}
 use Rattle.cc_rm_laws.specs.Allotments.{base_of, allotted_in, had_since_mark, allotment_left_in, rm_cycle_demand}
 
 -- what a job had after the mark is the fall of what it may need

@@ -1,13 +1,77 @@
--- Reading one record takes the first of the records that are left.
-use Rattle.std.proofs.Common.{◌≡◌, ◌⊎◌, inl, inr, ◌<◌, ◌≤◌, ℕ, zero, suc, ◌+◌, List, [], ◌∷◌, ◌++◌, length, Bool, true, false, Option, Some, None, refl, ap, sym, ◌∙◌, arith, Bor, add-one, subst}
-use Rattle.std.specs.Prelude.{if◌then◌else◌, IsSome}
+-- Reading one record takes the first of the records that are left, whose fields are compared with those of a header.
+use Rattle.std.proofs.lemmas.Bool.Decides.{nat_tests}
+use Rattle.std.proofs.Common.{◌≡◌, ◌≢◌, ◌<◌, ℕ, zero, suc, ◌+◌, List, [], ◌∷◌, length, map, drop, Bool, true, false, not, ◌&&◌, Some, None, refl, sym, ◌∙◌, ap, ap₂, arith, if◌then◌else◌, Bor, add-one, ◌⊎◌, inl, inr, ◌≤◌, ◌++◌, Option}
+use Rattle.std.specs.Prelude.{slice_index_or, IsSome}
+use Rattle.std.specs.Str.{bytes_eq}
+use Rattle.std.proofs.lemmas.Bool.{and_parts}
+use Rattle.std.proofs.lemmas.List.{length-map}
+use Rattle.std.proofs.lemmas.Slice.Eq.{bytes_eq-Decides}
+use Rattle.csv.specs.Records.{field_at}
 use Rattle.csv.specs.Machine.{next_record, step, is_end, fields_after, field_after, ends_at_end, Read}
-use Rattle.csv.specs.Reading.{Reached, records, records_from, records_next, strip_bom, is_bom, default_config, ReadRecord}
+use Rattle.csv.specs.Reading.{Reached, records, records_from, records_next, strip_bom, default_config, ReadRecord}
 use Rattle.csv.specs.declared.parser.Config.{Config}
 use Rattle.csv.specs.declared.parser.State.{State}
-use Rattle.csv.specs.declared.parser.State.TheVariants as st
 use Rattle.csv.proofs.ReadFacts.{rows-end, rows-more}
-use Rattle.csv_text.specs.Rows.{TextReader, IsPlain, records_left, records_in, unread}
+use Rattle.csv_text.specs.Rows.{has_fields, rows_after, TextReader, IsPlain, records_left, records_in, unread}
+use Rattle.csv.specs.declared.parser.State.TheVariants as st
+
+-- a record that has exactly these fields is the list of them
+has_fields-true : (names fields : List (List ℕ)) → has_fields names fields ≡ true → fields ≡ names
+has_fields-true [] [] h = refl
+has_fields-true [] (f ∷ fields) h = absurd cc
+has_fields-true (n ∷ names) [] h = absurd cc
+has_fields-true (n ∷ names) (f ∷ fields) h =
+    let parts = and_parts (bytes_eq f n) (has_fields names fields) h in
+    ap₂ (λ x xs. x ∷ xs) ((bytes_eq-Decides f n).0 parts.0) (has_fields-true names fields parts.1)
+
+-- rows that are found are the records after the header
+pub rows_after-Some : (header : List (List ℕ)) (all rows : List (List (List ℕ))) → rows_after header all ≡ Some rows
+    → all ≡ header ∷ rows
+rows_after-Some header [] rows e = absurd cc
+rows_after-Some header (first ∷ rest) rows e = by (has_fields header first) refl e
+  where
+    by : (b : Bool) → has_fields header first ≡ b → (if b then Some rest else None) ≡ Some rows → first ∷ rest ≡ header ∷ rows
+    by true h e = let same : rest ≡ rows = cc in ap₂ (λ f fs. f ∷ fs) (has_fields-true header first h) same
+    by false h e = absurd cc
+
+abbrev texts : List (Bor (List ℕ)) → List (List ℕ)
+texts names = map (λ n. n.now) names
+
+-- a record of another number of fields is not the header
+pub has_fields-other : (names : List (Bor (List ℕ))) (fields : List (List ℕ)) → length fields ≢ length names
+    → false ≡ has_fields (texts names) fields
+has_fields-other names fields other = by (has_fields (texts names) fields) refl
+  where
+    by : (b : Bool) → has_fields (texts names) fields ≡ b → false ≡ b
+    by true e = absurd (other (ap length (has_fields-true (texts names) fields e) ∙ length-map names (λ n. n.now)))
+    by false e = refl
+
+abbrev from : ℕ → List (Bor (List ℕ)) → List (List ℕ) → Bool
+from k names fields = has_fields (drop k (texts names)) (drop k fields)
+
+one-field : (names : List (Bor (List ℕ))) (d : Bor (List ℕ)) (fields : List (List ℕ)) (k : ℕ) (f : List ℕ)
+    → k < length names → field_at fields k ≡ Some f
+    → from k names fields ≡ (bytes_eq f (slice_index_or names k d).now && from (suc k) names fields)
+unfolding field_at
+one-field [] d fields k f h e = absurd (omega arith)
+one-field (n ∷ names) d [] k f h e = absurd cc
+one-field (n ∷ names) d (x ∷ fields) zero f h e =
+    let same : x ≡ f = cc in ap (λ y. bytes_eq y n.now && has_fields (texts names) fields) same
+one-field (n ∷ names) d (x ∷ fields) (suc k) f h e = one-field names d fields k f (omega arith) e
+
+module _ (names : List (Bor (List ℕ))) (d : Bor (List ℕ)) (fields : List (List ℕ)) (k : ℕ) (f name : List ℕ)
+    (inside : k < length names) (field_is : field_at fields k ≡ Some f) (name_is : name ≡ (slice_index_or names k d).now)
+    (so_far : has_fields (texts names) fields ≡ from k names fields) where
+  by-field : has_fields (texts names) fields ≡ (bytes_eq f name && from (suc k) names fields)
+  by-field = so_far ∙ one-field names d fields k f inside field_is ∙ ap (λ n. bytes_eq f n && from (suc k) names fields) (sym name_is)
+
+  -- where a field differs from the header's, the record is not the header
+  pub field-differs : true ≡ not (bytes_eq f name) → false ≡ has_fields (texts names) fields
+  field-differs e = grind (arith, nat_tests, by-field)
+
+  -- where a field is the header's, the record is the header if the fields after it are
+  pub field-same : false ≡ not (bytes_eq f name) → has_fields (texts names) fields ≡ from (k + 1) names fields
+  field-same e = grind (arith, nat_tests, by-field)
 
 -- reading a record takes a byte, or ends the text
 abbrev Shrinks : List ℕ → Option Read → Type 0
@@ -19,9 +83,7 @@ at_end true f xs = inr (refl, refl)
 at_end false f xs = tt
 
 further : (c : ℕ) (rest : List ℕ) (o : Option Read) → Shrinks rest o → Shrinks (c ∷ rest) o
-further c rest None h = tt
-further c rest (Some p) (inl h) = inl (omega arith)
-further c rest (Some p) (inr h) = inr h
+further c rest o h = grind (arith, nat_tests)
 
 by_end : (b : Bool) (c : ℕ) (rest : List ℕ) (f : List (List ℕ)) (s : State) (o : Option Read) → Shrinks rest o
     → Shrinks (c ∷ rest) (if b then Some (f, s, rest) else o)
@@ -74,14 +136,7 @@ records_from-bound cfg (suc n) (suc m) s xs h k =
 records_in-Some : (s : State) (xs : List ℕ) (p : Read) → next_record default_config s [] [] xs ≡ Some p
     → records_in s (Some xs) ≡ p.0 ∷ records_in p.1 (Some p.2)
 unfolding records_from
-records_in-Some s xs p e =
-    let shrinks : Shrinks xs (Some p) = subst (Shrinks xs) e (next_record-shrinks default_config s [] [] xs) in
-    rw (add-one (length xs), e) (ap (λ t. p.0 ∷ t) (by shrinks))
-  where
-    by : Shrinks xs (Some p)
-        → records_from default_config (length xs) p.1 p.2 ≡ records_from default_config (length p.2 + 1) p.1 p.2
-    by (inl less) = records_from-bound default_config (length xs) (length p.2 + 1) p.1 p.2 less (omega arith)
-    by (inr last) = rw (last.0, last.1) (none_left default_config (length xs) ∙ sym (none_left default_config 1))
+records_in-Some s xs p e = grind (arith, nat_tests, next_record-shrinks, records_from-bound, none_left)
 
 records_in-None : (s : State) (xs : List ℕ) → next_record default_config s [] [] xs ≡ None → records_in s (Some xs) ≡ []
 unfolding records_from
@@ -103,9 +158,7 @@ reader_took a b f (Some y) config e h r =
 
 reader_ended : (a b : TextReader) (f : List (List ℕ)) (known : Option (List ℕ)) → a.config ≡ default_config
     → unread a ≡ known → IsSome known → ReadRecord (λ s. Some s.now) a b false f → records_in a.state known ≡ []
-reader_ended a b f None config e h r = refl
-reader_ended a b f (Some y) config e h r =
-    records_in-None a.state y (rows-end (λ (s : Bor (List ℕ)). Some s.now) a b f default_config y config e r)
+reader_ended a b f known config e h r = grind (arith, nat_tests, records_in-None, rows-end)
 
 -- a record that is read is the first of those that were left
 pub left-read : (a b : TextReader) (f : List (List ℕ)) → IsPlain a → ReadRecord (λ s. Some s.now) a b true f
@@ -130,14 +183,7 @@ records_from-few cfg (suc n) s xs = next_few n cfg (next_record cfg s [] [] xs) 
 
 strip_bom-shorter : (xs : List ℕ) → length (strip_bom xs) ≤ length xs
 unfolding strip_bom
-strip_bom-shorter [] = omega arith
-strip_bom-shorter (a ∷ []) = omega arith
-strip_bom-shorter (a ∷ b ∷ []) = omega arith
-strip_bom-shorter (a ∷ b ∷ c ∷ rest) = by (is_bom a b c)
-  where
-    by : (m : Bool) → length (if m then rest else a ∷ b ∷ c ∷ rest) ≤ length (a ∷ b ∷ c ∷ rest)
-    by true = omega arith
-    by false = omega arith
+strip_bom-shorter xs = grind (arith, nat_tests)
 
 pub records-few : (text : List ℕ) → length (records default_config (strip_bom text)) ≤ length text + 1
 records-few text =

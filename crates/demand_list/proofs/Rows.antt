@@ -1,17 +1,41 @@
--- The rows of a map, found by task and job.
-use Rattle.std.proofs.Common.{◌≡◌, ◌≢◌, ℕ, ◌≤◌, ◌⊎◌, inl, inr, Bool, true, false, List, [], ◌∷◌, Option, Some, None, refl, sym, ◌∙◌, arith, suc, length, ap, Result, Ok, Err, OnErr, not, is_some}
-use Rattle.std.specs.Prelude.{◌&&◌, ◌||◌, ◌==◌, nat_eq, nat_lt, unwrap_or, slice_index, if◌then◌else◌}
+-- The rows of a map, found by task and job: the task of a name, its worst case and its units.
+use Rattle.std.proofs.Common.{◌≡◌, ℕ, ◌<◌, Bool, true, false, List, length, Some, refl, sym, ◌∙◌, arith, ◌≢◌, ◌≤◌, ◌⊎◌, inl, inr, [], ◌∷◌, Option, None, suc, ap, Result, Ok, Err, OnErr, not, is_some, zero, map}
+use Rattle.std.specs.Prelude.{nat_lt, ◌&&◌, ◌||◌, ◌==◌, nat_eq, unwrap_or, slice_index, if◌then◌else◌}
+use Rattle.std.specs.List.{position_or_len, AllByRecursion}
+use Rattle.std.specs.Str.{bytes_eq}
+use Rattle.std.proofs.lemmas.Bool.Decides.{nat_tests, eqb_tells}
+use Rattle.std.proofs.lemmas.List.Sums.{position_or_len_is}
+use Rattle.std.proofs.lemmas.Slice.Eq.{bytes_eq-Decides}
 use Rattle.std.specs.declared.cmp.Ordering.{Ordering}
-use Rattle.std.specs.declared.cmp.Ordering.TheVariants as order
 use Rattle.std.specs.Ordering.{nat_cmp, ordering_then, is_eq, is_lt, match_ordering}
 use Rattle.std.specs.Cmp.{unsigned_tied, tied_then}
-use Rattle.std.specs.List.{AllByRecursion}
 use Rattle.std.specs.BTreeMap.{insert_entry, is_at}
 use Rattle.std.specs.Map.{lookup, keys_of}
 use Rattle.std.proofs.lemmas.Bool.{eqb-true, eq-eqb}
-use Rattle.std.proofs.lemmas.Bool.Decides.{eqb_tells}
+use Rattle.std.proofs.lemmas.List.{length-map}
+use Rattle.task_model.specs.declared.task.Task.{Task}
+use Rattle.task_model.specs.Tasks.{IsTaskSet, task_at, no_task}
+use Rattle.task_model.specs.TaskFile.{place_of}
 use Rattle.task_model.specs.DemandRows.{DemandRow, named}
-use Rattle.demand_list.specs.Demands.{DemandsOf, IsDemands, IsRow, IsWithinWorsts, AddsRow, rows_of, with_row, precedes}
+use Rattle.demand_list.specs.Demands.{DemandsOf, IsDemands, IsRow, IsWithinWorsts, AddsRow, rows_of, with_row, precedes, HasWorstsOf}
+use Rattle.std.specs.declared.cmp.Ordering.TheVariants as order
+
+module _ (tasks : List Task) (i : ℕ) (name : List ℕ) (known : IsTaskSet tasks) (lt : i < length tasks)
+    (here : bytes_eq (task_at tasks i).name name ≡ true) where
+  earlier : (k : ℕ) → k < i → bytes_eq (task_at tasks k).name name ≡ false
+  earlier k less = by (bytes_eq (task_at tasks k).name name) refl
+    where
+      by : (b : Bool) → bytes_eq (task_at tasks k).name name ≡ b → b ≡ false
+      by true e = absurd (known.distinct k i less lt
+          ((bytes_eq-Decides (task_at tasks k).name name).0 e ∙ sym ((bytes_eq-Decides (task_at tasks i).name name).0 here)))
+      by false e = refl
+
+  pub place_of-named : place_of tasks name ≡ Some i
+  place_of-named =
+      let place : position_or_len (λ (t : Task). bytes_eq t.name name) tasks ≡ i =
+      position_or_len_is (λ (t : Task). bytes_eq t.name name) tasks i no_task (omega arith) earlier (λ _. here) in
+      let within : nat_lt i (length tasks) ≡ true = grind (arith, nat_tests) in
+      rw (place, within) refl
 
 -- the order of jobs: by task, and then by job number
 abbrev pub job_cmp : ℕ × ℕ → ℕ × ℕ → Ordering
@@ -157,3 +181,15 @@ named-with_row_other (s ∷ rows) r i k h = by (precedes r s) (named-with_row_ot
 
 pub AddsRow-with_row : (d : DemandsOf) (r : DemandRow) → named d.rows r.task r.job ≡ None → AddsRow d (record { worsts = d.worsts; rows = with_row d.rows r }) r
 AddsRow-with_row d r h = record { worsts = refl; free = h; row = named-with_row d.rows r h; others = named-with_row_other d.rows r }
+
+worst-at : (ts : List Task) (i : ℕ) → i < length ts → slice_index (map (λ (t : Task). t.worst) ts) i ≡ (task_at ts i).worst
+worst-at [] i lt = absurd (omega arith)
+worst-at (t ∷ ts) zero lt = refl
+worst-at (t ∷ ts) (suc i) lt = worst-at ts i (omega arith)
+
+module _ (tasks : List Task) (d : DemandsOf) (list : HasWorstsOf tasks d) where
+  pub worst-listed : (i : ℕ) → i < length tasks → slice_index d.worsts i ≡ (task_at tasks i).worst
+  worst-listed i lt = ap (λ ws. slice_index ws i) list ∙ worst-at tasks i lt
+
+  pub worsts-long : length d.worsts ≡ length tasks
+  worsts-long = ap length list ∙ length-map tasks (λ (t : Task). t.worst)

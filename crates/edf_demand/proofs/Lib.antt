@@ -1,8 +1,4 @@
-pub mod Limits
-pub mod GivenDeadlines
 pub mod Calendars
-pub mod Taking
-pub mod NextDeadline
 pub mod Walking
 pub mod Answering
 pub mod Examples

@@ -19,7 +19,7 @@ use Rattle.edf_demand_laws.proofs.Counting.{jobs_due-above, jobs_due-below, jobs
 use Rattle.edf_demand_laws.proofs.AllSpans.{absolute-suc, none-demand}
 use Rattle.edf_demand.specs.Walk.{next_deadline, Moved}
 use Rattle.edf_demand.specs.Answers.{hyper_jobs}
-use Rattle.edf_demand.proofs.NextDeadline.{products, next-later, due-now, due-later}
+use Rattle.edf_demand.proofs.Calendars.{products, next-later, due-now, due-later}
 
 -- `best` is the greatest h(d)/d over the absolute deadlines d up to t, at the earliest d
 pub record IsBusiest (p : Plan) (relative : ℕ → ℕ) (t : ℕ) (best : Frac) : Type 0 where

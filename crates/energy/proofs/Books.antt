@@ -11,7 +11,7 @@ use Rattle.grid_fraction.specs.Numbers.{list_below}
 use Rattle.grid_fraction.proofs.Counts.{count-append, one-or-none}
 use Rattle.sched_model.specs.Notes.{energy_run, energy_idle}
 use Rattle.sched_model.specs.Totals.{is_released, is_finished, is_decided}
-use Rattle.sched_model.proofs.ScheduleLemmas.{length-list_below}
+use Rattle.sched_model.proofs.Schedules.{length-list_below}
 use Rattle.sched_model.proofs.Tables.{get-table, set-table, table-same}
 use Rattle.energy.specs.Books.{Books, Told, energy_at_point, books_of, raised, booked, HasTask, HasRoom}
 use Rattle.dvs_base.specs.NoteTasks.{energy_of_task}

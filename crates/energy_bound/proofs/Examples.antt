@@ -11,7 +11,7 @@ use Rattle.sched_model.specs.Ticks.{Tick}
 use Rattle.sched_model.specs.Priority.{in_order}
 use Rattle.sched_model.specs.Schedule.{schedule_by}
 use Rattle.sched_model.specs.Notes.{notes_before_end, notes_of}
-use Rattle.sched_model.proofs.ScheduleLemmas.{schedule_exists}
+use Rattle.sched_model.proofs.Schedules.{schedule_exists}
 use Rattle.sched_model.proofs.Examples.{task_of}
 use Rattle.energy_bound.specs.declared.least.Least.{Least}
 use Rattle.energy_bound.specs.Choices.{Choice, IsChoice}

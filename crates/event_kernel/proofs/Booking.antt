@@ -10,7 +10,7 @@ use Rattle.grid_fraction.specs.Numbers.{list_below}
 use Rattle.sched_model.specs.Plan.{Plan, count}
 use Rattle.sched_model.specs.Notes.{energy_run, energy_idle}
 use Rattle.sched_model.specs.Totals.{totals_of}
-use Rattle.sched_model.proofs.ScheduleLemmas.{length-list_below}
+use Rattle.sched_model.proofs.Schedules.{length-list_below}
 use Rattle.note_laws.proofs.FewNotes.{IsNoteIn}
 use Rattle.energy.specs.Books.{Books, Told, books_of, booked, energy_at_point, HasTask, HasRoom}
 use Rattle.dvs_base.specs.NoteTasks.{energy_of_task}

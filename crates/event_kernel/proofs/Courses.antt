@@ -4,8 +4,7 @@ use Rattle.sched_model.specs.Plan.{Plan, count, worst}
 use Rattle.sched_model.specs.Ticks.{exec}
 use Rattle.sched_model.specs.Jobs.{JobDemands, IsWithin}
 use Rattle.sched_model.specs.Schedule.{schedule_by, IsScheduleBy}
-use Rattle.sched_model.proofs.ScheduleLemmas.{schedule_exists}
-use Rattle.sched_model.proofs.Service.{exec-most}
+use Rattle.sched_model.proofs.Schedules.{schedule_exists, exec-most}
 use Rattle.governor.specs.Meanings.{OwnDemand}
 use Rattle.governor.specs.Schedule.{ask_of, course}
 use Rattle.event_kernel.specs.Tickwork.{tick_at}

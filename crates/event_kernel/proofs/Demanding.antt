@@ -5,7 +5,7 @@ use Rattle.task_model.specs.DemandRows.{named}
 use Rattle.demand_list.specs.Demands.{DemandsOf, units_of, IsWithinWorsts}
 use Rattle.sched_model.specs.Plan.{Plan, count, task, worst}
 use Rattle.sched_model.specs.Jobs.{IsWithin}
-use Rattle.demand_list.proofs.Worsts.{worst-listed, worsts-long}
+use Rattle.demand_list.proofs.Rows.{worst-listed, worsts-long}
 use Rattle.event_kernel.specs.Runs.{demands_of, IsListOf}
 
 module _ (p : Plan) (d : DemandsOf) (list : IsListOf p d) where

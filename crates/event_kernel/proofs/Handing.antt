@@ -19,11 +19,10 @@ use Rattle.sched_model.specs.Notes.{same_holder, given_units}
 use Rattle.sched_model.specs.States.{no_row, row_at, StateOf, row_of, state_of, key_in}
 use Rattle.grid_fraction.proofs.Sums.{sum_below-zero, sum_below-same, sum_below-add, sum_below-own}
 use Rattle.sched_model.proofs.Tables.{get-table, table-same, set-table}
-use Rattle.sched_model.proofs.PriorityLemmas.{before-self}
-use Rattle.sched_model.proofs.GreedyLemmas.{IsHandedOut, handed-start, handed-step, handed_before, up_to-before}
-use Rattle.sched_model.proofs.OrderLemmas.{IsAhead, IsOrdered, AreBelow, Stands, first_ahead, stands-in_order, in_order-below, in_order-ordered}
+use Rattle.sched_model.proofs.Orders.{before-self, IsAhead, IsOrdered, AreBelow, Stands, first_ahead, stands-in_order, in_order-below, in_order-ordered}
+use Rattle.sched_model.proofs.Allotments.{IsHandedOut, handed-start, handed-step, handed_before, up_to-before}
 use Rattle.grid_fraction.proofs.Searches.{any_below-none, any_below-same, any_below-found}
-use Rattle.sched_model.proofs.Joining.{row_by}
+use Rattle.sched_model.proofs.States.{row_by}
 use Rattle.agenda.specs.Agenda.{IsFirstUndone}
 use Rattle.event_kernel.specs.Tickwork.{served}
 use Rattle.event_kernel.proofs.Entering.{Shows}

@@ -7,7 +7,7 @@ use Rattle.sched_model.specs.Plan.{Plan}
 use Rattle.sched_model.specs.Admission.{IsAdmitted}
 use Rattle.sched_model.specs.States.{StateOf}
 use Rattle.sched_model.specs.Totals.{totals_of}
-use Rattle.sched_model.proofs.ScheduleLemmas.{schedule_exists}
+use Rattle.sched_model.proofs.Schedules.{schedule_exists}
 use Rattle.note_laws.specs.LineCounts.{AreFew}
 use Rattle.note_laws.proofs.CountLemmas.{has-few}
 use Rattle.governor.specs.Meanings.{OwnDemand}

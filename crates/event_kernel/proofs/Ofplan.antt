@@ -6,7 +6,7 @@ use Rattle.sched_model.specs.Plan.{Plan, count, worst}
 use Rattle.sched_model.specs.Jobs.{JobDemands, latest}
 use Rattle.sched_model.specs.Ticks.{Tick, exec}
 use Rattle.sched_model.specs.States.{no_row, prior_row, prior_state, row_of, state_of, prior_base, IsOfPlan}
-use Rattle.sched_model.proofs.ScheduleLemmas.{length-list_below}
+use Rattle.sched_model.proofs.Schedules.{length-list_below}
 use Rattle.sched_model.proofs.Tables.{get-table}
 
 module _ (p : Plan) where

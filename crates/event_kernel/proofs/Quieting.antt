@@ -15,7 +15,7 @@ use Rattle.sched_model.specs.Decision.{completes_in}
 use Rattle.sched_model.specs.States.{no_row, row_at, prior_row, prior_state, row_of, CanRun, IsOfPlan, StateOf, after_advance, earliest_in}
 use Rattle.sched_model.specs.Greedy.{IsFirstOpen}
 use Rattle.sched_model.proofs.Tables.{get-table}
-use Rattle.sched_model.proofs.GreedyLemmas.{handed_before}
+use Rattle.sched_model.proofs.Allotments.{handed_before}
 use Rattle.sched_model.proofs.JobLaws.{exec-legal}
 use Rattle.governor.specs.Meanings.{OwnDemand}
 use Rattle.governor.specs.Schedule.{course}

@@ -18,10 +18,9 @@ use Rattle.sched_model.specs.Decision.{is_decision}
 use Rattle.sched_model.specs.Schedule.{entry_in_force, schedule_by}
 use Rattle.sched_model.specs.Notes.{Span, spans_of, pieces_of, same_holder, position_of, all_release_notes, span_notes, segment_notes, notes_before_end}
 use Rattle.sched_model.specs.States.{row_at, prior_row, prior_state, StateOf, state_of}
-use Rattle.sched_model.proofs.ScheduleLemmas.{length-list_below, force-decided}
-use Rattle.sched_model.proofs.NoteLemmas.{notes-span}
-use Rattle.sched_model.proofs.Joining.{due_released, row_at-prior_state, state-still}
-use Rattle.sched_model.proofs.Spans.{stays}
+use Rattle.sched_model.proofs.Schedules.{length-list_below, force-decided}
+use Rattle.sched_model.proofs.Spans.{notes-span, stays}
+use Rattle.sched_model.proofs.States.{due_released, row_at-prior_state, state-still}
 use Rattle.grid_fraction.proofs.Searches.{any_below-same}
 use Rattle.event_kernel.specs.declared.span_trace.SpanTrace.{SpanTrace}
 use Rattle.governor.specs.Meanings.{OwnDemand}

@@ -18,12 +18,12 @@ use Rattle.sched_model.specs.Schedule.{entry_in_force}
 use Rattle.sched_model.specs.Notes.{Span, tick_units, same_holder}
 use Rattle.sched_model.specs.States.{row_at, prior_row, prior_state, after_advance, CanRun, StateOf, state_of}
 use Rattle.sched_model.specs.Greedy.{IsFirstOpen}
-use Rattle.sched_model.proofs.ScheduleLemmas.{length-list_below, force-within}
+use Rattle.sched_model.proofs.Schedules.{length-list_below, force-within}
 use Rattle.sched_model.proofs.Tables.{get-table, table-same}
-use Rattle.sched_model.proofs.GreedyLemmas.{handed-end}
-use Rattle.sched_model.proofs.OrderLemmas.{in_order-below}
+use Rattle.sched_model.proofs.Allotments.{handed-end}
+use Rattle.sched_model.proofs.Orders.{in_order-below}
 use Rattle.sched_model.proofs.JobLaws.{exec-legal}
-use Rattle.sched_model.proofs.Joining.{row_by, row-ran, state-ran}
+use Rattle.sched_model.proofs.States.{row_by, row-ran, state-ran}
 use Rattle.agenda.specs.Agenda.{IsFirstUndone}
 use Rattle.governor.specs.Meanings.{OwnDemand}
 use Rattle.governor.specs.Schedule.{ask_of, course}

@@ -1,24 +1,61 @@
--- A state that belongs to a demand list still does after a boundary and after a tick.
-use Rattle.std.proofs.Common.{◌≡◌, ◌≢◌, inl, inr, ℕ, zero, suc, ◌+◌, ◌-◌, ◌<◌, ◌≤◌, Bool, true, false, List, length, refl, sym, ◌∙◌, ap, subst, arith}
-use Rattle.std.proofs.Math.Nat.{le_trans}
-use Rattle.std.specs.Prelude.{◌==◌, ◌||◌, if◌then◌else◌, map, slice_index}
+-- A state that belongs to a demand list still does after a boundary and after a tick, row by row.
+use Rattle.std.proofs.lemmas.Bool.Decides.{nat_tests}
+use Rattle.std.proofs.Common.{◌≡◌, ℕ, zero, suc, ◌+◌, ◌-◌, ◌<◌, ◌≤◌, Bool, true, false, if◌then◌else◌, List, [], ◌∷◌, length, get_or, refl, ◌∙◌, ap, arith, add-zero, ◌≢◌, sym, subst}
 use Rattle.std.specs.List.{list_any}
-use Rattle.std.proofs.lemmas.Bool.{cases_Bool, eqb-true, eqb-false}
-use Rattle.std.proofs.lemmas.List.{length-map, get_or-map}
+use Rattle.std.proofs.lemmas.Bool.{or_parts, eqb-true, eqb-false}
+use Rattle.std.proofs.lemmas.List.{get_or_default, length-map, get_or-map}
+use Rattle.std.proofs.lemmas.List.Folds.{Any-from_list_any}
+use Rattle.std.proofs.Math.Nat.{le_trans}
+use Rattle.std.specs.Prelude.{◌==◌, ◌||◌, map, slice_index}
+use Rattle.sched_model.specs.declared.state.Row.{Row}
+use Rattle.sched_model.specs.States.{no_row, row_wleft, StateOf, row_at, opening, opening_row, earliest_in, key_in}
 use Rattle.task_model.specs.declared.limits.TheConstants.{LONGEST_PERIOD, LATEST_OFFSET}
 use Rattle.grid_fraction.specs.Numbers.{greatest_below}
 use Rattle.grid_fraction.proofs.Least.{least-above}
-use Rattle.sched_model.specs.declared.state.Row.{Row}
 use Rattle.sched_model.specs.Plan.{Plan, count, period, offset, worst}
 use Rattle.sched_model.specs.Jobs.{latest_since, due as due_at, IsWithin, JobDemands}
 use Rattle.sched_model.specs.Admission.{IsWithinLimits}
-use Rattle.sched_model.specs.States.{StateOf, row_at, no_row, row_wleft, opening, opening_row, earliest_in, key_in}
 use Rattle.sched_model.proofs.LevelSums.{share-most, greatest-above, greatest-least, greatest-same}
 use Rattle.sched_model.proofs.JobLaws.{due-none, due-suc, release-due, latest_since-pos, latest_since-suc}
 use Rattle.sched_model.proofs.Tables.{length-list_below, get-table}
 use Rattle.sched_model.proofs.Limits.{some_task, some_period, low_period}
-use Rattle.governor.specs.Steps.{is_due, boundary_row, opened_row, after_boundary, share_in, left_in, left_of, release_of, last_marked, IsLegalIn, after_tick, tick_row, IsBeforeAll, IsAtDecision, Belongs}
-use Rattle.governor.proofs.Rows.{length-each_row, get-each_row, none_due_at, some_due_at}
+use Rattle.governor.specs.Steps.{each_row, is_due, boundary_row, opened_row, after_boundary, share_in, left_in, left_of, release_of, last_marked, IsLegalIn, after_tick, tick_row, IsBeforeAll, IsAtDecision, Belongs}
+
+pub length-each_row : (f : ℕ → Row → Row) (i : ℕ) (rows : List Row) → length (each_row f i rows) ≡ length rows
+length-each_row f i [] = refl
+length-each_row f i (row ∷ rows) = ap suc (length-each_row f (suc i) rows)
+
+get-each_row_from : (f : ℕ → Row → Row) (i : ℕ) (rows : List Row) (j : ℕ) → j < length rows
+    → get_or (each_row f i rows) j no_row ≡ f (j + i) (get_or rows j no_row)
+get-each_row_from f i [] j h = absurd (omega arith)
+get-each_row_from f i (row ∷ rows) zero h = let e : i ≡ 0 + i = omega arith in ap (λ (k : ℕ). f k row) e
+get-each_row_from f i (row ∷ rows) (suc j) h =
+    let e : j + suc i ≡ suc j + i = omega arith in
+    get-each_row_from f (suc i) rows j (omega arith) ∙ ap (λ (k : ℕ). f k (get_or rows j no_row)) e
+
+pub get-each_row : (f : ℕ → Row → Row) (rows : List Row) (j : ℕ) → j < length rows
+    → get_or (each_row f 0 rows) j no_row ≡ f j (get_or rows j no_row)
+get-each_row f rows j h = get-each_row_from f 0 rows j h ∙ ap (λ (k : ℕ). f k (get_or rows j no_row)) (add-zero j)
+
+-- a complete job may need no more units
+pub done_none : (row : Row) → row.done ≡ true → row_wleft row ≡ 0
+done_none row e = rw e refl
+
+pub wleft-most : (row : Row) → row_wleft row ≤ row.worst
+wleft-most row = grind (arith, nat_tests)
+
+-- where no row passes the test, the row at each place fails it
+pub none_due_at : (p : Row → Bool) (rows : List Row) (j : ℕ) → list_any p rows ≡ false → j < length rows → p (get_or rows j no_row) ≡ false
+none_due_at p [] j none h = absurd (omega arith)
+none_due_at p (row ∷ rows) zero none h = (or_parts (p row) (list_any p rows) none).0
+none_due_at p (row ∷ rows) (suc j) none h = none_due_at p rows j (or_parts (p row) (list_any p rows) none).1 (omega arith)
+
+-- where some row passes the test, it is at some place
+pub some_due_at : (p : Row → Bool) (rows : List Row) → list_any p rows ≡ true
+    → (j : ℕ) × (j < length rows) × (p (get_or rows j no_row) ≡ true)
+some_due_at p rows some =
+    let found = Any-from_list_any p rows some in
+    (found.0, found.2, ap p (get_or_default rows found.0 no_row found.1 found.2 ∙ found.3) ∙ found.4)
 
 -- what holds of each row of a state that belongs to a demand list
 pub record RowOk (plan : Plan) (dem : JobDemands) (now i : ℕ) (row : Row) : Type 0 where
@@ -32,42 +69,18 @@ pub record RowOk (plan : Plan) (dem : JobDemands) (now i : ℕ) (row : Row) : Ty
 
 pub row_ok : (plan : Plan) (dem : JobDemands) (s : StateOf) → Belongs plan dem s → (i : ℕ) → i < count plan
     → RowOk plan dem s.now i (row_at s i)
-row_ok plan dem s bel i h = record {
-  worst = bel.of.worst i h;
-  used = bel.of.used i h;
-  due = bel.due i h;
-  deadline = bel.deadline i h;
-  released = bel.released i h;
-  open_job = bel.open_job i h;
-  closed_job = bel.closed_job i h;
-}
+row_ok plan dem s bel i h = grind (arith, nat_tests)
 
 belongs_of_rows : (plan : Plan) (dem : JobDemands) (s : StateOf) → length s.rows ≡ count plan
     → length s.base ≡ count plan → s.base_at ≡ last_marked plan s
     → ((i : ℕ) → i < count plan → row_wleft (row_at s i) ≤ slice_index s.base i) → IsWithin plan dem
     → ((i : ℕ) → i < count plan → RowOk plan dem s.now i (row_at s i)) → Belongs plan dem s
-belongs_of_rows plan dem s rows base marked bases demand each = record {
-  of = record { rows = rows; base = base; worst = λ i h. (each i h).worst; used = λ i h. (each i h).used };
-  demand = demand;
-  due = λ i h. (each i h).due;
-  deadline = λ i h. (each i h).deadline;
-  released = λ i h. (each i h).released;
-  base_at = marked;
-  base = bases;
-  open_job = λ i h. (each i h).open_job;
-  closed_job = λ i h. (each i h).closed_job;
-}
+belongs_of_rows plan dem s rows base marked bases demand each = grind (arith, nat_tests)
 
 -- job 0 has no demand, so its row is complete
 pub unborn_done : (plan : Plan) (dem : JobDemands) (s : StateOf) → Belongs plan dem s → (i : ℕ) → i < count plan
     → (row_at s i).job ≡ 0 → (row_at s i).done ≡ true
-unborn_done plan dem s bel i h none =
-    elim (cases_Bool (row_at s i).done) [
-      | inl closed ↦ closed
-      | inr still ↦
-          let nothing : dem i (row_at s i).job ≡ 0 = ap (dem i) none ∙ bel.demand.none i in
-          absurd (omega (arith, bel.open_job i h still, nothing))
-    ]
+unborn_done plan dem s bel i h none = grind (arith, nat_tests)
 
 -- the number of a task is the place of a row
 pub in_rows : (plan : Plan) (dem : JobDemands) (s : StateOf) → Belongs plan dem s → (i : ℕ) → i < count plan → i < length s.rows
@@ -77,15 +90,7 @@ pub opening_at : (plan : Plan) (i : ℕ) → i < count plan → row_at (opening 
 opening_at plan i h = get-table (count plan) (λ k. opening_row (offset plan k) (worst plan k)) i no_row h
 
 opening_row_ok : (plan : Plan) (dem : JobDemands) (i : ℕ) → RowOk plan dem 0 i (opening_row (offset plan i) (worst plan i))
-opening_row_ok plan dem i = record {
-  worst = refl;
-  used = omega arith;
-  due = omega arith;
-  deadline = sym (due-none plan i);
-  released = omega arith;
-  open_job = λ h. absurd (let t : true ≡ false = h in cc);
-  closed_job = λ h pos. absurd (omega arith);
-}
+opening_row_ok plan dem i = grind (arith, nat_tests, due-none)
 
 pub belongs_opening : (plan : Plan) (dem : JobDemands) → IsWithin plan dem → Belongs plan dem (opening plan)
 belongs_opening plan dem fits =
@@ -120,11 +125,7 @@ opened_row_ok plan dem now i row at_now ok = record {
 -- is a fact of the row after the boundary
 pub boundary_row-by : (plan : Plan) (dem : JobDemands) (now i : ℕ) (row : Row) (P : Row → Type 0)
     → (row.deadline ≡ now → P (opened_row plan dem i row)) → (row.deadline ≢ now → P row) → P (boundary_row plan dem now i row)
-boundary_row-by plan dem now i row P opened still = go (is_due now row) refl
-  where
-    go : (b : Bool) → is_due now row ≡ b → P (if b then opened_row plan dem i row else row)
-    go true due = opened (eqb-true row.deadline now due)
-    go false later = still (eqb-false row.deadline now later)
+boundary_row-by plan dem now i row P opened still = grind (arith, nat_tests)
 
 pub boundary_at : (plan : Plan) (dem : JobDemands) (s : StateOf) → Belongs plan dem s → (i : ℕ) → i < count plan
     → row_at (after_boundary plan dem s) i ≡ boundary_row plan dem s.now i (row_at s i)
@@ -162,16 +163,7 @@ length_if false xs ys n p q = q
 base_covers : (plan : Plan) (dem : JobDemands) (s : StateOf) → Belongs plan dem s → (i : ℕ) → i < count plan
     → (b : Bool) → list_any (is_due s.now) s.rows ≡ b
     → row_wleft (row_at (after_boundary plan dem s) i) ≤ slice_index (if b then map row_wleft (after_boundary plan dem s).rows else s.base) i
-base_covers plan dem s bel i h true some =
-    let rows = (after_boundary plan dem s).rows in
-    let within : i < length rows = omega (arith, boundary_long plan dem s, bel.of.rows) in
-    let same : slice_index (map row_wleft rows) i ≡ row_wleft (row_at (after_boundary plan dem s) i) =
-    get_or-map row_wleft rows i no_row 0 within in
-    omega arith
-base_covers plan dem s bel i h false none =
-    let still : is_due s.now (row_at s i) ≡ false = none_due_at (is_due s.now) s.rows i none (in_rows plan dem s bel i h) in
-    let P : Bool → Type 0 = λ (b : Bool). row_wleft (if b then opened_row plan dem i (row_at s i) else row_at s i) ≤ slice_index s.base i in
-    rw (boundary_at plan dem s bel i h) (subst P (sym still) (bel.base i h))
+base_covers plan dem s bel i h b some = grind (arith, nat_tests, boundary_long, get_or-map, none_due_at, in_rows, boundary_at)
 
 -- after a boundary the mark is the last release
 marked_at : (plan : Plan) (dem : JobDemands) (s : StateOf) → Belongs plan dem s → (b : Bool)
@@ -201,16 +193,7 @@ marked_at plan dem s bel false none =
     rw (boundary_at plan dem s bel i h) (subst P (sym still) refl))
 
 pub belongs_boundary : (plan : Plan) (dem : JobDemands) (s : StateOf) → Belongs plan dem s → Belongs plan dem (after_boundary plan dem s)
-belongs_boundary plan dem s bel =
-    let b = after_boundary plan dem s in
-    let any = list_any (is_due s.now) s.rows in
-    let rows : length b.rows ≡ count plan = boundary_long plan dem s ∙ bel.of.rows in
-    belongs_of_rows plan dem b rows
-    (length_if any (map row_wleft b.rows) s.base (count plan) (length-map b.rows row_wleft ∙ rows) bel.of.base)
-    (marked_at plan dem s bel any refl)
-    (λ i h. base_covers plan dem s bel i h any refl)
-    bel.demand
-    (boundary_rows_ok plan dem s bel)
+belongs_boundary plan dem s bel = grind (arith, nat_tests, boundary_long, belongs_of_rows, length_if, length-map, marked_at, base_covers, boundary_rows_ok)
 
 -- the deadline of a job but job 0 is at most a period after its release
 pub due_soon : (plan : Plan) (i job : ℕ) → 0 < job → due_at plan i job ≤ latest_since plan i job + period plan i
@@ -242,22 +225,6 @@ decision_boundary plan dem s lim bel =
       base = bel'.base;
     }
 
--- within its need a row's units of a tick keep it within its worst case
-units_fit : (done : Bool) (used worst need sh : ℕ) → used ≤ worst → need ≤ worst
-    → sh ≤ (if done then 0 else need - used) → used + sh ≤ worst
-units_fit true used worst need sh a b c = omega arith
-units_fit false used worst need sh a b c = omega arith
-
-still_open : (done : Bool) (used need sh : ℕ) → (done ≡ false → used < need) → sh ≤ (if done then 0 else need - used)
-    → (done || (used + sh == need)) ≡ false → used + sh < need
-still_open true used need sh o c e = absurd (let t : true ≡ false = e in cc)
-still_open false used need sh o c e = let other : used + sh ≡ need → ⊥ = eqb-false (used + sh) need e in omega (arith, o refl)
-
-now_closed : (done : Bool) (used need sh job : ℕ) → (done ≡ true → 0 < job → used ≡ need)
-    → sh ≤ (if done then 0 else need - used) → (done || (used + sh == need)) ≡ true → 0 < job → used + sh ≡ need
-now_closed true used need sh job o c e pos = omega (arith, o refl pos)
-now_closed false used need sh job o c e pos = eqb-true (used + sh) need e
-
 falls_if : (b : Bool) (worst used sh : ℕ) → (if b then 0 else worst - (used + sh)) ≤ worst - used
 falls_if true worst used sh = omega arith
 falls_if false worst used sh = omega arith
@@ -270,15 +237,7 @@ wleft_falls false worst used sh need = falls_if (used + sh == need) worst used s
 row_after_tick : (plan : Plan) (dem : JobDemands) (shares : List ℕ) (now i : ℕ) (row : Row)
     → ((k : ℕ) → dem i k ≤ worst plan i) → now < row.deadline → share_in shares i ≤ left_of dem i row
     → RowOk plan dem now i row → RowOk plan dem (now + 1) i (tick_row dem shares i row)
-row_after_tick plan dem shares now i row fits before most ok = record {
-  worst = ok.worst;
-  used = units_fit row.done row.used row.worst (dem i row.job) (share_in shares i) ok.used (rw ok.worst (fits row.job)) most;
-  due = omega arith;
-  deadline = ok.deadline;
-  released = omega (arith, ok.released);
-  open_job = still_open row.done row.used (dem i row.job) (share_in shares i) ok.open_job most;
-  closed_job = now_closed row.done row.used (dem i row.job) (share_in shares i) row.job ok.closed_job most;
-}
+row_after_tick plan dem shares now i row fits before most ok = grind (arith, nat_tests)
 
 -- in a legal tick no task gets more than it needs
 pub legal_most : (plan : Plan) (dem : JobDemands) (f : ℕ) (s : StateOf) (shares : List ℕ)

@@ -1,9 +1,11 @@
--- The laws of a governor along its schedule: every deadline is met, and each demand but that of look-ahead.
+-- The laws of a governor along its schedule: every deadline is met, and each demand but that of look-ahead. Where its
+-- demand is the published one of its kind, that is the schedule of the kind.
+use Rattle.std.proofs.lemmas.Bool.Decides.{nat_tests}
 use Rattle.std.proofs.Common.{◌≡◌, ℕ, zero, suc, ◌-◌, ◌<◌, ◌≤◌, Bool, true, false, List, [], ◌∷◌, length, drop, refl, arith, if◌then◌else◌, ap, ◌∙◌, sym, subst, true≢false, ◌⊎◌, inl, inr, eq-or-lt_of_le}
 use Rattle.std.proofs.lemmas.Bool.{or_parts}
 use Rattle.dvs_base.specs.declared.kind.GovernorKind.{GovernorKind}
 use Rattle.freq_table.specs.Tables.{lowest_entry, lowest_pick, speed_at}
-use Rattle.sched_model.specs.Demand.{IsAlwaysMet}
+use Rattle.sched_model.specs.Demand.{IsAlwaysMet, published}
 use Rattle.sched_model.specs.declared.state.Row.{Row}
 use Rattle.sched_model.specs.Plan.{Plan, count}
 use Rattle.sched_model.specs.Jobs.{IsWithin, JobDemands, latest, due, is_release}
@@ -13,14 +15,14 @@ use Rattle.sched_model.specs.Decision.{is_decision}
 use Rattle.sched_model.specs.Schedule.{entry_in_force, next_tick, schedule_by, IsNext}
 use Rattle.sched_model.specs.States.{StateOf, row_at, prior_state, state_of}
 use Rattle.sched_model.proofs.Limits.{every_period}
-use Rattle.sched_model.proofs.ScheduleLemmas.{next_tick-may, schedule_exists, schedule-none, schedule-suc, force-decided, force-within}
+use Rattle.sched_model.proofs.Schedules.{next_tick-may, schedule_exists, schedule-none, schedule-suc, force-decided, force-within, share-legal}
 use Rattle.sched_model.proofs.JobLaws.{latest-is, release-due}
-use Rattle.sched_model.proofs.Joining.{row_at-prior_state, state-still}
-use Rattle.sched_model.proofs.Service.{share-legal}
+use Rattle.sched_model.proofs.States.{row_at-prior_state, state-still}
+use Rattle.sched_model.proofs.Agreeing.{same-schedule}
 use Rattle.governor.specs.Meanings.{Serving, OwnDemand, Condition, EntryCondition}
 use Rattle.governor.specs.Steps.{after_tick, IsAtDecision, IsLegalIn, Belongs}
 use Rattle.governor.specs.Laws.{GovernorLaws, InRun}
-use Rattle.governor.specs.Schedule.{ask_of, course}
+use Rattle.governor.specs.Schedule.{ask_of, course, Publishes, HasScheduleOf, PublishingLaws}
 use Rattle.governor.proofs.Joins.{boundary-is, tick-is, legal-is}
 use Rattle.governor.proofs.Belonging.{belongs_opening, belongs_boundary, belongs_tick, decision_boundary}
 
@@ -148,11 +150,7 @@ module _ (kind : GovernorKind) (serves : Serving) (demand : OwnDemand) (calm : C
       stays e = ap (λ d. if d then lowest_entry p.machine (ask (tick past ∷ past)) else entry_at past) e
 
   kept-none : Kept []
-  kept-none = record {
-    belongs = belongs_opening p dem within;
-    is_calm = laws.opens p (record { admitted = adm; served = served });
-    is_safe = λ e. absurd (true≢false e);
-  }
+  kept-none = grind (arith, nat_tests, belongs_opening)
 
   -- at each tick of the governor's schedule the state belongs and is calm, and is safe where it isn't a decision
   pub kept : (t : ℕ) → Kept (course demand p dem t)
@@ -175,3 +173,11 @@ module _ (kind : GovernorKind) (serves : Serving) (demand : OwnDemand) (calm : C
   demand-met other t =
       let past = course demand p dem t in
       laws.meets p dem (state_of p dem past) (in_run (belongs-state past (kept t))) (decides-state past (kept t)) (calm-state past (kept t)) other
+
+pub has-schedule : (demand : OwnDemand) (kind : GovernorKind) (p : Plan) → Publishes demand kind p → HasScheduleOf demand kind p
+has-schedule demand kind p publishes dem within t =
+    same-schedule p dem (ask_of demand p dem) (published p kind dem) (λ ask past h. sym (publishes dem within ask past h)) t
+
+pub publishing_laws : (demand : OwnDemand) (kind : GovernorKind) (serves : Serving)
+    → ((plan : Plan) → IsAdmitted plan → serves plan.scheduler → Publishes demand kind plan) → PublishingLaws kind serves demand
+publishing_laws demand kind serves each = grind (arith, nat_tests, has-schedule)

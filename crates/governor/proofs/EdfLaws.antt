@@ -20,8 +20,7 @@ use Rattle.sched_model.specs.States.{StateOf, row_at, row_wleft, opening, openin
 use Rattle.sched_model.proofs.Limits.{some_task, some_hyper, period_divides}
 use Rattle.sched_model.proofs.LevelSums.{sum_where-plus, sum_where-times, sum_where-term, sum_where-zero, sum_where-all, sum_below-times}
 use Rattle.governor.specs.Steps.{boundary_row, opened_row, after_boundary, wleft_at, IsLegalIn, after_tick, IsBeforeAll, Belongs}
-use Rattle.governor.proofs.Rows.{wleft-most}
-use Rattle.governor.proofs.Belonging.{earliest-from, opening_at, boundary_row-by, boundary_at, tick_at}
+use Rattle.governor.proofs.Belonging.{wleft-most, earliest-from, opening_at, boundary_row-by, boundary_at, tick_at}
 use Rattle.governor.proofs.Ticks.{tick_set, demand_most}
 use Rattle.governor.specs.Edf.{due_by, load, EdfCalm, EdfSafe}
 
@@ -34,13 +33,7 @@ two_speeds f F t a d le ta ad = omega (arith, mul-le-mul_right (a - t) le, same_
 
 -- an incomplete job may still need some units, so a row that needs none is complete
 pub closed_row : (row : Row) (n : ℕ) → row_wleft row ≡ 0 → (row.done ≡ false → row.used < n) → n ≤ row.worst → row.done ≡ true
-closed_row row n none open_job most =
-    elim (cases_Bool row.done) [
-      | inl closed ↦ closed
-      | inr still ↦
-          let rest : row.worst - row.used ≡ 0 = rw still at none in
-          absurd (omega (arith, open_job still))
-    ]
+closed_row row n none open_job most = grind (arith, nat_tests)
 
 -- the part of one task in the load
 abbrev term : ℕ → ℕ → ℕ → Row → ℕ
@@ -81,9 +74,7 @@ term_opened plan dem h d now i p c row per wor whole closed at_now le =
 term_boundary : (plan : Plan) (dem : JobDemands) (h d now i p c : ℕ) (row : Row) → period plan i ≡ p → row.worst ≡ c
     → h / p * p ≡ h → (row.deadline ≡ now → row.done ≡ true) → now ≤ d
     → term h d (c * (h / p)) (boundary_row plan dem now i row) ≤ term h d (c * (h / p)) row
-term_boundary plan dem h d now i p c row per wor whole closed le =
-    boundary_row-by plan dem now i row (λ new. term h d (c * (h / p)) new ≤ term h d (c * (h / p)) row)
-    (λ at_now. term_opened plan dem h d now i p c row per wor whole (closed at_now) at_now le) (λ later. omega arith)
+term_boundary plan dem h d now i p c row per wor whole closed le = grind (arith, nat_tests, boundary_row-by, term_opened)
 
 by_rates : (h f F x y u w rest : ℕ) → w ≡ 0 → rest ≤ y * u → u ≤ F * h → h * w + rest ≤ h * (f * x + F * y)
 by_rates h f F x y u w rest none le fits = rw none (omega (arith, mul-le-mul_left y fits, mul-zero h))
@@ -92,13 +83,7 @@ by_units : (h f F x y new old rest : ℕ) → new + f ≤ old → h * old + rest
 by_units h f F x y new old rest falls before = omega (arith, mul-le-mul_left h falls)
 
 opening_term : (h d u o c : ℕ) → term h d u (opening_row o c) ≤ d * u
-opening_term h d u o c =
-    let part : u * (d - o) ≤ u * d = mul-le-mul_left u (let less : d - o ≤ d = omega arith in less) in
-    let none : h * row_wleft (opening_row o c) ≡ 0 = mul-zero h in
-    elim (cases_Bool (nat_le o d)) [
-      | inl since ↦ rw since (omega (arith, part, none))
-      | inr early ↦ rw early (omega arith)
-    ]
+opening_term h d u o c = grind (arith, nat_tests)
 
 module _ (F : ℕ) (plan : Plan) (lim : IsWithinLimits plan) where
   pub edf_opens : total_rate plan ≤ F * (hyper plan) → EdfCalm F plan (opening plan)

@@ -1,4 +1,5 @@
 -- The speeds of the two governors with one speed pass the scheduler's test and meet what they publish.
+use Rattle.std.proofs.lemmas.Bool.Decides.{nat_tests}
 use Rattle.std.proofs.Common.{◌≡◌, ℕ, ◌*◌, ◌<◌, ◌≤◌, true, subst, arith}
 use Rattle.std.proofs.Math.Nat.{mul-le-mul_right, le_of_mul-le-mul_right}
 use Rattle.dvs_base.specs.declared.kind.Scheduler.{Scheduler}
@@ -10,8 +11,8 @@ use Rattle.sched_model.specs.Tests.{IsEdfFeasible, IsRmFeasible, total_rate, lev
 use Rattle.sched_model.specs.StaticDemand.{heaviest, full_demand, rm_static, static_demand_of, static_demand}
 use Rattle.sched_model.specs.Admission.{IsWithinLimits, IsAdmitted, PassesTest}
 use Rattle.sched_model.proofs.Limits.{some_period}
-use Rattle.sched_model.proofs.Weights.{heaviest_within, heaviest_greatest}
-pub use Rattle.sched_model.proofs.Weights.{static_den}
+use Rattle.sched_model.proofs.StaticShare.{heaviest_within, heaviest_greatest}
+pub use Rattle.sched_model.proofs.StaticShare.{static_den}
 use Rattle.governor.specs.Speeds.{fixed_speed}
 
 -- the speed F passes the test of the plan's scheduler
@@ -67,12 +68,7 @@ rm_each plan lim F meets i h =
 
 -- a speed that meets the static demand passes the test
 pub enough_at : (plan : Plan) → IsAdmitted plan → (F : ℕ) → (static_demand plan).num ≤ F * (static_demand plan).den → IsEnough F plan
-enough_at plan adm F meets =
-    let P : Scheduler → Type 0 = λ (sch : Scheduler). (static_demand_of sch plan).num ≤ F * (static_demand_of sch plan).den in
-    record {
-      edf = λ e. subst P e meets;
-      rm = λ e. rm_each plan adm.limits F (subst P e meets);
-    }
+enough_at plan adm F meets = grind (arith, nat_tests, rm_each)
 
 pub static_enough : (plan : Plan) → IsAdmitted plan → IsEnough (fixed_speed plan) plan
 static_enough plan adm =

@@ -1,9 +1,9 @@
 -- The states of a list of ticks follow by the boundaries and legal ticks of a governor's laws.
-use Rattle.std.proofs.Common.{◌≡◌, ℕ, zero, suc, ◌+◌, ◌-◌, ◌<◌, ◌≤◌, min, Bool, true, false, ◌||◌, ◌&&◌, List, [], ◌∷◌, ◌++◌, length, refl, arith, if◌then◌else◌, ap, ap₂, ◌∙◌, sym, nat_eq, nat_le, nat_lt}
+use Rattle.std.proofs.Common.{◌≡◌, ℕ, zero, suc, ◌+◌, ◌-◌, ◌<◌, ◌≤◌, min, Bool, ◌||◌, List, [], ◌∷◌, ◌++◌, length, refl, arith, ap, ap₂, ◌∙◌, sym, nat_eq, nat_le}
 use Rattle.std.proofs.Math.Bool.{or-false}
 use Rattle.std.proofs.lemmas.List.Folds.{list_any-append}
 use Rattle.std.proofs.lemmas.Bool.Decides.{nat_tests}
-use Rattle.std.specs.Prelude.{map, ◌==◌}
+use Rattle.std.specs.Prelude.{◌==◌}
 use Rattle.std.specs.List.{list_any}
 use Rattle.dvs_base.specs.declared.kind.Scheduler.{Scheduler}
 use Rattle.dvs_base.specs.declared.kind.Scheduler.TheVariants.{Edf, Rm}
@@ -11,13 +11,13 @@ use Rattle.sched_model.specs.declared.state.Row.{Row}
 use Rattle.grid_fraction.specs.Numbers.{any_below, list_below}
 use Rattle.grid_fraction.proofs.Sums.{sum_below-same}
 use Rattle.sched_model.specs.Plan.{Plan, count, period}
-use Rattle.sched_model.specs.Jobs.{JobDemands, latest, releases_at, is_release}
-use Rattle.sched_model.specs.Ticks.{Tick, exec, left as left_at, share as share_at}
-use Rattle.sched_model.specs.Priority.{SharesOut, sum_up_to, stands_before, key_of as key_at}
-use Rattle.sched_model.specs.States.{StateOf, row_wleft, prior_row, prior_base_at, prior_base, prior_state, row_of, state_of, key_in}
+use Rattle.sched_model.specs.Jobs.{JobDemands, releases_at, is_release}
+use Rattle.sched_model.specs.Ticks.{Tick, left as left_at, share as share_at}
+use Rattle.sched_model.specs.Priority.{SharesOut, sum_up_to, key_of as key_at}
+use Rattle.sched_model.specs.States.{prior_row, prior_state, row_of, state_of, key_in}
 use Rattle.sched_model.proofs.Tables.{length-list_below, table-same}
-use Rattle.sched_model.proofs.Joining.{row_at-state_of, row_by, due_released, row-opened, row-kept, state-marked, state-unmarked, row-ran, state-ran}
-use Rattle.governor.specs.Steps.{each_row, is_due, boundary_row, boundary_rows, after_boundary, tick_row, after_tick, left_in, left_of, share_in, IsLegalIn}
+use Rattle.sched_model.proofs.States.{row_at-state_of, row_by, due_released, row-opened, row-kept, state-marked, state-unmarked, row-ran, state-ran}
+use Rattle.governor.specs.Steps.{each_row, is_due, boundary_row, boundary_rows, after_boundary, tick_row, after_tick, left_in, share_in, IsLegalIn}
 use Rattle.grid_fraction.proofs.Searches.{any_below-same}
 
 each_row-snoc : (f : ℕ → Row → Row) (k : ℕ) (rows : List Row) (r : Row)
@@ -30,9 +30,7 @@ each_row-snoc f k (q ∷ rows) r =
 -- changing each row of a table gives the table of the changed rows
 pub each_row-table : (f : ℕ → Row → Row) (n : ℕ) (g : ℕ → Row) → each_row f 0 (list_below n g) ≡ list_below n (λ i. f i (g i))
 each_row-table f zero g = refl
-each_row-table f (suc n) g =
-    each_row-snoc f 0 (list_below n g) (g n)
-    ∙ ap₂ (λ rs m. rs ++ f m (g n) ∷ []) (each_row-table f n g) (omega (arith, length-list_below n g))
+each_row-table f (suc n) g = grind (arith, nat_tests, each_row-snoc, length-list_below, each_row-table f n g)
 
 any-table : (test : Row → Bool) (n : ℕ) (g : ℕ → Row) → list_any test (list_below n g) ≡ any_below n (λ i. test (g i))
 any-table test zero g = refl
@@ -42,28 +40,15 @@ any-table test (suc n) g =
 -- equal keys and equal terms give equal sums over a task and those before it
 sum_up_to-same : (n : ℕ) (key key' f f' : ℕ → ℕ) → ((j : ℕ) → j < n → key j ≡ key' j) → ((j : ℕ) → j < n → f j ≡ f' j)
     → (i : ℕ) → i < n → sum_up_to n key f i ≡ sum_up_to n key' f' i
-sum_up_to-same n key key' f f' ks fs i lt =
-    ap₂ (λ a b. a + b)
-    (sum_below-same n (λ j. if stands_before key j i then f j else 0) (λ j. if stands_before key' j i then f' j else 0) (λ j l.
-    ap₂ (λ (b : Bool) x. if b then x else 0) (ap₂ (λ x y. nat_lt x y || (nat_eq x y && nat_lt j i)) (ks j l) (ks i lt)) (fs j l)))
-    (fs i lt)
+sum_up_to-same n key key' f f' ks fs i lt = grind (arith, nat_tests, sum_below-same)
 
 module _ (p : Plan) (dem : JobDemands) (periods : (i : ℕ) → 0 < period p i) (none : (i : ℕ) → dem i 0 ≡ 0) where
   -- after a boundary the rows are those of the state after the releases
   boundary-row : (past : List Tick) (i : ℕ) → boundary_row p dem (length past) i (prior_row p dem past i) ≡ row_of p dem past i
-  boundary-row past i = go (nat_eq (prior_row p dem past i).deadline (length past)) refl
-    where
-      go : (b : Bool) → nat_eq (prior_row p dem past i).deadline (length past) ≡ b
-          → boundary_row p dem (length past) i (prior_row p dem past i) ≡ row_of p dem past i
-      go true e =
-          let same : (prior_row p dem past i).deadline ≡ length past = grind (arith, nat_tests) in
-          rw e (sym (row-opened p dem periods past i same))
-      go false e = rw e (sym (row-kept p dem periods past i (none i) e))
+  boundary-row past i = grind (arith, nat_tests, row-opened, row-kept)
 
   boundary-rows : (past : List Tick) → boundary_rows p dem (prior_state p dem past) ≡ list_below (count p) (row_of p dem past)
-  boundary-rows past =
-      each_row-table (boundary_row p dem (length past)) (count p) (prior_row p dem past)
-      ∙ table-same (count p) (λ i. boundary_row p dem (length past) i (prior_row p dem past i)) (row_of p dem past) (λ i lt. boundary-row past i)
+  boundary-rows past = grind (arith, nat_tests, each_row-table, table-same, boundary-row)
 
   some-due : (past : List Tick) → list_any (is_due (length past)) (list_below (count p) (prior_row p dem past)) ≡ is_release p (length past)
   some-due past =
@@ -71,47 +56,16 @@ module _ (p : Plan) (dem : JobDemands) (periods : (i : ℕ) → 0 < period p i) 
       ∙ any_below-same (count p) (λ i. is_due (length past) (prior_row p dem past i)) (λ i. releases_at p i (length past))
       (λ i lt. sym (due_released p dem periods past i (nat_eq (prior_row p dem past i).deadline (length past)) refl))
 
-  abbrev pub opened_by : List Tick → List Row → Bool → StateOf
-  opened_by past rows b = record {
-    now = length past;
-    rows = rows;
-    base_at = (if b then length past else prior_base_at p past);
-    base = (if b then map row_wleft rows else list_below (count p) (prior_base p dem past));
-  }
-
   pub boundary-is : (past : List Tick) → after_boundary p dem (prior_state p dem past) ≡ state_of p dem past
-  boundary-is past = ap₂ (opened_by past) (boundary-rows past) (some-due past) ∙ go (is_release p (length past)) refl
-    where
-      rows : List Row
-      rows = list_below (count p) (row_of p dem past)
-
-      go : (b : Bool) → is_release p (length past) ≡ b → opened_by past rows (is_release p (length past)) ≡ state_of p dem past
-      go true e = ap (opened_by past rows) e ∙ state-marked p dem periods past e
-      go false e = ap (opened_by past rows) e ∙ state-unmarked p dem periods past none e
+  boundary-is past = grind (arith, nat_tests, boundary-rows, some-due, state-marked, state-unmarked)
 
   -- after a tick the units had reach the demand exactly where they did before, or where they equal it now
   done-is : (d u sh : ℕ) → sh ≤ d - u → nat_le d (u + sh) ≡ (nat_le d u || (u + sh == d))
-  done-is d u sh fits = go (nat_le d u) refl (nat_le d (u + sh)) refl (nat_eq (u + sh) d) refl
-    where
-      go : (a : Bool) → nat_le d u ≡ a → (b : Bool) → nat_le d (u + sh) ≡ b → (c : Bool) → nat_eq (u + sh) d ≡ c
-          → nat_le d (u + sh) ≡ (nat_le d u || (u + sh == d))
-      go true e true f c g = rw (e, f) refl
-      go true e false f c g =
-          absurd (let le : d ≤ u = grind (arith, nat_tests) in let lt : u + sh < d = grind (arith, nat_tests) in omega arith)
-      go false e true f true g = rw (e, f, g) refl
-      go false e false f false g = rw (e, f, g) refl
-      go false e true f false g =
-          absurd (let le : d ≤ u + sh = grind (arith, nat_tests) in let lt : u < d = grind (arith, nat_tests) in
-          let ne : (u + sh ≡ d) → ⊥ = grind (arith, nat_tests) in ne (omega arith))
-      go false e false f true g =
-          absurd (let same : u + sh ≡ d = grind (arith, nat_tests) in let lt : u + sh < d = grind (arith, nat_tests) in omega arith)
+  done-is d u sh fits = grind (arith, nat_tests)
 
   tick-row : (x : Tick) (past : List Tick) (i : ℕ) → share_at x i ≤ left_at p dem past i
       → prior_row p dem (x ∷ past) i ≡ tick_row dem x.shares i (row_of p dem past i)
-  tick-row x past i fits =
-      row-ran p dem periods x past i (none i) fits
-      ∙ ap (λ b. row_by (row_of p dem past i).deadline (row_of p dem past i).job ((row_of p dem past i).used + share_at x i) b (row_of p dem past i).worst)
-      (done-is (dem i (latest p i (length past))) (exec p past i (latest p i (length past))) (share_at x i) fits)
+  tick-row x past i fits = grind (arith, nat_tests, row-ran, row_by, done-is)
 
   pub tick-is : (x : Tick) (past : List Tick) → ((i : ℕ) → i < count p → share_at x i ≤ left_at p dem past i)
       → after_tick dem x.shares (state_of p dem past) ≡ prior_state p dem (x ∷ past)
@@ -127,15 +81,7 @@ module _ (p : Plan) (dem : JobDemands) (periods : (i : ℕ) → 0 < period p i) 
   key-is past Rm i lt = refl
 
   left-is : (past : List Tick) (i : ℕ) → i < count p → left_at p dem past i ≡ left_in dem (state_of p dem past) i
-  left-is past i lt =
-      go (nat_le (dem i (latest p i (length past))) (exec p past i (latest p i (length past)))) refl
-      ∙ sym (ap (left_of dem i) (row_at-state_of p dem past i lt))
-    where
-      go : (b : Bool) → nat_le (dem i (latest p i (length past))) (exec p past i (latest p i (length past))) ≡ b
-          → left_at p dem past i ≡ left_of dem i (row_of p dem past i)
-      go true e =
-          rw e (let le : dem i (latest p i (length past)) ≤ exec p past i (latest p i (length past)) = grind (arith, nat_tests) in omega arith)
-      go false e = rw e refl
+  left-is past i lt = grind (arith, nat_tests, row_at-state_of)
 
   pub legal-is : (x : Tick) (past : List Tick) (f : ℕ) → length x.shares ≡ count p
       → SharesOut (count p) (key_at p.scheduler p (length past)) f (left_at p dem past) (share_at x)

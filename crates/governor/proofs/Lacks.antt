@@ -1,4 +1,5 @@
 -- A schedule under RM at one speed with every job at its worst case: what its jobs lack at each release and tick.
+use Rattle.std.proofs.lemmas.Bool.Decides.{nat_tests}
 use Rattle.std.proofs.Common.{◌≡◌, ◌≢◌, ℕ, zero, suc, ◌+◌, ◌-◌, ◌*◌, ◌<◌, Bool, true, List, ◌∷◌, length, refl, sym, ◌∙◌, ap, subst, arith, inl, inr}
 use Rattle.std.proofs.Math.Nat.{zero-sub}
 use Rattle.std.proofs.lemmas.Bool.{cases_lt}
@@ -15,10 +16,10 @@ use Rattle.sched_model.specs.Backlog.{lacking}
 use Rattle.sched_model.specs.Admission.{IsWithinLimits}
 use Rattle.sched_model.proofs.Limits.{some_period}
 use Rattle.sched_model.proofs.JobLaws.{due-none, release-suc, due-suc, lt-due, latest-is, latest-none, latest-stays, exec-legal, exec-early, worst_demand-pos}
-use Rattle.sched_model.proofs.PriorityLemmas.{before-trans}
-use Rattle.sched_model.proofs.DownSets.{down-set-gets}
+use Rattle.sched_model.proofs.Orders.{before-trans}
+use Rattle.sched_model.proofs.Allotments.{down-set-gets}
 use Rattle.sched_model.proofs.LevelSums.{sum_where-plus, share-most, up_to-trans, sum_up_to-where}
-use Rattle.sched_model.proofs.ScheduleLemmas.{schedule_exists, next_tick-may, schedule-suc}
+use Rattle.sched_model.proofs.Schedules.{schedule_exists, next_tick-may, schedule-suc}
 
 -- the first t ticks of the schedule with every job at its worst case
 abbrev pub worst_ticks : Plan → PublishedDemand → ℕ → List Tick
@@ -68,13 +69,7 @@ module _ (p : Plan) (lim : IsWithinLimits p) (ask : PublishedDemand) where
 
   pub lack-same : (t i : ℕ) → i < count p → suc t ≢ due p i (latest p i t)
       → lack_after p ask (suc t) i ≡ lack p ask (suc t) i
-  lack-same t i h other =
-      let ticks = worst_ticks p ask (suc t) in
-      let long = lack-long (suc t) in
-      let back : length ticks - 1 ≡ t = omega (arith, long) in
-      let job : latest p i (length ticks) ≡ latest p i (length ticks - 1) =
-      ap (latest p i) long ∙ stays t i h other ∙ ap (latest p i) (sym back) in
-      ap (λ (k : ℕ). worst_demand p i k - exec p ticks i k) job
+  lack-same t i h other = grind (arith, nat_tests, lack-long, stays)
 
   -- where a task has no release, it lacks as much after the releases as before
   pub lack-quiet : (t j : ℕ) → j < count p → IsQuiet p t j → lack_after p ask t j ≡ lack p ask t j

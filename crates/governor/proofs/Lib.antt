@@ -1,14 +1,10 @@
-pub mod Rows
 pub mod Belonging
 pub mod Ticks
 pub mod Joins
 pub mod Course
-pub mod OneSchedule
 pub mod Fits
 pub mod EdfLaws
 pub mod RmLevels
-pub mod RmLaws
 pub mod OneSpeedLaws
-pub mod PlanDemands
 pub mod Worst
 pub mod Lacks

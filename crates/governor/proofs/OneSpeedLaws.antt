@@ -1,27 +1,52 @@
 -- The laws of a governor whose speed is one number, under both schedulers.
-use Rattle.std.proofs.Common.{◌≡◌, ℕ, ◌<◌, ◌≤◌, true, List, refl, subst, arith, lit<, lit≤}
+use Rattle.std.proofs.lemmas.Bool.Decides.{nat_tests}
+use Rattle.std.proofs.Common.{◌≡◌, ℕ, ◌*◌, ◌<◌, ◌≤◌, true, List, refl, subst, arith, lit<, lit≤}
+use Rattle.dvs_base.specs.declared.kind.Scheduler.TheVariants.{Rm, Edf}
+use Rattle.sched_model.specs.Plan.{Plan, count, period, top_speed}
+use Rattle.sched_model.specs.Jobs.{JobDemands}
+use Rattle.sched_model.specs.Admission.{IsWithinLimits, IsAdmitted}
+use Rattle.sched_model.specs.States.{StateOf, row_at, opening}
 use Rattle.dvs_base.specs.declared.kind.Scheduler.{Scheduler}
-use Rattle.dvs_base.specs.declared.kind.Scheduler.TheVariants.{Edf, Rm}
 use Rattle.dvs_base.specs.declared.kind.GovernorKind.{GovernorKind}
 use Rattle.dvs_base.specs.declared.kind.GovernorKind.TheVariants.{Plain, Fixed}
 use Rattle.dvs_base.specs.PlanWords.{IsPair}
 use Rattle.grid_fraction.specs.declared.Frac.{Frac}
 use Rattle.freq_table.specs.Tables.{speed_at, lowest_entry, lowest_pick}
-use Rattle.sched_model.specs.Plan.{Plan, count, period, top_speed}
-use Rattle.sched_model.specs.Jobs.{JobDemands}
 use Rattle.sched_model.specs.StaticDemand.{full_demand, static_demand}
-use Rattle.sched_model.specs.Admission.{IsWithinLimits, IsAdmitted}
-use Rattle.sched_model.specs.States.{StateOf, row_at, opening}
 use Rattle.sched_model.proofs.Limits.{some_period}
-use Rattle.governor.specs.Steps.{after_boundary, after_tick, IsLegalIn, IsBeforeAll, Belongs}
+use Rattle.sched_model.proofs.StaticShare.{static_den}
+use Rattle.governor.specs.Steps.{after_boundary, IsLegalIn, after_tick, IsBeforeAll, Belongs}
+use Rattle.governor.specs.Worst.{level_work_in}
+use Rattle.governor.specs.Rm.{StretchCalm}
+use Rattle.governor.proofs.RmLevels.{level_opens, level_completes, level_releases, level_ticks}
 use Rattle.governor.specs.Laws.{GovernorLaws, HasLowDen}
 use Rattle.governor.specs.Serving.{ServesBoth}
 use Rattle.governor.specs.Speeds.{unchanging, fixed_speed}
 use Rattle.governor.specs.OneSpeed.{CalmBy, SafeBy, CalmAt, SafeAt}
-use Rattle.sched_model.proofs.Weights.{static_den}
 use Rattle.governor.proofs.Fits.{IsEnough, full_enough, full_speed, full_met, static_enough, static_met}
 use Rattle.governor.proofs.EdfLaws.{edf_opens, edf_releases, edf_chooses, edf_ticks, edf_stays_calm, edf_completes}
-use Rattle.governor.proofs.RmLaws.{rm_opens, rm_releases, rm_ticks, rm_completes}
+
+module _ (F : ℕ) (span : ℕ → ℕ) (plan : Plan) (lim : IsWithinLimits plan) where
+  pub rm_opens : StretchCalm F span plan (opening plan)
+  rm_opens i h = level_opens F (span i) plan lim i h
+
+  module _ (dem : JobDemands) (s : StateOf) (bel : Belongs plan dem s) where
+    pub rm_completes : ((i : ℕ) → i < count plan → span i ≤ period plan i) → StretchCalm F span plan s → (i : ℕ)
+        → i < count plan → (row_at s i).deadline ≡ s.now → (row_at s i).done ≡ true
+    rm_completes within calm i h = level_completes F (span i) plan lim i h dem s bel (within i h) (calm i h)
+
+    pub rm_releases : ((i : ℕ) → i < count plan → 0 < span i) → ((i : ℕ) → i < count plan → span i ≤ period plan i)
+        → StretchCalm F span plan s → StretchCalm F span plan (after_boundary plan dem s)
+    rm_releases some within calm i h =
+        level_releases F (span i) plan lim i h dem s bel (some i h)
+        (λ j hj on. rm_completes within calm j hj) (calm i h)
+
+    pub rm_ticks : plan.scheduler ≡ Rm
+        → ((i : ℕ) → i < count plan → level_work_in plan (span i) i ≤ F * span i)
+        → (shares : List ℕ) → IsBeforeAll plan s → IsLegalIn plan dem F s shares → StretchCalm F span plan s
+        → StretchCalm F span plan (after_tick dem shares s)
+    rm_ticks rm fits shares before legal calm i h =
+        level_ticks F (span i) plan lim i h dem s bel rm (fits i h) shares before legal (calm i h)
 
 module _ (F : ℕ) (plan : Plan) (lim : IsWithinLimits plan) (enough : IsEnough F plan) where
   opens_by : (sch : Scheduler) → plan.scheduler ≡ sch → CalmBy sch F plan (opening plan)
@@ -79,28 +104,7 @@ pub record IsOneSpeed (F : Plan → ℕ) (demand : Plan → Frac) : Type 0 where
 pub laws_at : {kind : GovernorKind} (F : Plan → ℕ) (demand : Plan → Frac) → IsOneSpeed F demand
     → ((sch : Scheduler) → ServesBoth sch → IsPair sch kind)
     → GovernorLaws kind ServesBoth (unchanging demand) (CalmAt F) (SafeAt F)
-laws_at F demand one pairs = record {
-  pairs = pairs;
-  low_den = λ plan s on of dec. one.low plan on.admitted;
-  opens = λ plan on. opens_by (F plan) plan on.admitted.limits (one.enough plan on.admitted) plan.scheduler refl;
-  releases = λ plan dem s run calm.
-      let adm = run.admitted in
-      releases_by (F plan) plan adm.limits (one.enough plan adm) dem s run.belongs plan.scheduler calm;
-  chooses = λ plan dem s run dec calm.
-      let adm = run.admitted in
-      let k = lowest_entry plan.machine (demand plan) in
-      chooses_by (F plan) plan adm.limits (one.enough plan adm) dem s run.belongs plan.scheduler k (one.same plan adm) calm;
-  meets = λ plan dem s run dec calm other. one.met plan run.admitted;
-  ticks = λ plan dem s run k safe shares may.
-      let adm = run.admitted in
-      ticks_by (F plan) plan adm.limits (one.enough plan adm) dem s run.belongs plan.scheduler refl k shares may.before may.legal safe;
-  stays_calm = λ plan dem s run k safe.
-      let adm = run.admitted in
-      stays_by (F plan) plan adm.limits (one.enough plan adm) dem s run.belongs plan.scheduler k safe;
-  completes = λ plan dem s run calm.
-      let adm = run.admitted in
-      completes_by (F plan) plan adm.limits (one.enough plan adm) dem s run.belongs plan.scheduler calm;
-}
+laws_at F demand one pairs = grind (arith, nat_tests, opens_by, releases_by, chooses_by, ticks_by, stays_by, completes_by)
 
 -- a governor at the highest speed keeps the laws
 pub full_laws : {kind : GovernorKind} → ((sch : Scheduler) → ServesBoth sch → IsPair sch kind)

@@ -1,7 +1,8 @@
 -- The laws under RM at one speed for one level: a task and those before it.
+use Rattle.std.proofs.lemmas.Bool.Decides.{nat_tests}
 use Rattle.std.proofs.Common.{◌≡◌, ◌⊎◌, inl, inr, ℕ, zero, suc, ◌+◌, ◌-◌, ◌*◌, ◌<◌, ◌≤◌, Bool, true, false, List, refl, sym, ◌∙◌, ap, subst, arith, add-one}
 use Rattle.std.proofs.Math.Nat.{mul-le-mul_right, mul-zero}
-use Rattle.std.specs.Prelude.{if◌then◌else◌, nat_le, ◌==◌}
+use Rattle.std.specs.Prelude.{if◌then◌else◌, nat_le}
 use Rattle.std.proofs.lemmas.Bool.{le-leb, leb-true, cases_lt, cases_Bool, or_parts}
 use Rattle.dvs_base.specs.declared.kind.Scheduler.{Scheduler}
 use Rattle.dvs_base.specs.declared.kind.Scheduler.TheVariants.{Rm}
@@ -15,9 +16,8 @@ use Rattle.sched_model.specs.States.{StateOf, row_at, row_wleft, opening, key_in
 use Rattle.sched_model.proofs.JobLaws.{due-suc, release-suc, release-due, latest_since-pos}
 use Rattle.sched_model.proofs.Limits.{some_period}
 use Rattle.sched_model.proofs.LevelSums.{sum_where-mono, sum_where-plus, sum_where-term, up_to-self, up_to-trans, sum_up_to-where}
-use Rattle.governor.specs.Steps.{opened_row, after_boundary, wleft_at, release_of, share_in, IsLegalIn, after_tick, IsBeforeAll, Belongs}
-use Rattle.governor.proofs.Rows.{done_none, wleft-most}
-use Rattle.governor.proofs.Belonging.{unborn_done, opening_at, opened_release, boundary-by, tick_at, belongs_tick}
+use Rattle.governor.specs.Steps.{opened_row, after_boundary, wleft_at, release_of, IsLegalIn, after_tick, IsBeforeAll, Belongs}
+use Rattle.governor.proofs.Belonging.{done_none, wleft-most, unborn_done, opening_at, opened_release, boundary-by, tick_at, belongs_tick}
 use Rattle.governor.proofs.Ticks.{tick_set, demand_most}
 use Rattle.governor.specs.Worst.{level_work_in}
 use Rattle.governor.specs.Rm.{level, released_since, asked_since, LevelCalm}
@@ -49,21 +49,7 @@ spaced plan j b (suc k) = go (nat_le b (release plan j (suc k))) refl (spaced pl
 -- where q periods cover l ticks, at most q jobs are released at b or later and before b + l
 in_window : (plan : Plan) (j b k l q : ℕ) → 0 < period plan j → (0 < k → release plan j k < b + l)
     → l ≤ q * period plan j → released_since plan j b k ≤ q
-in_window plan j b zero l q pos last covers = omega arith
-in_window plan j b (suc k) l q pos last covers =
-    elim (spaced plan j b (suc k)) [
-      | inl none ↦ omega arith
-      | inr some ↦
-          let p = period plan j in
-          let c = released_since plan j b (suc k) in
-          let near : release plan j (suc k) < b + l = last (omega arith) in
-          elim (cases_lt q c) [
-            | inl more ↦
-                let m : suc q * p ≤ c * p = mul-le-mul_right p more in
-                absurd (omega (arith, m, some, near, release-due plan j (suc k) (omega arith)))
-            | inr most ↦ most
-          ]
-    ]
+in_window plan j b k l q pos last covers = grind (arith, nat_tests, spaced, cases_lt, mul-le-mul_right, release-due)
 
 -- the quotient rounded up, times the divisor, is at least the dividend
 pub ceil_covers : (n d : ℕ) → 0 < d → n ≤ ceil_div n d * d
@@ -72,10 +58,7 @@ ceil_covers n d pos = omega arith
 -- a job released at b or later adds one to their number
 counts_one : (plan : Plan) (j b k : ℕ) → b ≤ due_at plan j k
     → released_since plan j b (k + 1) ≡ released_since plan j b k + 1
-counts_one plan j b k le =
-    let next : k + 1 ≡ suc k = add-one k in
-    let there : release plan j (suc k) ≡ due_at plan j k = ap (release plan j) (sym next) ∙ release-suc plan j k in
-    rw (next, le-leb b (release plan j (suc k)) (omega (arith, there))) refl
+counts_one plan j b k le = grind (arith, nat_tests, release-suc, le-leb)
 
 -- what a release adds to the need is at most what it adds to the work asked for
 pays : (plan : Plan) (j b c job w : ℕ) → b ≤ due_at plan j job → w ≤ c
@@ -90,28 +73,7 @@ module _ (F long : ℕ) (plan : Plan) (lim : IsWithinLimits plan) (i : ℕ) (h :
   module _ (dem : JobDemands) (s : StateOf) (bel : Belongs plan dem s) where
     pub level_completes : long ≤ period plan i → LevelCalm F long plan s i → (row_at s i).deadline ≡ s.now
         → (row_at s i).done ≡ true
-    level_completes within calm e =
-        let row = row_at s i in
-        elim calm [
-          | inl all ↦ all i h (up_to-self (period plan) i)
-          | inr some ↦
-              let b = some.0 in
-              let stretch = some.1 in
-              elim (cases_Bool row.done) [
-                | inl closed ↦ closed
-                | inr still ↦
-                    let from : b ≤ release_of plan i row = stretch.since i h (up_to-self (period plan) i) still in
-                    elim (cases_lt 0 row.job) [
-                      | inl born ↦
-                          let d : row.deadline ≡ due_at plan i row.job = bel.deadline i h in
-                          let r : latest_since plan i row.job ≡ release plan i row.job =
-                          latest_since-pos plan i row.job born in
-                          let short = stretch.short in
-                          absurd (omega (arith, release-due plan i row.job born))
-                      | inr unborn ↦ unborn_done plan dem s bel i h (omega arith)
-                    ]
-              ]
-        ]
+    level_completes within calm e = grind (arith, nat_tests, up_to-self, cases_Bool, cases_lt, latest_since-pos, release-due, unborn_done)
 
     -- at a boundary a row's need grows by no more than the work that its task asks for since b
     row_pays : (b : ℕ) → b ≤ s.now → (j : ℕ) → j < count plan
@@ -208,11 +170,7 @@ module _ (F long : ℕ) (plan : Plan) (lim : IsWithinLimits plan) (i : ℕ) (h :
 
     tick_open : (shares : List ℕ) (j : ℕ) → j < count plan → (row_at (after_tick dem shares s) j).done ≡ false
         → StayedOpen j (row_at (after_tick dem shares s) j)
-    tick_open shares j hj =
-        let row = row_at s j in
-        let P : Row → Type 0 = λ (new : Row). new.done ≡ false → StayedOpen j new in
-        subst P (sym (tick_at plan dem shares s bel j hj))
-        (λ still. ((or_parts row.done (row.used + share_in shares j == dem j row.job) still).0, refl))
+    tick_open shares j hj = grind (arith, nat_tests, tick_at, or_parts)
 
     done_stays : (shares : List ℕ) (j : ℕ) → j < count plan → (row_at s j).done ≡ true
         → (row_at (after_tick dem shares s) j).done ≡ true

@@ -7,7 +7,7 @@ use Rattle.sched_model.specs.Plan.{Plan, count}
 use Rattle.sched_model.specs.Jobs.{JobDemands}
 use Rattle.sched_model.specs.Priority.{stands_before}
 use Rattle.sched_model.specs.States.{StateOf, row_at, key_in}
-use Rattle.sched_model.proofs.DownSets.{down-set-gets}
+use Rattle.sched_model.proofs.Allotments.{down-set-gets}
 use Rattle.sched_model.proofs.LevelSums.{sum_where-mono, sum_where-plus, sum_where-tight}
 use Rattle.governor.specs.Steps.{wleft_at, share_in, left_in, IsLegalIn, after_tick, Belongs}
 use Rattle.governor.proofs.Belonging.{tick_at, legal_most}

@@ -1,25 +1,60 @@
--- The schedule under static with every job at its worst case meets every deadline, for each number of ticks.
-use Rattle.std.proofs.Common.{◌≡◌, ℕ, ◌-◌, ◌<◌, ◌≤◌, List, length, refl, arith, ap, ◌∙◌, sym, subst}
-use Rattle.dvs_base.specs.declared.kind.GovernorKind.TheVariants.{Fixed}
+-- The published demands of the kinds `Plain` and `Fixed` are functions of the plan alone. So the schedule under `static`
+-- with every job at its worst case meets every deadline, for each number of ticks.
+use Rattle.std.proofs.lemmas.Bool.Decides.{nat_tests}
+use Rattle.std.proofs.Common.{◌≡◌, List, [], ◌∷◌, refl, ap, ℕ, ◌-◌, ◌<◌, ◌≤◌, length, arith, ◌∙◌, sym, subst}
+use Rattle.dvs_base.specs.declared.kind.Scheduler.{Scheduler}
+use Rattle.dvs_base.specs.declared.kind.Scheduler.TheVariants.{Edf, Rm}
+use Rattle.dvs_base.specs.declared.kind.GovernorKind.TheVariants.{Plain, Fixed}
+use Rattle.grid_fraction.specs.declared.Frac.{Frac}
+use Rattle.freq_table.specs.Tables.{lowest_entry}
 use Rattle.sched_model.specs.Plan.{Plan, count}
-use Rattle.sched_model.specs.Jobs.{latest, due, IsWithin, worst_demand, JobDemands}
+use Rattle.sched_model.specs.Schedule.{entry_in_force, schedule, schedule_by}
+use Rattle.sched_model.specs.Jobs.{JobDemands, latest, due, IsWithin, worst_demand}
 use Rattle.sched_model.specs.Ticks.{PublishedDemand, Tick, at, exec, IsMet}
-use Rattle.sched_model.specs.Demand.{published}
-use Rattle.sched_model.specs.Schedule.{schedule, schedule_by}
-use Rattle.sched_model.specs.StaticDemand.{static_demand}
+use Rattle.sched_model.specs.Demand.{demand_by, published}
+use Rattle.sched_model.specs.StaticDemand.{full_demand, static_demand_of, static_demand}
 use Rattle.sched_model.specs.Backlog.{lacking}
 use Rattle.sched_model.specs.Admission.{IsAdmitted}
 use Rattle.sched_model.proofs.Limits.{some_period}
-use Rattle.sched_model.proofs.ScheduleLemmas.{schedule_exists}
+use Rattle.sched_model.proofs.Schedules.{schedule_exists}
 use Rattle.sched_model.proofs.JobLaws.{latest-is, release-due, worst_demand-le}
-use Rattle.governor.specs.Schedule.{ask_of, course}
-use Rattle.governor.proofs.Course.{course-met, at-schedule}
 use Rattle.governor.specs.Serving.{ServesBoth}
 use Rattle.governor.specs.Speeds.{unchanging, fixed_speed}
+use Rattle.governor.specs.Schedule.{PublishingLaws, ask_of, course}
+use Rattle.governor.proofs.Course.{publishing_laws, course-met, at-schedule}
 use Rattle.governor.specs.OneSpeed.{CalmAt, SafeAt}
 use Rattle.governor.specs.Worst.{MeetsAtWorst}
 use Rattle.governor.proofs.OneSpeedLaws.{pairs_fixed, static_laws}
-use Rattle.governor.proofs.PlanDemands.{published-fixed}
+
+plain_by : (sch : Scheduler) (p : Plan) (dem : JobDemands) (past : List Tick) → demand_by sch Plain p dem past ≡ full_demand p
+plain_by Edf p dem past = refl
+plain_by Rm p dem past = refl
+
+fixed_by : (sch : Scheduler) (p : Plan) (dem : JobDemands) (past : List Tick) → demand_by sch Fixed p dem past ≡ static_demand_of sch p
+fixed_by Edf p dem past = refl
+fixed_by Rm p dem past = refl
+
+pub published-plain : (p : Plan) (dem : JobDemands) (past : List Tick) → published p Plain dem past ≡ full_demand p
+unfolding published
+published-plain p dem past = plain_by p.scheduler p dem past
+
+pub published-fixed : (p : Plan) (dem : JobDemands) (past : List Tick) → published p Fixed dem past ≡ static_demand p
+unfolding published
+published-fixed p dem past = fixed_by p.scheduler p dem past
+
+-- where the published demand is always d, the entry in force is always the one for d
+pub entry-same : (p : Plan) (dem : JobDemands) (ask : PublishedDemand) (d : Frac) → ((past : List Tick) → ask past ≡ d)
+    → (past : List Tick) → entry_in_force p dem ask past ≡ lowest_entry p.machine d
+entry-same p dem ask d same [] = ap (lowest_entry p.machine) (same [])
+entry-same p dem ask d same (x ∷ past) = grind (arith, nat_tests, entry-same p dem ask d same past)
+
+pub plain_publishing : PublishingLaws Plain ServesBoth (unchanging full_demand)
+plain_publishing =
+    publishing_laws (unchanging full_demand) Plain ServesBoth (λ p adm served dem within ask past h. published-plain p dem past)
+
+pub fixed_publishing : PublishingLaws Fixed ServesBoth (unchanging static_demand)
+fixed_publishing =
+    publishing_laws (unchanging static_demand) Fixed ServesBoth (λ p adm served dem within ask past h. published-fixed p dem past)
 
 -- the published demand of static is the governor's own, so the schedules are equal
 pub published-fixed_by : (p : Plan) (dem : JobDemands) → published p Fixed dem ≡ ask_of (unchanging static_demand) p dem

@@ -8,8 +8,8 @@ use Rattle.sched_model.specs.declared.state.Row.{Row}
 use Rattle.sched_model.specs.Plan.{Plan, count, period, offset, rate}
 use Rattle.sched_model.specs.Priority.{in_order}
 use Rattle.sched_model.specs.States.{StateOf, no_row, row_at, row_wleft, released_row, opening, after_release, after_run, after_finish, CanRelease, CanRun}
-use Rattle.sched_model.proofs.OrderLemmas.{in_order-same}
-use Rattle.sched_model.proofs.StateRows.{left-opening, left-set, left-run}
+use Rattle.sched_model.proofs.Orders.{in_order-same}
+use Rattle.sched_model.proofs.States.{left-opening, left-set, left-run}
 use Rattle.sched_model.proofs.Tables.{get-table, length-list_below}
 use Rattle.governor.specs.Serving.{ServesEdf}
 use Rattle.governor.proofs.Belonging.{opening_at}

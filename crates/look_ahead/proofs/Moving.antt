@@ -1,12 +1,33 @@
--- A task whose deadline grows, moved to its place in EDF order.
-use Rattle.std.proofs.Common.{◌≡◌, ◌≢◌, ◌⊎◌, inl, inr, eq-or-lt_of_le, le_of_suc-le-suc, ℕ, zero, suc, ◌<◌, ◌≤◌, Bool, true, false, List, [], ◌∷◌, length, get_or, drop, refl, arith, ap, ap₂, sym, subst, ◌∙◌, nat_eq, nat_lt, if◌then◌else◌, true≢false}
-use Rattle.std.specs.Prelude.{◌||◌, ◌&&◌}
+-- EDF order: the first task has the least key, and a task whose deadline grows is moved to its place, in a loop.
+use Rattle.std.proofs.Common.{◌≡◌, ℕ, ◌<◌, ◌≤◌, List, [], ◌∷◌, ◌++◌, get_or, arith, sym, subst, ◌≢◌, ◌⊎◌, inl, inr, eq-or-lt_of_le, le_of_suc-le-suc, zero, suc, Bool, true, false, length, drop, refl, ap, ap₂, ◌∙◌, nat_eq, nat_lt, if◌then◌else◌, true≢false, ◌+◌, take, append_assoc, get_or-set_same, length-set}
+use Rattle.std.specs.Prelude.{◌||◌, ◌&&◌, slice_set}
 use Rattle.std.proofs.lemmas.Bool.Decides.{nat_tests}
-use Rattle.std.proofs.lemmas.List.{drop_more}
-use Rattle.sched_model.specs.Priority.{stands_before, insert_by, in_order}
-use Rattle.sched_model.proofs.PriorityLemmas.{before-self, before-trans, before-not, before-total}
-use Rattle.sched_model.proofs.OrderLemmas.{IsAhead, IsOrdered, AreBelow, in_order-below, in_order-ordered, in_order-same, length-in_order}
+use Rattle.std.proofs.lemmas.List.{drop_more, append-nil, drop-set-lt, take-set, take_all, take_more, take_more_set}
+use Rattle.std.proofs.Math.ListN.{drop_of_length-le}
+use Rattle.grid_fraction.specs.Numbers.{least_below}
+use Rattle.grid_fraction.proofs.Least.{least-above, least-below}
+use Rattle.sched_model.specs.Priority.{in_order, stands_before, insert_by}
+use Rattle.sched_model.proofs.Orders.{IsOrdered, below-at, first_ahead, in_order-below, in_order-ordered, length-in_order, stands-in_order, before-self, before-trans, before-not, before-total, IsAhead, AreBelow, in_order-same}
+use Rattle.look_ahead_laws.proofs.Spreading.{key_rises}
 use Rattle.look_ahead.specs.Counters.{stands_before_due}
+
+first-least : (key : ℕ → ℕ) (j : ℕ) (pre post : List ℕ) → IsOrdered key (pre ++ j ∷ post)
+    → key (get_or (pre ++ j ∷ post) 0 0) ≤ key j
+first-least key j [] post o = omega arith
+first-least key j (i ∷ pre) post o = key_rises key i j (first_ahead key i j pre post o.0)
+
+pub first-in_order : (key : ℕ → ℕ) (n : ℕ) → 0 < n → key (get_or (in_order key n) 0 0) ≡ least_below n key
+first-in_order key n some = omega (arith, low, high)
+  where
+    high : key (get_or (in_order key n) 0 0) ≤ least_below n key
+    high = least-above n key (key (get_or (in_order key n) 0 0)) some (λ j lt.
+        let at = stands-in_order key n j lt in
+        let o : IsOrdered key (at.0 ++ j ∷ at.1.0) = subst (IsOrdered key) at.1.1 (in_order-ordered key n) in
+        subst (λ (xs : List ℕ). key (get_or xs 0 0) ≤ key j) (sym at.1.1) (first-least key j at.0 at.1.0 o))
+
+    low : least_below n key ≤ key (get_or (in_order key n) 0 0)
+    low = least-below n key (get_or (in_order key n) 0 0)
+        (below-at n (in_order key n) 0 (in_order-below key n) (rw length-in_order some))
 
 -- a list with x in front, in which task i goes back behind those that pass the test, up to the first that doesn't
 abbrev pub moved_back : (ℕ → Bool) → ℕ → ℕ → List ℕ → List ℕ
@@ -212,3 +233,76 @@ module _ (key key' : ℕ → ℕ) (i : ℕ) (same : (j : ℕ) → j ≢ i → ke
       subst (IsOrdered key) (sym e ∙ parts) (in_order-ordered key n) in
       moved_back-is (get_or old 0 0) (drop 1 old) ordered
       ∙ (ap (reinserted key' i) (sym parts ∙ e) ∙ reinserted-in_order n lt)
+
+-- the first k numbers are in place, and the one that may go back is next
+pub record Passing (test : ℕ → Bool) (i : ℕ) (old order : List ℕ) (k : ℕ) : Type 0 where
+  pub long : length order ≡ length old
+  pub made : moved_back test i (get_or old 0 0) (drop 1 old)
+      ≡ take k order ++ moved_back test i (get_or order k 0) (drop (k + 1) order)
+
+module _ (test : ℕ → Bool) (i : ℕ) (old order : List ℕ) (k : ℕ)
+    (lt : k + 1 < length order) (was : Passing test i old order k) where
+  abbrev here : ℕ
+  here = get_or order k 0
+
+  abbrev next : ℕ
+  next = get_or order (k + 1) 0
+
+  abbrev rest : List ℕ
+  rest = drop (k + 1 + 1) order
+
+  next_is : moved_back test i (get_or old 0 0) (drop 1 old) ≡ take k order ++ moved_back test i here (next ∷ rest)
+  next_is = was.made ∙ ap (λ (ds : List ℕ). take k order ++ moved_back test i here ds) (drop_more order (k + 1) 0 lt)
+
+  pub passing_stays : (nat_eq here i && test next) ≡ false → Passing test i old order (k + 1)
+  passing_stays stays =
+      let stay : moved_back test i here (next ∷ rest) ≡ here ∷ moved_back test i next rest = rw stays refl in
+      record {
+        long = was.long;
+        made = next_is
+            ∙ (ap (λ (ds : List ℕ). take k order ++ ds) stay
+            ∙ (sym (append_assoc (take k order) (here ∷ []) (moved_back test i next rest))
+            ∙ ap (λ (ys : List ℕ). ys ++ moved_back test i next rest) (sym (take_more order k 0 (omega arith)))));
+      }
+
+  pub passing_moves : here ≡ i → test next ≡ true
+      → Passing test i old (slice_set (slice_set order k next) (k + 1) i) (k + 1)
+  passing_moves own moves =
+      let self : nat_eq here i ≡ true = grind (arith, nat_tests) in
+      let set_next = slice_set order k next in
+      let order' = slice_set set_next (k + 1) i in
+      let long : length set_next ≡ length order = length-set order k next in
+      let move : moved_back test i here (next ∷ rest) ≡ next ∷ moved_back test i here rest = rw (self, moves) refl in
+      let front : take (k + 1) order' ≡ take k order ++ next ∷ [] =
+      take-set set_next (k + 1) i ∙ take_more_set order k next (omega arith) in
+      let at : get_or order' (k + 1) 0 ≡ here = get_or-set_same set_next (k + 1) i 0 (omega arith) ∙ sym own in
+      let back : drop (k + 1 + 1) order' ≡ rest =
+      drop-set-lt (k + 1 + 1) set_next (k + 1) i (omega arith) ∙ drop-set-lt (k + 1 + 1) order k next (omega arith) in
+      record {
+        long = length-set set_next (k + 1) i ∙ (long ∙ was.long);
+        made = next_is
+            ∙ (ap (λ (ds : List ℕ). take k order ++ ds) move
+            ∙ (sym (append_assoc (take k order) (next ∷ []) (moved_back test i here rest))
+            ∙ (ap (λ (ys : List ℕ). ys ++ moved_back test i here rest) (sym front)
+            ∙ ap₂ (λ (x : ℕ) (ds : List ℕ). take (k + 1) order' ++ moved_back test i x ds) (sym at) (sym back))));
+      }
+
+-- a number other than i doesn't go back
+pub stays_other : (x i : ℕ) (b : Bool) → x ≢ i → (nat_eq x i && b) ≡ false
+stays_other x i b ne = let other : nat_eq x i ≡ false = grind (arith, nat_tests) in rw other refl
+
+-- a vector whose whole slice was lent and written has the written items
+pub written_back : (len : ℕ) (old new : List ℕ) → len ≡ length old → length new ≡ length old
+    → take len (new ++ drop (length new) old) ≡ new
+written_back len old new long same =
+    let none : drop (length new) old ≡ [] = drop_of_length-le old (omega arith) in
+    rw none (rw append-nil (take_all len new (omega arith)))
+
+-- when the loop reaches the last place, all numbers are in place
+pub passing_end : (test : ℕ → Bool) (i : ℕ) (old order : List ℕ) (k : ℕ) → k + 1 ≡ length order
+    → Passing test i old order k → order ≡ moved_back test i (get_or old 0 0) (drop 1 old)
+passing_end test i old order k last was =
+    let none : drop (k + 1) order ≡ [] = drop_of_length-le order (omega arith) in
+    sym (was.made
+    ∙ (ap (λ (ds : List ℕ). take k order ++ moved_back test i (get_or order k 0) ds) none
+    ∙ (sym (take_more order k 0 (omega arith)) ∙ take_all (k + 1) order (omega arith))))

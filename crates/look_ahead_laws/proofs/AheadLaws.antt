@@ -9,8 +9,7 @@ use Rattle.grid_fraction.specs.declared.Frac.{Frac}
 use Rattle.grid_fraction.proofs.Least.{least-below}
 use Rattle.freq_table.specs.declared.machine.Pick.{Pick}
 use Rattle.freq_table.specs.Tables.{Table, speed_at, last_entry, highest_speed, lowest_entry, IsTable}
-use Rattle.freq_table.proofs.Chosen.{below_highest, lowest_within, picked_meets}
-use Rattle.freq_table.proofs.Lowest.{lowest_pick-none}
+use Rattle.freq_table.proofs.Chosen.{below_highest, lowest_within, picked_meets, lowest_pick-none}
 use Rattle.sched_model.specs.Plan.{Plan, count, hyper, rate, top_speed}
 use Rattle.sched_model.specs.Jobs.{JobDemands}
 use Rattle.sched_model.specs.Priority.{sum_before}
@@ -19,7 +18,7 @@ use Rattle.sched_model.specs.AheadDemand.{spread_rates}
 use Rattle.sched_model.specs.Admission.{IsAdmitted}
 use Rattle.sched_model.specs.States.{StateOf, earliest_in}
 use Rattle.sched_model.proofs.Limits.{some_task, some_hyper}
-use Rattle.sched_model.proofs.OrderLemmas.{sum_list, sum_list-in_order, in_order-below, sum_list-append}
+use Rattle.sched_model.proofs.Orders.{sum_list, sum_list-in_order, in_order-below, sum_list-append}
 use Rattle.governor.specs.Steps.{wleft_at, IsAtDecision, Belongs}
 use Rattle.governor.specs.Serving.{ServesEdf}
 use Rattle.governor.specs.Laws.{GovernorLaws}

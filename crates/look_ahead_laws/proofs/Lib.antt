@@ -1,4 +1,3 @@
-pub mod EdfOrder
 pub mod Spreading
 pub mod AheadLaws
 pub mod Whole

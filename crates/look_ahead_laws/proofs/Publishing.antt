@@ -11,12 +11,12 @@ use Rattle.sched_model.specs.Priority.{in_order}
 use Rattle.sched_model.specs.AheadDemand.{first_due, slack, put_off, spread_rate, spread_rates, due_first, ahead_of, edf_ahead}
 use Rattle.sched_model.specs.Demand.{demand_by, published}
 use Rattle.sched_model.specs.States.{row_wleft, state_of}
-use Rattle.sched_model.proofs.OrderLemmas.{AreBelow, in_order-below, in_order-same, sum_before-same}
-use Rattle.sched_model.proofs.Joining.{row_at-state_of}
+use Rattle.sched_model.proofs.Orders.{AreBelow, in_order-below, in_order-same, sum_before-same}
+use Rattle.sched_model.proofs.States.{row_at-state_of}
 use Rattle.governor.specs.Steps.{wleft_at}
 use Rattle.governor.specs.Schedule.{Publishes, PublishingLaws}
 use Rattle.governor.specs.Serving.{ServesEdf}
-use Rattle.governor.proofs.OneSchedule.{publishing_laws}
+use Rattle.governor.proofs.Course.{publishing_laws}
 use Rattle.look_ahead_laws.specs.Ahead.{deadline_at, ahead_demand}
 
 module _ (p : Plan) (due due' left left' : ℕ → ℕ) (same : (i : ℕ) → i < count p → due i ≡ due' i)

@@ -9,13 +9,12 @@ use Rattle.sched_model.specs.Priority.{stands_before}
 use Rattle.sched_model.specs.AheadDemand.{slack, put_off, spread_rate, spread_rates, due_first}
 use Rattle.sched_model.specs.Admission.{IsAdmitted}
 use Rattle.sched_model.specs.States.{StateOf}
-use Rattle.sched_model.proofs.PriorityLemmas.{before-self}
-use Rattle.sched_model.proofs.OrderLemmas.{sum_list, sum_list-in_order, IsOrdered, in_order-ordered, AreBelow, in_order-below, below-from, stands-in_order, first_ahead}
+use Rattle.sched_model.proofs.Orders.{before-self, sum_list, sum_list-in_order, IsOrdered, in_order-ordered, AreBelow, in_order-below, below-from, stands-in_order, first_ahead}
 use Rattle.governor.specs.Steps.{wleft_at}
 use Rattle.governor.specs.Serving.{ServesEdf}
 use Rattle.look_ahead_laws.specs.Ahead.{deadline_at, edf_order, ahead_demand}
 use Rattle.look_ahead_laws.specs.Whole.{rates_before, rates_after, IsSpreadIn, HasSpread, IsDemandOfSpread, RatesFit}
-use Rattle.look_ahead_laws.proofs.EdfOrder.{sum_after-suffix}
+use Rattle.look_ahead_laws.proofs.Spreading.{sum_after-suffix}
 use Rattle.look_ahead_laws.proofs.AheadLaws.{each_rate}
 
 module _ (plan : Plan) (s : StateOf) where

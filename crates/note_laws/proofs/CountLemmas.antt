@@ -1,25 +1,78 @@
--- The counts of a schedule's notes, tick by tick.
-use Rattle.std.proofs.Common.{◌≡◌, ℕ, zero, suc, ◌+◌, ◌≤◌, Bool, true, false, not, ◌&&◌, ◌||◌, List, [], ◌∷◌, length, refl, arith, if◌then◌else◌, ap, ◌∙◌, sym, true≢false, nat_eq, nat_le}
+-- The counts of a schedule's notes, tick by tick. They say once that a job completes, when it has had its demand, and not
+-- after its deadline.
+use Rattle.std.proofs.Common.{◌≡◌, ◌+◌, Bool, true, false, List, [], ◌∷◌, ◌++◌, refl, arith, ap, ℕ, suc, ◌≤◌, not, ◌&&◌, length, if◌then◌else◌, ◌∙◌, sym, nat_eq, nat_le, ◌-◌, ◌*◌, ◌/◌, ◌%◌, ◌<◌, inl, inr, nat_lt, div-add-mod', mul-le-mul_right}
 use Rattle.std.specs.Prelude.{count_by, cond}
+use Rattle.std.specs.List.{AllByRecursion}
+use Rattle.std.proofs.lemmas.List.Sums.{sum_by-cons}
 use Rattle.std.proofs.lemmas.Bool.Decides.{nat_tests}
+use Rattle.std.proofs.Math.Nat.{le_of_mul-le-mul_right}
+use Rattle.std.proofs.lemmas.Bool.{cases_lt}
+use Rattle.sched_model.proofs.NoteSums.{one_if, releases, empty_jobs, completions, release-counts, none-sum, with-end, next-sum, Weighs, weights, nothing, none-weighs, all_done, tells-all, all_done-next, release-sum, tells_done, same-numbers, reached-all, reached-none, done_by, tells-job}
 use Rattle.dvs_base.specs.declared.note.Note.{Note}
 use Rattle.grid_fraction.specs.Numbers.{sum_below, any_below}
 use Rattle.grid_fraction.proofs.Sums.{sum_below-same, sum_below-add, sum_below-le, sum_below-zero}
 use Rattle.grid_fraction.proofs.Searches.{any-some}
-use Rattle.sched_model.specs.Plan.{Plan, count}
-use Rattle.sched_model.specs.Jobs.{JobDemands, latest, release, releases_at, is_release}
+use Rattle.sched_model.specs.Plan.{Plan, count, period, point}
+use Rattle.sched_model.specs.Jobs.{JobDemands, latest, release, releases_at, due}
 use Rattle.sched_model.specs.Ticks.{PublishedDemand, Tick, exec, is_done}
 use Rattle.sched_model.specs.Decision.{completes_in, is_decision}
 use Rattle.sched_model.specs.Schedule.{IsScheduleBy}
 use Rattle.sched_model.specs.Admission.{IsWithinLimits}
-use Rattle.sched_model.specs.Notes.{tick_units, notes_before_end, notes_of}
+use Rattle.sched_model.specs.Notes.{tick_units, notes_before_end, notes_of, Span, position_of, all_release_notes}
 use Rattle.sched_model.specs.Totals.{is_released, is_finished, is_decided, totals_of}
 use Rattle.sched_model.proofs.Limits.{every_period}
 use Rattle.sched_model.proofs.LevelSums.{sum_below-term}
-use Rattle.sched_model.proofs.JobLaws.{release-le, exec-early}
-use Rattle.sched_model.proofs.NoteSums.{one_if, releases, empty_jobs, completions, release-counts, none-sum, with-end, next-sum, Weighs, weights, nothing, none-weighs, all_done, tells-all, all_done-next}
-use Rattle.sched_model.proofs.Spans.{stays-unreleased}
+use Rattle.sched_model.proofs.JobLaws.{release-le, exec-early, latest-is, lt-due, release-due}
+use Rattle.sched_model.proofs.Spans.{stays-unreleased, IsLastSpan, IsNow}
+use Rattle.dvs_base.specs.declared.note.Note.TheVariants.{Done}
+use Rattle.sched_model.proofs.Units.{sum-own}
+use Rattle.sched_model.proofs.Walk.{EachNote, AreFirst, each-note}
+use Rattle.trace_text.proofs.PlainLines.{each-append}
 use Rattle.note_laws.specs.LineCounts.{AreFew, HasFewDecisions}
+use Rattle.note_laws.specs.DoneLines.{IsBy}
+
+pub count-next : {A : Type 0} (test : A → Bool) (x : A) (xs : List A) → count_by test (x ∷ xs) ≡ one_if (test x) + count_by test xs
+count-next test x xs = sum_by-cons (λ y. cond (test y) 1 0) x xs
+
+-- where a count is 0, no element of the list passes the test
+pub none-counted : {A : Type 0} (test : A → Bool) (xs : List A) → count_by test xs ≡ 0 → AllByRecursion (λ x. test x ≡ false) xs
+none-counted test [] e = tt
+none-counted test (x ∷ xs) e = (off (test x) refl, none-counted test xs (omega (arith, count-next test x xs, e)))
+  where
+    off : (b : Bool) → test x ≡ b → test x ≡ false
+    off true f = absurd (omega (arith, count-next test x xs, e, ap one_if f))
+    off false f = f
+
+-- a list with exactly one element that passes the test
+pub record IsAlone {A : Type 0} (test : A → Bool) (xs : List A) : Type 0 where
+  pub front : List A
+  pub one : A
+  pub back : List A
+  pub parts : xs ≡ front ++ one ∷ back
+  pub passes : test one ≡ true
+  pub none_front : AllByRecursion (λ x. test x ≡ false) front
+  pub none_back : AllByRecursion (λ x. test x ≡ false) back
+
+-- where a count is 1, there is exactly one such element
+pub alone : {A : Type 0} (test : A → Bool) (xs : List A) → count_by test xs ≡ 1 → IsAlone test xs
+alone test [] e = absurd (omega (arith, e))
+alone test (x ∷ xs) e = go (test x) refl (alone test xs)
+  where
+    go : (b : Bool) → test x ≡ b → (count_by test xs ≡ 1 → IsAlone test xs) → IsAlone test (x ∷ xs)
+    go true f ih =
+        let none : count_by test xs ≡ 0 = omega (arith, count-next test x xs, e, ap one_if f) in
+        record { front = []; one = x; back = xs; parts = refl; passes = f; none_front = tt; none_back = none-counted test xs none }
+    go false f ih =
+        let r = ih (omega (arith, count-next test x xs, e, ap one_if f)) in
+        record {
+          front = x ∷ r.front;
+          one = r.one;
+          back = r.back;
+          parts = ap (λ ys. x ∷ ys) r.parts;
+          passes = r.passes;
+          none_front = (f, r.none_front);
+          none_back = r.none_back;
+        }
 
 module _ (p : Plan) (dem : JobDemands) (ask : PublishedDemand) (lim : IsWithinLimits p) (needless : (i : ℕ) → dem i 0 ≡ 0) where
   abbrev notes : List Tick → List Note
@@ -96,30 +149,14 @@ module _ (p : Plan) (dem : JobDemands) (ask : PublishedDemand) (lim : IsWithinLi
 
   -- a decision is at tick 0, at a release, or just after a completion
   decision-cause : (past : List Tick) → one_if (is_decision p dem past) ≤ start past + (fresh past + releases p (length past))
-  decision-cause [] = omega arith
-  decision-cause (x ∷ past) =
-      omega (
-        arith,
-        either (is_release p (length (x ∷ past))) (any_below (count p) (λ i. completes_in p dem x past i)),
-        some-counted (λ j. releases_at p j (length (x ∷ past))),
-      )
-    where
-      either : (a b : Bool) → one_if (a || b) ≤ one_if a + one_if b
-      either true b = omega arith
-      either false b = omega arith
+  decision-cause past = grind (arith, nat_tests, some-counted, one_if)
 
   -- where task i has no release, its open job before is its latest job, unless that has had its demand
   open-before : (past : List Tick) (i : ℕ) → releases_at p i (length past) ≡ false → open_job past i ≡ lacks past (length past) i
   open-before [] i unreleased = rw (first (latest p i 0) refl) refl
     where
       first : (k : ℕ) → latest p i 0 ≡ k → nat_le (dem i (latest p i 0)) 0 ≡ true
-      first zero e =
-          let needs : dem i (latest p i 0) ≡ 0 = ap (dem i) e ∙ needless i in
-          grind (arith, nat_tests)
-      first (suc k) e =
-          let le = release-le p i 0 (every_period p lim i) (omega (arith, e)) in
-          let on : releases_at p i 0 ≡ true = grind (arith, nat_tests) in
-          absurd (true≢false (sym on ∙ unreleased))
+      first k e = grind (arith, nat_tests, release-le, every_period)
   open-before (x ∷ past) i unreleased =
       ap (λ k. if is_done p dem (x ∷ past) i k then 0 else 1) (sym (stays-unreleased p dem (every_period p lim) x past i unreleased))
 
@@ -136,10 +173,7 @@ module _ (p : Plan) (dem : JobDemands) (ask : PublishedDemand) (lim : IsWithinLi
       one : (i k : ℕ) (a : Bool) → is_done p dem past i k ≡ a → (b : Bool) → is_done p dem (x ∷ past) i k ≡ b
           → (if is_done p dem (x ∷ past) i k then 0 else 1) + one_if (not (is_done p dem past i k) && is_done p dem (x ∷ past) i k)
           ≡ (if is_done p dem past i k then 0 else 1)
-      one i k true e true f = rw (e, f) refl
-      one i k true e false f = absurd (true≢false (grind (arith, nat_tests)))
-      one i k false e true f = rw (e, f) refl
-      one i k false e false f = rw (e, f) refl
+      one i k a e b f = grind (arith, nat_tests)
 
   -- at a tick, the jobs released with no demand and those that are then open are at most those open before and those released
   open-most : (past : List Tick)
@@ -159,20 +193,7 @@ module _ (p : Plan) (dem : JobDemands) (ask : PublishedDemand) (lim : IsWithinLi
       empty i = one_if (releases_at p i t && nat_eq (dem i (latest p i t)) 0)
 
       each : (i : ℕ) (b : Bool) → releases_at p i t ≡ b → empty i + lacks past t i ≤ open_job past i + one_if (releases_at p i t)
-      each i false e = rw e (omega (arith, open-before past i e))
-      each i true e =
-          let now : release p i (latest p i t) ≡ t = grind (arith, nat_tests) in
-          let none : exec p past i (latest p i t) ≡ 0 = exec-early p past i (latest p i t) (omega (arith, now)) in
-          rw (e, none) (omega (arith, one (dem i (latest p i t))))
-        where
-          one : (need : ℕ) → one_if (nat_eq need 0) + (if nat_le need 0 then 0 else 1) ≤ 1
-          one need = go (nat_eq need 0) refl (nat_le need 0) refl
-            where
-              go : (a : Bool) → nat_eq need 0 ≡ a → (b : Bool) → nat_le need 0 ≡ b → one_if (nat_eq need 0) + (if nat_le need 0 then 0 else 1) ≤ 1
-              go true f true g = rw (f, g) (omega arith)
-              go true f false g = absurd (true≢false (grind (arith, nat_tests)))
-              go false f true g = rw (f, g) (omega arith)
-              go false f false g = rw (f, g) (omega arith)
+      each i b e = grind (arith, nat_tests, open-before, exec-early, one_if)
 
   -- the counts over the notes of these ticks are balanced: decisions by their causes, and completions by releases
   record Balanced (ticks : List Tick) : Type 0 where
@@ -180,11 +201,7 @@ module _ (p : Plan) (dem : JobDemands) (ask : PublishedDemand) (lim : IsWithinLi
     completed : count_by is_finished (notes ticks) + open_jobs ticks ≤ count_by is_released (notes ticks)
 
   balanced : (ticks : List Tick) → IsScheduleBy p dem ask ticks → Balanced ticks
-  balanced [] h = record {
-    decisions = omega (arith, none-sum p dem ask (λ note. cond (is_decided note) 1 0));
-    completed =
-        omega (arith, none-sum p dem ask (λ note. cond (is_finished note) 1 0), sum_below-zero (count p) (λ i. 0) (λ i lt. refl));
-  }
+  balanced [] h = grind (arith, nat_tests, none-sum, sum_below-zero)
   balanced (x ∷ past) h =
       let before = balanced past h.0 in
       let a = adds x past h in
@@ -195,17 +212,125 @@ module _ (p : Plan) (dem : JobDemands) (ask : PublishedDemand) (lim : IsWithinLi
       }
 
   pub few : (ticks : List Tick) → IsScheduleBy p dem ask ticks → AreFew (totals_of (notes_of p dem ask ticks))
-  few ticks h =
-      let r = balanced ticks h in
-      let decided = with-end p dem ask (λ note. cond (is_decided note) 1 0) ticks in
-      let released = with-end p dem ask (λ note. cond (is_released note) 1 0) ticks in
-      let finished = with-end p dem ask (λ note. cond (is_finished note) 1 0) ticks in
-      record {
-        decisions = omega (arith, r.decisions, decided, released, finished);
-        completions = omega (arith, r.completed, released, finished);
-        two_each = omega (arith, r.decisions, r.completed, decided, released, finished);
-      }
+  few ticks h = grind (arith, nat_tests, balanced, with-end, completions)
 
 -- every schedule has few decisions
 pub has-few : (p : Plan) → IsWithinLimits p → HasFewDecisions p
 has-few p lim dem needless ask ticks h = few p dem ask lim needless ticks h
+
+-- where the note is the completion of job k of task i, it isn't after the beginning of tick t
+abbrev pub IsInTime : ℕ → ℕ → ℕ → Note → Type 0
+IsInTime t i k (Done at_end j l used) = (nat_eq i j && nat_eq k l) ≡ true → IsBy t at_end
+IsInTime t i k _ = Unit {0}
+
+-- a unit boundary within the units of n ticks is not after their end
+by-end : (from f n q t : ℕ) → 0 < f → from + n ≤ t → q ≤ n * f → IsBy t (position_of from f q)
+by-end from f n q t some le within = elim (cases_lt (from + q / f) t) [
+  | inl before ↦ inl before
+  | inr late ↦
+      let whole : q / f * f + q % f ≡ q = div-add-mod' q f in
+      let over : n ≤ q / f = omega (arith, late, le) in
+      let most : n * f ≤ q / f * f = mul-le-mul_right f over in
+      let exact : q / f * f ≤ n * f = omega (arith, whole, within) in
+      let last : q / f ≤ n = le_of_mul-le-mul_right exact some in
+      inr (omega (arith, late, last, le), omega (arith, whole, most, within))
+]
+
+-- the numbers below b and b itself are those below b + 1
+next-below : (a b : ℕ) → one_if (nat_lt a b) + one_if (nat_eq a b) ≡ one_if (nat_lt a (suc b))
+next-below a b = grind (arith, nat_tests, one_if)
+
+module _ (p : Plan) (dem : JobDemands) (ask : PublishedDemand) (lim : IsWithinLimits p) (i k : ℕ) (inside : i < count p) (some_job : 1 ≤ k) where
+  some : 0 < period p i
+  some = every_period p lim i
+
+  -- how often the notes say that the job completes
+  abbrev told : List Note → ℕ
+  told = count_by (tells_done i k)
+
+  -- the release notes of a tick have the completion of the job where it is released there and needs nothing
+  at-release : (t : ℕ) → told (all_release_notes p dem t) ≡ one_if (nat_eq (dem i k) 0 && nat_eq (release p i k) t)
+  at-release t =
+      release-sum p dem t (λ note. cond (tells_done i k note) 1 0)
+      ∙ (sum_below-same (count p) _ (λ j. empty j * cond (nat_eq i j && nat_eq k (latest p j t)) 1 0) (λ j lt. omega arith)
+      ∙ (sum-own (count p) i k empty (λ j. latest p j t) inside ∙ on (nat_eq k (latest p i t)) refl))
+    where
+      empty : ℕ → ℕ
+      empty j = one_if (releases_at p j t && nat_eq (dem j (latest p j t)) 0)
+
+      on : (b : Bool) → nat_eq k (latest p i t) ≡ b
+          → (if nat_eq k (latest p i t) then empty i else 0) ≡ one_if (nat_eq (dem i k) 0 && nat_eq (release p i k) t)
+      on b e = grind (arith, nat_tests, one_if, latest-is, release-due, some)
+
+  -- what tick x adds to the number of the job's completions
+  completion-adds : (x : Tick) (past : List Tick) → IsScheduleBy p dem ask (x ∷ past)
+      → told (notes_before_end p dem ask (x ∷ past)) + done_by p dem i k past
+      ≡ told (notes_before_end p dem ask past) + one_if (nat_eq (dem i k) 0 && nat_eq (release p i k) (length past)) + done_by p dem i k (x ∷ past)
+  completion-adds x past h =
+      omega (
+        arith,
+        next-sum p dem ask (λ note. cond (tells_done i k note) 1 0) nothing (λ t. done_by p dem i k) (tells-job p dem ask lim i k inside some_job) x past h,
+        none-weighs (tick_units p past x),
+        at-release (length past),
+      )
+
+  told-none : told (notes_before_end p dem ask []) ≡ 0
+  told-none = none-sum p dem ask (λ note. cond (tells_done i k note) 1 0)
+
+  -- a job that needs nothing is completed by its release, and another once it has had its demand
+  told-empty : dem i k ≡ 0 → (ticks : List Tick) → IsScheduleBy p dem ask ticks
+      → told (notes_before_end p dem ask ticks) ≡ one_if (nat_lt (release p i k) (length ticks))
+  told-empty none [] h = let never : nat_lt (release p i k) 0 ≡ false = grind (arith, nat_tests) in rw never told-none
+  told-empty none (x ∷ past) h =
+      let empty : nat_eq (dem i k) 0 ≡ true = grind (arith, nat_tests) in
+      omega (
+        arith,
+        completion-adds x past h,
+        told-empty none past h.0,
+        ap (λ b. one_if (b && nat_eq (release p i k) (length past))) empty,
+        reached-all (dem i k) (exec p past i k) (omega (arith, none)),
+        reached-all (dem i k) (exec p (x ∷ past) i k) (omega (arith, none)),
+        next-below (release p i k) (length past),
+      )
+
+  told-some : 0 < dem i k → (ticks : List Tick) → IsScheduleBy p dem ask ticks → told (notes_before_end p dem ask ticks) ≡ done_by p dem i k ticks
+  told-some needs [] h = omega (arith, told-none, reached-none (dem i k) 0 needs)
+  told-some needs (x ∷ past) h =
+      let other : nat_eq (dem i k) 0 ≡ false = grind (arith, nat_tests) in
+      omega (arith, completion-adds x past h, told-some needs past h.0, ap (λ b. one_if (b && nat_eq (release p i k) (length past))) other)
+
+  -- the last note of a schedule is no completion
+  all-told : (ticks : List Tick) → told (notes_of p dem ask ticks) ≡ told (notes_before_end p dem ask ticks)
+  all-told ticks = omega (arith, with-end p dem ask (λ note. cond (tells_done i k note) 1 0) ticks)
+
+  -- of a job that has had its demand, the notes of a schedule have the completion once
+  pub told-once : (ticks : List Tick) → IsScheduleBy p dem ask ticks → release p i k < length ticks → exec p ticks i k ≡ dem i k
+      → count_by (tells_done i k) (notes_of p dem ask ticks) ≡ 1
+  told-once ticks h began had = grind (arith, nat_tests, all-told, cases_lt, told-some, reached-all, told-empty, one_if)
+
+  -- of a job that isn't released yet, the notes of a schedule have no completion
+  pub told-never : (ticks : List Tick) → IsScheduleBy p dem ask ticks → length ticks ≤ release p i k
+      → count_by (tells_done i k) (notes_of p dem ask ticks) ≡ 0
+  told-never ticks h later = grind (arith, nat_tests, all-told, cases_lt, told-some, reached-none, exec-early, told-empty, one_if)
+
+  -- no note of a schedule says that the job completes after its deadline
+  pub in-time : (ticks : List Tick) → IsScheduleBy p dem ask ticks → AllByRecursion (IsInTime (due p i k) i k) (notes_of p dem ask ticks)
+  in-time ticks h =
+      each-append (IsInTime (due p i k) i k) (notes_before_end p dem ask ticks) _
+      (each-note p dem ask lim (IsInTime (due p i k) i k) ticks each h) (tt, tt)
+    where
+      each : (x : Tick) (past : List Tick) (s : Span) → AreFirst p dem ask (x ∷ past) ticks → IsLastSpan p dem ask x past s
+          → EachNote p dem ask (IsInTime (due p i k) i k) (IsNow p dem (length past)) s
+      each x past s first span = record {
+        release = λ j lt. tt;
+        empty = λ j lt none mine.
+            inl (omega (arith, lt-due p j (length s.past) (every_period p lim j), same-numbers (due p) i j k (latest p j (length s.past)) mine));
+        decision = tt;
+        idle = λ q units le. tt;
+        run = λ q units j l le now. tt;
+        done = λ q j l le now whole mine.
+            let until : length past < due p i k =
+            omega (arith, lt-due p j (length past) (every_period p lim j), ap (due p j) now.1, same-numbers (due p) i j k l mine) in
+            by-end (length s.past) ((point p s.entry).speed) (length (x ∷ past) - length s.past) q (due p i k)
+            (lim.machine.each s.entry (span.entry lim)).some_speed (omega (arith, until, span.shorter)) (omega (arith, le, span.long));
+      }

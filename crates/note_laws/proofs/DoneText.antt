@@ -1,7 +1,8 @@
--- The text of a schedule that meets its deadlines says of each job that it completes by its deadline.
-use Rattle.std.proofs.Common.{◌≡◌, ℕ, zero, suc, ◌+◌, ◌-◌, ◌^◌, ◌<◌, ◌≤◌, Bool, true, false, ◌&&◌, List, [], ◌∷◌, ◌++◌, length, map, flat_map, refl, arith, ap, ap₂, ◌∙◌, sym, subst, true≢false, nat_eq, get_or, append_assoc, ◌⊎◌, inl, inr}
-use Rattle.std.specs.Prelude.{count_by}
+-- The lines of a run's text, in either version. Those of a schedule that meets its deadlines say of each job that it
+-- completes by its deadline.
+use Rattle.std.proofs.Common.{◌≡◌, ℕ, List, map, refl, nat_eq, get_or, false, zero, suc, ◌+◌, ◌-◌, ◌^◌, ◌<◌, ◌≤◌, Bool, true, ◌&&◌, [], ◌∷◌, ◌++◌, length, flat_map, arith, ap, ap₂, ◌∙◌, sym, subst, true≢false, append_assoc, inl, inr}
 use Rattle.std.specs.List.{AllByRecursion}
+use Rattle.std.specs.Prelude.{count_by}
 use Rattle.std.proofs.lemmas.Fmt.{decimal_injective}
 use Rattle.std.proofs.lemmas.List.{get_or-map, length-map, map-append}
 use Rattle.std.proofs.lemmas.List.Elements.{All-from_recursion, All-map}
@@ -9,18 +10,24 @@ use Rattle.std.proofs.lemmas.Grind.{flat_map-append}
 use Rattle.std.proofs.Math.ListN.{get_or-eq_default}
 use Rattle.std.proofs.lemmas.Bool.{cases_lt, and_parts}
 use Rattle.std.proofs.lemmas.Bool.Decides.{nat_tests}
-use Rattle.dvs_base.specs.declared.kind.GovernorKind.{GovernorKind}
+use Rattle.dvs_base.specs.Parts.{name_of}
 use Rattle.dvs_base.specs.declared.kind.Version.{Version}
+use Rattle.dvs_base.specs.declared.kind.Version.TheVariants.{One, Two}
+use Rattle.dvs_base.specs.declared.kind.GovernorKind.{GovernorKind}
 use Rattle.dvs_base.specs.declared.note.Note.{Note}
+use Rattle.sched_model.specs.Plan.{Plan, count, names, task, period, offset}
+use Rattle.sched_model.proofs.Tables.{each-below}
+use Rattle.trace_text.specs.TraceLines.{lines_of, line, done_fields, fields_of, note_text}
+use Rattle.trace_text.proofs.PlainLines.{ArePlain, each-append, plain-name, some-name}
+use Rattle.trace_reader.specs.TraceText.{head_lines, text_of_lines, shares_from, version_line, LineOf, noted, lines_of_note}
+use Rattle.trace_reader.proofs.WholeText.{each-for, each-share, each-noted}
+use Rattle.trace_reader.proofs.SplitLines.{IsLine, lines-text, task-fields, each-line}
 use Rattle.dvs_base.specs.declared.note.Note.TheVariants.{Done}
 use Rattle.dvs_base.specs.declared.note.Pos.{Pos}
-use Rattle.trace_text.specs.TraceLines.{line, done_fields, fields_of, note_text}
 use Rattle.trace_text.proofs.NoteLines.{note-fields, done-same}
 use Rattle.task_model.specs.declared.task.Task.{Task}
 use Rattle.task_model.specs.Tasks.{no_task, task_at}
 use Rattle.dvs_base.specs.declared.limits.TheConstants.{MOST_TICKS}
-use Rattle.dvs_base.specs.Parts.{name_of}
-use Rattle.sched_model.specs.Plan.{Plan, count, names, period}
 use Rattle.sched_model.specs.Jobs.{JobDemands, release, due}
 use Rattle.sched_model.specs.Ticks.{PublishedDemand, Tick, at, exec, IsMet}
 use Rattle.sched_model.specs.Demand.{published}
@@ -28,19 +35,37 @@ use Rattle.sched_model.specs.Schedule.{IsScheduleBy, schedule}
 use Rattle.sched_model.specs.Admission.{IsWithinLimits}
 use Rattle.sched_model.specs.Notes.{notes_of}
 use Rattle.sched_model.proofs.Limits.{every_period, low_period}
-use Rattle.sched_model.proofs.ScheduleLemmas.{schedule_exists}
-use Rattle.sched_model.proofs.Service.{exec-most, exec-drop}
+use Rattle.sched_model.proofs.Schedules.{schedule_exists, exec-most, exec-drop}
 use Rattle.sched_model.proofs.Units.{each-weaker}
 use Rattle.sched_model.proofs.JobLaws.{le-due, release-due}
-use Rattle.note_laws.specs.DoneLines.{IsDoneLine, NoDoneLine, IsBy, IsToldBy, TellsDeadlines, TextTellsDeadlines}
-use Rattle.trace_reader.specs.TraceText.{LineOf, noted, lines_of_note, head_lines, text_of_lines, shares_from}
-use Rattle.trace_reader.proofs.WholeText.{each-noted}
-use Rattle.trace_text.proofs.PlainLines.{ArePlain, each-append, plain-name, some-name}
-use Rattle.note_laws.specs.RunText.{task_texts, run_lines}
-use Rattle.note_laws.proofs.RunLines.{IsQuiet, lines-run, quiet-head, quiet-shares}
 use Rattle.sched_model.proofs.NoteSums.{one_if, tells_done}
-use Rattle.note_laws.proofs.Counted.{count-next, IsAlone, alone}
-use Rattle.note_laws.proofs.DoneCounts.{told-once, told-never, IsInTime, in-time}
+use Rattle.note_laws.specs.RunText.{task_texts, run_lines}
+use Rattle.note_laws.specs.DoneLines.{IsDoneLine, NoDoneLine, IsBy, IsToldBy, TellsDeadlines, TextTellsDeadlines}
+use Rattle.note_laws.proofs.CountLemmas.{count-next, IsAlone, alone, told-once, told-never, IsInTime, in-time}
+
+-- a line that doesn't begin with the letter d, as a `done` line does
+abbrev pub IsQuiet : List ℕ → Type 0
+IsQuiet l = nat_eq (get_or l 0 0) 100 ≡ false
+
+-- the text of a run is split into the lines that it was made of
+pub lines-run : (p : Plan) → ((i : ℕ) → ArePlain (name_of (names p) i)) → (v : Version) (g : GovernorKind) (ticks : ℕ) (notes : List Note)
+    → lines_of (text_of_lines (run_lines v p g ticks notes)) ≡ map (λ l. l.text) (run_lines v p g ticks notes)
+lines-run p named v g ticks notes =
+    lines-text (run_lines v p g ticks notes)
+    (each-line (names p) named v p.scheduler g ticks (task_texts p) notes
+    (each-below IsLine (count p) _ (λ i lt. task-fields (name_of (names p) i) (period p i) (offset p i) ((task p i).worst) (named i))))
+
+-- the lines before the notes, and those of the tasks' energies, don't begin with the letter d
+pub quiet-head : (p : Plan) (v : Version) (g : GovernorKind) (ticks : ℕ)
+    → AllByRecursion (λ l. IsQuiet l.text) (head_lines v p.scheduler g ticks (task_texts p))
+quiet-head p v g ticks = (first v, (refl, each-for IsQuiet v (task_texts p) (λ _. each-below IsQuiet (count p) _ (λ i lt. refl))))
+  where
+    first : (w : Version) → IsQuiet (version_line w)
+    first One = refl
+    first Two = refl
+
+pub quiet-shares : (notes : List Note) (ns : List (List ℕ)) → AllByRecursion IsQuiet (shares_from notes 0 ns)
+quiet-shares notes ns = each-share IsQuiet notes ns (λ i lt. refl)
 
 -- the line is not that of the completion of job k of the task of this name
 abbrev IsOther : List ℕ → ℕ → List ℕ → Type 0
@@ -120,25 +145,11 @@ module _ (p : Plan) (dem : JobDemands) (ask : PublishedDemand) (lim : IsWithinLi
   name-out i le = get_or-eq_default (names p) [] (omega (arith, length-map p.tasks (λ (t : Task). t.name), le))
 
   named : (i : ℕ) → ArePlain (name_of (names p) i)
-  named i = elim (cases_lt i (count p)) [
-    | inl within ↦ subst ArePlain (sym (name-in i within)) (plain-name (task_at p.tasks i).name (lim.tasks.each i within).name)
-    | inr past ↦ subst ArePlain (sym (name-out i past)) tt
-  ]
+  named i = grind (arith, nat_tests, cases_lt, name-in, plain-name, name-out)
 
   -- two tasks of the plan don't have one name
   apart : (i : ℕ) → i < count p → (j : ℕ) → name_of (names p) j ≡ name_of (names p) i → j ≡ i
-  apart i lt j e = elim (cases_lt j (count p)) [
-    | inl within ↦ one (name_eq within) within (cases_lt i j) (cases_lt j i)
-    | inr past ↦ absurd (some-name (task_at p.tasks i).name (lim.tasks.each i lt).name (sym (name-in i lt) ∙ (sym e ∙ name-out j past)))
-  ]
-    where
-      name_eq : j < count p → (task_at p.tasks j).name ≡ (task_at p.tasks i).name
-      name_eq within = sym (name-in j within) ∙ (e ∙ name-in i lt)
-
-      one : (task_at p.tasks j).name ≡ (task_at p.tasks i).name → j < count p → (i < j) ⊎ (j ≤ i) → (j < i) ⊎ (i ≤ j) → j ≡ i
-      one same within (inl over) b = absurd (lim.tasks.distinct i j over within (sym same))
-      one same within (inr le) (inl under) = absurd (lim.tasks.distinct j i under lt same)
-      one same within (inr le) (inr ge) = omega arith
+  apart i lt j e = grind (arith, nat_tests, cases_lt, some-name, name-in, name-out)
 
   -- a job whose completion is among the notes has a number below 2^64
   small : (i : ℕ) → i < count p → (l : ℕ) → 0 < count_by (tells_done i l) notes → l < 2 ^ 64

@@ -18,11 +18,10 @@ use Rattle.sched_model.specs.Schedule.{IsScheduleBy}
 use Rattle.sched_model.specs.Admission.{IsWithinLimits}
 use Rattle.sched_model.specs.Notes.{Span, spans_of, pieces_of, all_release_notes, pieces_notes, span_notes, energy_run, energy_idle, most_unit_energy, notes_before_end, notes_of}
 use Rattle.sched_model.proofs.Limits.{energy-most, every_period}
-use Rattle.sched_model.proofs.NoteLemmas.{notes-span}
+use Rattle.sched_model.proofs.Spans.{notes-span, IsLastSpan, IsNow, last-span, by-spans}
 use Rattle.sched_model.proofs.NoteSums.{one_if, release-counts, pieces-most, none-sum, running, idling, run-next, idle-next, releases, completions, span-sum, none-weighs, reached-up, done_by, tells-all, all_done-next}
-use Rattle.sched_model.proofs.Spans.{IsLastSpan, IsNow, last-span, by-spans}
 use Rattle.sched_model.proofs.Units.{units-weight, shares-fit}
-use Rattle.sched_model.proofs.Walk.{EachNote, each-note}
+use Rattle.sched_model.proofs.Walk.{EachNote, each-note, IsBeforeEnd, before-end-each}
 use Rattle.note_laws.proofs.SpanPieces.{LastHasFew, last-few}
 use Rattle.std.proofs.lemmas.Bool.Decides.{nat_tests}
 use Rattle.std.proofs.lemmas.Nat.{le-div}
@@ -30,7 +29,6 @@ use Rattle.grid_fraction.proofs.Ceilings.{ceil-at, ceil-mono}
 use Rattle.sched_model.proofs.JobLaws.{release-none, latest-pos}
 use Rattle.sched_model.specs.Totals.{is_released, is_finished, is_decided, totals_of}
 use Rattle.note_laws.specs.LineCounts.{AreFew, HasFewNotes}
-use Rattle.sched_model.proofs.BeforeEnd.{IsBeforeEnd, before-end-each}
 use Rattle.note_laws.proofs.CountLemmas.{adds, has-few}
 
 -- a note before the `End` of a run, whose task, if it has one, is a task of the plan
@@ -73,14 +71,7 @@ module _ (p : Plan) (lim : IsWithinLimits p) (dem : JobDemands) (needless : (i :
       )
 
   each-in : (s : Span) (t : ℕ) → EachNote p dem ask (IsNoteIn p) (IsNow p dem t) s
-  each-in s t = record {
-    release = λ i lt. lt;
-    empty = λ i lt none. lt;
-    decision = tt;
-    idle = λ q units le. tt;
-    run = λ q units i k le now. now.0;
-    done = λ q i k le now whole. now.0;
-  }
+  each-in s t = grind (arith, nat_tests)
 
   low-energy : (ticks : List Tick) → IsScheduleBy p dem ask ticks
       → sum_by energy_run (notes_before_end p dem ask ticks) + sum_by energy_idle (notes_before_end p dem ask ticks)
@@ -193,14 +184,7 @@ kinds notes =
     count_by is_released notes + count_by is_finished notes + count_by is_decided notes + count_by is_segment notes
 
 kinds-append : (xs ys : List Note) → kinds (xs ++ ys) ≡ kinds xs + kinds ys
-kinds-append xs ys =
-    omega (
-      arith,
-      count-append is_released xs ys,
-      count-append is_finished xs ys,
-      count-append is_decided xs ys,
-      count-append is_segment xs ys,
-    )
+kinds-append xs ys = grind (arith, nat_tests, count-append)
 
 kinds-one : (p : Plan) (dem : JobDemands) (n : Note) → IsBeforeEnd p dem n → kinds (n ∷ []) ≡ 1
 kinds-one p dem (End t run idle) h = absurd h

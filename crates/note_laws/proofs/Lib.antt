@@ -1,13 +1,8 @@
-pub mod Counted
-pub mod DoneCounts
-pub mod RunLines
 pub mod DoneText
 pub mod CountLemmas
-pub mod TickPieces
 pub mod SpanPieces
 pub mod OneEnd
 pub mod FewNotes
 pub mod Traces
 pub mod Examples
-pub mod DemandWidths
 pub mod TraceLimits

@@ -1,42 +1,162 @@
--- The numbers of the notes of a run fit in their types, and the trace of a run is within the limits of traces.
-use Rattle.std.proofs.Common.{ℕ, ◌+◌, ◌-◌, ◌*◌, ◌<◌, ◌≤◌, ◌^◌, List, ◌∷◌, length, arith, ◌≡◌, [], ◌++◌, ap, sym, subst, mul-le-mul_right, length-append}
-use Rattle.std.specs.List.{AllByRecursion}
+-- The numbers of the notes of a run, with those of published demands, fit in their types, and the trace of a run is within
+-- the limits of traces.
+use Rattle.std.proofs.lemmas.Bool.Decides.{nat_tests}
+use Rattle.std.proofs.Common.{ℕ, ◌+◌, ◌-◌, ◌*◌, ◌/◌, ◌<◌, ◌≤◌, ◌^◌, List, [], ◌∷◌, length, arith, mul-le-mul_right, ◌≡◌, ◌++◌, sym, subst, length-append}
 use Rattle.std.proofs.Math.Nat.{mul-le-mul, div-le_self, mod-le}
-use Rattle.dvs_base.specs.declared.limits.TheConstants.{MOST_TICKS, MOST_LINES, MOST_TASKS}
-use Rattle.dvs_base.specs.declared.note.Note.{Note}
-use Rattle.freq_table.specs.declared.limits.TheConstants.{TOP_SPEED, MOST_MILLIVOLTS}
-use Rattle.sched_model.specs.declared.holder.Holder.TheVariants.{Held}
-use Rattle.sched_model.specs.Plan.{Plan, count, point, names, task, period, offset}
-use Rattle.sched_model.specs.Jobs.{JobDemands, latest, IsWithin, released_jobs}
-use Rattle.sched_model.specs.Ticks.{PublishedDemand, Tick}
-use Rattle.sched_model.specs.Schedule.{IsScheduleBy, schedule}
-use Rattle.sched_model.specs.Admission.{IsWithinLimits, IsAdmitted}
-use Rattle.sched_model.specs.Notes.{Span, position_of, run_energy, idle_energy, energy_run, energy_idle, notes_before_end}
-use Rattle.sched_model.proofs.Limits.{every_period, energy-most}
-use Rattle.sched_model.proofs.JobLaws.{latest-small}
-use Rattle.trace_reader.specs.Traces.{IsPlace, IsNoteOf, lines_for_tasks, IsTrace}
-use Rattle.sched_model.proofs.Spans.{IsLastSpan, IsNow}
-use Rattle.sched_model.proofs.Walk.{at_unit, EachNote, each-note}
-use Rattle.note_laws.proofs.DemandWidths.{IsLow, published-low}
+use Rattle.std.specs.List.{AllByRecursion}
 use Rattle.std.specs.Prelude.{sum_by}
 use Rattle.std.proofs.lemmas.List.{length-map}
 use Rattle.std.proofs.lemmas.List.Elements.{All-from_recursion}
 use Rattle.std.proofs.lemmas.List.Sums.{sum_by-le}
+use Rattle.dvs_base.specs.declared.kind.Scheduler.{Scheduler}
 use Rattle.dvs_base.specs.declared.kind.GovernorKind.{GovernorKind}
+use Rattle.dvs_base.specs.declared.limits.TheConstants.{MOST_TICKS, MOST_TASKS, MOST_LINES}
+use Rattle.grid_fraction.specs.declared.Frac.{Frac}
+use Rattle.grid_fraction.specs.Numbers.{sum_below}
+use Rattle.grid_fraction.proofs.Sums.{sum_below-le, sum_below-limit}
+use Rattle.grid_fraction.proofs.Least.{least-below}
+use Rattle.task_model.specs.declared.limits.TheConstants.{LONGEST_PERIOD, LONGEST_HYPERPERIOD}
+use Rattle.freq_table.specs.declared.limits.TheConstants.{TOP_SPEED, MOST_MILLIVOLTS}
+use Rattle.freq_table.specs.Tables.{speed_at, lowest_entry}
+use Rattle.freq_table.proofs.Chosen.{lowest_within}
+use Rattle.sched_model.specs.Plan.{Plan, count, period, worst, hyper, rate, top_speed, point, names, task, offset}
+use Rattle.sched_model.specs.Jobs.{JobDemands, latest, deadline, earliest, last_release, IsWithin}
+use Rattle.sched_model.specs.Ticks.{Tick, wleft, PublishedDemand}
+use Rattle.sched_model.specs.Priority.{in_order}
+use Rattle.sched_model.specs.Tests.{IsEdfFeasible, IsRmFeasible, total_rate}
+use Rattle.sched_model.specs.StaticDemand.{full_demand, static_speed, rm_static}
+use Rattle.sched_model.specs.CycleDemand.{rate_for, charged, SinceRelease, units_at_mark, allotment_left_of, since_release, edf_cycle, rm_cycle}
+use Rattle.sched_model.specs.AheadDemand.{due_first, edf_ahead}
+use Rattle.sched_model.specs.Demand.{demand_by, published}
+use Rattle.sched_model.specs.Admission.{IsAdmitted, PassesTest, IsWithinLimits}
+use Rattle.sched_model.proofs.Limits.{low_period, low_worst, low_hyper, deadline-soon, every_period, energy-most}
+use Rattle.sched_model.proofs.JobLaws.{last_release-le, latest-small}
+use Rattle.sched_model.proofs.Orders.{sum_list, sum_list-in_order}
+use Rattle.sched_model.proofs.StaticShare.{heaviest_within}
+use Rattle.dvs_base.specs.declared.note.Note.{Note}
+use Rattle.sched_model.specs.declared.holder.Holder.TheVariants.{Held}
+use Rattle.sched_model.specs.Schedule.{IsScheduleBy, schedule}
+use Rattle.sched_model.specs.Notes.{Span, position_of, energy_run, energy_idle, notes_before_end}
+use Rattle.trace_reader.specs.Traces.{IsPlace, IsNoteOf, lines_for_tasks, IsTrace}
+use Rattle.sched_model.proofs.Spans.{IsLastSpan, IsNow}
+use Rattle.sched_model.proofs.Walk.{at_unit, EachNote, each-note}
 use Rattle.dvs_base.specs.declared.kind.Version.{Version}
 use Rattle.dvs_base.specs.declared.note.Note.TheVariants.{Run, End}
 use Rattle.dvs_base.specs.Parts.{name_of}
 use Rattle.task_model.specs.declared.task.Task.{Task}
-use Rattle.sched_model.specs.Demand.{published}
-use Rattle.sched_model.proofs.ScheduleLemmas.{length-list_below, schedule_exists}
+use Rattle.sched_model.proofs.Schedules.{length-list_below, schedule_exists}
 use Rattle.trace_text.proofs.PlainLines.{each-append}
 use Rattle.dvs_base.specs.NoteTasks.{energy_of_task}
 use Rattle.trace_reader.specs.TraceText.{task_text, task_energy}
-use Rattle.note_laws.specs.RunText.{task_texts}
 use Rattle.sched_model.proofs.Units.{each-weaker}
+use Rattle.note_laws.specs.RunText.{task_texts}
 use Rattle.note_laws.proofs.OneEnd.{schedule-ended}
 use Rattle.note_laws.specs.RunTraces.{trace_of_run, IsLimitedRun, KeepsLimits}
 use Rattle.note_laws.proofs.FewNotes.{has-few-notes}
+
+-- both numbers of a fraction are below 2^128
+pub record IsLow (d : Frac) : Type 0 where
+  pub num : d.num < 2 ^ 128
+  pub den : d.den < 2 ^ 128
+
+module _ (p : Plan) (adm : IsAdmitted p) (dem : JobDemands) (within : IsWithin p dem) (past : List Tick)
+    (few : length past ≤ MOST_TICKS) where
+  few_tasks : count p ≤ MOST_TASKS
+  few_tasks = adm.limits.tasks.few
+
+  some_task : 0 < count p
+  some_task = adm.limits.tasks.some
+
+  -- the speed of each entry is at most the highest that a machine may have
+  low_speed : (e : ℕ) → e < length p.machine.points → speed_at p.machine e ≤ TOP_SPEED
+  low_speed e lt = (adm.limits.machine.each e lt).low_speed
+
+  low_top : top_speed p ≤ TOP_SPEED
+  low_top = low_speed (length p.machine.points - 1) (omega (arith, adm.limits.machine.some))
+
+  -- the work that the highest speed does in at most the longest hyperperiod is below 2^128
+  room : (n ticks : ℕ) → n ≤ top_speed p * ticks → ticks ≤ LONGEST_HYPERPERIOD → n < 2 ^ 128
+  room n ticks le short = omega (arith, mul-le-mul_right ticks low_top)
+
+  full-low : IsLow (full_demand p)
+  full-low = record { num = omega (arith, low_top); den = omega arith }
+
+  edf-static-low : IsEdfFeasible p → IsLow (record { num = total_rate p; den = hyper p })
+  edf-static-low test = grind (arith, nat_tests, room, low_hyper)
+
+  rm-static-low : IsRmFeasible p → IsLow (rm_static p)
+  rm-static-low test = grind (arith, nat_tests, heaviest_within, low_period, room)
+
+  charged-most : (i : ℕ) → i < count p → charged p dem past i ≤ worst p i
+  charged-most i lt = grind (arith, within.most i (latest p i (length past)) lt)
+
+  edf-cycle-low : IsEdfFeasible p → IsLow (edf_cycle p dem past)
+  edf-cycle-low test =
+      let rates : ℕ → ℕ = λ i. rate_for p i (charged p dem past i) in
+      let most : sum_below (count p) rates ≤ total_rate p =
+      sum_below-le (count p) rates (rate p) (λ i lt. mul-le-mul_right (hyper p / period p i) (charged-most i lt)) in
+      record {
+        num = room (sum_below (count p) rates) (hyper p) (omega (arith, most, test)) (low_hyper p adm.limits);
+        den = omega (arith, low_hyper p adm.limits);
+      }
+
+  -- the earliest deadline is at most the longest period away
+  earliest-soon : (t : ℕ) → earliest p t ≤ t + LONGEST_PERIOD
+  earliest-soon t = grind (arith, nat_tests, least-below, some_task, deadline-soon)
+
+  allotted-most : (v : SinceRelease) (i : ℕ) → allotment_left_of p v i ≤ units_at_mark p v
+  allotted-most v i = grind arith
+
+  rm-cycle-low : IsLow (rm_cycle p dem past)
+  rm-cycle-low =
+      let v : SinceRelease = since_release p dem past in
+      let soon : v.first ≤ 2 ^ 41 =
+      omega (arith, earliest-soon (last_release p (length past)), last_release-le p (length past), few) in
+      let entry = lowest_within p.machine (rm_static p) adm.limits.machine.some in
+      let speed : static_speed p ≤ TOP_SPEED = low_speed (lowest_entry p.machine (rm_static p)) entry in
+      let since : v.first - v.mark ≤ 2 ^ 41 = omega (arith, soon) in
+      let units : units_at_mark p v ≤ 2 ^ 41 * TOP_SPEED = mul-le-mul since speed in
+      record {
+        num =
+            omega (
+              arith,
+              sum_below-limit (count p) (units_at_mark p v) (allotment_left_of p v) (λ i lt. allotted-most v i),
+              units,
+              mul-le-mul_right (units_at_mark p v) few_tasks,
+            );
+        den = omega (arith, soon);
+      }
+
+  -- the units that are due first are at most those that may be left
+  first-most : (due left : ℕ → ℕ) (is : List ℕ) → due_first p due left is ≤ sum_list left is
+  first-most due left [] = omega arith
+  first-most due left (i ∷ is) = omega (arith, first-most due left is)
+
+  left-most : (i : ℕ) → i < count p → wleft p dem past i ≤ 2 ^ 61
+  left-most i lt = grind (arith, low_worst p adm.limits i lt)
+
+  edf-ahead-low : IsLow (edf_ahead p dem past)
+  edf-ahead-low =
+      let due : ℕ → ℕ = λ i. deadline p i (length past) in
+      let left : ℕ → ℕ = wleft p dem past in
+      record {
+        num =
+            omega (
+              arith,
+              first-most due left (in_order due (count p)),
+              sum_list-in_order left due (count p),
+              sum_below-limit (count p) (2 ^ 61) left left-most,
+              few_tasks,
+            );
+        den = omega (arith, earliest-soon (length past), few);
+      }
+
+  demand-low : (s : Scheduler) → PassesTest s p → (g : GovernorKind) → IsLow (demand_by s g p dem past)
+  demand-low s test g = grind (arith, nat_tests, full-low, edf-static-low, rm-static-low, edf-cycle-low, rm-cycle-low, edf-ahead-low)
+
+  pub published-low : (g : GovernorKind) → IsLow (published p g dem past)
+  unfolding published
+  published-low g = demand-low p.scheduler adm.test g
 
 -- the most units of a run
 abbrev most_units : ℕ
@@ -68,16 +188,14 @@ module _ (p : Plan) (lim : IsWithinLimits p) (dem : JobDemands) (within : IsWith
     early : length s.past ≤ MOST_TICKS
     early = omega (arith, few, l.shorter)
 
-    low_speed : (point p s.entry).speed ≤ TOP_SPEED
-    low_speed = (lim.machine.each s.entry (l.entry lim)).low_speed
+    span_speed : (point p s.entry).speed ≤ TOP_SPEED
+    span_speed = (lim.machine.each s.entry (l.entry lim)).low_speed
 
     low_volts : (point p s.entry).millivolts ≤ MOST_MILLIVOLTS
     low_volts = (lim.machine.each s.entry (l.entry lim)).low_millivolts
 
     low_units : length s.units ≤ most_units
-    low_units =
-        let ticks : length (x ∷ past) - length s.past ≤ MOST_TICKS = omega (arith, few) in
-        omega (arith, l.long, mul-le-mul ticks low_speed)
+    low_units = grind (arith, nat_tests, mul-le-mul, span_speed)
 
     place : (q : ℕ) → q ≤ length s.units → IsPlace (at_unit p s q)
     place q le = is-place (length s.past) ((point p s.entry).speed) q early (omega (arith, le, low_units))
@@ -86,27 +204,7 @@ module _ (p : Plan) (lim : IsWithinLimits p) (dem : JobDemands) (within : IsWith
     job i k now = omega (arith, now.1, job-low i (length past) (omega (arith, few)))
 
     each-low : EachNote p dem ask (IsLowNote p) (IsNow p dem (length past)) s
-    each-low = record {
-      release = λ i lt. ((omega (arith, early), lt, job-low i (length s.past) early), omega arith, omega arith);
-      empty = λ i lt none.
-          (((omega (arith, early), omega arith), lt, job-low i (length s.past) early, omega arith), omega arith, omega arith);
-      decision =
-          let asked : IsLow (ask s.past) = low s.past early in
-          ((omega (arith, early), omega (arith, low_speed), asked.num, asked.den), omega arith, omega arith);
-      idle = λ q units le.
-          let some : units ≤ most_units = omega (arith, le, low_units) in
-          let energy : idle_energy p s.entry units ≤ most_energy =
-          omega (arith, energy-most units (point p s.entry).millivolts p.machine.idle low_volts lim.machine.low_idle, some) in
-          ((place q (omega (arith, le)), place (q + units) le, omega (arith, some), omega (arith, energy)), omega arith, energy);
-      run = λ q units i k le now.
-          let some : units ≤ most_units = omega (arith, le, low_units) in
-          let energy : run_energy p s.entry units ≤ most_energy =
-          omega (arith, energy-most units (point p s.entry).millivolts 1000 low_volts (omega arith), some) in
-          ((place q (omega (arith, le)), place (q + units) le, now.0, job i k now, omega (arith, some), omega (arith, energy)), energy, omega arith);
-      done = λ q i k le now whole.
-          let needs : dem i k < 2 ^ 64 = omega (arith, within.most i k now.0, (lim.tasks.each i now.0).low_worst, lim.machine.low_charge) in
-          ((place q le, now.0, job i k now, needs), omega arith, omega arith);
-    }
+    each-low = grind (arith, nat_tests, early, job-low, span_speed, low_units, energy-most, low_volts, place, job, low_worst)
 
   -- all notes but the last have low numbers
   pub notes-low : (ticks : List Tick) → length ticks ≤ MOST_TICKS → IsScheduleBy p dem ask ticks
@@ -151,39 +249,22 @@ module _ (v : Version) (p : Plan) (g : GovernorKind) (dem : JobDemands) (ticks :
   last = End (length past) (sum_by energy_run notes) (sum_by energy_idle notes)
 
   all-low : AllByRecursion (IsLowNote p) notes
-  all-low =
-      notes-low p adm.limits dem run.within (published p g dem)
-      (λ past early. published-low p adm dem run.within past early g) past (omega (arith, long, run.low_ticks)) legal
+  all-low = grind (arith, nat_tests, notes-low, early, published-low, long, legal)
 
   few-lines : length (notes ++ last ∷ []) ≤ most_notes
-  few-lines =
-      omega (
-        arith,
-        has-few-notes p adm.limits dem run.within.none (published p g dem) past legal,
-        ap (released_jobs p) long,
-        run.few,
-      )
+  few-lines = grind (arith, nat_tests, has-few-notes, legal, long)
 
   few-before : length notes ≤ most_notes
   few-before = omega (arith, few-lines, length-append notes (last ∷ []))
 
   run-low : sum_by energy_run notes < 2 ^ 128
-  run-low =
-      sum-low energy_run notes few-before
-      (each-weaker (IsLowNote p) (λ n. energy_run n ≤ most_energy) (λ n h. h.1) notes all-low)
+  run-low = grind (arith, nat_tests, sum-low, few-before, each-weaker, all-low)
 
   idle-low : sum_by energy_idle notes < 2 ^ 128
-  idle-low =
-      sum-low energy_idle notes few-before
-      (each-weaker (IsLowNote p) (λ n. energy_idle n ≤ most_energy) (λ n h. h.2) notes all-low)
+  idle-low = grind (arith, nat_tests, sum-low, few-before, each-weaker, all-low)
 
   shares-low : (i : ℕ) → task_energy (notes ++ last ∷ []) i < 2 ^ 128
-  shares-low i =
-      sum-low (energy_of_task i) (notes ++ last ∷ []) few-lines
-      (each-append (λ n. energy_of_task i n ≤ most_energy) notes (last ∷ [])
-      (each-weaker (IsLowNote p) (λ n. energy_of_task i n ≤ most_energy) (λ n h. omega (arith, own-most i n, h.1)) notes
-      all-low)
-      (omega arith, tt))
+  shares-low i = grind (arith, nat_tests, sum-low, few-lines, each-append, each-weaker, own-most, all-low)
 
   named : length (names p) ≡ count p
   named = length-map p.tasks (λ (t : Task). t.name)

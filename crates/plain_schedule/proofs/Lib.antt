@@ -1,6 +1,5 @@
 pub mod Listed
 pub mod Pasts
-pub mod InForce
 pub mod Publishing
 pub mod Orders
 pub mod Lookahead

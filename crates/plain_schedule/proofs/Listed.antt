@@ -1,7 +1,7 @@
 -- The units of a job in a demand list.
 use Rattle.std.proofs.Common.{ℕ, ◌+◌, ◌*◌, ◌<◌, ◌≤◌, ◌^◌, arith}
 use Rattle.demand_list.specs.Demands.{DemandsOf, HasWorstsOf, units_of, IsWithinWorsts}
-use Rattle.demand_list.proofs.Worsts.{worst-listed, worsts-long}
+use Rattle.demand_list.proofs.Rows.{worst-listed, worsts-long}
 use Rattle.sched_model.specs.Plan.{Plan, count}
 use Rattle.sched_model.specs.Admission.{IsAdmitted}
 

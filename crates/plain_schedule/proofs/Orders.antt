@@ -3,7 +3,7 @@ use Rattle.std.proofs.Common.{◌≡◌, ℕ, ◌<◌, ◌≤◌, List, [], ◌�
 use Rattle.std.specs.List.{AllByRecursion}
 use Rattle.dvs_base.specs.declared.limits.TheConstants.{MOST_TASKS}
 use Rattle.sched_model.specs.Priority.{in_order}
-use Rattle.sched_model.proofs.OrderLemmas.{AreBelow, in_order-below, length-in_order}
+use Rattle.sched_model.proofs.Orders.{AreBelow, in_order-below, length-in_order}
 
 all_below : (n : ℕ) (js : List ℕ) → AreBelow n js → AllByRecursion (λ i. i < n) js
 all_below n [] b = tt

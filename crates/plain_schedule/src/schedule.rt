@@ -19,7 +19,7 @@ use sched_model::Admitted;
 use std::alloc::Global;
 
 // The entry in force at the tick after these: the choice at the last decision.
-#[tactic(auto, using(crate::proofs::InForce::in_force))]
+#[tactic(auto, using(crate::proofs::Pasts::in_force))]
 fn entry_in_force(
     alloc: Global,
     plan: &Admitted,
@@ -86,7 +86,7 @@ fn next_tick(
 
 /// The first ticks of the schedule of a plan and its jobs' demands under a governor, first tick first. It fails only
 /// where memory runs out.
-#[tactic(auto, using(crate::proofs::InForce::tick_by_tick))]
+#[tactic(auto, using(crate::proofs::Pasts::tick_by_tick))]
 pub fn plain_schedule(
     alloc: Global,
     plan: &Admitted,

@@ -1,5 +1,5 @@
--- Where the notes of a schedule have a job as done.
-use Rattle.std.proofs.Common.{◌≡◌, ℕ, suc, ◌-◌, ◌<◌, ◌≤◌, Bool, true, false, ◌&&◌, List, [], ◌∷◌, length, refl, arith, if◌then◌else◌, ap, ◌∙◌, nat_eq}
+-- Where the notes of a schedule have a job as done, and what a listener that keeps the ends of jobs has heard.
+use Rattle.std.proofs.Common.{◌≡◌, ℕ, suc, ◌-◌, ◌<◌, ◌≤◌, Bool, true, false, ◌&&◌, List, [], ◌∷◌, length, refl, arith, if◌then◌else◌, ap, ◌∙◌, nat_eq, ◌+◌, zero, replicate, ap₂, sym, subst}
 use Rattle.std.specs.Prelude.{count_by, Option, Some, None}
 use Rattle.std.specs.List.{AllByRecursion}
 use Rattle.std.specs.Option.{option_or}
@@ -14,12 +14,15 @@ use Rattle.sched_model.specs.Admission.{IsWithinLimits}
 use Rattle.sched_model.specs.Notes.{notes_of}
 use Rattle.sched_model.proofs.Limits.{every_period}
 use Rattle.sched_model.proofs.NoteSums.{one_if, tells_done}
-use Rattle.sched_model.proofs.Service.{exec-most, exec-drop}
+use Rattle.sched_model.proofs.Schedules.{exec-most, exec-drop}
 use Rattle.sched_model.proofs.JobLaws.{release-due}
 use Rattle.note_laws.specs.DoneLines.{IsBy}
-use Rattle.note_laws.proofs.Counted.{count-next, none-counted}
-use Rattle.note_laws.proofs.DoneCounts.{told-once, told-never, IsInTime, in-time}
+use Rattle.note_laws.proofs.CountLemmas.{count-next, none-counted, told-once, told-never, IsInTime, in-time}
+use Rattle.dvs_base.proofs.Options.{or-none, or-assoc}
+use Rattle.event_kernel.specs.Heard.{HasHeard}
 use Rattle.poll_server.specs.Outcomes.{done_position, done_at}
+use Rattle.poll_server.specs.declared.ends.Ends.{Ends}
+use Rattle.poll_server.specs.Walking.{Hears, end_at}
 
 -- the job is done, at a position not after tick t
 abbrev pub IsEndBy : ℕ → Option Pos → Type 0
@@ -71,3 +74,36 @@ module _ (p : Plan) (dem : JobDemands) (ask : PublishedDemand) (lim : IsWithinLi
       let began : release p i k < length ticks = omega (arith, release-due p i k some, every_period p lim i, within) in
       let once = told-once p dem ask lim i k lt some ticks sched began had in
       ends-by (due p i k) i k notes (omega (arith, once)) (in-time p dem ask lim i k lt some ticks sched)
+
+-- before any note no job has an end
+pub none-told : (n k : ℕ) → end_at (replicate {A = Option Pos} n None) k ≡ None
+none-told zero k = refl
+none-told (suc n) zero = refl
+none-told (suc n) (suc k) = none-told n k
+
+-- the ends after a list of notes: the first end of a job stays
+pub record HearsAll (a : Ends) (notes : List Note) (b : Ends) : Type 0 where
+  pub task : b.task ≡ a.task
+  pub long : length b.ends.items ≡ length a.ends.items
+  pub told : (k : ℕ) → k < length a.ends.items
+      → end_at b.ends.items k ≡ option_or (end_at a.ends.items k) (done_at notes a.task (k + 1))
+
+hears-more : (a : Ends) (n : Note) (next : Ends) (notes : List Note) (b : Ends) → Hears a n next → HearsAll next notes b
+    → HearsAll a (n ∷ notes) b
+hears-more a n next notes b first rest = record {
+  task = rest.task ∙ first.task;
+  long = rest.long ∙ first.long;
+  told = λ k lt.
+      let low : k < length next.ends.items = subst (λ (l : ℕ). k < l) (sym first.long) lt in
+      rest.told k low
+      ∙ (ap₂ (λ (o p : Option Pos). option_or o p) (first.told k lt) (ap (λ (task : ℕ). done_at notes task (k + 1)) first.task)
+      ∙ or-assoc (end_at a.ends.items k) (done_position n a.task (k + 1)) (done_at notes a.task (k + 1)));
+}
+
+pub hears-all : (a : Ends) (notes : List Note) (b : Ends) → HasHeard Hears a notes b → HearsAll a notes b
+hears-all a [] b h = record {
+  task = ap (λ (e : Ends). e.task) (sym h);
+  long = ap (λ (e : Ends). length e.ends.items) (sym h);
+  told = λ k lt. ap (λ (e : Ends). end_at e.ends.items k) (sym h) ∙ sym (or-none (end_at a.ends.items k));
+}
+hears-all a (n ∷ notes) b h = hears-more a n h.0 notes b h.1 (hears-all h.0 notes b h.2)

@@ -1,11 +1,7 @@
-pub mod Cutting
 pub mod Takings
-pub mod Belonging
 pub mod Ending
-pub mod Running
-pub mod Telling
 pub mod Steps
-pub mod Deciding
+pub mod Belonging
 pub mod Whole
 pub mod Examples
-pub mod Within
+pub mod Running

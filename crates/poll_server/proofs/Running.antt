@@ -1,20 +1,39 @@
--- The run of a list of what a server's jobs take is the run of all that they take.
-use Rattle.std.proofs.Common.{◌≡◌, ℕ, zero, suc, ◌+◌, ◌*◌, ◌<◌, ◌≤◌, Bool, true, false, inl, inr, List, length, refl, arith, if◌then◌else◌, ap, ◌∙◌, subst, nat_eq}
+-- The run of a list of what a server's jobs take is the run of all that they take, and they take no more than their worst
+-- cases.
+use Rattle.std.proofs.Common.{◌≡◌, ◌≤◌, ◌*◌, ◌+◌, ℕ, zero, suc, Bool, true, false, nat_eq, arith, refl, if◌then◌else◌, ◌<◌, inl, inr, List, length, ap, ◌∙◌, subst}
+use Rattle.std.proofs.lemmas.Bool.Decides.{nat_tests}
 use Rattle.std.specs.Prelude.{Some, None}
 use Rattle.std.proofs.lemmas.Bool.{cases_lt}
-use Rattle.std.proofs.lemmas.Bool.Decides.{nat_tests}
+use Rattle.sched_model.specs.Plan.{worst, Plan, count, period}
+use Rattle.sched_model.specs.Jobs.{IsWithin, JobDemands, release, demand_of}
 use Rattle.task_model.specs.DemandRows.{DemandRow, named}
-use Rattle.sched_model.specs.Plan.{Plan, count, worst, period}
-use Rattle.sched_model.specs.Jobs.{JobDemands, release, demand_of}
 use Rattle.sched_model.specs.Ticks.{Tick}
 use Rattle.governor.specs.Meanings.{OwnDemand}
 use Rattle.governor.specs.Schedule.{ask_of}
 use Rattle.replay_laws.specs.OwnList.{ticks_by, notes_by, TellSame, LooksAtNone}
-use Rattle.poll_server.specs.Serving.{ServerOf, taken, polled_demand, job_release}
+use Rattle.poll_server.specs.Serving.{ServerOf, budget, taken, polled_demand, job_release}
 use Rattle.poll_server.specs.Bound.{jobs_before}
 use Rattle.poll_server.specs.Polled.{polled_notes}
 use Rattle.poll_server.specs.Walking.{AreTaken}
 use Rattle.poll_server.proofs.Takings.{before-released}
+
+module _ (s : ServerOf) where
+  most-taken : (k : ℕ) → taken s k ≤ budget s
+  most-taken k = omega arith
+
+  most : (i k : ℕ) → polled_demand s i k ≤ worst s.plan i
+  most i zero = omega arith
+  most i (suc k) = go (nat_eq i s.task) refl
+    where
+      go : (b : Bool) → nat_eq i s.task ≡ b
+          → (if b then taken s (suc k) + 2 * s.plan.machine.charge else worst s.plan i) ≤ worst s.plan i
+      go false e = omega arith
+      go true e =
+          let same : i ≡ s.task = grind (arith, nat_tests) in
+          rw same (omega (arith, most-taken (suc k)))
+
+  pub polled-within : IsWithin s.plan (polled_demand s)
+  polled-within = record { most = λ i k lt. most i k; none = λ i. refl }
 
 -- a job with a row needs the units of the row and the charge, and a job without a row needs its worst case
 demand-row : (p : Plan) (rows : List DemandRow) (i k u : ℕ) → named rows i (suc k) ≡ Some u

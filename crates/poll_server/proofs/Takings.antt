@@ -1,5 +1,5 @@
 -- What a server's jobs take, job by job.
-use Rattle.std.proofs.Common.{◌≡◌, ℕ, zero, suc, ◌+◌, ◌-◌, ◌*◌, ◌<◌, ◌≤◌, min, true, false, nat_le, ◌⊎◌, inl, inr, refl, arith, if◌then◌else◌, ap, ◌∙◌, sym, add-one, eq-or-lt_of_le}
+use Rattle.std.proofs.Common.{◌≡◌, ℕ, zero, suc, ◌<◌, ◌≤◌, ◌⊎◌, inl, inr, refl, arith, eq-or-lt_of_le, ◌+◌, ◌-◌, ◌*◌, min, true, false, nat_le, if◌then◌else◌, ap, ◌∙◌, sym, add-one}
 use Rattle.std.proofs.Math.Nat.{mul-le-mul_right, div-mul-le_self}
 use Rattle.std.proofs.lemmas.Bool.Decides.{nat_tests}
 use Rattle.grid_fraction.specs.Numbers.{sum_below}
@@ -11,7 +11,20 @@ use Rattle.sched_model.specs.Plan.{period, offset}
 use Rattle.sched_model.specs.Jobs.{release}
 use Rattle.poll_server.specs.Serving.{ServerOf, budget, job_release, request_count, arrival, units, arrived, taken_up_to, taken, asked_below, asked_with}
 use Rattle.poll_server.specs.Bound.{jobs_before}
-use Rattle.poll_server.proofs.Cutting.{sum_below-cut}
+
+-- a sum whose terms from n on are 0 is the sum of its first n terms
+pub sum_below-cut : (c n : ℕ) (f g : ℕ → ℕ) → n ≤ c → ((k : ℕ) → k < n → f k ≡ g k)
+    → ((k : ℕ) → n ≤ k → k < c → f k ≡ 0) → sum_below c f ≡ sum_below n g
+sum_below-cut zero n f g le same none =
+    let e : n ≡ 0 = omega arith in rw e refl
+sum_below-cut (suc c) n f g le same none = go (eq-or-lt_of_le le) (sum_below-cut c n f g)
+  where
+    go : (n ≡ suc c) ⊎ (n < suc c)
+        → (n ≤ c → ((k : ℕ) → k < n → f k ≡ g k) → ((k : ℕ) → n ≤ k → k < c → f k ≡ 0) → sum_below c f ≡ sum_below n g)
+        → sum_below (suc c) f ≡ sum_below n g
+    go (inl e) ih = rw e (sum_below-same (suc c) f g (λ k lt. same k (omega arith)))
+    go (inr l) ih =
+        omega (arith, ih (omega arith) same (λ k low high. none k low (omega arith)), none c (omega arith) (omega arith))
 
 pub taken-none : (s : ServerOf) → taken_up_to s 0 ≡ 0
 unfolding taken_up_to

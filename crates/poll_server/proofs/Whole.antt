@@ -8,7 +8,7 @@ use Rattle.request_list.specs.Requests.{AreRequests}
 use Rattle.sched_model.specs.Plan.{Plan, period, count, offset}
 use Rattle.sched_model.specs.Jobs.{JobDemands, due, release, released_jobs, demand_of}
 use Rattle.sched_model.specs.Totals.{totals_of}
-use Rattle.sched_model.proofs.ScheduleLemmas.{length-list_below, schedule_exists}
+use Rattle.sched_model.proofs.Schedules.{length-list_below, schedule_exists}
 use Rattle.sched_model.proofs.Tables.{get-table}
 use Rattle.note_laws.specs.DoneLines.{IsBy}
 use Rattle.poll_server.specs.declared.served.Outcome.TheVariants.{Pending}
@@ -18,7 +18,7 @@ use Rattle.poll_server.specs.Bound.{latest_job, latest_end, IsServedBy, KeepsBou
 use Rattle.poll_server.specs.Polled.{IsPolled, polled_notes}
 use Rattle.poll_server.specs.EachOutcome.{job_of, outcome_by, outcome_of, served_by, outcomes_of, served_of}
 use Rattle.poll_server.proofs.Belonging.{belongs, one-job, job-some, job-most, have-jobs}
-use Rattle.poll_server.proofs.Ending.{IsEndBy, ends-never, ends-in-time}
+use Rattle.poll_server.proofs.Ending.{IsEndBy, ends-never, ends-in-time, HearsAll, hears-all, none-told}
 use Rattle.std.specs.Option.{option_or}
 use Rattle.std.proofs.lemmas.List.{length-replicate}
 use Rattle.dvs_base.specs.declared.note.Totals.{Totals}
@@ -34,13 +34,12 @@ use Rattle.governor.specs.Schedule.{ask_of}
 use Rattle.event_kernel.specs.Heard.{HasHeard}
 use Rattle.event_kernel.specs.Runs.{Run, notes_of_run, MeetsDeadlines}
 use Rattle.replay_laws.specs.OwnList.{ticks_by}
-use Rattle.replay_laws.proofs.Owning.{own-lists}
+use Rattle.replay_laws.proofs.SameLists.{own-lists}
 use Rattle.poll_server.specs.declared.ends.Ends.{Ends}
 use Rattle.poll_server.specs.declared.served.Outcome.{Outcome}
 use Rattle.poll_server.specs.Walking.{IsServable, AreTaken, AreEnds, Hears, end_at}
 use Rattle.poll_server.proofs.Takings.{before-released}
 use Rattle.poll_server.proofs.Running.{same-notes}
-use Rattle.poll_server.proofs.Telling.{HearsAll, hears-all, none-told}
 use Rattle.poll_server.proofs.Steps.{some-budget, some-period}
 
 -- a later job is due no earlier

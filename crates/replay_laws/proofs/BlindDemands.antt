@@ -15,10 +15,10 @@ use Rattle.sched_model.specs.CycleDemand.{charged, edf_cycle, allotted, had_sinc
 use Rattle.sched_model.specs.AheadDemand.{first_due, slack, put_off, spread_rate, spread_rates, due_first, edf_ahead}
 use Rattle.sched_model.specs.Demand.{demand_by, published}
 use Rattle.sched_model.specs.Admission.{IsWithinLimits}
-use Rattle.sched_model.proofs.OrderLemmas.{AreBelow, in_order-below}
+use Rattle.sched_model.proofs.Orders.{AreBelow, in_order-below}
 use Rattle.sched_model.proofs.Allotments.{allotment-same}
 use Rattle.sched_model.proofs.Limits.{latest-early}
-use Rattle.replay_laws.proofs.SameCourse.{Alike, IsBlind, same-complete, same-wleft, alike-marked}
+use Rattle.replay_laws.proofs.SameNotes.{Alike, IsBlind, same-complete, same-wleft, alike-marked}
 
 -- what look-ahead puts off depends on the tasks' needs alone
 module _ (p : Plan) (due left other : ℕ → ℕ) (same : (i : ℕ) → i < count p → left i ≡ other i) where

@@ -1,9 +1,5 @@
-pub mod SameCourse
 pub mod SameNotes
-pub mod OwnDemands
-pub mod SameLists
 pub mod BlindDemands
-pub mod FitNotes
-pub mod Owning
-pub mod FixedRows
+pub mod SameLists
+pub mod OwnDemands
 pub mod Examples

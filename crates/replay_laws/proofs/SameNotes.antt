@@ -1,10 +1,32 @@
--- Two demands that the ticks of a schedule don't distinguish give the same notes.
-use Rattle.std.proofs.Common.{◌≡◌, ◌+◌, ◌<◌, ◌≤◌, ℕ, zero, suc, Bool, true, false, List, [], ◌∷◌, ◌++◌, length, take, drop, flat_map, refl, if◌then◌else◌, ap, ap₂, ◌∙◌, sym, subst, arith, ◌⊎◌, inl, inr, nat_eq}
+-- Two demands that the ticks of a schedule don't distinguish: they have one state, the same decisions, one schedule and the
+-- same notes.
+use Rattle.std.proofs.Common.{◌≡◌, ◌<◌, ◌≤◌, ℕ, suc, Bool, true, false, List, ◌∷◌, length, refl, ap, ◌∙◌, nat_le, sym, arith, ◌-◌, [], if◌then◌else◌, ap₂, not, ◌&&◌, ◌||◌, length-drop, ◌+◌, min, ◌⊎◌, inl, inr, zero, ◌++◌, take, drop, flat_map, subst, nat_eq}
+use Rattle.std.proofs.lemmas.Bool.Decides.{nat_tests}
+use Rattle.std.proofs.lemmas.Bool.{cases_lt}
 use Rattle.std.specs.Prelude.{count_by, sum_by}
 use Rattle.std.specs.List.{AllByRecursion}
 use Rattle.std.proofs.lemmas.List.{take-append-drop}
 use Rattle.std.proofs.lemmas.Grind.{flat_map-append}
-use Rattle.std.proofs.lemmas.Bool.Decides.{nat_tests}
+use Rattle.sched_model.specs.Plan.{Plan, count, worst, point}
+use Rattle.sched_model.specs.Jobs.{JobDemands, latest_since, latest, due, last_release, is_release, releases_at}
+use Rattle.sched_model.specs.Ticks.{Tick, exec, is_done, at, is_complete, wleft, share, left}
+use Rattle.grid_fraction.proofs.Searches.{any_below-same}
+use Rattle.freq_table.specs.Tables.{lowest_entry}
+use Rattle.sched_model.specs.declared.state.Row.{Row}
+use Rattle.sched_model.specs.Decision.{completes_in, is_decision}
+use Rattle.sched_model.specs.Schedule.{entry_in_force, IsNext, IsScheduleBy}
+use Rattle.sched_model.specs.States.{row_of, state_of}
+use Rattle.sched_model.specs.Admission.{IsWithinLimits}
+use Rattle.sched_model.proofs.Limits.{latest-early, every_period}
+use Rattle.sched_model.proofs.Schedules.{exec-drop, share-legal}
+use Rattle.sched_model.proofs.Tables.{table-same}
+use Rattle.governor.specs.Meanings.{OwnDemand}
+use Rattle.governor.specs.Schedule.{ask_of}
+use Rattle.grid_fraction.proofs.Sums.{sum_below-same}
+use Rattle.sched_model.specs.Priority.{stands_before, sum_before, sum_up_to, SharesOut, key_of}
+use Rattle.sched_model.proofs.JobLaws.{exec-legal}
+use Rattle.sched_model.proofs.LevelSums.{share-most, sum_where-mono}
+use Rattle.sched_model.proofs.Allotments.{allotment_of, up_to-before}
 use Rattle.dvs_base.specs.declared.note.Note.{Note}
 use Rattle.dvs_base.specs.declared.note.Note.TheVariants.{Release, Speed, Run, Done, End}
 use Rattle.grid_fraction.specs.declared.Frac.{Frac}
@@ -12,19 +34,209 @@ use Rattle.grid_fraction.specs.Numbers.{list_below}
 use Rattle.grid_fraction.proofs.Counts.{count-append}
 use Rattle.sched_model.specs.declared.holder.Holder.{Holder}
 use Rattle.sched_model.specs.declared.holder.Holder.TheVariants.{Nobody, Held}
-use Rattle.sched_model.specs.Plan.{Plan, count, point}
-use Rattle.sched_model.specs.Jobs.{JobDemands, latest, latest_since, releases_at}
-use Rattle.sched_model.specs.Ticks.{Tick, exec, is_done}
-use Rattle.sched_model.specs.Schedule.{IsScheduleBy}
-use Rattle.sched_model.specs.Admission.{IsWithinLimits}
 use Rattle.sched_model.specs.Notes.{same_holder, tick_units, Span, lengthened, spans_of, Piece, pieces_of, position_of, run_energy, release_notes, all_release_notes, had_by, segment_notes, pieces_notes, span_notes, energy_run, energy_idle, notes_before_end, notes_of}
-use Rattle.sched_model.proofs.NoteLemmas.{notes-span}
+use Rattle.sched_model.proofs.Spans.{notes-span, IsLastSpan, IsNow, by-spans}
 use Rattle.sched_model.proofs.PieceLemmas.{each-piece}
-use Rattle.replay_laws.specs.OwnList.{Asking}
-use Rattle.replay_laws.proofs.SameCourse.{Indistinct, Alike, IsBlind, alike-before, alike-earlier, same-decision}
-use Rattle.sched_model.proofs.Limits.{latest-early}
-use Rattle.sched_model.proofs.Spans.{IsLastSpan, IsNow, by-spans}
 use Rattle.sched_model.proofs.Units.{each-weaker}
+use Rattle.replay_laws.specs.OwnList.{Asking}
+
+-- a job that completes in the ticks needs the same by both demands, and one that doesn't needs more than it has had by
+-- the other too
+abbrev pub Indistinct : Plan → JobDemands → JobDemands → List Tick → ℕ → ℕ → Type 0
+Indistinct p dem other ticks i k = (is_done p dem ticks i k ≡ true → dem i k ≡ other i k) × (is_done p dem ticks i k ≡ false → exec p ticks i k < other i k)
+
+-- the ticks don't distinguish the demands of any job that is released before tick t, nor of job 0
+abbrev pub Alike : Plan → JobDemands → JobDemands → List Tick → ℕ → Type 0
+Alike p dem other ticks t = (i k : ℕ) → i < count p → latest_since p i k < t → Indistinct p dem other ticks i k
+
+-- the published demand depends on the demands of finished jobs only
+abbrev pub IsBlind : Plan → Asking → Type 0
+IsBlind p ask = (dem other : JobDemands) (past : List Tick) → Alike p dem other past (suc (length past)) → ask dem past ≡ ask other past
+
+-- the same jobs are finished by both demands
+pub same-done : (p : Plan) (dem other : JobDemands) (past : List Tick) (i k : ℕ) → Indistinct p dem other past i k
+    → is_done p dem past i k ≡ is_done p other past i k
+same-done p dem other past i k h = go (is_done p dem past i k) refl
+  where
+    go : (c : Bool) → is_done p dem past i k ≡ c → is_done p dem past i k ≡ is_done p other past i k
+    go true e = ap (λ n. nat_le n (exec p past i k)) (h.0 e)
+    go false e =
+        let more : exec p past i k < other i k = h.1 e in
+        let off : nat_le (other i k) (exec p past i k) ≡ false = grind (arith, nat_tests, more) in
+        e ∙ sym off
+
+-- earlier ticks, in which a job had had no more, don't distinguish its demands either
+pub indistinct-before : (p : Plan) (dem other : JobDemands) (now past : List Tick) (i k : ℕ) → exec p past i k ≤ exec p now i k → Indistinct p dem other now i k
+    → Indistinct p dem other past i k
+indistinct-before p dem other now past i k grows h = (done, open_job)
+  where
+    done : is_done p dem past i k ≡ true → dem i k ≡ other i k
+    done e = let still : is_done p dem now i k ≡ true = grind (arith, nat_tests, e, grows) in h.0 still
+
+    open_job : is_done p dem past i k ≡ false → exec p past i k < other i k
+    open_job e = go (is_done p dem now i k) refl
+      where
+        go : (c : Bool) → is_done p dem now i k ≡ c → exec p past i k < other i k
+        go true d = let same : dem i k ≡ other i k = h.0 d in grind (arith, nat_tests, e, same)
+        go false d = let more : exec p now i k < other i k = h.1 d in omega (arith, grows, more)
+
+-- earlier ticks don't distinguish the demands of the jobs that were released by then
+pub alike-before : (p : Plan) (dem other : JobDemands) (now past : List Tick) (t s : ℕ) → s ≤ t → ((i k : ℕ) → i < count p → exec p past i k ≤ exec p now i k)
+    → Alike p dem other now t → Alike p dem other past s
+alike-before p dem other now past t s le grows h i k lt early = indistinct-before p dem other now past i k (grows i k lt) (h i k lt (omega (arith, early, le)))
+
+-- the ticks before the last one don't distinguish the demands of the jobs that were released by then
+pub alike-earlier : (p : Plan) (dem other : JobDemands) (x : Tick) (past : List Tick) (t s : ℕ) → s ≤ t
+    → Alike p dem other (x ∷ past) t → Alike p dem other past s
+alike-earlier p dem other x past t s le h = alike-before p dem other (x ∷ past) past t s le (λ i k lt. omega arith) h
+
+module _ (p : Plan) (lim : IsWithinLimits p) (dem other : JobDemands) where
+  pub same-complete : (past : List Tick) → Alike p dem other past (suc (length past)) → (i : ℕ) → i < count p
+      → is_complete p dem past i ≡ is_complete p other past i
+  same-complete past h i lt =
+      let k = latest p i (length past) in
+      same-done p dem other past i k (h i k lt (latest-early p lim i (length past) lt))
+
+  -- a row depends on its job's demand only by whether the job is complete
+  pub same-row : (past : List Tick) → Alike p dem other past (suc (length past)) → (i : ℕ) → i < count p → row_of p dem past i ≡ row_of p other past i
+  same-row past h i lt =
+      let k = latest p i (length past) in
+      ap (λ (c : Bool). record { deadline = due p i k; job = k; used = exec p past i k; done = c; worst = worst p i }) (same-complete past h i lt)
+
+  pub same-wleft : (past : List Tick) → Alike p dem other past (suc (length past)) → (i : ℕ) → i < count p → wleft p dem past i ≡ wleft p other past i
+  same-wleft past h i lt =
+      ap (λ (c : Bool). if c then 0 else worst p i - exec p past i (latest p i (length past))) (same-complete past h i lt)
+
+  -- the ticks up to the last release don't distinguish the demands
+  pub alike-marked : (past : List Tick) → Alike p dem other past (suc (length past))
+      → let r = last_release p (length past) in Alike p dem other (at r past) (suc (length (at r past)))
+  alike-marked past h =
+      let r = last_release p (length past) in
+      alike-before p dem other past (at r past) (suc (length past)) (suc (length (at r past)))
+      (omega (arith, length-drop (length past - r) past))
+      (λ i k lt. exec-drop p i k (length past - r) past)
+      h
+
+  -- both demands give the same state
+  pub same-state : (past : List Tick) → Alike p dem other past (suc (length past)) → state_of p dem past ≡ state_of p other past
+  same-state past h =
+      let r = last_release p (length past) in
+      ap₂ (λ (rows : List Row) (base : List ℕ). record { now = length past; rows = rows; base_at = r; base = base })
+      (table-same (count p) (row_of p dem past) (row_of p other past) (same-row past h))
+      (table-same (count p) (wleft p dem (at r past)) (wleft p other (at r past)) (same-wleft (at r past) (alike-marked past h)))
+
+  -- the same jobs complete in the last tick by both demands
+  pub same-completes : (x : Tick) (past : List Tick) → Alike p dem other (x ∷ past) (length (x ∷ past)) → (i : ℕ)
+      → i < count p → completes_in p dem x past i ≡ completes_in p other x past i
+  same-completes x past h i lt =
+      let k = latest p i (length past) in
+      let now : Indistinct p dem other (x ∷ past) i k = h i k lt (omega (arith, latest-early p lim i (length past) lt)) in
+      let before : Indistinct p dem other past i k = indistinct-before p dem other (x ∷ past) past i k (omega arith) now in
+      ap₂ (λ a b. not a && b) (same-done p dem other past i k before) (same-done p dem other (x ∷ past) i k now)
+
+  -- the decisions are the same by both demands
+  pub same-decision : (past : List Tick) → Alike p dem other past (length past) → is_decision p dem past ≡ is_decision p other past
+  same-decision [] h = refl
+  same-decision (x ∷ past) h =
+      ap (λ b. is_release p (length (x ∷ past)) || b)
+      (any_below-same (count p) (λ i. completes_in p dem x past i) (λ i. completes_in p other x past i)
+      (same-completes x past h))
+
+  -- the entry in force is the same by both demands
+  pub same-entry : (ask : Asking) → IsBlind p ask → (past : List Tick) → Alike p dem other past (suc (length past))
+      → entry_in_force p dem (ask dem) past ≡ entry_in_force p other (ask other) past
+  same-entry ask blind [] h = ap (lowest_entry p.machine) (blind dem other [] h)
+  same-entry ask blind (x ∷ past) h =
+      ap₂ (λ (d : Bool) (e : ℕ × ℕ). if d then e.0 else e.1)
+      (same-decision (x ∷ past) (λ i k lt early. h i k lt (omega (arith, early))))
+      (ap₂ (λ (a b : ℕ). (a, b))
+      (ap (lowest_entry p.machine) (blind dem other (x ∷ past) h))
+      (same-entry ask blind past (alike-earlier p dem other x past (suc (length (x ∷ past))) (suc (length past)) (omega arith) h)))
+
+-- a governor's published demand, as a function of the state, depends on the demands of finished jobs only
+pub blind-own : (p : Plan) → IsWithinLimits p → (demand : OwnDemand) → IsBlind p (ask_of demand p)
+blind-own p lim demand dem other past h = ap (demand p) (same-state p lim dem other past h)
+
+-- the task needs the same by both, or was given less than it needs and no more than the other need
+abbrev pub NeedsAlike : (need other given : ℕ → ℕ) → ℕ → Type 0
+NeedsAlike need other given j = (need j ≡ other j) ⊎ ((given j < need j) × (given j ≤ other j))
+
+-- a share by the order is one for the other needs too: a task with another need was cut short, so the room ends there
+pub shares-alike : (n : ℕ) (key : ℕ → ℕ) (room : ℕ) (need other given : ℕ → ℕ) → SharesOut n key room need given
+    → ((j : ℕ) → j < n → NeedsAlike need other given j) → SharesOut n key room other given
+shares-alike n key room need other given h alike i lt = go (cases_lt (sum_up_to n key given i) room)
+  where
+    fits : (j : ℕ) → j < n → given j ≤ other j
+    fits j l = by (alike j l)
+      where
+        by : NeedsAlike need other given j → given j ≤ other j
+        by (inl e) = omega (arith, e, share-most n key room need given h j l)
+        by (inr c) = c.1
+
+    least : sum_up_to n key given i ≤ sum_up_to n key other i
+    least = omega (arith, sum_where-mono n (λ j. stands_before key j i) given other (λ j l b. fits j l), fits i lt)
+
+    -- where some room is left after task j, it needs the same by both
+    whole : (j : ℕ) → j < n → sum_up_to n key given j < room → need j ≡ other j
+    whole j l more = by (alike j l)
+      where
+        all : given j ≡ need j
+        all = omega (arith, more, h j l, allotment_of n key room need given h j l)
+
+        by : NeedsAlike need other given j → need j ≡ other j
+        by (inl e) = e
+        by (inr c) = absurd (omega (arith, all, c.0))
+
+    go : (sum_up_to n key given i < room) ⊎ (room ≤ sum_up_to n key given i) → sum_up_to n key given i ≡ min room (sum_up_to n key other i)
+    go (inr full) = omega (arith, full, least, h i lt)
+    go (inl more) = omega (arith, h i lt, more, before, whole i lt more)
+      where
+        before : sum_before n key need i ≡ sum_before n key other i
+        before = sum_below-same n _ _ (λ j l. by j l (stands_before key j i) refl)
+          where
+            by : (j : ℕ) → j < n → (b : Bool) → stands_before key j i ≡ b
+                → (if stands_before key j i then need j else 0) ≡ (if stands_before key j i then other j else 0)
+            by j l true e = ap (λ (v : ℕ). if stands_before key j i then v else 0) (whole j l (omega (arith, more, up_to-before n key given j i l e)))
+            by j l false e = rw e refl
+
+module _ (p : Plan) (lim : IsWithinLimits p) (dem other : JobDemands) (none : (i : ℕ) → dem i 0 ≡ 0) (ask : Asking) (blind : IsBlind p ask) where
+  -- the latest jobs need the same by both demands, or were given less than they need and no more than the other need
+  needs-alike : (x : Tick) (past : List Tick) (f : ℕ) → SharesOut (count p) (key_of p.scheduler p (length past)) f (left p dem past) (share x)
+      → Alike p dem other (x ∷ past) (length (x ∷ past)) → (i : ℕ) → i < count p → NeedsAlike (left p dem past) (left p other past) (share x) i
+  needs-alike x past f legal h i lt = go (is_done p dem (x ∷ past) i k) refl
+    where
+      k : ℕ
+      k = latest p i (length past)
+
+      now : Indistinct p dem other (x ∷ past) i k
+      now = h i k lt (omega (arith, latest-early p lim i (length past) lt))
+
+      had : exec p (x ∷ past) i k ≡ exec p past i k + share x i
+      had = exec-legal p dem x past i (every_period p lim i) (none i)
+          (share-legal p dem past f x legal i lt)
+
+      go : (b : Bool) → is_done p dem (x ∷ past) i k ≡ b → NeedsAlike (left p dem past) (left p other past) (share x) i
+      go true e = inl (ap (λ n. n - exec p past i k) (now.0 e))
+      go false e =
+          let more : exec p (x ∷ past) i k < dem i k = grind (arith, nat_tests, e) in
+          let more_other : exec p (x ∷ past) i k < other i k = now.1 e in
+          inr (omega (arith, had, more), omega (arith, had, more_other))
+
+  -- the tick may come next for the other demand too
+  pub same-next : (x : Tick) (past : List Tick) → Alike p dem other (x ∷ past) (length (x ∷ past))
+      → IsNext p dem (ask dem) past x → IsNext p other (ask other) past x
+  same-next x past h next = record {
+    one_share_each = next.one_share_each;
+    entry = next.entry ∙ same-entry p lim dem other ask blind past (alike-earlier p dem other x past (length (x ∷ past)) (suc (length past)) (omega arith) h);
+    legal = shares-alike (count p) (key_of p.scheduler p (length past)) ((point p x.entry).speed) (left p dem past) (left p other past) (share x) next.legal
+        (needs-alike x past ((point p x.entry).speed) next.legal h);
+  }
+
+  -- the ticks are a schedule for the other demand too
+  pub same-course : (ticks : List Tick) → Alike p dem other ticks (length ticks) → IsScheduleBy p dem (ask dem) ticks → IsScheduleBy p other (ask other) ticks
+  same-course [] h sched = tt
+  same-course (x ∷ past) h sched =
+      (same-course past (alike-earlier p dem other x past (length (x ∷ past)) (length past) (omega arith) h) sched.0, same-next x past h sched.1)
 
 -- two functions that agree on the numbers below n give one list for them
 flat_map-same : (n : ℕ) (f g : ℕ → List Note) → ((i : ℕ) → i < n → f i ≡ g i) → flat_map f (list_below n (λ i. i)) ≡ flat_map g (list_below n (λ i. i))

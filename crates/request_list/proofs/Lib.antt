@@ -1,4 +1,2 @@
-pub mod Orders
-pub mod Rows
 pub mod Texts
 pub mod Examples

@@ -9,7 +9,7 @@ use Rattle.freq_table.proofs.Chosen.{picked_meets, picked_met, lowest-most}
 use Rattle.sched_model.specs.Plan.{Plan, top_speed}
 use Rattle.sched_model.specs.StaticDemand.{static_demand}
 use Rattle.sched_model.specs.Admission.{IsAdmitted}
-use Rattle.sched_model.proofs.Weights.{static_den}
+use Rattle.sched_model.proofs.StaticShare.{static_den}
 use Rattle.governor.specs.Laws.{GovernorLaws, HasLowDen}
 use Rattle.governor.specs.Serving.{ServesBoth}
 use Rattle.governor.specs.Speeds.{unchanging}

@@ -4,7 +4,7 @@ use Rattle.grid_fraction.proofs.Searches.{below_suc}
 use Rattle.sched_model.specs.Plan.{Plan, period, top_speed}
 use Rattle.sched_model.specs.Priority.{stands_before, earlier_of}
 use Rattle.sched_model.specs.Tests.{level_work}
-use Rattle.sched_model.proofs.PriorityLemmas.{before-self, before-trans}
+use Rattle.sched_model.proofs.Orders.{before-self, before-trans}
 use Rattle.rm_admit.specs.Denials.{IsOverloaded}
 
 -- no task below m fails the test

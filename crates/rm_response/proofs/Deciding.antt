@@ -1,20 +1,78 @@
--- What is decided of a fit by the last task before a task.
-use Rattle.std.proofs.Common.{◌≡◌, ℕ, ◌+◌, ◌-◌, ◌*◌, ◌/◌, ◌<◌, max, ◌≤◌, Bool, true, false, is_some, ◌⊎◌, inl, inr, Option, Some, None, nat_eq, refl, arith, div-add-mod', mod-lt, if◌then◌else◌}
+-- What is decided of a fit by the last task before a task, and that ticks beside the rates of other tasks are a lower bound.
+use Rattle.std.proofs.Common.{◌≡◌, ℕ, ◌+◌, ◌*◌, ◌<◌, Bool, true, false, nat_eq, refl, arith, if◌then◌else◌, Option, Some, None, true≢false, sym, ◌∙◌, ◌-◌, ◌/◌, max, ◌≤◌, is_some, ◌⊎◌, inl, inr, div-add-mod', mod-lt}
 use Rattle.std.proofs.lemmas.Bool.Decides.{nat_tests}
 use Rattle.std.proofs.Math.Nat.{div-mul-le_self}
 use Rattle.grid_fraction.specs.Numbers.{ceil_div}
 use Rattle.task_model.specs.declared.limits.TheConstants.{LONGEST_PERIOD}
-use Rattle.sched_model.specs.Plan.{Plan, count, period, top_speed, hyper}
-use Rattle.sched_model.specs.Priority.{stands_before, sum_before}
+use Rattle.sched_model.specs.Plan.{Plan, count, period, hyper, top_speed}
+use Rattle.sched_model.specs.Priority.{is_up_to, stands_before, sum_before}
 use Rattle.sched_model.specs.Admission.{IsWithinLimits}
+use Rattle.rm_response_laws.specs.Bounds.{spare, rest_work, IsUnservedFrom, held_work}
+use Rattle.rm_response_laws.proofs.Bounding.{unserved-beside, unserved-full}
+use Rattle.grid_fraction.proofs.Searches.{below_suc}
+use Rattle.sched_model.proofs.Orders.{before-self, before-not}
+use Rattle.rm_response_laws.specs.Fitting.{IsLastBefore, work_beside, NoneFits, FindsFit}
 use Rattle.sched_model.proofs.Limits.{some_period}
-use Rattle.sched_model.proofs.DownSets.{sum_where-none}
+use Rattle.sched_model.proofs.Allotments.{sum_where-none}
 use Rattle.rm_response_laws.specs.Responses.{EarlierRespond}
-use Rattle.rm_response_laws.specs.Bounds.{held_work, spare}
-use Rattle.rm_response_laws.specs.Fitting.{work_beside, NoneFits, FindsFit, IsLastBefore}
 use Rattle.rm_response_laws.proofs.Fitting.{before-last, none-beside, none-full, fits-fewer, none-last}
 use Rattle.rm_response.specs.Bounds.{ticks_beside}
-use Rattle.rm_response.specs.Last.{NoneBefore}
+use Rattle.rm_response.specs.Last.{FindsLast, later_of, NoneBefore}
+
+pub beside-some : (p : Plan) (work k : ℕ) → 0 < spare p k
+    → ticks_beside p work k ≡ ceil_div (work * hyper p) (spare p k)
+beside-some p work k some = let e : nat_eq (spare p k) 0 ≡ false = grind (arith, nat_tests) in rw e refl
+
+-- from t ticks on, no fewer ticks than the remaining work of t ticks takes are enough
+pub unserved-rest : (p : Plan) → IsWithinLimits p → (i k : ℕ) → i < count p → k < count p
+    → is_up_to (period p) i k ≡ true → (t : ℕ) → IsUnservedFrom p i t (ticks_beside p (rest_work p t k i) k)
+unserved-rest p lim i k hi hk on t = go (nat_eq (spare p k) 0) refl
+  where
+    go : (b : Bool) → nat_eq (spare p k) 0 ≡ b
+        → IsUnservedFrom p i t
+        (if b then LONGEST_PERIOD + 1 else ceil_div (rest_work p t k i * hyper p) (spare p k))
+    go true e = unserved-full p lim i k hi hk on t (LONGEST_PERIOD + 1) (grind (arith, nat_tests))
+    go false e = unserved-beside p lim i k hi hk on t (grind (arith, nat_tests))
+
+module _ (key : ℕ → ℕ) (k j : ℕ) where
+  -- a task that doesn't come before task k changes nothing
+  pub last-off : (last : Option ℕ) → FindsLast key k j last → stands_before key j k ≡ false → FindsLast key k (j + 1) last
+  last-off None none off = λ m lt. below_suc (λ i. stands_before key i k ≡ false) j none off m (omega arith)
+  last-off (Some i) r off = record {
+    task = (let t = r.task in omega arith);
+    before = r.before;
+    last = λ m lt.
+        below_suc (λ m. stands_before key m k ≡ true → stands_before key i m ≡ false) j r.last
+        (λ on. absurd (true≢false (sym on ∙ off))) m (omega arith);
+  }
+
+  -- a task that comes before task k is the last one, or the earlier one is later
+  pub last-on : (last : Option ℕ) → FindsLast key k j last → stands_before key j k ≡ true
+      → FindsLast key k (j + 1) (Some (later_of key last j))
+  last-on None none on = record {
+    task = omega arith;
+    before = on;
+    last = λ m lt.
+        below_suc (λ m. stands_before key m k ≡ true → stands_before key j m ≡ false) j
+        (λ m low before. absurd (true≢false (sym before ∙ none m low))) (λ before. before-self key j) m (omega arith);
+  }
+  last-on (Some i) r on = go (stands_before key j i) refl
+    where
+      go : (b : Bool) → stands_before key j i ≡ b → IsLastBefore key k (j + 1) (if b then i else j)
+      go true e = record {
+        task = (let t = r.task in omega arith);
+        before = r.before;
+        last = λ m lt.
+            below_suc (λ m. stands_before key m k ≡ true → stands_before key i m ≡ false) j r.last
+            (λ before. before-not key j i e) m (omega arith);
+      }
+      go false e = record {
+        task = omega arith;
+        before = on;
+        last = λ m lt.
+            below_suc (λ m. stands_before key m k ≡ true → stands_before key j m ≡ false) j
+            (λ m low before. grind (arith, nat_tests, r.last m low before)) (λ before. before-self key j) m (omega arith);
+      }
 
 -- how many tasks come before task k
 abbrev pub rank : Plan → ℕ → ℕ

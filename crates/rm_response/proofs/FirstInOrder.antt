@@ -2,7 +2,7 @@
 use Rattle.std.proofs.Common.{◌≡◌, ℕ, ◌<◌, Bool, true, false, List, [], ◌∷◌, ◌++◌, Some, None, refl, ap, ◌∙◌, subst}
 use Rattle.std.specs.List.{find}
 use Rattle.sched_model.specs.Priority.{stands_before, in_order}
-use Rattle.sched_model.proofs.OrderLemmas.{IsOrdered, AreBelow, in_order-below, in_order-ordered, stands-in_order, first_ahead}
+use Rattle.sched_model.proofs.Orders.{IsOrdered, AreBelow, in_order-below, in_order-ordered, stands-in_order, first_ahead}
 
 module _ (test : ℕ → Bool) (key : ℕ → ℕ) (n : ℕ) where
   find-here : (i : ℕ) (pre post : List ℕ) → AreBelow n (pre ++ i ∷ post) → IsOrdered key (pre ++ i ∷ post)

@@ -7,9 +7,9 @@ use Rattle.sched_model.specs.Plan.{Plan, count, period, worst, top_speed, hyper,
 use Rattle.sched_model.specs.Priority.{stands_before, sum_before, sum_up_to}
 use Rattle.sched_model.specs.Admission.{IsWithinLimits}
 use Rattle.sched_model.proofs.Limits.{some_period, some_hyper}
-use Rattle.sched_model.proofs.DownSets.{sum_where-last}
+use Rattle.sched_model.proofs.Allotments.{sum_where-last}
 use Rattle.sched_model.proofs.LevelSums.{sum_where-mono, sum_where-plus}
-use Rattle.sched_model.proofs.PriorityLemmas.{before-trans}
+use Rattle.sched_model.proofs.Orders.{before-trans}
 use Rattle.governor.specs.Worst.{level_work_in}
 use Rattle.rm_response_laws.specs.Responses.{response, HasResponse, EarlierRespond, IsUnserved}
 use Rattle.rm_response_laws.specs.Bounds.{held_work, spare}

@@ -1,16 +1,23 @@
--- Under RM at the highest speed, tasks with a bound on their levels' busy stretches meet their deadlines.
-use Rattle.std.proofs.Common.{◌≡◌, ℕ, zero, suc, ◌*◌, ◌<◌, ◌≤◌, Bool, true, List, [], ◌∷◌, length, ap, ◌∙◌, sym, subst}
-use Rattle.dvs_base.specs.declared.kind.Scheduler.TheVariants.{Rm}
+-- Under RM at the highest speed, which the schedule with no governor runs at, tasks with a bound on their levels' busy
+-- stretches meet their deadlines.
+use Rattle.std.proofs.Common.{◌≡◌, List, length, ap, ◌∙◌, subst, ℕ, zero, suc, ◌*◌, ◌<◌, ◌≤◌, Bool, true, [], ◌∷◌, sym}
 use Rattle.dvs_base.specs.declared.kind.GovernorKind.TheVariants.{Plain}
-use Rattle.sched_model.specs.Plan.{Plan, count, period, top_speed}
-use Rattle.sched_model.specs.Jobs.{due, IsWithin, JobDemands}
-use Rattle.sched_model.specs.Ticks.{Tick, at, exec}
-use Rattle.sched_model.specs.Schedule.{schedule}
+use Rattle.grid_fraction.specs.declared.Frac.{Frac}
+use Rattle.freq_table.specs.Tables.{speed_at}
+use Rattle.sched_model.specs.Plan.{Plan, count, point, top_speed, period}
+use Rattle.sched_model.specs.Ticks.{Tick, share, left, at, exec}
+use Rattle.sched_model.specs.Demand.{published}
+use Rattle.sched_model.specs.Jobs.{JobDemands, due, IsWithin}
+use Rattle.sched_model.specs.Priority.{SharesOut, key_of}
+use Rattle.sched_model.specs.Schedule.{entry_in_force, next_tick, schedule}
+use Rattle.sched_model.specs.StaticDemand.{full_demand}
 use Rattle.sched_model.specs.Admission.{IsWithinLimits}
+use Rattle.sched_model.proofs.Schedules.{next_tick-may, share-legal, schedule_exists, schedule-none, schedule-suc}
+use Rattle.governor.proofs.Fits.{full_speed}
+use Rattle.governor.proofs.Worst.{published-plain, entry-same}
+use Rattle.dvs_base.specs.declared.kind.Scheduler.TheVariants.{Rm}
 use Rattle.sched_model.specs.States.{StateOf, row_at, prior_state, state_of}
 use Rattle.sched_model.proofs.Limits.{every_period}
-use Rattle.sched_model.proofs.Service.{share-legal}
-use Rattle.sched_model.proofs.ScheduleLemmas.{next_tick-may, schedule_exists, schedule-none, schedule-suc}
 use Rattle.governor.specs.Steps.{after_boundary, after_tick, IsAtDecision, IsLegalIn, Belongs}
 use Rattle.governor.proofs.Course.{at-schedule, due-had}
 use Rattle.governor.proofs.Joins.{boundary-is, tick-is, legal-is}
@@ -18,7 +25,30 @@ use Rattle.governor.proofs.Belonging.{belongs_opening, belongs_boundary, belongs
 use Rattle.governor.specs.Rm.{level, LevelCalm}
 use Rattle.governor.specs.Worst.{level_work_in}
 use Rattle.governor.proofs.RmLevels.{level_opens, level_completes, level_releases, level_ticks}
-use Rattle.rm_response_laws.proofs.OneSpeed.{full_ask, full_tick, full-legal}
+
+-- the published demand with no governor
+abbrev pub full_ask : Plan → JobDemands → List Tick → Frac
+full_ask p dem = published p Plain dem
+
+-- the tick after `past` in the schedule with no governor
+abbrev pub full_tick : Plan → JobDemands → List Tick → Tick
+full_tick p dem past = next_tick p dem (full_ask p dem) past
+
+-- the speed of the entry in force is always the highest
+pub full-same : (p : Plan) → IsWithinLimits p → (dem : JobDemands) (past : List Tick)
+    → (point p (entry_in_force p dem (full_ask p dem) past)).speed ≡ top_speed p
+full-same p lim dem past =
+    ap (speed_at p.machine) (entry-same p dem (full_ask p dem) (full_demand p) (published-plain p dem) past) ∙ full_speed p lim
+
+-- each tick is legal at the highest speed
+pub full-legal : (p : Plan) → IsWithinLimits p → (dem : JobDemands) (past : List Tick)
+    → SharesOut (count p) (key_of p.scheduler p (length past)) (top_speed p) (left p dem past)
+    (share (full_tick p dem past))
+full-legal p lim dem past =
+    let key = key_of p.scheduler p (length past) in
+    let x = full_tick p dem past in
+    subst (λ f. SharesOut (count p) key f (left p dem past) (share x)) (full-same p lim dem past)
+    (next_tick-may p dem (full_ask p dem) past).legal
 
 -- `long` bounds the busy stretches of the level of task i: it is at most the task's period, and the highest speed does
 -- in `long` ticks what the level can ask for in them

@@ -11,14 +11,13 @@ use Rattle.sched_model.specs.Priority.{stands_before}
 use Rattle.sched_model.specs.Admission.{IsWithinLimits}
 use Rattle.sched_model.proofs.Limits.{some_period}
 use Rattle.sched_model.proofs.JobLaws.{latest-is, release-due}
-use Rattle.sched_model.proofs.PriorityLemmas.{before-trans}
-use Rattle.sched_model.proofs.ScheduleLemmas.{schedule_exists}
+use Rattle.sched_model.proofs.Orders.{before-trans}
+use Rattle.sched_model.proofs.Schedules.{schedule_exists}
 use Rattle.governor.proofs.Course.{at-schedule}
 use Rattle.governor.specs.Rm.{level}
 use Rattle.governor.proofs.Worst.{worst-within}
 use Rattle.rm_response_laws.specs.Responses.{response, HasResponse, AllRespond, EarlierRespond, full_worst_ticks, is_first_done, IsFirstDoneAt, MeetsAllDeadlines}
-use Rattle.rm_response_laws.proofs.OneSpeed.{full_ask}
-use Rattle.rm_response_laws.proofs.Keeping.{bounded-met}
+use Rattle.rm_response_laws.proofs.Keeping.{full_ask, bounded-met}
 use Rattle.rm_response_laws.proofs.Firsts.{due-zero, worst_ask, IsKept, first-done, first-not_done}
 use Rattle.rm_response_laws.proofs.Searching.{before-response, response-bound}
 

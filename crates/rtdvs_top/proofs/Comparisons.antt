@@ -8,14 +8,14 @@ use Rattle.sched_model.specs.Demand.{published}
 use Rattle.sched_model.specs.Jobs.{JobDemands, demand_of, IsWithin}
 use Rattle.sched_model.specs.Notes.{notes_of}
 use Rattle.sched_model.specs.Schedule.{schedule_by}
-use Rattle.sched_model.proofs.ScheduleLemmas.{schedule_exists}
+use Rattle.sched_model.proofs.Schedules.{schedule_exists}
 use Rattle.sched_model.proofs.Agreeing.{AgreeOnSchedules, same-schedule, same-notes}
 use Rattle.governor.specs.Meanings.{OwnDemand}
 use Rattle.governor.specs.Schedule.{ask_of, Publishes}
 use Rattle.trace_reader.specs.Traces.{TraceOf}
 use Rattle.replay_laws.specs.FixedDemands.{fixed_of}
 use Rattle.replay_laws.specs.OwnList.{ticks_by, notes_by}
-use Rattle.replay_laws.proofs.FitNotes.{fixed-within}
+use Rattle.replay_laws.proofs.OwnDemands.{fixed-within}
 use Rattle.replay.specs.Comparing.{compared}
 use Rattle.replay.specs.Replays.{first_over, too_many, unless, own_notes, replay_of}
 use Rattle.replay.specs.declared.fault.ReplayFault.{ReplayFault}

@@ -12,7 +12,7 @@ use Rattle.governor.specs.Meanings.{Serving, OwnDemand, Condition, EntryConditio
 use Rattle.governor.specs.Laws.{GovernorLaws}
 use Rattle.governor.specs.Schedule.{PublishingLaws}
 use Rattle.governor.proofs.OneSpeedLaws.{pairs_plain, full_laws, pairs_fixed, static_laws}
-use Rattle.governor.proofs.PlanDemands.{plain_publishing, fixed_publishing}
+use Rattle.governor.proofs.Worst.{plain_publishing, fixed_publishing}
 use Rattle.cc_edf_laws.proofs.CycleLaws.{cycle_laws}
 use Rattle.cc_edf_laws.proofs.Publishing.{cycle_publishing}
 use Rattle.cc_rm_laws.proofs.CcRmLaws.{cc_rm_laws}

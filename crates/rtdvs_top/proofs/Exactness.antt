@@ -38,7 +38,7 @@ use Rattle.trace_reader.specs.declared.trace.TraceFault.{TraceFault}
 use Rattle.trace_reader.proofs.HeadTexts.{task_lines-lines}
 use Rattle.trace_reader.proofs.ShortTexts.{text-short}
 use Rattle.trace_reader.proofs.TraceTexts.{reads-found, reads-only, version-lines}
-use Rattle.replay_laws.proofs.Owning.{own-lists}
+use Rattle.replay_laws.proofs.SameLists.{own-lists}
 use Rattle.note_laws.specs.RunTraces.{trace_of_run}
 use Rattle.note_laws.proofs.TraceLimits.{keeps-limits}
 use Rattle.replay.proofs.Texts.{names-distinct, names-named}

@@ -3,7 +3,7 @@ use Rattle.std.proofs.Common.{ℕ, ◌+◌, ◌-◌, ◌*◌, ◌/◌, ◌≤◌
 use Rattle.dvs_base.specs.declared.kind.Scheduler.TheVariants.{Edf}
 use Rattle.sched_model.specs.Jobs.{released_jobs}
 use Rattle.sched_model.specs.Plan.{Plan, period, offset}
-use Rattle.sched_model.proofs.ScheduleLemmas.{length-list_below}
+use Rattle.sched_model.proofs.Schedules.{length-list_below}
 use Rattle.grid_fraction.specs.Numbers.{sum_below, ceil_div}
 use Rattle.workload.specs.Draws.{first_state}
 use Rattle.workload.specs.Workload.{made_task, made_machine}

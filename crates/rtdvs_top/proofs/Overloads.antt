@@ -5,8 +5,7 @@ use Rattle.std.proofs.lemmas.Bool.{lt-ltb, le-ltb, ltb-true, ltb-false}
 use Rattle.sched_model.specs.Plan.{Plan, count, period, top_speed}
 use Rattle.sched_model.specs.Priority.{stands_before, in_order}
 use Rattle.sched_model.specs.Tests.{level_work, IsRmFeasible}
-use Rattle.sched_model.proofs.PriorityLemmas.{before-self, before-not}
-use Rattle.sched_model.proofs.OrderLemmas.{IsAhead, IsOrdered, AreBelow, Stands, in_order-below, in_order-ordered, stands-in_order, first_ahead}
+use Rattle.sched_model.proofs.Orders.{before-self, before-not, IsAhead, IsOrdered, AreBelow, Stands, in_order-below, in_order-ordered, stands-in_order, first_ahead}
 use Rattle.rm_admit.specs.Denials.{IsFirstOverloaded}
 use Rattle.rm_response.proofs.FirstInOrder.{first-in_order, none-in_order}
 use Rattle.rtdvs_top.specs.Admit.{first_overloaded}

@@ -26,7 +26,7 @@ use Rattle.event_kernel.specs.Lines.{WroteLines, StoppedIn}
 use Rattle.event_kernel.proofs.Writing.{all-as, some-as, stopped-some}
 use Rattle.event_kernel.proofs.Demanding.{demand-within}
 use Rattle.sched_model.specs.Demand.{published}
-use Rattle.sched_model.proofs.ScheduleLemmas.{schedule_exists, schedule_unique}
+use Rattle.sched_model.proofs.Schedules.{schedule_exists, schedule_unique}
 use Rattle.sched_model.specs.Totals.{totals_of}
 use Rattle.governor.specs.Meanings.{OwnDemand}
 use Rattle.governor.specs.Schedule.{ask_of, Publishes}

@@ -1,20 +1,18 @@
 -- Two published demands that agree on every schedule give one schedule, and its notes.
-use Rattle.std.proofs.Common.{◌≡◌, ℕ, zero, suc, List, [], ◌∷◌, ◌++◌, length, sum_by, refl, if◌then◌else◌, ap, ap₂, ◌∙◌, sym}
+use Rattle.std.proofs.lemmas.Bool.Decides.{nat_tests}
+use Rattle.std.proofs.Common.{◌≡◌, ℕ, zero, suc, List, [], ◌∷◌, ◌++◌, length, sum_by, refl, if◌then◌else◌, ap, ap₂, ◌∙◌, sym, arith}
 use Rattle.dvs_base.specs.declared.note.Note.{Note}
 use Rattle.dvs_base.specs.declared.note.Note.TheVariants.{Speed, End}
 use Rattle.grid_fraction.specs.declared.Frac.{Frac}
-use Rattle.grid_fraction.specs.Numbers.{list_below}
 use Rattle.freq_table.specs.Tables.{lowest_entry}
-use Rattle.sched_model.specs.Plan.{Plan, count, point}
+use Rattle.sched_model.specs.Plan.{Plan, point}
 use Rattle.sched_model.specs.Jobs.{JobDemands}
-use Rattle.sched_model.specs.Ticks.{PublishedDemand, Tick, left}
-use Rattle.sched_model.specs.Priority.{allotment, key_of}
+use Rattle.sched_model.specs.Ticks.{PublishedDemand, Tick}
 use Rattle.sched_model.specs.Decision.{is_decision}
-use Rattle.sched_model.specs.Schedule.{entry_in_force, IsScheduleBy, next_tick, schedule_by}
+use Rattle.sched_model.specs.Schedule.{entry_in_force, IsScheduleBy, schedule_by}
 use Rattle.sched_model.specs.Notes.{Span, pieces_of, all_release_notes, pieces_notes, notes_before_end, notes_of, energy_run, energy_idle}
-use Rattle.sched_model.proofs.NoteLemmas.{notes-span}
-use Rattle.sched_model.proofs.ScheduleLemmas.{schedule_exists}
-use Rattle.sched_model.proofs.Spans.{IsLastSpan, by-spans}
+use Rattle.sched_model.proofs.Spans.{notes-span, IsLastSpan, by-spans}
+use Rattle.sched_model.proofs.Schedules.{schedule_exists}
 
 -- two demands are equal on each schedule; any demand may give its speeds
 abbrev pub AgreeOnSchedules : Plan → JobDemands → PublishedDemand → PublishedDemand → Type 0
@@ -27,18 +25,10 @@ module _ (p : Plan) (dem : JobDemands) (a b : PublishedDemand) (agree : AgreeOnS
       ap₂ (λ chosen kept. if is_decision p dem (x ∷ past) then chosen else kept) (ap (lowest_entry p.machine) (agree ask (x ∷ past) h))
       (same-entry ask past h.0)
 
-  -- the tick after `past` with e as its entry
-  abbrev tick_by : List Tick → ℕ → Tick
-  tick_by past e =
-      record { entry = e; shares = list_below (count p) (allotment (count p) (key_of p.scheduler p (length past)) ((point p e).speed) (left p dem past)) }
-
   pub same-schedule : (t : ℕ) → schedule_by p dem a t ≡ schedule_by p dem b t
   unfolding schedule_by
   same-schedule zero = refl
-  same-schedule (suc t) =
-      let past : List Tick = schedule_by p dem a t in
-      ap (λ e. tick_by past e ∷ past) (same-entry a past (schedule_exists p dem a t).0)
-      ∙ ap (λ ticks. next_tick p dem b ticks ∷ ticks) (same-schedule t)
+  same-schedule (suc t) = grind (arith, nat_tests, same-entry, schedule_exists, same-schedule t)
 
   same-none : notes_before_end p dem a [] ≡ notes_before_end p dem b []
   unfolding notes_before_end

@@ -1,5 +1,5 @@
--- Worked plans and their demands, and values of the definitions by evaluation.
-use Rattle.std.proofs.Common.{◌≡◌, ℕ, List, [], ◌∷◌, refl, codes, arith}
+-- Worked plans, their demands and the lines of their speeds, and values of the definitions by evaluation.
+use Rattle.std.proofs.Common.{◌≡◌, ℕ, List, [], ◌∷◌, refl, codes, arith, Bool, true, false, filter}
 use Rattle.dvs_base.specs.declared.kind.Scheduler.{Scheduler}
 use Rattle.dvs_base.specs.declared.kind.Scheduler.TheVariants.{Edf, Rm}
 use Rattle.dvs_base.specs.declared.kind.GovernorKind.TheVariants.{Plain, Fixed, Cycle, Ahead}
@@ -9,8 +9,11 @@ use Rattle.task_model.specs.declared.task.Task.{Task}
 use Rattle.task_model.specs.DemandRows.{DemandRow}
 use Rattle.freq_table.specs.declared.machine.Point.{Point}
 use Rattle.freq_table.specs.Tables.{Table}
+use Rattle.dvs_base.specs.declared.note.Note.{Note}
+use Rattle.dvs_base.specs.declared.note.Note.TheVariants.{Speed, End}
+use Rattle.dvs_base.specs.declared.kind.GovernorKind.{GovernorKind}
 use Rattle.sched_model.specs.Plan.{Plan}
-use Rattle.sched_model.specs.Jobs.{release, due, latest, worst_demand}
+use Rattle.sched_model.specs.Jobs.{release, due, latest, worst_demand, demand_of}
 use Rattle.sched_model.specs.Ticks.{Tick, IsMet}
 use Rattle.sched_model.specs.Priority.{in_order}
 use Rattle.sched_model.specs.Demand.{published, IsAlwaysMet}
@@ -18,6 +21,8 @@ use Rattle.sched_model.specs.StaticDemand.{static_demand}
 use Rattle.sched_model.specs.Tests.{level_work}
 use Rattle.sched_model.specs.Schedule.{schedule_by}
 use Rattle.sched_model.specs.Backlog.{backlog}
+use Rattle.sched_model.specs.Notes.{notes_before_end}
+use Rattle.sched_model.specs.RunNotes.{run_notes}
 
 abbrev pub task_from : ℕ → List ℕ → ℕ → ℕ → Task
 task_from offset name period worst = record { name = name; period = period; worst = worst; offset = offset }
@@ -235,3 +240,24 @@ due_at_the_end met = omega (arith, met 0 1 (omega arith) (omega arith) (omega ar
 -- look-ahead alone may ask for more than the highest speed
 always_met : IsAlwaysMet Plain × IsAlwaysMet Fixed × IsAlwaysMet Cycle × (IsAlwaysMet Ahead → ⊥)
 always_met = (λ e. absurd (cc), λ e. absurd (cc), λ e. absurd (cc), λ some. some refl)
+
+abbrev is_speed_or_end : Note → Bool
+is_speed_or_end (Speed t f num den) = true
+is_speed_or_end (End t run idle) = true
+is_speed_or_end _ = false
+
+abbrev speeds_and_end : Plan → GovernorKind → List DemandRow → ℕ → List Note
+speeds_and_end p g rows ticks = filter is_speed_or_end (run_notes p g (demand_of p rows) ticks)
+
+-- the example of Pillai and Shin 2001 under static EDF
+paper_example_edf_static : speeds_and_end (paper_example Edf) Fixed paper_demands 16 ≡
+    Speed 0 3 836 280 ∷ Speed 3 3 836 280 ∷ Speed 4 3 836 280 ∷ Speed 6 3 836 280 ∷ Speed 8 3 836 280 ∷ Speed 10 3 836 280
+    ∷ Speed 12 3 836 280 ∷ Speed 14 3 836 280 ∷ End 16 448000000000 0 ∷ []
+unfolding least_common_multiple published in_order release due latest schedule_by notes_before_end
+paper_example_edf_static = refl
+
+-- cycle-conserving RM allots by the static speed, which is below the highest here
+static_speed_below_highest : speeds_and_end light_set Cycle [] 8 ≡
+    Speed 0 2 8 4 ∷ Speed 2 2 4 2 ∷ Speed 4 2 6 4 ∷ Speed 6 2 2 2 ∷ Speed 7 2 0 1 ∷ End 8 126000000000 0 ∷ []
+unfolding published in_order release due latest schedule_by notes_before_end
+static_speed_below_highest = refl

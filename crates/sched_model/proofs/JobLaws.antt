@@ -1,5 +1,5 @@
 -- The laws of `release`, `due` and `latest`; other proofs use these alone.
-use Rattle.std.proofs.Common.{◌≡◌, ℕ, zero, suc, ◌+◌, ◌-◌, ◌*◌, ◌/◌, ◌<◌, ◌≤◌, true, false, List, [], ◌∷◌, length, refl, inl, inr, nat_le, arith, ap, ◌∙◌, sym, div-add-mod', mod-lt, add-mul, one-mul, zero-mul, subst, add-one}
+use Rattle.std.proofs.Common.{◌≡◌, ℕ, zero, suc, ◌+◌, ◌-◌, ◌/◌, ◌<◌, ◌≤◌, true, false, List, [], ◌∷◌, length, refl, inl, inr, nat_le, arith, ap, ◌∙◌, sym, add-mul, one-mul, zero-mul, add-one}
 use Rattle.std.proofs.Math.Nat.{le-mul_of_pos_right}
 use Rattle.std.proofs.lemmas.Bool.{cases_lt}
 use Rattle.std.proofs.lemmas.Bool.Decides.{nat_tests}
@@ -35,9 +35,7 @@ le-due p i k pos = omega (arith, le-mul_of_pos_right k pos)
 -- a job is released when the one before it is due
 pub release-suc : (p : Plan) (i k : ℕ) → release p i (k + 1) ≡ due p i k
 unfolding release due
-release-suc p i k =
-    let e : k + 1 - 1 ≡ k = omega arith in
-    rw e refl
+release-suc p i k = grind (arith, nat_tests)
 
 pub due-suc : (p : Plan) (i k : ℕ) → due p i (k + 1) ≡ due p i k + period p i
 unfolding due
@@ -51,13 +49,7 @@ release-due p i (suc k) one =
 -- the latest job is the one that is released, unless it is job 0, and not yet due
 pub latest-unique : (p : Plan) (i k t : ℕ) → (0 < k → release p i k ≤ t) → t < due p i k → latest p i t ≡ k
 unfolding release due
-latest-unique p i zero t from until = latest-none p i t (omega (arith, until, zero-mul (period p i)))
-latest-unique p i (suc k) t from until =
-    let e : suc k - 1 ≡ k = omega arith in
-    let low : offset p i + k * period p i ≤ t = subst (λ m. offset p i + m * period p i ≤ t) e (from (omega arith)) in
-    let high : t < offset p i + (k + 1) * period p i = subst (λ m. t < offset p i + m * period p i) (sym (add-one k)) until in
-    let count : (t - offset p i) / period p i ≡ k = quotient (t - offset p i) (period p i) k (omega (arith, low)) (omega (arith, low, high)) in
-    latest-from p i t (omega (arith, low)) ∙ (ap (λ q. q + 1) count ∙ add-one k)
+latest-unique p i k t from until = grind (arith, nat_tests, latest-none, quotient, latest-from)
 
 pub latest-is : (p : Plan) (i k t : ℕ) → release p i k ≤ t → t < due p i k → latest p i t ≡ k
 latest-is p i k t low high = latest-unique p i k t (λ some. low) high
@@ -73,23 +65,11 @@ offset-le p i t some = elim (cases_lt t (offset p i)) [ inl early ↦ absurd (om
 -- the latest job is released by tick t, unless it is job 0, and due later
 pub release-le : (p : Plan) (i t : ℕ) → 0 < period p i → 0 < latest p i t → release p i (latest p i t) ≤ t
 unfolding release
-release-le p i t pos some =
-    let since : offset p i ≤ t = offset-le p i t some in
-    let n : ℕ = t - offset p i in
-    let e : latest p i t - 1 ≡ n / period p i = omega (arith, latest-from p i t since) in
-    let q : offset p i + (n / period p i) * period p i ≤ t = omega (arith, since, div-add-mod' n (period p i)) in
-    rw e q
+release-le p i t pos some = grind (arith, nat_tests, offset-le, latest-from)
 
 pub lt-due : (p : Plan) (i t : ℕ) → 0 < period p i → t < due p i (latest p i t)
 unfolding due
-lt-due p i t pos =
-    elim (cases_lt t (offset p i)) [
-      | inl early ↦ rw (latest-none p i t early) (omega (arith, early, zero-mul (period p i)))
-      | inr since ↦
-          let n : ℕ = t - offset p i in
-          rw (latest-from p i t since)
-          (omega (arith, since, div-add-mod' n (period p i), mod-lt n pos, add-mul (n / period p i) 1 (period p i), one-mul (period p i)))
-    ]
+lt-due p i t pos = grind (arith, nat_tests, cases_lt, latest-none, latest-from)
 
 pub due-le : (p : Plan) (i t : ℕ) → 0 < period p i → 0 < latest p i t → due p i (latest p i t) ≤ t + period p i
 due-le p i t pos some = omega (arith, release-le p i t pos some, release-due p i (latest p i t) some)
@@ -148,30 +128,13 @@ exec-none p (x ∷ past) i =
 -- a tick adds the task's share to what the latest job has had, also for job 0 where no task gets more than it needs
 pub exec-legal : (p : Plan) (dem : JobDemands) (x : Tick) (past : List Tick) (i : ℕ) → 0 < period p i → dem i 0 ≡ 0 → share x i ≤ left p dem past i
     → exec p (x ∷ past) i (latest p i (length past)) ≡ exec p past i (latest p i (length past)) + share x i
-exec-legal p dem x past i pos none fits = go (latest p i (length past)) refl
-  where
-    go : (k : ℕ) → latest p i (length past) ≡ k → exec p (x ∷ past) i (latest p i (length past)) ≡ exec p past i (latest p i (length past)) + share x i
-    go zero e =
-        let after : exec p (x ∷ past) i (latest p i (length past)) ≡ 0 = ap (exec p (x ∷ past) i) e ∙ exec-none p (x ∷ past) i in
-        let before : exec p past i (latest p i (length past)) ≡ 0 = ap (exec p past i) e ∙ exec-none p past i in
-        let needs : dem i (latest p i (length past)) ≡ 0 = ap (dem i) e ∙ none in
-        omega (arith, fits, after, before, needs)
-    go (suc k) e = exec-latest p x past i pos (omega (arith, e))
+exec-legal p dem x past i pos none fits = grind (arith, nat_tests, exec-none, exec-latest)
 
 -- what the latest job needs falls by the task's share, while it stays the latest
 pub left-stays : (p : Plan) (dem : JobDemands) (x : Tick) (past : List Tick) (i : ℕ) → 0 < period p i → dem i 0 ≡ 0
     → latest p i (length (x ∷ past)) ≡ latest p i (length past)
     → left p dem (x ∷ past) i ≡ left p dem past i - share x i
-left-stays p dem x past i pos none stays = go (latest p i (length past)) refl
-  where
-    same : left p dem (x ∷ past) i ≡ dem i (latest p i (length past)) - exec p (x ∷ past) i (latest p i (length past))
-    same = ap (λ k. dem i k - exec p (x ∷ past) i k) stays
-
-    go : (k : ℕ) → latest p i (length past) ≡ k → left p dem (x ∷ past) i ≡ left p dem past i - share x i
-    go zero e =
-        let z : dem i (latest p i (length past)) ≡ 0 = ap (dem i) e ∙ none in
-        omega (arith, same, z)
-    go (suc k) e = omega (arith, same, exec-latest p x past i pos (omega (arith, e)))
+left-stays p dem x past i pos none stays = grind (arith, nat_tests, exec-latest)
 
 -- no job has had anything before its release
 pub exec-early : (p : Plan) (past : List Tick) (i k : ℕ) → length past ≤ release p i k → exec p past i k ≡ 0
@@ -207,13 +170,7 @@ pub latest_since-suc : (p : Plan) (i k : ℕ) → latest_since p i (k + 1) ≡ d
 latest_since-suc p i k = latest_since-pos p i (k + 1) (omega arith) ∙ release-suc p i k
 
 pub latest_since-le : (p : Plan) (i t : ℕ) → 0 < period p i → i < count p → latest_since p i (latest p i t) ≤ last_release p t
-latest_since-le p i t pos lt = go (latest p i t) refl
-  where
-    go : (k : ℕ) → latest p i t ≡ k → latest_since p i (latest p i t) ≤ last_release p t
-    go zero e = rw e (omega arith)
-    go (suc k) e =
-        let some : 0 < latest p i t = omega (arith, e) in
-        omega (arith, latest_since-pos p i (latest p i t) some, released-before p i t pos lt some)
+latest_since-le p i t pos lt = grind (arith, nat_tests, latest_since-pos, released-before)
 
 -- the latest job was the latest at the last release too
 pub latest-marked : (p : Plan) (i t : ℕ) → 0 < period p i → i < count p → latest p i (last_release p t) ≡ latest p i t

@@ -4,8 +4,7 @@ use Rattle.std.proofs.lemmas.Bool.Decides.{nat_tests}
 use Rattle.grid_fraction.specs.Numbers.{sum_below, sum_where, greatest_below}
 use Rattle.sched_model.specs.Priority.{stands_before, is_up_to, sum_up_to, SharesOut}
 use Rattle.grid_fraction.proofs.Sums.{sum_below-same, sum_below-add, sum_below-zero, sum_below-le}
-use Rattle.sched_model.proofs.Allotments.{allotment_of}
-use Rattle.sched_model.proofs.DownSets.{sum_where-last, down-set-gets}
+use Rattle.sched_model.proofs.Allotments.{allotment_of, sum_where-last, down-set-gets}
 
 if-mono : (b : Bool) (x y : ℕ) → (b ≡ true → x ≤ y) → (if b then x else 0) ≤ (if b then y else 0)
 if-mono true x y h = h refl
@@ -34,9 +33,7 @@ sum_below-times zero h f = mul-zero h
 sum_below-times (suc n) h f = omega (arith, sum_below-times n h f)
 
 pub sum_where-times : (n h : ℕ) (test : ℕ → Bool) (f : ℕ → ℕ) → h * sum_where n test f ≡ sum_where n test (λ k. h * f k)
-sum_where-times n h test f =
-    sum_below-times n h (λ k. if test k then f k else 0)
-    ∙ sum_below-same n (λ k. h * (if test k then f k else 0)) (λ k. if test k then h * f k else 0) (λ k lt. if-times (test k) h (f k))
+sum_where-times n h test f = grind (arith, nat_tests, sum_below-times, sum_below-same, if-times)
 
 pub sum_below-term : (n : ℕ) (f : ℕ → ℕ) (i : ℕ) → i < n → f i ≤ sum_below n f
 sum_below-term zero f i lt = absurd (omega arith)
@@ -62,18 +59,10 @@ sum_where-tight n test f g below tight i lt on =
     omega (arith, both, split, mine)
 
 pub sum_where-all : (n : ℕ) (test : ℕ → Bool) (f g : ℕ → ℕ) → ((k : ℕ) → k < n → f k ≤ g k) → sum_where n test f ≤ sum_below n g
-sum_where-all n test f g h = sum_below-le n (λ k. if test k then f k else 0) g (λ k lt. most (test k) (f k) (g k) (h k lt))
-  where
-    most : (b : Bool) (x y : ℕ) → x ≤ y → (if b then x else 0) ≤ y
-    most true x y le = le
-    most false x y le = omega arith
+sum_where-all n test f g h = grind (arith, nat_tests, sum_below-le)
 
 pub sum_where-zero : (n : ℕ) (test : ℕ → Bool) (f : ℕ → ℕ) → ((k : ℕ) → k < n → test k ≡ true → f k ≡ 0) → sum_where n test f ≡ 0
-sum_where-zero n test f h = sum_below-zero n (λ k. if test k then f k else 0) (λ k lt. none (test k) (f k) (h k lt))
-  where
-    none : (b : Bool) (x : ℕ) → (b ≡ true → x ≡ 0) → (if b then x else 0) ≡ 0
-    none true x e = e refl
-    none false x e = refl
+sum_where-zero n test f h = grind (arith, nat_tests, sum_below-zero)
 
 pub up_to-self : (key : ℕ → ℕ) (i : ℕ) → is_up_to key i i ≡ true
 up_to-self key i = grind (arith, nat_tests)

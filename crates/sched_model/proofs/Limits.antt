@@ -1,5 +1,6 @@
 -- What the limits say of a plan's numbers.
-use Rattle.std.proofs.Common.{◌≡◌, inl, inr, ℕ, ◌+◌, ◌*◌, ◌/◌, ◌^◌, ◌<◌, ◌≤◌, suc, get_or, arith, ap, mul-le-mul_left}
+use Rattle.std.proofs.lemmas.Bool.Decides.{nat_tests}
+use Rattle.std.proofs.Common.{◌≡◌, ℕ, ◌+◌, ◌*◌, ◌/◌, ◌^◌, ◌<◌, ◌≤◌, suc, get_or, arith, mul-le-mul_left}
 use Rattle.std.specs.Prelude.{map}
 use Rattle.std.specs.List.{All}
 use Rattle.std.proofs.lemmas.List.{length-map, get_or-map}
@@ -9,7 +10,6 @@ use Rattle.std.proofs.lemmas.List.Elements.{All-from_get_or}
 use Rattle.grid_fraction.proofs.Multiples.{least_common_multiple-pos, mul-div-least_common_multiple}
 use Rattle.task_model.specs.declared.limits.TheConstants.{LONGEST_PERIOD, LONGEST_HYPERPERIOD}
 use Rattle.freq_table.specs.declared.limits.TheConstants.{MOST_MILLIVOLTS}
-use Rattle.task_model.specs.declared.task.Task.{Task}
 use Rattle.task_model.specs.Tasks.{no_task}
 use Rattle.sched_model.specs.Plan.{Plan, count, period, worst, hyper}
 use Rattle.sched_model.specs.Jobs.{latest, latest_since, deadline}
@@ -26,13 +26,7 @@ module _ (p : Plan) (lim : IsWithinLimits p) where
 
   -- every period is positive, also that of a number past the last task
   pub every_period : (i : ℕ) → 0 < period p i
-  every_period i =
-      elim (cases_lt i (count p)) [
-        | inl within ↦ some_period i within
-        | inr past ↦
-            let none : period p i ≡ 1 = ap (λ (t : Task). t.period) (get_or-eq_default p.tasks no_task past) in
-            omega arith
-      ]
+  every_period i = grind (arith, nat_tests, cases_lt, some_period, get_or-eq_default)
 
   -- the latest job was released by tick t
   pub latest-early : (i t : ℕ) → i < count p → latest_since p i (latest p i t) < suc t

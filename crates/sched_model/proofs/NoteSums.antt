@@ -1,5 +1,5 @@
 -- Sums over the notes of a schedule, tick by tick: what a tick adds to each.
-use Rattle.std.proofs.Common.{◌≡◌, ◌≢◌, ℕ, zero, suc, ◌+◌, ◌*◌, ◌<◌, ◌≤◌, Bool, true, false, ◌&&◌, List, [], ◌∷◌, ◌++◌, length, take, replicate, refl, arith, if◌then◌else◌, ap, ap₂, ◌∙◌, sym, true≢false, nat_eq, nat_le, append_assoc, append-nil, length-append}
+use Rattle.std.proofs.Common.{◌≡◌, ◌≢◌, ℕ, zero, suc, ◌+◌, ◌*◌, ◌<◌, ◌≤◌, Bool, true, false, ◌&&◌, List, [], ◌∷◌, ◌++◌, length, take, replicate, refl, arith, if◌then◌else◌, ap, ap₂, ◌∙◌, sym, nat_eq, nat_le, append_assoc, append-nil, length-append}
 use Rattle.std.specs.Prelude.{count_by, sum_by, flat_map, cond}
 use Rattle.std.specs.List.{AllByRecursion}
 use Rattle.std.proofs.Math.Seq.{take-append_seam}
@@ -22,14 +22,13 @@ use Rattle.sched_model.specs.Ticks.{PublishedDemand, Tick, exec, is_done}
 use Rattle.sched_model.specs.Decision.{completes_in, is_decision}
 use Rattle.sched_model.specs.Schedule.{IsScheduleBy}
 use Rattle.sched_model.specs.Admission.{IsWithinLimits}
-use Rattle.sched_model.specs.Notes.{same_holder, Span, Piece, pieces_of, run_energy, idle_energy, release_notes, all_release_notes, had_by, segment_notes, pieces_notes, span_notes, tick_units, energy_run, energy_idle, notes_before_end, notes_of}
+use Rattle.sched_model.specs.Notes.{same_holder, Span, Piece, pieces_of, run_energy, idle_energy, all_release_notes, had_by, segment_notes, pieces_notes, span_notes, tick_units, energy_run, energy_idle, notes_before_end, notes_of}
 use Rattle.sched_model.specs.Totals.{is_finished}
 use Rattle.sched_model.proofs.LevelSums.{sum_below-times}
 use Rattle.sched_model.proofs.Limits.{every_period}
-use Rattle.sched_model.proofs.NoteLemmas.{notes-span}
+use Rattle.sched_model.proofs.Spans.{notes-span, IsNow, IsLastSpan, last-span, grows, opened, none-released, stays, had-each}
 use Rattle.sched_model.proofs.PieceLemmas.{HaveUnits, have_units, laid, laid-pieces}
-use Rattle.sched_model.proofs.Service.{exec-most}
-use Rattle.sched_model.proofs.Spans.{IsNow, IsLastSpan, last-span, grows, opened, none-released, stays, had-each}
+use Rattle.sched_model.proofs.Schedules.{exec-most}
 use Rattle.sched_model.proofs.Walk.{EachNote, at_unit, segments-each}
 
 -- the note says that job k of task i completes
@@ -39,19 +38,13 @@ tells_done i k _ = false
 
 -- a function of tasks and jobs has one value where the tests of both numbers pass
 pub same-numbers : (f : ℕ → ℕ → ℕ) (i j k l : ℕ) → (nat_eq i j && nat_eq k l) ≡ true → f j l ≡ f i k
-same-numbers f i j k l e =
-    let task : j ≡ i = grind (arith, nat_tests, e) in
-    let job : l ≡ k = grind (arith, nat_tests, e) in
-    ap₂ f task job
+same-numbers f i j k l e = grind (arith, nat_tests)
 
 -- a sum over the lists of the numbers below n is the sum of the sums over each
 pub sum-each : {A : Type 0} (f : A → ℕ) (lists : ℕ → List A) (n : ℕ)
     → sum_by f (flat_map lists (list_below n (λ i. i))) ≡ sum_below n (λ i. sum_by f (lists i))
 sum-each f lists zero = refl
-sum-each f lists (suc n) =
-    ap (sum_by f) (flat_map-append lists (list_below n (λ i. i)) (n ∷ []))
-    ∙ (sum_by-append f (flat_map lists (list_below n (λ i. i))) (lists n ++ [])
-    ∙ ap₂ (λ a b. a + b) (sum-each f lists n) (ap (sum_by f) (append-nil (lists n))))
+sum-each f lists (suc n) = grind (arith, nat_tests, flat_map-append, sum_by-append, sum-each f lists n)
 
 -- 1 where the test is true, else 0
 abbrev pub one_if : Bool → ℕ
@@ -82,16 +75,7 @@ module _ (p : Plan) (dem : JobDemands) (t : ℕ) (f : Note → ℕ) where
   pub release-sum : sum_by f (all_release_notes p dem t)
       ≡ sum_below (count p) (λ i. one_if (releases_at p i t) * f (Release t i (latest p i t))
       + one_if (releases_at p i t && nat_eq (dem i (latest p i t)) 0) * f (Done (record { tick = t; offset = 0 }) i (latest p i t) 0))
-  release-sum =
-      sum-each f (release_notes p dem t) (count p)
-      ∙ sum_below-same (count p) _ _ (λ i lt. own i (releases_at p i t) (nat_eq (dem i (latest p i t)) 0))
-    where
-      own : (i : ℕ) (a b : Bool) → sum_by f (if a then Release t i (latest p i t)
-          ∷ (if b then Done (record { tick = t; offset = 0 }) i (latest p i t) 0 ∷ [] else []) else [])
-          ≡ one_if a * f (Release t i (latest p i t)) + one_if (a && b) * f (Done (record { tick = t; offset = 0 }) i (latest p i t) 0)
-      own i false b = omega arith
-      own i true false = omega arith
-      own i true true = omega arith
+  release-sum = grind (arith, nat_tests, sum-each, sum_below-same)
 
   -- the sum where all releases add the same, and so do all completions with a release
   pub release-counts : (each done : ℕ) → ((i k : ℕ) → f (Release t i k) ≡ each)
@@ -120,12 +104,7 @@ pub reached-none : (need had : ℕ) → had < need → reached need had ≡ 0
 reached-none need had lt = let e : nat_le need had ≡ false = grind (arith, nat_tests) in rw e refl
 
 pub reached-up : (need had more : ℕ) → had ≤ more → reached need had ≤ reached need more
-reached-up need had more le = go (nat_le need had) refl (nat_le need more) refl
-  where
-    go : (a : Bool) → nat_le need had ≡ a → (b : Bool) → nat_le need more ≡ b → reached need had ≤ reached need more
-    go true e true f = rw (e, f) (omega arith)
-    go true e false f = absurd (true≢false (grind (arith, nat_tests)))
-    go false e b f = rw e (omega arith)
+reached-up need had more le = grind (arith, nat_tests)
 
 -- 1 where job k of task i has had its demand in these ticks, else 0
 abbrev pub done_by : Plan → JobDemands → ℕ → ℕ → List Tick → ℕ
@@ -265,10 +244,7 @@ finished-each n job (note ∷ notes) all =
         off i ne false e = rw e refl
 
         on : ◌≡◌ {A = ℕ} (cond (nat_eq j j && nat_eq (job j) l) 1 0) 1
-        on =
-            let self : nat_eq j j ≡ true = grind (arith, nat_tests) in
-            let job_is : nat_eq (job j) l ≡ true = (let e = h.1 in grind (arith, nat_tests)) in
-            rw (self, job_is) refl
+        on = grind (arith, nat_tests)
     one _ h = sym (sum_below-zero n (λ i. 0) (λ i lt. refl))
 
 module _ (p : Plan) (dem : JobDemands) (ask : PublishedDemand) where
@@ -370,20 +346,7 @@ module _ (p : Plan) (dem : JobDemands) (ask : PublishedDemand) where
 
   module _ (f : Note → ℕ) (weight : ℕ → Holder → ℕ) (w : Weighs f weight) (s : Span) where
     segment-sum : (q units : ℕ) (h : Holder) → sum_by f (segment_notes p dem s q units h) ≡ units * weight s.entry h
-    segment-sum q units Nobody = omega (arith, w.idle (at_unit p s q) (at_unit p s (q + units)) units s.entry)
-    segment-sum q units (Held i k) = go (nat_eq (had_by p s (q + units) i k) (dem i k))
-      where
-        run : Note
-        run = Run (at_unit p s q) (at_unit p s (q + units)) i k units (run_energy p s.entry units)
-
-        go : (b : Bool) → sum_by f (run ∷ (if b then Done (at_unit p s (q + units)) i k (dem i k) ∷ [] else [])) ≡ units * weight s.entry (Held i k)
-        go false = omega (arith, w.run (at_unit p s q) (at_unit p s (q + units)) i k units s.entry)
-        go true =
-            omega (
-              arith,
-              w.run (at_unit p s q) (at_unit p s (q + units)) i k units s.entry,
-              w.done (at_unit p s (q + units)) i k (dem i k),
-            )
+    segment-sum q units h = grind (arith, nat_tests)
 
     pieces-sum : (q : ℕ) (rs : List Piece) → sum_by f (pieces_notes p dem s q rs) ≡ sum_by (weight s.entry) (laid rs)
     pieces-sum q [] = refl
@@ -417,15 +380,7 @@ module _ (p : Plan) (dem : JobDemands) (ask : PublishedDemand) where
       to = at_unit p s (q + r.units)
 
       segment : (h : Holder) → sum_by f (segment_notes p dem s q r.units h) ≤ each + done
-      segment Nobody = omega (arith, idle from to r.units (idle_energy p s.entry r.units))
-      segment (Held i k) = go (nat_eq (had_by p s (q + r.units) i k) (dem i k))
-        where
-          ran : f (Run from to i k r.units (run_energy p s.entry r.units)) ≤ each
-          ran = run from to i k r.units (run_energy p s.entry r.units)
-
-          go : (b : Bool) → sum_by f (Run from to i k r.units (run_energy p s.entry r.units) ∷ (if b then Done to i k (dem i k) ∷ [] else [])) ≤ each + done
-          go false = omega (arith, ran)
-          go true = omega (arith, ran, end to i k (dem i k))
+      segment h = grind (arith, nat_tests)
 
   pub weights : (f : Note → ℕ) (weight : ℕ → Holder → ℕ) → Weighs f weight → Measures f weight (λ t ticks. 0)
   weights f weight w = record {
@@ -518,14 +473,7 @@ module _ (p : Plan) (dem : JobDemands) (ask : PublishedDemand) where
           job i = latest p i (length past)
 
           each : EachNote p dem ask (IsDoneOf (count p) job) (IsNow p dem (length past)) s
-          each = record {
-            release = λ i lt. tt;
-            empty = λ i lt none. (lt, sym (l.same lim i (length past) lt l.shorter (omega arith)));
-            decision = tt;
-            idle = λ q units le. tt;
-            run = λ q units i k le now. tt;
-            done = λ q i k le now whole. (now.0, now.1);
-          }
+          each = grind (arith, nat_tests)
 
           own : (i : ℕ) → i < count p
               → count_by (tells_done i (job i)) (pieces_notes p dem s 0 (pieces_of s.units)) + done_by p dem i (job i) s.past
@@ -547,7 +495,4 @@ module _ (p : Plan) (dem : JobDemands) (ask : PublishedDemand) where
 
       one : (i : ℕ) (a : Bool) → is_done p dem past i (job i) ≡ a → (b : Bool) → is_done p dem (x ∷ past) i (job i) ≡ b
           → done_by p dem i (job i) (x ∷ past) ≡ done_by p dem i (job i) past + one_if (completes_in p dem x past i)
-      one i true e true f = rw (e, f) refl
-      one i true e false f = absurd (grind (arith, nat_tests))
-      one i false e true f = rw (e, f) refl
-      one i false e false f = rw (e, f) refl
+      one i a e b f = grind (arith, nat_tests)

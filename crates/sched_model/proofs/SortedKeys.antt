@@ -1,19 +1,17 @@
 -- Sorting pairs of a key and a number gives the numbers in the order of the key.
-use Rattle.std.proofs.Common.{◌≡◌, ◌≢◌, ℕ, zero, suc, ◌+◌, ◌≤◌, Bool, true, false, cond, ◌||◌, ◌&&◌, List, [], ◌∷◌, get_or, nat_eq, nat_lt, if◌then◌else◌, refl, arith, ap, ap₂, ◌∙◌, sym, subst, add-one, true≢false}
+use Rattle.std.proofs.Common.{◌≡◌, ◌≢◌, ℕ, zero, suc, ◌+◌, ◌≤◌, Bool, true, false, ◌||◌, ◌&&◌, List, [], ◌∷◌, get_or, nat_eq, nat_lt, if◌then◌else◌, refl, arith, ap, ap₂, ◌∙◌, sym, subst, add-one, true≢false}
 use Rattle.std.specs.Prelude.{map, sum_by}
 use Rattle.std.specs.List.{All}
 use Rattle.std.specs.List.Sorted.{IsPermutation, IsSorted}
 use Rattle.std.specs.Ordering.{is_lt, nat_cmp, ordering_then}
 use Rattle.std.specs.declared.cmp.Ordering.{Ordering}
-use Rattle.std.specs.declared.cmp.Ordering.TheVariants.{Less, Equal, Greater}
 use Rattle.std.proofs.lemmas.Bool.Decides.{nat_tests}
 use Rattle.std.proofs.lemmas.List.Elements.{All-tail}
 use Rattle.std.proofs.lemmas.List.Sorted.{All-permutation, IsPermutation-map, sum_by-IsPermutation}
 use Rattle.std.proofs.lemmas.List.Sums.{sum_by-cons}
 use Rattle.grid_fraction.specs.Numbers.{sum_below, list_below}
 use Rattle.sched_model.specs.Priority.{stands_before, in_order}
-use Rattle.sched_model.proofs.PriorityLemmas.{before-not, before-total}
-use Rattle.sched_model.proofs.OrderLemmas.{sum_list, IsAhead, IsOrdered, in_order-ordered, sum_list-in_order, sum_list-snoc}
+use Rattle.sched_model.proofs.Orders.{before-not, before-total, sum_list, IsAhead, IsOrdered, in_order-ordered, sum_list-in_order, sum_list-snoc}
 use Rattle.sched_model.proofs.Tables.{length-list_below, get-table, map-table}
 
 abbrev one : ℕ → ℕ → ℕ
@@ -35,13 +33,7 @@ IsRising key (i ∷ js) = NoneAhead key i js × IsRising key js
 
 none_of : (key : ℕ → ℕ) (i v : ℕ) (js : List ℕ) → NoneAhead key i js → 1 ≤ times v js → stands_before key v i ≡ false
 none_of key i v [] a h = absurd (omega arith)
-none_of key i v (j ∷ js) a h = go (nat_eq j v) refl h (none_of key i v js a.1)
-  where
-    go : (b : Bool) → nat_eq j v ≡ b → 1 ≤ (if b then 1 else 0) + times v js → (1 ≤ times v js → stands_before key v i ≡ false) → stands_before key v i ≡ false
-    go true e m ih =
-        let same : j ≡ v = grind (arith, nat_tests) in
-        subst (λ (k : ℕ). stands_before key k i ≡ false) same a.0
-    go false e m ih = ih (omega arith)
+none_of key i v (j ∷ js) a h = grind (arith, nat_tests, none_of key i v js a.1)
 
 -- two rising lists with the same elements begin with the same number
 same_first : (key : ℕ → ℕ) (x y : ℕ) (xs ys : List ℕ) → NoneAhead key x xs → NoneAhead key y ys → ((v : ℕ) → times v (x ∷ xs) ≡ times v (y ∷ ys)) → x ≡ y
@@ -94,14 +86,7 @@ abbrev pub pair_cmp : ℕ × ℕ → ℕ × ℕ → Ordering
 pair_cmp x y = ordering_then (nat_cmp x.0 y.0) (nat_cmp x.1 y.1)
 
 is_lt-then : (a b c d : ℕ) → is_lt (ordering_then (nat_cmp a b) (nat_cmp c d)) ≡ (nat_lt a b || (nat_eq a b && nat_lt c d))
-is_lt-then a b c d = go (nat_lt a b) (nat_eq a b) (nat_lt c d) (nat_eq c d)
-  where
-    go : (p q r s : Bool) → is_lt (ordering_then (cond p Less (cond q Equal Greater)) (cond r Less (cond s Equal Greater))) ≡ (p || (q && r))
-    go true q r s = refl
-    go false true true s = refl
-    go false true false true = refl
-    go false true false false = refl
-    go false false r s = refl
+is_lt-then a b c d = grind (arith, nat_tests)
 
 -- each pair has the key of its number
 abbrev HasKeys : (ℕ → ℕ) → List (ℕ × ℕ) → Type 0

@@ -1,5 +1,7 @@
--- The last span of a schedule: its decision, its ticks, its units, and what each job has had by its end.
-use Rattle.std.proofs.Common.{◌≡◌, ℕ, zero, suc, ◌+◌, ◌-◌, ◌*◌, ◌<◌, ◌≤◌, Bool, true, false, ◌&&◌, nat_eq, List, [], ◌∷◌, ◌++◌, length, refl, arith, if◌then◌else◌, ap, ◌∙◌, sym, subst, true≢false, ◌⊎◌, inl, inr, length-append, eq-or-lt_of_le}
+-- The last span of a schedule: its decision, its ticks, its units, its notes, and what each job has had by its end.
+use Rattle.std.proofs.Common.{◌≡◌, true, false, List, [], ◌∷◌, ◌++◌, reverse, flat_map, refl, ap, ◌∙◌, append-nil, ℕ, zero, suc, ◌+◌, ◌-◌, ◌*◌, ◌<◌, ◌≤◌, Bool, length, arith, if◌then◌else◌, sym, true≢false, ◌⊎◌, inl, inr, length-append, eq-or-lt_of_le}
+use Rattle.std.proofs.lemmas.List.{reverse-append}
+use Rattle.std.proofs.lemmas.Grind.{flat_map-append}
 use Rattle.std.specs.Prelude.{count_by, cond}
 use Rattle.std.specs.List.{AllByRecursion}
 use Rattle.std.proofs.lemmas.List.Sums.{sum_by-cons}
@@ -8,23 +10,45 @@ use Rattle.std.proofs.lemmas.Bool.{or_parts, false_from_ne_true}
 use Rattle.grid_fraction.proofs.Counts.{count-append}
 use Rattle.grid_fraction.proofs.Searches.{any_below-false}
 use Rattle.freq_table.specs.Tables.{lowest_entry}
-use Rattle.sched_model.specs.declared.holder.Holder.{Holder}
-use Rattle.sched_model.specs.declared.holder.Holder.TheVariants.{Nobody, Held}
+use Rattle.trace_text.proofs.PlainLines.{each-append}
 use Rattle.sched_model.specs.Plan.{Plan, count, point, period}
 use Rattle.sched_model.specs.Jobs.{JobDemands, latest, releases_at, is_release}
 use Rattle.sched_model.specs.Ticks.{PublishedDemand, Tick, exec}
 use Rattle.sched_model.specs.Decision.{is_decision}
+use Rattle.sched_model.specs.Notes.{Span, spans_of, lengthened, tick_units, span_notes, notes_before_end, same_holder}
+use Rattle.sched_model.specs.declared.holder.Holder.{Holder}
+use Rattle.sched_model.specs.declared.holder.Holder.TheVariants.{Nobody, Held}
 use Rattle.sched_model.specs.Schedule.{entry_in_force, IsNext, IsScheduleBy}
 use Rattle.sched_model.specs.Admission.{IsWithinLimits}
-use Rattle.sched_model.specs.Notes.{same_holder, Span, spans_of, tick_units}
 use Rattle.sched_model.proofs.JobLaws.{exec-none}
-use Rattle.sched_model.proofs.Joining.{due_released, same_job}
+use Rattle.sched_model.proofs.States.{due_released, same_job}
 use Rattle.sched_model.proofs.Limits.{every_period}
-use Rattle.sched_model.proofs.NoteLemmas.{span-opens, span-grows}
-use Rattle.sched_model.proofs.ScheduleLemmas.{force-within}
-use Rattle.sched_model.proofs.Service.{share-legal}
+use Rattle.sched_model.proofs.Schedules.{force-within, share-legal}
 use Rattle.sched_model.proofs.Units.{each-weaker, each-unit, units-had, units-long}
-use Rattle.trace_text.proofs.PlainLines.{each-append}
+
+-- lists joined from the last element to the first one end with the list of the first element
+pub flat_map-last : {A B : Type 0} (f : A → List B) (x : A) (xs : List A) → flat_map f (reverse (x ∷ xs)) ≡ flat_map f (reverse xs) ++ f x
+flat_map-last f x xs =
+    ap (flat_map f) (reverse-append (x ∷ []) xs)
+    ∙ (flat_map-append f (reverse xs) (x ∷ [])
+    ∙ ap (λ ns. flat_map f (reverse xs) ++ ns) (append-nil (f x)))
+
+pub notes-span : (p : Plan) (dem : JobDemands) (ask : PublishedDemand) (ticks past : List Tick) (s : Span)
+    → spans_of p dem ticks ≡ s ∷ spans_of p dem past
+    → notes_before_end p dem ask ticks ≡ notes_before_end p dem ask past ++ span_notes p dem ask s
+unfolding notes_before_end
+notes-span p dem ask ticks past s e =
+    ap (λ ss. flat_map (span_notes p dem ask) (reverse ss)) e ∙ flat_map-last (span_notes p dem ask) s (spans_of p dem past)
+
+-- a span opens at a decision instant, and the ticks up to the next lengthen it
+pub span-opens : (p : Plan) (dem : JobDemands) (x : Tick) (past : List Tick) → is_decision p dem past ≡ true
+    → spans_of p dem (x ∷ past) ≡ record { past = past; entry = x.entry; units = tick_units p past x } ∷ spans_of p dem past
+span-opens p dem x past e = rw e refl
+
+pub span-grows : (p : Plan) (dem : JobDemands) (x : Tick) (past : List Tick) (s : Span) (before : List Tick) → is_decision p dem past ≡ false
+    → spans_of p dem past ≡ s ∷ spans_of p dem before
+    → spans_of p dem (x ∷ past) ≡ record { past = s.past; entry = s.entry; units = s.units ++ tick_units p past x } ∷ spans_of p dem before
+span-grows p dem x past s before e h = rw e (ap (lengthened (tick_units p past x)) h)
 
 -- nobody, or the latest job of a task at tick t, which needs something
 abbrev pub IsNow : Plan → JobDemands → ℕ → Holder → Type 0
@@ -76,19 +100,7 @@ module _ (p : Plan) (dem : JobDemands) (ask : PublishedDemand) where
 
   pub opened : (x : Tick) (past : List Tick) → IsScheduleBy p dem ask past → IsNext p dem ask past x → is_decision p dem past ≡ true
       → IsLastSpan x past (record { past = past; entry = x.entry; units = tick_units p past x })
-  opened x past h next e = record {
-    spans = span-opens p dem x past e;
-    decided = e;
-    earlier = h;
-    shorter = omega arith;
-    entry = λ lim. subst (λ n. n < length p.machine.points) (sym next.entry) (force-within p dem ask lim.machine.some past);
-    force = refl;
-    long = units-long p dem ask past x next ∙ (let one : length (x ∷ past) - length past ≡ 1 = omega arith in rw one (omega arith));
-    grew = λ i k. omega arith;
-    had = λ lim. units-had p past x (every_period p lim);
-    same = λ lim i t lt low high. let here : t ≡ length past = omega arith in ap (latest p i) here;
-    now = λ lim. units-now past x next;
-  }
+  opened x past h next e = grind (arith, nat_tests, span-opens, force-within, units-long, units-had, every_period, units-now)
 
   pub grows : (x y : Tick) (past : List Tick) (s : Span) → IsLastSpan y past s → IsScheduleBy p dem ask (x ∷ y ∷ past) → is_decision p dem (y ∷ past) ≡ false
       → IsLastSpan x (y ∷ past) (record { past = s.past; entry = s.entry; units = s.units ++ tick_units p (y ∷ past) x })
@@ -149,15 +161,7 @@ module _ (p : Plan) (dem : JobDemands) (ask : PublishedDemand) where
   had-each lim needless x past s l i zero lt = omega (arith, exec-none p (x ∷ past) i, exec-none p s.past i, none s.units (l.now lim))
     where
       one : (h : Holder) → IsNow p dem (length past) h → ◌≡◌ {A = ℕ} (cond (same_holder (Held i 0) h) 1 0) 0
-      one Nobody now = refl
-      one (Held j m) now = go (nat_eq i j) (nat_eq 0 m) refl
-        where
-          go : (a b : Bool) → nat_eq 0 m ≡ b → ◌≡◌ {A = ℕ} (cond (a && b) 1 0) 0
-          go false b e = refl
-          go true false e = refl
-          go true true e =
-              let none : m ≡ 0 = grind (arith, nat_tests) in
-              absurd (omega (arith, now.2, needless j, ap (dem j) none))
+      one h now = grind (arith, nat_tests)
 
       none : (us : List Holder) → AllByRecursion (IsNow p dem (length past)) us → count_by (same_holder (Held i 0)) us ≡ 0
       none [] all = refl

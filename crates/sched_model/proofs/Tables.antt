@@ -1,5 +1,5 @@
 -- Lists whose elements are a function of their place.
-use Rattle.std.proofs.Common.{◌≡◌, ◌≢◌, ℕ, zero, suc, ◌-◌, ◌<◌, Bool, true, false, eqb, [], ◌∷◌, ◌++◌, length, length-append, get_or, set, refl, arith, ap, ap₂, ◌∙◌, sym, subst, ◌⊎◌, inl, inr, eq-or-lt_of_le, le_of_suc-le-suc, length-set, get_or-set_same, get_or-set_other}
+use Rattle.std.proofs.Common.{◌≡◌, ◌≢◌, ℕ, zero, suc, ◌<◌, Bool, true, false, eqb, [], ◌∷◌, ◌++◌, length, length-append, get_or, set, refl, arith, ap, ap₂, ◌∙◌, sym, length-set, get_or-set_same, get_or-set_other}
 use Rattle.std.proofs.lemmas.List.{ext_get_or, get_or-append_right}
 use Rattle.std.proofs.Math.ListN.{get_or-append}
 use Rattle.std.proofs.lemmas.Bool.Decides.{nat_tests}
@@ -15,16 +15,7 @@ length-list_below (suc n) f = omega (arith, length-append (list_below n f) (f n 
 
 pub get-table : {A : Type 0} (n : ℕ) (f : ℕ → A) (i : ℕ) (d : A) → i < n → get_or (list_below n f) i d ≡ f i
 get-table {A = A} zero f i d lt = absurd (omega arith)
-get-table {A = A} (suc n) f i d lt = go (eq-or-lt_of_le (le_of_suc-le-suc lt)) (get-table n f)
-  where
-    go : (i ≡ n) ⊎ (i < n) → ((i : ℕ) (d : A) → i < n → get_or (list_below n f) i d ≡ f i) → get_or (list_below n f ++ f n ∷ []) i d ≡ f i
-    go (inl e) ih =
-        let len : length (list_below n f) ≡ n = length-list_below n f in
-        let zero_there : i - n ≡ 0 = omega (arith, e) in
-        get_or-append_right (list_below n f) (f n ∷ []) n i d len (omega arith)
-        ∙ (ap (λ k. get_or (f n ∷ []) k d) zero_there ∙ ap f (sym e))
-    go (inr l) ih =
-        get_or-append (list_below n f) (f n ∷ []) d i (omega (arith, length-list_below n f)) ∙ ih i d l
+get-table {A = A} (suc n) f i d lt = grind (arith, nat_tests, length-list_below, get_or-append_right, get_or-append, get-table n f)
 
 pub table-same : {A : Type 0} (n : ℕ) (f g : ℕ → A) → ((k : ℕ) → k < n → f k ≡ g k) → list_below n f ≡ list_below n g
 table-same zero f g h = refl
@@ -56,6 +47,4 @@ map-table (suc n) f h = map-append h (list_below n f) (f n ∷ []) ∙ ap (λ xs
 
 -- what each of the first n values has, each element of their list has
 pub each-below : {A : Type 0} (P : A → Type 0) (n : ℕ) (f : ℕ → A) → ((i : ℕ) → i < n → P (f i)) → AllByRecursion P (list_below n f)
-each-below P n f h = recursion_from_All P (list_below n f) (λ k d lt.
-    let within : k < n = omega (arith, lt, length-list_below n f) in
-    subst P (sym (get-table n f k d within)) (h k within))
+each-below P n f h = grind (arith, nat_tests, recursion_from_All, length-list_below, get-table)

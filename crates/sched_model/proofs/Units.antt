@@ -1,5 +1,5 @@
 -- The units of a tick: how many there are, who holds them, and what they add to what a job has had.
-use Rattle.std.proofs.Common.{◌≡◌, ◌≢◌, ℕ, suc, ◌+◌, ◌-◌, ◌*◌, ◌<◌, ◌≤◌, min, Bool, true, false, ◌&&◌, List, [], ◌∷◌, zero, length, replicate, refl, arith, if◌then◌else◌, ap, ◌∙◌, sym, subst, true≢false, nat_eq, length-append}
+use Rattle.std.proofs.Common.{◌≡◌, ◌≢◌, ℕ, suc, ◌+◌, ◌-◌, ◌*◌, ◌<◌, ◌≤◌, min, Bool, true, false, ◌&&◌, List, [], ◌∷◌, zero, length, replicate, refl, arith, if◌then◌else◌, ap, ◌∙◌, nat_eq, length-append}
 use Rattle.std.specs.Prelude.{count_by, sum_by, cond}
 use Rattle.std.specs.List.{AllByRecursion}
 use Rattle.std.proofs.lemmas.List.{length-replicate}
@@ -11,13 +11,13 @@ use Rattle.grid_fraction.proofs.Sums.{sum_below-one, sum_below-same}
 use Rattle.sched_model.specs.declared.holder.Holder.{Holder}
 use Rattle.sched_model.specs.declared.holder.Holder.TheVariants.{Nobody, Held}
 use Rattle.sched_model.specs.Plan.{Plan, count, point, period}
-use Rattle.sched_model.specs.Jobs.{JobDemands, latest, release, due, is_in_window}
+use Rattle.sched_model.specs.Jobs.{JobDemands, latest, is_in_window}
 use Rattle.sched_model.specs.Ticks.{PublishedDemand, Tick, exec, share, left}
 use Rattle.sched_model.specs.Priority.{key_of, in_order}
 use Rattle.sched_model.specs.Schedule.{IsNext}
 use Rattle.sched_model.specs.Notes.{same_holder, given_units, tick_units}
-use Rattle.sched_model.proofs.OrderLemmas.{sum_list, sum_list-in_order, AreBelow, in_order-below}
-use Rattle.sched_model.proofs.DownSets.{down-set-gets}
+use Rattle.sched_model.proofs.Orders.{sum_list, sum_list-in_order, AreBelow, in_order-below}
+use Rattle.sched_model.proofs.Allotments.{down-set-gets}
 use Rattle.sched_model.proofs.LevelSums.{sum_below-times}
 use Rattle.sched_model.proofs.JobLaws.{latest-is, release-le, lt-due}
 use Rattle.trace_text.proofs.PlainLines.{each-append, each-replicate}
@@ -102,14 +102,7 @@ module _ (p : Plan) (past : List Tick) (x : Tick) where
       → sum_by weight (tick_units p past x)
       ≡ sum_below (count p) (λ i. share x i * weight (Held i (latest p i (length past))))
       + ((point p x.entry).speed - sum_below (count p) (share x)) * weight Nobody
-  units-sum weight =
-      omega (
-        arith,
-        sum_by-append weight (given_units (share x) job (in_order key (count p))) (replicate idle Nobody),
-        sum_by-replicate weight idle Nobody,
-        given-sum weight (share x) job (in_order key (count p)),
-        sum_list-in_order (λ i. share x i * weight (Held i (job i))) key (count p),
-      )
+  units-sum weight = grind (arith, nat_tests, sum_by-append, sum_by-replicate, given-sum, sum_list-in_order)
 
   -- the weight of a tick's units, where all jobs' units weigh the same
   pub units-weight : (weight : Holder → ℕ) (unit : ℕ) → ((i k : ℕ) → weight (Held i k) ≡ unit)
@@ -137,17 +130,7 @@ module _ (p : Plan) (past : List Tick) (x : Tick) where
     where
       mine : (b : Bool) → is_in_window p i k (length past) ≡ b → (c : Bool) → nat_eq k (job i) ≡ c
           → (if is_in_window p i k (length past) then share x i else 0) ≡ (if nat_eq k (job i) then share x i else 0)
-      mine true e true f = rw (e, f) refl
-      mine false e false f = rw (e, f) refl
-      mine true e false f =
-          let is = latest-is p i k (length past) (grind (arith, nat_tests)) (grind (arith, nat_tests)) in
-          absurd (true≢false (grind (arith, nat_tests)))
-      mine false e true f =
-          let same : k ≡ job i = grind (arith, nat_tests) in
-          let low : release p i k ≤ length past =
-          subst (λ m. release p i m ≤ length past) (sym same) (release-le p i (length past) (periods i) (omega (arith, same, some_job))) in
-          let high : length past < due p i k = subst (λ m. length past < due p i m) (sym same) (lt-due p i (length past) (periods i)) in
-          absurd (true≢false (grind (arith, nat_tests)))
+      mine b e c f = grind (arith, nat_tests, latest-is, release-le, lt-due)
 
 module _ (p : Plan) (dem : JobDemands) (ask : PublishedDemand) (past : List Tick) (x : Tick) (next : IsNext p dem ask past x) where
   -- a legal tick gives at most its speed

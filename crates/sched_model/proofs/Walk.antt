@@ -1,12 +1,14 @@
--- One walk over the notes of a schedule: a fact of each kind of note is a fact of all its notes.
-use Rattle.std.proofs.Common.{◌≡◌, ℕ, zero, suc, ◌+◌, ◌<◌, ◌≤◌, Bool, true, false, List, [], ◌∷◌, ◌++◌, length, flat_map, refl, arith, if◌then◌else◌, sym, subst, nat_eq}
+-- One walk over the notes of a schedule: a fact of each kind of note is a fact of all its notes. So none but the last is
+-- the end, and each completion has a task of the plan and its job's demand.
+use Rattle.std.proofs.Common.{◌≡◌, ℕ, zero, suc, ◌+◌, ◌<◌, ◌≤◌, Bool, true, false, List, [], ◌∷◌, length, flat_map, refl, arith, if◌then◌else◌, sym, subst, nat_eq, reverse}
 use Rattle.std.specs.List.{AllByRecursion}
 use Rattle.std.proofs.lemmas.Grind.{flat_map-append}
 use Rattle.std.proofs.lemmas.Bool.Decides.{nat_tests}
 use Rattle.dvs_base.specs.declared.note.Note.{Note}
-use Rattle.dvs_base.specs.declared.note.Note.TheVariants.{Release, Done, Run, Idle, Speed}
+use Rattle.dvs_base.specs.declared.note.Note.TheVariants.{Release, Done, Run, Idle, Speed, End}
 use Rattle.dvs_base.specs.declared.note.Pos.{Pos}
 use Rattle.grid_fraction.specs.Numbers.{list_below}
+use Rattle.trace_text.proofs.PlainLines.{each-append}
 use Rattle.sched_model.specs.declared.holder.Holder.{Holder}
 use Rattle.sched_model.specs.declared.holder.Holder.TheVariants.{Nobody, Held}
 use Rattle.sched_model.specs.Plan.{Plan, count, point}
@@ -14,20 +16,17 @@ use Rattle.sched_model.specs.Jobs.{JobDemands, latest, releases_at}
 use Rattle.sched_model.specs.Ticks.{PublishedDemand, Tick, exec}
 use Rattle.sched_model.specs.Schedule.{IsScheduleBy}
 use Rattle.sched_model.specs.Admission.{IsWithinLimits}
-use Rattle.sched_model.specs.Notes.{Span, Piece, pieces_of, position_of, run_energy, idle_energy, release_notes, all_release_notes, had_by, segment_notes, pieces_notes, span_notes, notes_before_end}
-use Rattle.sched_model.proofs.NoteLemmas.{notes-span}
+use Rattle.sched_model.specs.Notes.{Span, Piece, pieces_of, position_of, run_energy, idle_energy, release_notes, all_release_notes, had_by, pieces_notes, span_notes, notes_before_end, spans_of, lengthened, tick_units, notes_of}
+use Rattle.sched_model.proofs.Spans.{notes-span, IsNow, IsLastSpan, by-spans, flat_map-last}
 use Rattle.sched_model.proofs.PieceLemmas.{each-piece, total, total-pieces}
-use Rattle.sched_model.proofs.Spans.{IsNow, IsLastSpan, by-spans}
-use Rattle.trace_text.proofs.PlainLines.{each-append}
+use Rattle.sched_model.specs.Decision.{is_decision}
+use Rattle.sched_model.proofs.Units.{each-weaker, each-unit}
 
 -- what holds of the notes of each number below n holds of the notes of all of them
 each-flat : (P : Note → Type 0) (n : ℕ) (f : ℕ → List Note) → ((i : ℕ) → i < n → AllByRecursion P (f i))
     → AllByRecursion P (flat_map f (list_below n (λ i. i)))
 each-flat P zero f h = tt
-each-flat P (suc n) f h =
-    subst (AllByRecursion P) (sym (flat_map-append f (list_below n (λ i. i)) (n ∷ [])))
-    (each-append P (flat_map f (list_below n (λ i. i))) (f n ++ [])
-    (each-flat P n f (λ i lt. h i (omega (arith, lt)))) (each-append P (f n) [] (h n (omega arith)) tt))
+each-flat P (suc n) f h = grind (arith, nat_tests, flat_map-append, each-append, each-flat P n f (λ i lt. h i (omega (arith, lt))))
 
 -- the position where unit number q of a span begins
 abbrev pub at_unit : Plan → Span → ℕ → Pos
@@ -54,34 +53,18 @@ module _ (p : Plan) (dem : JobDemands) (ask : PublishedDemand) where
         go : (i : ℕ) → i < count p → (a b : Bool) → nat_eq (dem i (latest p i (length s.past))) 0 ≡ b
             → AllByRecursion P (if a then Release (length s.past) i (latest p i (length s.past))
             ∷ (if b then Done (record { tick = length s.past; offset = 0 }) i (latest p i (length s.past)) 0 ∷ [] else []) else [])
-        go i lt false b e = tt
-        go i lt true false e = (each.release i lt, tt)
-        go i lt true true e = (each.release i lt, (each.empty i lt (grind (arith, nat_tests)), tt))
-
-    segment-each : (q units : ℕ) (h : Holder) → IsHolder h → q + units ≤ length s.units → AllByRecursion P (segment_notes p dem s q units h)
-    segment-each q units Nobody held le = (each.idle q units le, tt)
-    segment-each q units (Held i k) held le = (each.run q units i k le held, go (nat_eq (had_by p s (q + units) i k) (dem i k)) refl)
-      where
-        go : (b : Bool) → nat_eq (had_by p s (q + units) i k) (dem i k) ≡ b
-            → AllByRecursion P (if b then Done (at_unit p s (q + units)) i k (dem i k) ∷ [] else [])
-        go false e = tt
-        go true e = (each.done (q + units) i k le held (grind (arith, nat_tests)), tt)
+        go i lt a b e = grind (arith, nat_tests)
 
     pieces-each : (q : ℕ) (rs : List Piece) → AllByRecursion (λ (r : Piece). IsHolder r.holder) rs → q + total rs ≤ length s.units
         → AllByRecursion P (pieces_notes p dem s q rs)
     pieces-each q [] held le = tt
-    pieces-each q (r ∷ rs) held le =
-        each-append P (segment_notes p dem s q r.units r.holder) (pieces_notes p dem s (q + r.units) rs)
-        (segment-each q r.units r.holder held.0 (omega (arith, le))) (pieces-each (q + r.units) rs held.1 (omega (arith, le)))
+    pieces-each q (r ∷ rs) held le = grind (arith, nat_tests, pieces-each (q + r.units) rs held.1 (omega (arith, le)))
 
     pub segments-each : AllByRecursion IsHolder s.units → AllByRecursion P (pieces_notes p dem s 0 (pieces_of s.units))
     segments-each held = pieces-each 0 (pieces_of s.units) (each-piece IsHolder s.units held) (omega (arith, total-pieces s.units))
 
     pub span-each : AllByRecursion IsHolder s.units → AllByRecursion P (span_notes p dem ask s)
-    span-each held =
-        let decision : Note = Speed (length s.past) ((point p s.entry).speed) ((ask s.past).num) ((ask s.past).den) in
-        each-append P (all_release_notes p dem (length s.past)) (decision ∷ pieces_notes p dem s 0 (pieces_of s.units)) releases-each
-        (each.decision, segments-each held)
+    span-each held = grind (arith, nat_tests, each-append, releases-each, segments-each)
 
   pub none-each : (P : Note → Type 0) → AllByRecursion P (notes_before_end p dem ask [])
   unfolding notes_before_end
@@ -109,3 +92,52 @@ module _ (p : Plan) (dem : JobDemands) (ask : PublishedDemand) where
           (each-append P (notes_before_end p dem ask s.past) (span_notes p dem ask s)
           (ih (record { fewer = omega (arith, first.fewer, l.shorter); less = λ i k. omega (arith, l.grew i k, first.less i k) }))
           (span-each P (IsNow p dem (length past)) s (each x past s first l) (l.now lim)))
+
+-- the note isn't the end of a run; a completion has a task of the plan and its job's demand
+abbrev pub IsBeforeEnd : Plan → JobDemands → Note → Type 0
+IsBeforeEnd p dem (Done at_end i k used) = (i < count p) × (used ≡ dem i k)
+IsBeforeEnd p dem (End ticks run idle) = ⊥
+IsBeforeEnd p dem _ = Unit {0}
+
+-- nobody, or a job of a task of the plan
+abbrev IsOfPlan : Plan → Holder → Type 0
+IsOfPlan p Nobody = Unit {0}
+IsOfPlan p (Held i k) = i < count p
+
+module _ (p : Plan) (dem : JobDemands) (ask : PublishedDemand) where
+  abbrev AreOfPlan : List Span → Type 0
+  AreOfPlan = AllByRecursion (λ (s : Span). AllByRecursion (IsOfPlan p) s.units)
+
+  spans-held : (ticks : List Tick) → AreOfPlan (spans_of p dem ticks)
+  spans-held [] = tt
+  spans-held (x ∷ past) = go (is_decision p dem past) (spans_of p dem past) (spans-held past)
+    where
+      own : AllByRecursion (IsOfPlan p) (tick_units p past x)
+      own = each-unit p past x (IsOfPlan p) (λ i lt some. lt) tt
+
+      go : (b : Bool) (spans : List Span) → AreOfPlan spans
+          → AreOfPlan (if b then record { past = past; entry = x.entry; units = tick_units p past x } ∷ spans else lengthened (tick_units p past x) spans)
+      go true spans held = (own, held)
+      go false [] held = tt
+      go false (s ∷ spans) held = (each-append (IsOfPlan p) s.units (tick_units p past x) held.0 own, held.1)
+
+  each-before : (s : Span) → EachNote p dem ask (IsBeforeEnd p dem) (IsOfPlan p) s
+  each-before s = grind (arith, nat_tests)
+
+  spans-before : (spans : List Span) → AreOfPlan spans → AllByRecursion (IsBeforeEnd p dem) (flat_map (span_notes p dem ask) (reverse spans))
+  spans-before [] held = tt
+  spans-before (s ∷ spans) held =
+      subst (AllByRecursion (IsBeforeEnd p dem)) (sym (flat_map-last (span_notes p dem ask) s spans))
+      (each-append (IsBeforeEnd p dem) (flat_map (span_notes p dem ask) (reverse spans)) (span_notes p dem ask s)
+      (spans-before spans held.1) (span-each p dem ask (IsBeforeEnd p dem) (IsOfPlan p) s (each-before s) held.0))
+
+  -- no note but the last is the end, and each completion has a task of the plan and its job's demand
+  pub before-end-each : (ticks : List Tick) → AllByRecursion (IsBeforeEnd p dem) (notes_before_end p dem ask ticks)
+  unfolding notes_before_end
+  before-end-each ticks = spans-before (spans_of p dem ticks) (spans-held ticks)
+
+  -- what holds of each note before the end, and of the end, holds of all notes
+  pub notes-each : (P : Note → Type 0) → ((n : Note) → IsBeforeEnd p dem n → P n)
+      → ((ticks run idle : ℕ) → P (End ticks run idle)) → (ticks : List Tick)
+      → AllByRecursion P (notes_of p dem ask ticks)
+  notes-each P before at_end ticks = grind (arith, nat_tests, each-append, each-weaker, before-end-each)

@@ -10,7 +10,7 @@ ghost use Rattle.governor.specs.Speeds.{unchanging, fixed_speed};
 ghost use Rattle.governor.specs.Worst.{MeetsAtWorst};
 ghost use Rattle.governor.specs.OneSpeed.{CalmAt, SafeAt};
 ghost use Rattle.governor.proofs.OneSpeedLaws.{pairs_fixed, static_laws};
-ghost use Rattle.governor.proofs.PlanDemands.{fixed_publishing};
+ghost use Rattle.governor.proofs.Worst.{fixed_publishing};
 
 use dvs_base::{GovernorKind, NoMemory};
 use governor::{Choice, Governor, Publishing, chosen};

@@ -10,7 +10,7 @@ ghost use Rattle.governor.specs.Serving.{ServesBoth};
 ghost use Rattle.governor.specs.Speeds.{unchanging};
 ghost use Rattle.governor.specs.OneSpeed.{CalmAt, SafeAt};
 ghost use Rattle.governor.proofs.OneSpeedLaws.{pairs_plain, full_laws};
-ghost use Rattle.governor.proofs.PlanDemands.{plain_publishing};
+ghost use Rattle.governor.proofs.Worst.{plain_publishing};
 
 use dvs_base::{GovernorKind, NoMemory};
 use governor::{Choice, Governor, Publishing, chosen};

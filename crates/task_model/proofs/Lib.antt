@@ -1,4 +1,3 @@
 pub mod Entries
-pub mod Places
 pub mod Written
 pub mod Finding

@@ -1,35 +1,79 @@
--- A written document means the tasks that it was written from.
-use Rattle.std.proofs.Common.{pos, codes, ◌≡◌, ◌<◌, ◌≤◌, ℕ, zero, suc, ◌+◌, ◌&&◌, nat_lt, nat_le, if◌then◌else◌, Bool, true, false, List, [], ◌∷◌, ◌++◌, length, map, Option, Some, None, inl, inr, append_assoc, append-nil, sym, Ok, Err, String, Global, Ordering, Less, Equal, Greater, string_bytes, slice_index, refl, ap, ◌∙◌, subst, arith}
-use Rattle.std.specs.List.{list_all, position_or_len}
+-- A written document means the tasks that it was written from, each at the place of its name.
+use Rattle.std.proofs.Common.{◌≡◌, ◌<◌, ◌≤◌, ℕ, ◌+◌, nat_lt, cond, Bool, true, false, List, [], ◌∷◌, ◌++◌, length, Option, Some, None, refl, sym, ◌∙◌, subst, arith, eq-or-lt_of_le, inl, inr, ◌⊎◌, pos, codes, zero, suc, ◌&&◌, nat_le, if◌then◌else◌, map, append_assoc, append-nil, Ok, Err, String, Global, Ordering, Less, Equal, Greater, string_bytes, slice_index, ap}
+use Rattle.std.specs.List.{position_or_len, list_all}
 use Rattle.std.specs.Str.{bytes_eq, IsUtf8, is_utf8}
+use Rattle.std.proofs.lemmas.Bool.{false≢true, and_parts, cases_Bool}
+use Rattle.std.proofs.lemmas.Bool.Decides.{nat_tests}
+use Rattle.std.proofs.lemmas.List.{get_or_append_left}
+use Rattle.std.proofs.lemmas.List.Sums.{fails_before_first, position_or_len_is}
+use Rattle.std.proofs.lemmas.Option.{none-some}
+use Rattle.std.proofs.lemmas.Slice.Eq.{bytes_eq-Decides}
+use Rattle.std.proofs.Math.ListN.{length-append}
+use Rattle.std.proofs.Math.Seq.{get_or-append_seam}
 use Rattle.std.specs.String.{string_cmp}
 use Rattle.std.specs.Ordering.{match_ordering}
 use Rattle.std.specs.BTreeMap.{insert_entry}
-use Rattle.std.proofs.lemmas.Bool.{and_parts, cases_Bool}
-use Rattle.std.proofs.lemmas.Bool.Decides.{nat_tests}
-use Rattle.std.proofs.lemmas.List.{get_or_append_left}
-use Rattle.std.proofs.lemmas.List.Sums.{position_or_len_is}
-use Rattle.std.proofs.lemmas.Slice.Eq.{bytes_eq-Decides}
 use Rattle.std.proofs.lemmas.Str.{IsUtf8-from_ascii, is_utf8-from_IsUtf8, IsUtf8-string_bytes}
 use Rattle.std.proofs.lemmas.Str.Ascii.{IsAscii-nil}
-use Rattle.std.proofs.Math.ListN.{length-append}
-use Rattle.std.proofs.Math.Seq.{get_or-append_seam}
+use Rattle.std.proofs.Math.Nat.{max-le}
 use Rattle.dvs_base.specs.Text.{is_name, is_name_byte}
 use Rattle.toml.specs.Data.{items_depth, members_depth, Members, no_members, member, string, integer}
 use Rattle.toml.specs.View.{view, items_of, members_view}
 use Rattle.toml.specs.declared.value.Value.{Value}
 use Rattle.toml.specs.Parse.{parse_document}
-use Rattle.std.proofs.Math.Nat.{max-le}
 use Rattle.dvs_base.proofs.Counts.{choose_not}
 use Rattle.dvs_base.specs.declared.limits.TheConstants.{MOST_TASKS}
-use Rattle.task_model.specs.declared.limits.TheConstants.{LONGEST_PERIOD, MOST_WORK, LATEST_OFFSET, LONGEST_HYPERPERIOD}
-use Rattle.task_model.specs.declared.fault.TaskFault.TheVariants as fault
 use Rattle.dvs_base.specs.Settings.{count_of}
 use Rattle.task_model.specs.declared.task.Task.{Task}
-use Rattle.task_model.specs.Tasks.{IsTask, IsTaskSet, task_at, no_task, hyper_of}
+use Rattle.task_model.specs.Tasks.{IsTask, task_at, no_task, IsTaskSet, hyper_of}
 use Rattle.task_model.specs.Limits.{AreTasks}
 use Rattle.task_model.specs.TaskFile.{place_of, task_of, tasks_from, within_hyper, tasks_of_document, task_file}
+use Rattle.task_model.specs.declared.limits.TheConstants.{LONGEST_PERIOD, MOST_WORK, LATEST_OFFSET, LONGEST_HYPERPERIOD}
 use Rattle.task_model.specs.Written.{put_member, offset_before, task_data, document}
+use Rattle.task_model.specs.declared.fault.TaskFault.TheVariants as fault
+
+not_found : (b : Bool) (k : ℕ) → ◌≡◌ {A = Option ℕ} (cond b (Some k) None) None → b ≡ false
+not_found true k e = absurd (none-some k (sym e))
+not_found false k e = refl
+
+pub not_named : (name : List ℕ) (t : Task) → bytes_eq t.name name ≡ false → t.name ≡ name → ⊥
+not_named name t other same = false≢true (sym other ∙ (bytes_eq-Decides t.name name).1 same)
+
+pub place_of-none : (tasks : List Task) (name : List ℕ) → place_of tasks name ≡ None → (i : ℕ) → i < length tasks → (task_at tasks i).name ≡ name → ⊥
+place_of-none tasks name e i lt same =
+    let outside : nat_lt (position_or_len (λ t. bytes_eq t.name name) tasks) (length tasks) ≡ false = not_found _ _ e in
+    let first : i < position_or_len (λ t. bytes_eq t.name name) tasks = grind (arith, nat_tests) in
+    not_named name (task_at tasks i) (fails_before_first (λ t. bytes_eq t.name name) tasks i no_task first) same
+
+last_or_before : (P : ℕ → Type 0) (n i : ℕ) → i < n + 1 → (i < n → P i) → P n → P i
+last_or_before P n i lt before last = go (eq-or-lt_of_le (let le : i ≤ n = omega arith in le))
+  where
+    go : (i ≡ n) ⊎ (i < n) → P i
+    go (inl e) = subst P (sym e) last
+    go (inr l) = before l
+
+task_at-before : (tasks : List Task) (t : Task) (i : ℕ) → i < length tasks → task_at (tasks ++ t ∷ []) i ≡ task_at tasks i
+task_at-before tasks t i lt = get_or_append_left tasks (t ∷ []) no_task i lt
+
+task_at-last : (tasks : List Task) (t : Task) → task_at (tasks ++ t ∷ []) (length tasks) ≡ t
+task_at-last tasks t = get_or-append_seam tasks t [] no_task
+
+-- no two tasks have one name, where the last one's name is not among those before
+distinct-push : (tasks : List Task) (t : Task) → AreTasks tasks → place_of tasks t.name ≡ None
+    → (i j : ℕ) → i < j → j < length tasks + 1 → (task_at (tasks ++ t ∷ []) i).name ≡ (task_at (tasks ++ t ∷ []) j).name → ⊥
+distinct-push tasks t known alone i j lt high =
+    last_or_before (λ j. i < j → (task_at (tasks ++ t ∷ []) i).name ≡ (task_at (tasks ++ t ∷ []) j).name → ⊥) (length tasks) j high
+    (λ l lt'. let k : i < length tasks = omega arith in rw (task_at-before tasks t i k, task_at-before tasks t j l) (known.distinct i j lt' l))
+    (λ lt'. rw (task_at-before tasks t i lt', task_at-last tasks t) (place_of-none tasks t.name alone i lt'))
+    lt
+
+pub AreTasks-push : (tasks : List Task) (t : Task) → AreTasks tasks → IsTask t → place_of tasks t.name ≡ None → AreTasks (tasks ++ t ∷ [])
+AreTasks-push tasks t known within alone = record {
+  each = λ i lt. last_or_before (λ i. IsTask (task_at (tasks ++ t ∷ []) i)) (length tasks) i (omega (arith, length-append tasks (t ∷ [])))
+      (λ l. rw (task_at-before tasks t i l) (known.each i l))
+      (rw (task_at-last tasks t) within);
+  distinct = λ i j lt high. distinct-push tasks t known alone i j lt (omega (arith, length-append tasks (t ∷ [])));
+}
 
 abbrev Entry : Type 0
 Entry = String Global × Value

@@ -1,4 +1,2 @@
-pub mod Drawing
-pub mod Naming
 pub mod MadeTasks
 pub mod Examples

@@ -1,29 +1,74 @@
--- Drawn tasks are within the limits, the highest speed does their work, and drawn rows are in order, each for a job of its own.
-use Rattle.std.proofs.Common.{◌≡◌, ℕ, ◌+◌, ◌/◌, ◌%◌, ◌<◌, false, ◌&&◌, ◌||◌, List, [], ◌∷◌, ◌++◌, None, refl, arith, ap, ◌∙◌, sym, mod-lt, nat_eq, nat_lt, zero, suc, ◌-◌, ◌*◌, ◌≤◌, true, length, subst, add-one, add-mul, mul-add, one-mul, rules, mul_assoc, mul_comm}
-use Rattle.std.specs.List.{AllByRecursion, All}
-use Rattle.std.proofs.Math.Nat.{mod-add-div, mul-div-le, mul-le-mul_left, mul-le-mul_right, le_of_mul-le-mul_left, div-lt_iff_lt-mul}
+-- Drawn tasks are within the limits and have distinct names, the highest speed does their work, and drawn rows are in order,
+-- each for a job of its own.
+use Rattle.std.proofs.Common.{◌≡◌, ℕ, suc, ◌+◌, ◌*◌, arith, ap, add-one, ◌%◌, ◌<◌, ◌≤◌, ◌^◌, true, List, [], ◌∷◌, ◌++◌, length, drop, refl, ◌∙◌, nat_le, mod-lt, ◌/◌, false, ◌&&◌, ◌||◌, None, sym, nat_eq, nat_lt, zero, ◌-◌, subst, add-mul, mul-add, one-mul, rules, mul_assoc, mul_comm}
+use Rattle.std.specs.List.{list_all, AllByRecursion, All}
+use Rattle.std.specs.Fmt.{decimal}
 use Rattle.std.proofs.lemmas.Bool.Decides.{nat_tests}
+use Rattle.std.proofs.lemmas.Fmt.{decimal_by_steps, decimal_injective, length-decimal-le}
+use Rattle.std.proofs.lemmas.List.Folds.{list_all-append}
+use Rattle.std.proofs.Math.Nat.{mod-add-div, mul-div-le, mul-le-mul_left, mul-le-mul_right, le_of_mul-le-mul_left, div-lt_iff_lt-mul}
+use Rattle.std.specs.Prelude.{slice_index}
+use Rattle.std.proofs.lemmas.Nat.{le-div}
+use Rattle.std.proofs.lemmas.List.Elements.{All-from_get_or, All-from_recursion}
+use Rattle.dvs_base.specs.declared.limits.TheConstants.{MOST_TASKS}
+use Rattle.dvs_base.specs.Text.{is_name, is_name_byte}
 use Rattle.grid_fraction.specs.Numbers.{list_below, sum_below, ceil_div}
 use Rattle.grid_fraction.proofs.Sums.{list_below-more}
 use Rattle.task_model.specs.declared.task.Task.{Task}
 use Rattle.task_model.specs.DemandRows.{DemandRow, named}
 use Rattle.demand_list.specs.Demands.{precedes, with_row}
 use Rattle.sched_model.proofs.Tables.{each-below, length-list_below, get-table, map-table}
-use Rattle.workload.specs.Workload.{made_row, periods, share_of, made_task, made_tasks, made_machine}
-use Rattle.std.specs.Prelude.{slice_index}
-use Rattle.std.proofs.lemmas.Nat.{le-div}
-use Rattle.std.proofs.lemmas.List.Elements.{All-from_get_or, All-from_recursion}
 use Rattle.dvs_base.specs.declared.kind.Scheduler.{Scheduler}
 use Rattle.dvs_base.specs.declared.kind.Scheduler.TheVariants.{Edf}
-use Rattle.dvs_base.specs.declared.limits.TheConstants.{MOST_TASKS}
 use Rattle.grid_fraction.specs.Fraction.{divides_all, least_common_multiple}
 use Rattle.grid_fraction.proofs.Multiples.{divides_all-append, le-least_common_multiple}
 use Rattle.task_model.specs.Tasks.{hyper_of, no_task, task_at, IsTask, IsTaskSet}
 use Rattle.freq_table.specs.Tables.{Table}
 use Rattle.sched_model.specs.Plan.{Plan, plan_of, period, offset, rate, hyper}
 use Rattle.sched_model.specs.Tests.{IsEdfFeasible}
-use Rattle.workload.specs.Draws.{draw}
-use Rattle.workload.proofs.Naming.{made_name-is, made_name-same}
+use Rattle.workload.specs.Draws.{next_state, draw_of, state_after, draw}
+use Rattle.workload.specs.Workload.{task_by, made_task, made_name, made_row, periods, share_of, made_tasks, made_machine}
+
+pub one-draw : (x n : ℕ) → state_after x (n + 1) ≡ next_state (state_after x n)
+one-draw x n = ap (state_after x) (add-one n)
+
+pub two-draws : (x n : ℕ) → state_after x (2 * (n + 1)) ≡ next_state (next_state (state_after x (2 * n)))
+two-draws x n = let e : 2 * (n + 1) ≡ suc (suc (2 * n)) = omega arith in ap (state_after x) e
+
+-- a drawn task, by the state before its two draws
+pub made_task-drawn : (x n i : ℕ) → made_task x n i
+    ≡ task_by n i (draw_of (next_state (state_after x (2 * i)))) (draw_of (next_state (next_state (state_after x (2 * i)))))
+made_task-drawn x n i = ap (λ k. task_by n i (draw x (2 * i)) (draw x k)) (add-one (2 * i))
+
+digit-byte : (n : ℕ) → n < 10 → is_name_byte (48 + n) ≡ true
+digit-byte n lt =
+    let low : nat_le 48 (48 + n) ≡ true = grind (arith, nat_tests) in
+    let high : nat_le (48 + n) 57 ≡ true = grind (arith, nat_tests) in
+    rw (low, high) refl
+
+digits-named : (n : ℕ) → n < 2 ^ 64 → list_all is_name_byte (decimal n) ≡ true
+digits-named = decimal_by_steps (λ n ds. list_all is_name_byte ds ≡ true) one more
+  where
+    one : (n : ℕ) → n < 10 → list_all is_name_byte ((48 + n) ∷ []) ≡ true
+    one n lt = rw (digit-byte n lt) refl
+
+    more : (n : ℕ) (ds : List ℕ) → 10 ≤ n → list_all is_name_byte ds ≡ true → list_all is_name_byte (ds ++ (48 + n % 10) ∷ []) ≡ true
+    more n ds le h = list_all-append is_name_byte ds ((48 + n % 10) ∷ []) ∙ rw (h, digit-byte (n % 10) (mod-lt n (omega arith))) refl
+
+pub length-decimal : (i : ℕ) → i < MOST_TASKS → length (decimal (i + 1)) ≤ 2
+length-decimal i lt = length-decimal-le 2 (i + 1) (omega arith) (omega arith) (omega arith)
+
+pub made_name-is : (i : ℕ) → i < MOST_TASKS → is_name (made_name i) ≡ true
+made_name-is i lt =
+    let short = length-decimal i lt in
+    let some : nat_le 1 (length (made_name i)) ≡ true = grind (arith, nat_tests) in
+    let few : nat_le (length (made_name i)) 32 ≡ true = grind (arith, nat_tests) in
+    rw (some, few, digits-named (i + 1) (omega arith)) refl
+
+pub made_name-same : (i j : ℕ) → i < MOST_TASKS → j < MOST_TASKS → made_name i ≡ made_name j → i ≡ j
+made_name-same i j li lj e =
+    let same : i + 1 ≡ j + 1 = decimal_injective (i + 1) (j + 1) (omega arith) (omega arith) (ap (drop 1) e) in
+    omega (arith, same)
 
 -- rows for other jobs give no units for this one
 others-name_none : (i k : ℕ) (rows : List DemandRow)

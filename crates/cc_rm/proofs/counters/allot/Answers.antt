@@ -3,11 +3,10 @@ use Rattle.std.specs.Prelude.{min, slice_set}
 use Rattle.sched_model.specs.declared.state.Row.{Row}
 use Rattle.sched_model.specs.Plan.{count}
 use Rattle.sched_model.specs.States.{StateOf, row_at, after_mark}
-use Rattle.sched_model.proofs.StateRows.{row_read}
+use Rattle.sched_model.proofs.States.{row_read}
 use Rattle.governor.specs.Steps.{wleft_at}
-use Rattle.governor.proofs.Rows.{done_none}
-use Rattle.cc_rm.proofs.Walking.{ranked-below, walked-end}
-use Rattle.cc_rm.proofs.Handing.{IsHanded, handed-next, handed-none, handed-end}
+use Rattle.governor.proofs.Belonging.{done_none}
+use Rattle.cc_rm.proofs.Handing.{ranked-below, walked-end, IsHanded, handed-next, handed-none, handed-end}
 use Rattle.cc_rm.proofs.counters.allot.Goals as goal
 use Rattle.cc_rm.proofs.counters.allot.Goals.{then-index, else-index}
 

@@ -2,7 +2,7 @@ use Rattle.std.proofs.Common.{◌≡◌, true, sym, ap, ◌∙◌}
 use Rattle.std.specs.Str.{bytes_eq}
 use Rattle.task_model.specs.declared.task.Task.{Task}
 use Rattle.task_model.specs.Tasks.{task_at}
-use Rattle.demand_list.proofs.Named.{place_of-named}
+use Rattle.demand_list.proofs.Rows.{place_of-named}
 use Rattle.demand_list.proofs.read.task_named.Goals as goal
 
 pub returns-then-eq : goal.returns-then-eq

@@ -2,7 +2,7 @@ use Rattle.std.proofs.Common.{◌≡◌}
 use Rattle.dvs_base.specs.declared.kind.Scheduler.TheVariants.{Edf}
 use Rattle.sched_model.specs.Plan.{plan_of, count}
 use Rattle.edf_demand.specs.Walk.{due_of, IsCalendar}
-use Rattle.edf_demand.proofs.Taking.{Taken, due_at}
+use Rattle.edf_demand.proofs.Calendars.{Taken, due_at}
 use Rattle.edf_demand.proofs.walk.take_due.Given as goal
 
 abbrev pub invariant-loop-next : goal.invariant-loop-next

@@ -1,5 +1,5 @@
 use Rattle.std.proofs.Common.{◌<◌, ◌*◌, arith, ap, sym, true≢false}
-use Rattle.energy_bound.proofs.CornerLemmas.{units-rise, units-order}
+use Rattle.energy_bound.proofs.Corners.{units-rise, units-order}
 use Rattle.energy_bound.proofs.corner.holds.Goals as goal
 
 pub returns-then-a-b : goal.returns-then-a-b

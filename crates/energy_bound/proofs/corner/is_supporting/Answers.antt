@@ -1,6 +1,6 @@
 use Rattle.std.proofs.Common.{◌≤◌, arith, below_more, refl}
 use Rattle.energy_bound.specs.Corners.{corner_units, corner_cost, IsAbove}
-use Rattle.energy_bound.proofs.CornerLemmas.{units-rise, cost-climb, above-found}
+use Rattle.energy_bound.proofs.Corners.{units-rise, cost-climb, above-found}
 use Rattle.energy_bound.proofs.corner.is_supporting.Goals as goal
 
 pub is_above-requires-clause-slower : goal.is_above-requires-clause-slower

@@ -1,5 +1,5 @@
 use Rattle.std.proofs.Common.{◌∙◌, ap}
-use Rattle.energy_bound.proofs.CornerLemmas.{corner-idle, corner-full}
+use Rattle.energy_bound.proofs.Corners.{corner-idle, corner-full}
 use Rattle.energy_bound.proofs.corner.nth_corner.Goals as goal
 use Rattle.energy_bound.proofs.corner.nth_corner.Goals.{then-k-eq0, else-k-eq0}
 

@@ -1,6 +1,5 @@
 use Rattle.std.proofs.Common.{sym, ◌∙◌, true≢false}
-use Rattle.energy_bound.proofs.Costs.{certified, certificate-least}
-use Rattle.energy_bound.proofs.ScheduleCosts.{schedules-cost}
+use Rattle.energy_bound.proofs.Costs.{certified, certificate-least, schedules-cost}
 use Rattle.energy_bound.proofs.LeastTest.{same_least-true, same_least-self}
 use Rattle.energy_bound.proofs.least.check.Goals as goal
 

@@ -1,5 +1,5 @@
 use Rattle.std.proofs.Common.{◌<◌, arith}
-use Rattle.energy_bound.proofs.CornerLemmas.{units-order}
+use Rattle.energy_bound.proofs.Corners.{units-order}
 use Rattle.energy_bound.proofs.least.first_partner.Goals as goal
 
 pub loop-b-init : goal.loop-b-init

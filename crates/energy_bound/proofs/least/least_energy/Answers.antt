@@ -1,7 +1,6 @@
 use Rattle.std.proofs.Common.{◌<◌, ◌≤◌, ◌*◌, arith, ap, ◌∙◌}
 use Rattle.freq_table.specs.Tables.{highest_speed}
-use Rattle.energy_bound.proofs.CornerLemmas.{units-order}
-use Rattle.energy_bound.proofs.FirstFound.{some-holds, first-pair, found-is}
+use Rattle.energy_bound.proofs.Corners.{units-order, some-holds, first-pair, found-is}
 use Rattle.energy_bound.proofs.Costs.{certificate-least}
 use Rattle.energy_bound.proofs.least.least_energy.Goals as goal
 

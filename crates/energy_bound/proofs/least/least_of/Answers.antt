@@ -1,5 +1,5 @@
 use Rattle.std.proofs.Common.{◌<◌, arith}
-use Rattle.energy_bound.proofs.CornerLemmas.{units-order, cost-climb}
+use Rattle.energy_bound.proofs.Corners.{units-order, cost-climb}
 use Rattle.energy_bound.proofs.least.least_of.Goals as goal
 
 pub overflow_sub-result-2 : goal.overflow_sub-result-2

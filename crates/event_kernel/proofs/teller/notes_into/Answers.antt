@@ -5,7 +5,7 @@ use Rattle.dvs_base.specs.declared.note.Totals.{Totals}
 use Rattle.grid_fraction.specs.Numbers.{list_below}
 use Rattle.sched_model.specs.Plan.{count, names}
 use Rattle.sched_model.specs.Totals.{totals_of}
-use Rattle.sched_model.proofs.ScheduleLemmas.{length-list_below}
+use Rattle.sched_model.proofs.Schedules.{length-list_below}
 use Rattle.trace_reader.specs.TraceText.{noted, task_energy}
 use Rattle.event_kernel.specs.PlainLines.{sum_lines}
 use Rattle.event_kernel.specs.SpanNotes.{notes_before_end_of}

@@ -1,6 +1,6 @@
 use Rattle.std.proofs.Common.{arith, ap}
 use Rattle.freq_table.specs.Tables.{Table}
-use Rattle.demand_list.proofs.Worsts.{worst-listed, worsts-long}
+use Rattle.demand_list.proofs.Rows.{worst-listed, worsts-long}
 use Rattle.event_kernel.proofs.tick.demand.Goals as goal
 
 pub overflow_add-result : goal.overflow_add-result

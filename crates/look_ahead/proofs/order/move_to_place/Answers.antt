@@ -2,11 +2,11 @@ use Rattle.std.proofs.Common.{◌≡◌, ℕ, ◌+◌, ◌<◌, length, get_or, 
 use Rattle.std.proofs.lemmas.Bool.{and_right}
 use Rattle.sched_model.specs.declared.state.Row.{Row}
 use Rattle.sched_model.specs.Plan.{period}
-use Rattle.sched_model.proofs.StateRows.{row_read}
+use Rattle.sched_model.proofs.States.{row_read}
 use Rattle.look_ahead_laws.specs.Ahead.{deadline_at}
 use Rattle.look_ahead.specs.Counters.{stands_before_due}
 use Rattle.look_ahead.proofs.Keeping.{order-released}
-use Rattle.look_ahead.proofs.Passing.{passing_end, passing_moves, passing_stays, stays_other}
+use Rattle.look_ahead.proofs.Moving.{passing_end, passing_moves, passing_stays, stays_other}
 use Rattle.look_ahead.proofs.Walking.{tasks_long}
 use Rattle.look_ahead.proofs.order.move_to_place.Goals as goal
 use Rattle.look_ahead.proofs.order.move_to_place.Goals.{then-order-k+then-stands_before_due, else-order-k, else-order-k-via-then-order-k+else-stands_before_due, else-order-k-via-else-order-k}

@@ -3,7 +3,7 @@ use Rattle.std.specs.Prelude.{Result}
 use Rattle.dvs_base.specs.Checks.{IsUnlessMemory}
 use Rattle.dvs_base.specs.declared.note.Totals.{Totals}
 use Rattle.governor.specs.Schedule.{ask_of}
-use Rattle.replay_laws.proofs.Owning.{own-lists}
+use Rattle.replay_laws.proofs.SameLists.{own-lists}
 use Rattle.replay.specs.declared.fault.ReplayFault.{ReplayFault}
 use Rattle.replay.specs.declared.fault.ReplayFault.TheVariants as fault
 use Rattle.replay.proofs.Exact.{ok-replayed, some-replayed, err-shown, err-differs}

@@ -1,7 +1,7 @@
 use Rattle.std.proofs.Common.{rules, ◌≡◌, ◌≤◌, ◌+◌, [], ◌∷◌, ◌++◌, length, ap, ◌∙◌, length-append, arith}
 use Rattle.csv_text.specs.Rows.{records_left}
 use Rattle.request_list.specs.declared.limits.TheConstants.{MOST_REQUESTS}
-use Rattle.request_list.proofs.Orders.{AreRequestsTo, one-more}
+use Rattle.request_list.proofs.Texts.{AreRequestsTo, one-more}
 use Rattle.request_list.proofs.read.read_rows.Goals as goal
 
 pub loop-requests-preserved : goal.loop-requests-preserved

@@ -2,7 +2,7 @@ use Rattle.std.proofs.Common.{◌≡◌, ◌≤◌, ◌+◌, [], length}
 use Rattle.csv_text.specs.Rows.{IsPlain, records_left}
 use Rattle.request_list.specs.declared.limits.TheConstants.{MOST_REQUESTS}
 use Rattle.request_list.specs.RequestFile.{requests_from}
-use Rattle.request_list.proofs.Orders.{AreRequestsTo}
+use Rattle.request_list.proofs.Texts.{AreRequestsTo}
 use Rattle.request_list.proofs.read.read_rows.Given as goal
 
 -- the requests so far, with the records that are left, give what all the records give

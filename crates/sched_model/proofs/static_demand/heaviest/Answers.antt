@@ -2,7 +2,7 @@ use Rattle.std.proofs.Common.{◌≡◌, ◌<◌, ◌≤◌, ◌+◌, ℕ, sym, 
 use Rattle.dvs_base.specs.declared.kind.Scheduler.TheVariants.{Rm}
 use Rattle.sched_model.specs.Plan.{Plan, plan_of, count, period}
 use Rattle.sched_model.specs.Tests.{level_work}
-use Rattle.sched_model.proofs.Heaviest.{IsHeaviest, heaviest-kept, heaviest-next, heaviest-all}
+use Rattle.sched_model.proofs.StaticShare.{IsHeaviest, heaviest-kept, heaviest-next, heaviest-all}
 use Rattle.sched_model.proofs.static_demand.heaviest.Goals as goal
 use Rattle.sched_model.proofs.static_demand.heaviest.Goals.{then-outweighs, else-outweighs}
 

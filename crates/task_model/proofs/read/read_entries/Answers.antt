@@ -1,7 +1,7 @@
 use Rattle.std.proofs.Common.{rules, ◌≡◌, arith, [], ◌∷◌, ◌++◌, None}
 use Rattle.std.proofs.lemmas.Grind.{common_steps}
 use Rattle.task_model.specs.TaskFile.{place_of}
-use Rattle.task_model.proofs.Places.{AreTasks-push}
+use Rattle.task_model.proofs.Written.{AreTasks-push}
 use Rattle.task_model.proofs.read.read_entries.Goals as goal
 
 pub loop-entry-preserved : goal.loop-entry-preserved

@@ -1,7 +1,7 @@
 use Rattle.std.proofs.Common.{◌≡◌, arith, subst, sym}
 use Rattle.sched_model.specs.Plan.{offset}
 use Rattle.sched_model.specs.States.{StateOf, CanRelease}
-use Rattle.sched_model.proofs.Openings.{opening-can_release}
+use Rattle.sched_model.proofs.States.{opening-can_release}
 use Rattle.worked_rows.proofs.made.opened.Goals as goal
 
 pub release-requires : goal.release-requires

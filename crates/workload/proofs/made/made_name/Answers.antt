@@ -2,7 +2,7 @@ use Rattle.std.proofs.Common.{◌≡◌, ◌+◌, [], ◌∷◌, ◌++◌, arith
 use Rattle.std.specs.Fmt.{decimal}
 use Rattle.dvs_base.specs.Text.{is_name}
 use Rattle.workload.specs.Workload.{made_name}
-use Rattle.workload.proofs.Naming.{length-decimal, made_name-is}
+use Rattle.workload.proofs.MadeTasks.{length-decimal, made_name-is}
 use Rattle.workload.proofs.made.made_name.Goals as goal
 
 pub put_num-requires : goal.put_num-requires

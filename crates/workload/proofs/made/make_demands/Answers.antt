@@ -6,8 +6,7 @@ use Rattle.task_model.specs.DemandRows.{DemandRow}
 use Rattle.demand_list.specs.Demands.{with_row}
 use Rattle.workload.specs.Draws.{next_state, draw_of, draw}
 use Rattle.workload.specs.Workload.{made_row}
-use Rattle.workload.proofs.Drawing.{one-draw}
-use Rattle.workload.proofs.MadeTasks.{made_row-free, made_row-last}
+use Rattle.workload.proofs.MadeTasks.{one-draw, made_row-free, made_row-last}
 use Rattle.workload.proofs.made.make_demands.Goals as goal
 
 pub add_row-requires-clause-free : goal.add_row-requires-clause-free

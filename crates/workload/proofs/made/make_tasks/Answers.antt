@@ -3,7 +3,7 @@ use Rattle.grid_fraction.specs.Numbers.{list_below}
 use Rattle.grid_fraction.proofs.Sums.{list_below-more}
 use Rattle.workload.specs.Draws.{next_state, draw_of, state_after}
 use Rattle.workload.specs.Workload.{task_by, made_task}
-use Rattle.workload.proofs.Drawing.{two-draws, made_task-drawn}
+use Rattle.workload.proofs.MadeTasks.{two-draws, made_task-drawn}
 use Rattle.workload.proofs.made.make_tasks.Goals as goal
 
 pub loop-task-preserved : goal.loop-task-preserved

@@ -2,7 +2,7 @@ use Rattle.std.proofs.Common.{◌<◌, ◌∙◌, ap, arith}
 use Rattle.std.proofs.Math.ListN.{replicate}
 use Rattle.sched_model.specs.Plan.{count}
 use Rattle.sched_model.specs.States.{opening}
-use Rattle.sched_model.proofs.StateRows.{left-opening}
+use Rattle.sched_model.proofs.States.{left-opening}
 use Rattle.agenda.specs.Agenda.{ReadyOf}
 use Rattle.agenda.proofs.Standing.{more-held, all-held, opening-ready, opening-entry}
 use Rattle.agenda.proofs.agenda.Agenda.new.Goals as goal

@@ -4,7 +4,7 @@ use Rattle.std.proofs.Math.Seq.{map-set_same}
 use Rattle.sched_model.specs.declared.state.Row.{Row}
 use Rattle.sched_model.specs.Plan.{period}
 use Rattle.sched_model.specs.States.{no_row, row_at, row_wleft}
-use Rattle.sched_model.proofs.StateRows.{row_read, left-set}
+use Rattle.sched_model.proofs.States.{row_read, left-set}
 use Rattle.agenda.specs.Agenda.{StandFor, next_job_row, opened}
 use Rattle.agenda.proofs.Standing.{first-is-due, after-open, after-closed, opened-entry}
 use Rattle.agenda.proofs.agenda.Agenda.renew.Goals as goal

@@ -1,4 +1,4 @@
-use Rattle.sched_model.proofs.StateRows.{left-run}
+use Rattle.sched_model.proofs.States.{left-run}
 use Rattle.agenda.proofs.Standing.{stand-run}
 use Rattle.agenda.proofs.agenda.Agenda.serve.Goals as goal
 

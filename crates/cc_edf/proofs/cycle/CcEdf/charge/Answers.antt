@@ -1,7 +1,7 @@
 use Rattle.std.proofs.Common.{◌≡◌, ℕ, ◌*◌, ◌/◌, get_or, ◌∙◌, ap, ap₂, arith}
 use Rattle.std.proofs.lemmas.List.{get_or_read}
 use Rattle.sched_model.specs.Plan.{period, hyper}
-use Rattle.cc_edf_laws.proofs.Counting.{rate_place, rate_most, sum_fits}
+use Rattle.cc_edf_laws.proofs.CycleLaws.{rate_place, rate_most, sum_fits}
 use Rattle.cc_edf.proofs.cycle.CcEdf.charge.Goals as goal
 
 pub overflow_sub-self : goal.overflow_sub-self

@@ -1,4 +1,4 @@
-use Rattle.cc_edf_laws.proofs.Counting.{counts-opening}
+use Rattle.cc_edf_laws.proofs.CycleLaws.{counts-opening}
 use Rattle.cc_edf.proofs.cycle.CcEdf.new.Goals as goal
 
 pub returns-in-Ok : goal.returns-in-Ok

@@ -1,6 +1,6 @@
 use Rattle.std.proofs.Common.{◌<◌, arith}
 use Rattle.sched_model.specs.Plan.{count}
-use Rattle.cc_edf_laws.proofs.Counting.{counts-ran}
+use Rattle.cc_edf_laws.proofs.CycleLaws.{counts-ran}
 use Rattle.cc_edf.proofs.cycle.CcEdfGovernor.ran.Goals as goal
 
 pub returns : goal.returns

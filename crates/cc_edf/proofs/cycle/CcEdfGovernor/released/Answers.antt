@@ -1,4 +1,4 @@
-use Rattle.cc_edf_laws.proofs.Counting.{counts-released}
+use Rattle.cc_edf_laws.proofs.CycleLaws.{counts-released}
 use Rattle.cc_edf.proofs.cycle.CcEdfGovernor.released.Goals as goal
 
 pub returns : goal.returns

@@ -8,7 +8,7 @@ use Rattle.event_kernel.proofs.Keeping.{kept_notes-append}
 use Rattle.sched_model.specs.declared.state.Row.{Row}
 use Rattle.sched_model.specs.Jobs.{JobDemands}
 use Rattle.sched_model.specs.States.{row_at, after_finish, StateOf}
-use Rattle.sched_model.proofs.StateRows.{row_read}
+use Rattle.sched_model.proofs.States.{row_read}
 use Rattle.agenda.specs.Agenda.{opened}
 use Rattle.agenda.specs.Stands.{Stands}
 use Rattle.event_kernel.specs.Runs.{demands_of}

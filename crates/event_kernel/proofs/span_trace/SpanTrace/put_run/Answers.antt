@@ -7,7 +7,7 @@ use Rattle.sched_model.specs.declared.holder.Holder.{Holder}
 use Rattle.sched_model.specs.Plan.{point}
 use Rattle.sched_model.specs.Notes.{position_of}
 use Rattle.sched_model.specs.States.{row_at}
-use Rattle.sched_model.proofs.StateRows.{row_read}
+use Rattle.sched_model.proofs.States.{row_read}
 use Rattle.energy.specs.Segments.{segment_energy}
 use Rattle.event_kernel.specs.SpanNotes.{kept_notes}
 use Rattle.event_kernel.specs.Segment.{with_notes, holder_notes, HeldIn}

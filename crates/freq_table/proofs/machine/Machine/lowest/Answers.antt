@@ -1,7 +1,7 @@
 use Rattle.std.proofs.Common.{◌≡◌, ◌<◌, ◌≤◌, length, true, rules, arith}
 use Rattle.grid_fraction.specs.Fraction.{meets}
 use Rattle.freq_table.specs.Tables.{speed_at}
-use Rattle.freq_table.proofs.Lowest.{lowest_pick-met, lowest_pick-none}
+use Rattle.freq_table.proofs.Chosen.{lowest_pick-met, lowest_pick-none}
 use Rattle.freq_table.proofs.machine.Machine.lowest.Goals as goal
 
 pub returns-then-meets : goal.returns-then-meets

@@ -2,10 +2,10 @@ use Rattle.std.proofs.Common.{◌≡◌, ◌++◌, ◌∙◌, List, ℕ, length,
 use Rattle.std.specs.Prelude.{slice_set}
 use Rattle.sched_model.specs.declared.state.Row.{Row}
 use Rattle.sched_model.specs.States.{after_release}
-use Rattle.sched_model.proofs.StateRows.{row_read}
+use Rattle.sched_model.proofs.States.{row_read}
 use Rattle.look_ahead.specs.Counters.{Keeps}
 use Rattle.look_ahead.proofs.Keeping.{keeps-released}
-use Rattle.look_ahead.proofs.Passing.{written_back}
+use Rattle.look_ahead.proofs.Moving.{written_back}
 use Rattle.look_ahead.proofs.ahead.LookAheadGovernor.released.Goals as goal
 
 pub returns : goal.returns

@@ -1,21 +1,7 @@
-use Rattle.std.proofs.Common.{◌≡◌, ◌<◌, length, sym, arith}
+use Rattle.std.proofs.Common.{arith}
 use Rattle.std.proofs.lemmas.Grind.{common_steps}
-use Rattle.sched_model.proofs.StateRows.{mark_step}
+use Rattle.sched_model.proofs.States.{mark_step}
 use Rattle.sched_model.proofs.state.State.mark.Goals as goal
 
 pub loop-i-preserved : goal.loop-i-preserved
-loop-i-preserved c =
-    let inv = c.loop-i.invariant in
-    let rows = c.loop-i.self-inside.rows.items in
-    let base = c.loop-i.self-inside.base.items in
-    let i = c.loop-i.i in
-    let n : length c.self.inside.rows.items ≡ length c.self.inside.base.items =
-    sym (c.self.invariant.base) in
-    let in_rows : i < length rows = rw inv.2 (omega arith) in
-    let in_base : i < length base = omega arith in (
-      inv.0,
-      inv.1,
-      inv.2,
-      grind (arith, common_steps, inv.3),
-      rw c.worst_left.ensures (mark_step rows base i c.index-row.result.now in_rows in_base c.index-row.ensures inv.4),
-    )
+loop-i-preserved c = grind (arith, common_steps, mark_step)

@@ -1,7 +1,7 @@
 use Rattle.std.proofs.Common.{◌≡◌, sym, subst, arith}
 use Rattle.sched_model.specs.Plan.{count}
 use Rattle.sched_model.specs.States.{IsStateOf}
-use Rattle.sched_model.proofs.Openings.{opening-is_state, opening_by}
+use Rattle.sched_model.proofs.States.{opening-is_state, opening_by}
 use Rattle.sched_model.proofs.state.State.new.Goals as goal
 
 pub invariant_of-result : goal.invariant_of-result

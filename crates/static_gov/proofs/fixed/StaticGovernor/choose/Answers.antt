@@ -1,4 +1,4 @@
-use Rattle.sched_model.proofs.Weights.{static_den}
+use Rattle.sched_model.proofs.StaticShare.{static_den}
 use Rattle.governor.proofs.Fits.{static_met}
 use Rattle.static_gov.proofs.fixed.StaticGovernor.choose.Goals as goal
 

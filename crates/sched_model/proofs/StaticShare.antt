@@ -1,23 +1,21 @@
--- The task whose level asks for the greatest share of its period.
-use Rattle.std.proofs.Common.{◌≡◌, ◌≢◌, ℕ, ◌+◌, ◌*◌, ◌<◌, ◌≤◌, Bool, true, false, ◌||◌, ◌&&◌, not, ◌⊎◌, inl, inr, nat_eq, nat_lt, refl, arith, ap, ◌∙◌, sym, true≢false, add-one}
+-- The static demand under RM is the greatest share that the level of a task asks for of its period.
+use Rattle.std.proofs.Common.{◌≡◌, ◌≢◌, ℕ, ◌+◌, ◌*◌, ◌<◌, ◌≤◌, Bool, true, false, ◌||◌, ◌&&◌, not, ◌⊎◌, inl, inr, nat_eq, nat_lt, refl, arith, ap, ◌∙◌, sym, true≢false, add-one, zero, suc, ◌-◌, ◌^◌, subst}
 use Rattle.std.proofs.lemmas.Bool.Decides.{nat_tests}
 use Rattle.std.proofs.Math.Nat.{mul-le-mul_right, mul-lt-mul_of_pos_right, le_of_mul-le-mul_right, lt_of_mul-lt-mul_right}
 use Rattle.grid_fraction.specs.Numbers.{any_below}
 use Rattle.grid_fraction.proofs.Searches.{any_below-none, any_below-false, below_suc, first_from-is}
+use Rattle.dvs_base.specs.declared.kind.Scheduler.{Scheduler}
 use Rattle.sched_model.specs.Plan.{Plan, count, period}
 use Rattle.sched_model.specs.Priority.{stands_before}
 use Rattle.sched_model.specs.Tests.{level_work}
-use Rattle.sched_model.specs.StaticDemand.{outweighs, heaviest}
-use Rattle.sched_model.proofs.PriorityLemmas.{before-self, before-trans, before-total}
+use Rattle.sched_model.specs.StaticDemand.{outweighs, heaviest, static_demand_of, static_demand}
+use Rattle.sched_model.proofs.Orders.{before-trans}
+use Rattle.sched_model.specs.Admission.{IsWithinLimits}
+use Rattle.sched_model.proofs.Limits.{some_task, some_period, every_period, low_period, some_hyper, low_hyper}
 
 -- a number that outweighs another is greater, or equal with the tie decided for it
 over : (a b : ℕ) (c : Bool) → (nat_lt b a || (nat_eq a b && c)) ≡ true → (b < a) ⊎ ((a ≡ b) × (c ≡ true))
-over a b c h = go (nat_lt b a) refl (nat_eq a b) refl h
-  where
-    go : (p : Bool) → nat_lt b a ≡ p → (q : Bool) → nat_eq a b ≡ q → (p || (q && c)) ≡ true → (b < a) ⊎ ((a ≡ b) × (c ≡ true))
-    go true e q f k = inl (grind (arith, nat_tests))
-    go false e true f k = inr (grind (arith, nat_tests), k)
-    go false e false f k = absurd (true≢false (sym k))
+over a b c h = grind (arith, nat_tests)
 
 over_less : (a b : ℕ) (c : Bool) → b < a → (nat_lt b a || (nat_eq a b && c)) ≡ true
 over_less a b c h = grind (arith, nat_tests)
@@ -53,15 +51,7 @@ abbrev pub beats : (ℕ → ℕ) → (ℕ → ℕ) → ℕ → ℕ → Bool
 beats s q j i = nat_lt (s i * q j) (s j * q i) || (nat_eq (s j * q i) (s i * q j) && stands_before q j i)
 
 pub beats-self : (s q : ℕ → ℕ) (i : ℕ) → beats s q i i ≡ false
-beats-self s q i = go (beats s q i i) refl
-  where
-    go : (b : Bool) → beats s q i i ≡ b → beats s q i i ≡ false
-    go false e = e
-    go true e = split (over (s i * q i) (s i * q i) (stands_before q i i) e)
-      where
-        split : (s i * q i < s i * q i) ⊎ ((s i * q i ≡ s i * q i) × (stands_before q i i ≡ true)) → beats s q i i ≡ false
-        split (inl l) = absurd (omega arith)
-        split (inr r) = absurd (true≢false (sym r.1 ∙ before-self q i))
+beats-self s q i = grind (arith, nat_tests)
 
 pub beats-trans : (s q : ℕ → ℕ) (k j i : ℕ) → 0 < q k → 0 < q j → 0 < q i → beats s q k j ≡ true → beats s q j i ≡ true → beats s q k i ≡ true
 beats-trans s q k j i pk pj pi f g =
@@ -78,15 +68,7 @@ beats-trans s q k j i pk pj pi f g =
         over_same (s k * q i) (s i * q k) (stands_before q k i) (omega (arith, up, down)) (before-trans q k j i a.1 b.1)
 
 pub beats-total : (s q : ℕ → ℕ) (j i : ℕ) → j ≢ i → beats s q j i ≡ false → beats s q i j ≡ true
-beats-total s q j i ne h = go (nat_lt (s i * q j) (s j * q i)) refl (nat_eq (s j * q i) (s i * q j)) refl h
-  where
-    go : (x : Bool) → nat_lt (s i * q j) (s j * q i) ≡ x → (y : Bool) → nat_eq (s j * q i) (s i * q j) ≡ y
-        → (x || (y && stands_before q j i)) ≡ false → beats s q i j ≡ true
-    go true e y f k = absurd (true≢false k)
-    go false e true f k =
-        let same : s j * q i ≡ s i * q j = grind (arith, nat_tests) in
-        over_same (s i * q j) (s j * q i) (stands_before q i j) (sym same) (before-total q j i ne k)
-    go false e false f k = over_less (s i * q j) (s j * q i) (stands_before q i j) (grind (arith, nat_tests))
+beats-total s q j i ne h = grind (arith, nat_tests)
 
 -- `found` is below m, and none below m beats it
 pub record IsHeaviest (s q : ℕ → ℕ) (m found : ℕ) : Type 0 where
@@ -94,22 +76,10 @@ pub record IsHeaviest (s q : ℕ → ℕ) (m found : ℕ) : Type 0 where
   pub unbeaten : (k : ℕ) → k < m → beats s q k found ≡ false
 
 pub heaviest-kept : (s q : ℕ → ℕ) (m found : ℕ) → IsHeaviest s q m found → beats s q m found ≡ false → IsHeaviest s q (m + 1) found
-heaviest-kept s q m found h e = record {
-  below = omega (arith, h.below);
-  unbeaten = rw add-one (below_suc (λ k. beats s q k found ≡ false) m h.unbeaten e);
-}
+heaviest-kept s q m found h e = grind (arith, nat_tests)
 
 pub heaviest-next : (s q : ℕ → ℕ) (m found : ℕ) → ((i : ℕ) → i ≤ m → 0 < q i) → IsHeaviest s q m found → beats s q m found ≡ true → IsHeaviest s q (m + 1) m
-heaviest-next s q m found some h e = record {
-  below = omega arith;
-  unbeaten = rw add-one (below_suc (λ k. beats s q k m ≡ false) m (λ k lt. none k lt (beats s q k m) refl) (beats-self s q m));
-}
-  where
-    none : (k : ℕ) → k < m → (b : Bool) → beats s q k m ≡ b → beats s q k m ≡ false
-    none k lt false f = f
-    none k lt true f =
-        absurd (true≢false
-        (sym (beats-trans s q k m found (some k (omega arith)) (some m (omega arith)) (some found (omega (arith, h.below))) f e) ∙ h.unbeaten k lt))
+heaviest-next s q m found some h e = grind (arith, nat_tests, below_suc, beats-self, beats-trans)
 
 pub heaviest-all : (p : Plan) (found : ℕ) → IsHeaviest (level_work p) (period p) (count p) found → found ≡ heaviest p
 heaviest-all p found h =
@@ -127,3 +97,47 @@ heaviest-all p found h =
         go : (b : Bool) → any_below (count p) (λ j. outweighs p j k) ≡ b → not (any_below (count p) (λ j. outweighs p j k)) ≡ false
         go true e = ap not e
         go false e = absurd (true≢false (sym beaten ∙ any_below-false (count p) (λ j. outweighs p j k) e found h.below))
+
+not_over : (a b : ℕ) (c : Bool) → (nat_lt b a || (nat_eq a b && c)) ≡ false → a ≤ b
+not_over a b c h = grind (arith, nat_tests)
+
+module _ (p : Plan) (lim : IsWithinLimits p) where
+  -- the heaviest of the first m tasks
+  abbrev Found : ℕ → Type 0
+  Found m = (i : ℕ) × IsHeaviest (level_work p) (period p) m i
+
+  some-found : (m : ℕ) → Found (suc m)
+  some-found zero = (
+    0,
+    record {
+      below = omega arith;
+      unbeaten = λ k lt. let z : k ≡ 0 = omega arith in
+          subst (λ j. beats (level_work p) (period p) j 0 ≡ false) (sym z) (beats-self (level_work p) (period p) 0);
+    },
+  )
+  some-found (suc m) = subst Found (add-one (suc m)) (next (some-found m))
+    where
+      next : Found (suc m) → Found (suc m + 1)
+      next f = by (beats (level_work p) (period p) (suc m) f.0) refl
+        where
+          by : (b : Bool) → beats (level_work p) (period p) (suc m) f.0 ≡ b → Found (suc m + 1)
+          by false e = (f.0, heaviest-kept (level_work p) (period p) (suc m) f.0 f.1 e)
+          by true e = (suc m, heaviest-next (level_work p) (period p) (suc m) f.0 (λ i le. every_period p lim i) f.1 e)
+
+  heaviest-is : IsHeaviest (level_work p) (period p) (count p) (heaviest p)
+  heaviest-is =
+      let last : suc (count p - 1) ≡ count p = omega (arith, some_task p lim) in
+      let f : Found (count p) = subst Found last (some-found (count p - 1)) in
+      subst (IsHeaviest (level_work p) (period p) (count p)) (heaviest-all p f.0 f.1) f.1
+
+  pub heaviest_within : heaviest p < count p
+  heaviest_within = heaviest-is.below
+
+  pub heaviest_greatest : (j : ℕ) → j < count p → level_work p j * period p (heaviest p) ≤ level_work p (heaviest p) * period p j
+  heaviest_greatest j h = not_over _ _ _ (heaviest-is.unbeaten j h)
+
+static_den_by : (plan : Plan) (lim : IsWithinLimits plan) (sch : Scheduler) → (0 < (static_demand_of sch plan).den) × ((static_demand_of sch plan).den ≤ 2 ^ 64)
+static_den_by plan lim sch = grind (arith, nat_tests, some_hyper, low_hyper, some_period, heaviest_within, low_period)
+
+pub static_den : (plan : Plan) → IsWithinLimits plan → (0 < (static_demand plan).den) × ((static_demand plan).den ≤ 2 ^ 64)
+static_den plan lim = static_den_by plan lim plan.scheduler

@@ -1,18 +1,76 @@
--- The state of a list of ticks, boundary by boundary and tick by tick.
-use Rattle.std.proofs.Common.{◌≡◌, ℕ, zero, suc, ◌+◌, ◌<◌, ◌≤◌, Bool, true, false, List, [], ◌∷◌, length, refl, arith, ap, ap₂, ◌∙◌, sym, nat_eq, nat_le, true≢false}
-use Rattle.std.specs.Prelude.{map}
+-- The state of a list of ticks, boundary by boundary and tick by tick, its rows, and the state before the first release.
+use Rattle.std.proofs.Common.{◌≡◌, ℕ, ◌<◌, ◌≤◌, List, ap, sym, ◌∙◌, arith, zero, suc, ◌+◌, ◌-◌, [], ◌∷◌, ◌++◌, length, get_or, take, refl, Bool, true, false, ap₂, nat_eq, nat_le, true≢false}
+use Rattle.std.specs.Prelude.{map, slice_set}
+use Rattle.std.proofs.Math.ListN.{replicate, get_or-map}
+use Rattle.std.proofs.lemmas.List.{get_or_read, length-map, map-set, replicate_more, take_more, take_more_set}
 use Rattle.std.proofs.lemmas.Bool.Decides.{nat_tests}
+use Rattle.grid_fraction.specs.Numbers.{list_below, last_up_to}
+use Rattle.grid_fraction.proofs.Searches.{any_below-false}
 use Rattle.sched_model.specs.declared.state.Row.{Row}
 use Rattle.sched_model.specs.Plan.{Plan, count, period, offset, worst}
+use Rattle.sched_model.specs.States.{StateOf, no_row, row_at, opening, opening_row, IsStateOf, CanRelease, row_wleft, after_run, CanRun, row_of, state_of, released_row, prior_row, prior_base_at, prior_base, prior_state}
+use Rattle.sched_model.specs.Admission.{IsWithinLimits}
+use Rattle.sched_model.proofs.Tables.{length-list_below, get-table, map-table, table-same}
 use Rattle.sched_model.specs.Jobs.{JobDemands, release, due, latest, releases_at, is_release, last_release}
 use Rattle.sched_model.specs.Ticks.{Tick, at, exec, is_done, wleft, share, left}
-use Rattle.grid_fraction.specs.Numbers.{last_up_to}
-use Rattle.sched_model.specs.States.{StateOf, no_row, row_at, row_of, state_of, released_row, row_wleft, prior_row, prior_base_at, prior_base, prior_state}
-use Rattle.grid_fraction.specs.Numbers.{list_below}
 use Rattle.sched_model.proofs.JobLaws.{due-none, release-none, release-suc, due-suc, lt-due, latest-unique, latest-none, latest-stays, latest-next, release-le, exec-early, exec-legal, last_release-le}
-use Rattle.grid_fraction.proofs.Searches.{any_below-false}
-use Rattle.sched_model.proofs.Tables.{get-table, table-same, map-table}
-use Rattle.sched_model.proofs.Service.{at-now, at-before}
+use Rattle.sched_model.proofs.Schedules.{at-now, at-before}
+
+pub opening-is_state : (p : Plan) → IsStateOf (opening p)
+opening-is_state p = grind (arith, nat_tests, length-list_below, get-table)
+
+-- the state at a tick with these rows, and with a mark of these bases
+abbrev state_by : ℕ → List Row → ℕ → List ℕ → StateOf
+state_by now rows base_at base = record { now = now; rows = rows; base_at = base_at; base = base }
+
+pub opening_by : (p : Plan) (n : ℕ) (rows : List Row) (base : List ℕ) → n ≡ count p
+    → rows ≡ list_below n (λ i. opening_row (offset p i) (worst p i)) → base ≡ list_below n (λ i. 0) → state_by 0 rows 0 base ≡ opening p
+opening_by p n rows base all r b = grind (arith, nat_tests)
+
+-- the first job of each task without an offset can be released from the opening state
+pub opening-can_release : (p : Plan) → IsWithinLimits p → (i : ℕ) → i < count p → offset p i ≡ 0 → CanRelease p (opening p) i
+opening-can_release p lim i lt now = grind (arith, nat_tests, get-table, length-list_below)
+
+-- a row that was read from a state is the row of its task
+pub row_read : (s v : StateOf) (i : ℕ) (row : Row) → v ≡ s → i < length s.rows → row ≡ get_or v.rows i row → row ≡ row_at s i
+row_read s v i row is lt read = get_or_read s.rows i row lt (read ∙ ap (λ (u : StateOf). get_or u.rows i row) is) no_row
+
+-- the bases of a mark, written one after the other
+pub mark_step : (rows : List Row) (base : List ℕ) (i : ℕ) (row : Row) → i < length rows → i < length base → row ≡ get_or rows i row
+    → take i base ≡ take i (map row_wleft rows) → take (i + 1) (slice_set base i (row_wleft row)) ≡ take (i + 1) (map row_wleft rows)
+mark_step rows base i row hr hb is e =
+    let in_map : i < length (map row_wleft rows) = omega (arith, length-map rows row_wleft) in
+    let read : get_or (map row_wleft rows) i 0 ≡ row_wleft row =
+    get_or-map row_wleft rows i no_row ∙ ap row_wleft (sym (get_or_read rows i row hr is no_row)) in
+    take_more_set base i (row_wleft row) hb
+    ∙ ap (λ (xs : List ℕ). xs ++ (row_wleft row ∷ [])) e
+    ∙ ap (λ (x : ℕ). take i (map row_wleft rows) ++ (x ∷ [])) (sym read)
+    ∙ sym (take_more (map row_wleft rows) i 0 in_map)
+
+zeros : (n : ℕ) → list_below {A = ℕ} n (λ i. 0) ≡ replicate n 0
+zeros zero = refl
+zeros (suc n) = grind (arith, nat_tests, replicate_more, replicate, zeros n)
+
+-- before the first release no job needs anything
+pub left-opening : (p : Plan) → replicate (count p) 0 ≡ map row_wleft (opening p).rows
+left-opening p = sym (map-table (count p) (λ i. opening_row (offset p i) (worst p i)) row_wleft ∙ zeros (count p))
+
+module _ (s : StateOf) (left : List ℕ) (is : left ≡ map row_wleft s.rows) (i : ℕ) where
+  -- a row of a task is written, and what its job may still need
+  pub left-set : (row : Row) (w : ℕ) → w ≡ row_wleft row → slice_set left i w ≡ map row_wleft (slice_set s.rows i row)
+  left-set row w same = grind (arith, nat_tests, map-set)
+
+  -- `State::run` takes its units from what the job may still need
+  pub left-run : (units w : ℕ) → CanRun s i units → w ≡ get_or left i w
+      → slice_set left i (w - units) ≡ map row_wleft (after_run s i units).rows
+  left-run units w can read =
+      let row : Row = record (row_at s i) { used = (row_at s i).used + units } in
+      let long : length left ≡ length s.rows = ap (λ (xs : List ℕ). length xs) is ∙ length-map s.rows row_wleft in
+      let was : w ≡ (row_at s i).worst - (row_at s i).used =
+      get_or_read left i w (omega (arith, can.task, long)) read 0
+      ∙ (ap (λ (xs : List ℕ). get_or xs i 0) is ∙ (get_or-map row_wleft s.rows i no_row ∙ rw can.open_job refl)) in
+      let now : row_wleft row ≡ (row_at s i).worst - ((row_at s i).used + units) = rw can.open_job refl in
+      left-set row (w - units) (omega (arith, was, now))
 
 -- a row by its parts
 abbrev pub row_by : ℕ → ℕ → ℕ → Bool → ℕ → Row
@@ -93,31 +151,7 @@ module _ (p : Plan) (dem : JobDemands) (periods : (i : ℕ) → 0 < period p i) 
   -- after the releases a row that is due has its next job
   pub row-opened : (past : List Tick) (i : ℕ) → (prior_row p dem past i).deadline ≡ length past
       → row_of p dem past i ≡ opened_row p dem i (prior_row p dem past i)
-  row-opened past i e =
-      ap (λ k. row_by (due p i k) k (exec p past i k) (nat_le (dem i k) (exec p past i k)) (worst p i)) (next_job past i e)
-      ∙ (ap₂ (λ a b. row_by a next b (nat_le (dem i next) b) (worst p i)) (due_next past i) none
-      ∙ (ap (λ b. row_by ((prior_row p dem past i).deadline + period p i) next 0 b (worst p i)) (zero_test (dem i next))
-      ∙ worst_is past))
-    where
-      next : ℕ
-      next = (prior_row p dem past i).job + 1
-
-      none : exec p past i next ≡ 0
-      none = exec-early p past i next (omega (arith, release_next past i, e))
-
-      zero_test : (n : ℕ) → nat_le n 0 ≡ nat_eq n 0
-      zero_test n = go (nat_le n 0) refl (nat_eq n 0) refl
-        where
-          go : (a : Bool) → nat_le n 0 ≡ a → (b : Bool) → nat_eq n 0 ≡ b → nat_le n 0 ≡ nat_eq n 0
-          go true e true f = e ∙ sym f
-          go false e false f = e ∙ sym f
-          go true e false f = absurd (grind (arith, nat_tests))
-          go false e true f = absurd (grind (arith, nat_tests))
-
-      worst_is : (past : List Tick) → row_by ((prior_row p dem past i).deadline + period p i) ((prior_row p dem past i).job + 1) 0
-          (nat_eq (dem i ((prior_row p dem past i).job + 1)) 0) (worst p i) ≡ opened_row p dem i (prior_row p dem past i)
-      worst_is [] = refl
-      worst_is (x ∷ past) = refl
+  row-opened past i e = grind (arith, nat_tests, next_job, due_next, exec-early, release_next)
 
   -- after the releases a row that isn't due is as before
   pub row-kept : (past : List Tick) (i : ℕ) → dem i 0 ≡ 0 → nat_eq (prior_row p dem past i).deadline (length past) ≡ false
@@ -137,19 +171,11 @@ module _ (p : Plan) (dem : JobDemands) (periods : (i : ℕ) → 0 < period p i) 
   base_at-kept : (t : ℕ) → is_release p (suc t) ≡ false → last_release p (suc t) ≡ last_release p t
   base_at-kept t e = rw (e, last_up_to) refl
 
-  abbrev pub state_by : ℕ → List Row → ℕ → List ℕ → StateOf
-  state_by a b c d = record { now = a; rows = b; base_at = c; base = d }
-
   -- at a release: with all releases done and the mark set, the state is that of the past
   pub state-marked : (past : List Tick) → is_release p (length past) ≡ true
       → state_by (length past) (list_below (count p) (row_of p dem past)) (length past)
       (map row_wleft (list_below (count p) (row_of p dem past))) ≡ state_of p dem past
-  state-marked past e =
-      let r : last_release p (length past) ≡ length past = base_at-marked (length past) e in
-      let now : at (last_release p (length past)) past ≡ past = ap (λ n. at n past) r ∙ at-now past in
-      ap₂ (λ a b. state_by (length past) (list_below (count p) (row_of p dem past)) a b) (sym r)
-      (map-table (count p) (row_of p dem past) row_wleft
-      ∙ ap (λ (ps : List Tick). list_below (count p) (wleft p dem ps)) (sym now))
+  state-marked past e = grind (arith, nat_tests, base_at-marked, at-now, map-table)
 
   pub state-unmarked : (past : List Tick) → ((i : ℕ) → dem i 0 ≡ 0) → is_release p (length past) ≡ false
       → state_by (length past) (list_below (count p) (row_of p dem past)) (prior_base_at p past)
@@ -163,10 +189,7 @@ module _ (p : Plan) (dem : JobDemands) (periods : (i : ℕ) → 0 < period p i) 
       not_due i lt false q = grind (arith, nat_tests)
 
       nothing : (i : ℕ) → 0 < offset p i → wleft p dem [] i ≡ 0
-      nothing i late =
-          let is : dem i (latest p i 0) ≡ 0 = ap (dem i) (latest-none p i 0 late) ∙ none i in
-          let done : nat_le (dem i (latest p i 0)) 0 ≡ true = grind (arith, nat_tests, is) in
-          rw done refl
+      nothing i late = grind (arith, nat_tests, latest-none)
   state-unmarked (x ∷ past) none e =
       let r : last_release p (length (x ∷ past)) ≡ last_release p (length past) = base_at-kept (length past) e in
       let back : at (last_release p (length (x ∷ past))) (x ∷ past) ≡ at (last_release p (length past)) past =
@@ -191,13 +214,9 @@ module _ (p : Plan) (dem : JobDemands) (periods : (i : ℕ) → 0 < period p i) 
   pub row-ran : (x : Tick) (past : List Tick) (i : ℕ) → dem i 0 ≡ 0 → share x i ≤ left p dem past i
       → prior_row p dem (x ∷ past) i ≡ row_by (row_of p dem past i).deadline (row_of p dem past i).job ((row_of p dem past i).used
       + share x i) (nat_le (dem i (latest p i (length past))) ((row_of p dem past i).used + share x i)) (row_of p dem past i).worst
-  row-ran x past i none fits =
-      ap (λ u. row_by (due p i (latest p i (length past))) (latest p i (length past)) u (nat_le (dem i (latest p i (length past))) u) (worst p i))
-      (exec-legal p dem x past i (periods i) none fits)
+  row-ran x past i none fits = grind (arith, nat_tests, exec-legal)
 
   pub state-ran : (x : Tick) (past : List Tick)
       → prior_state p dem (x ∷ past) ≡ state_by (length past + 1) (list_below (count p) (prior_row p dem (x ∷ past)))
       (state_of p dem past).base_at (state_of p dem past).base
-  state-ran x past =
-      let now : length (x ∷ past) ≡ length past + 1 = omega arith in
-      ap (λ t. state_by t (list_below (count p) (prior_row p dem (x ∷ past))) (state_of p dem past).base_at (state_of p dem past).base) now
+  state-ran x past = grind (arith, nat_tests)

@@ -1,12 +1,31 @@
--- The list of the tasks in order: where each of them is, and the sums over the tasks before one of them.
-use Rattle.std.proofs.Common.{◌≡◌, ◌≢◌, ◌⊎◌, inl, inr, eq-or-lt_of_le, le_of_suc-le-suc, ℕ, zero, suc, ◌+◌, ◌<◌, Bool, true, false, List, [], ◌∷◌, ◌++◌, length, get_or, refl, arith, if◌then◌else◌, ap, ap₂, ◌∙◌, sym, subst, nat_eq, nat_lt}
-use Rattle.std.specs.Prelude.{◌||◌, ◌&&◌}
+-- The order of the tasks: it is strict and total; the list of the tasks in it, and sums over the tasks before one of them.
+use Rattle.std.proofs.Common.{◌≡◌, ◌≢◌, ℕ, ◌+◌, Bool, true, false, eqb, ◌||◌, refl, arith, if◌then◌else◌, ◌⊎◌, inl, inr, eq-or-lt_of_le, le_of_suc-le-suc, zero, suc, ◌<◌, List, [], ◌∷◌, ◌++◌, length, get_or, ap, ap₂, ◌∙◌, sym, subst, nat_eq, nat_lt}
+use Rattle.std.proofs.lemmas.Bool.Decides.{nat_tests}
+use Rattle.std.specs.Prelude.{◌&&◌}
 use Rattle.std.specs.List.{AllByRecursion}
 use Rattle.std.proofs.lemmas.List.Elements.{All-from_recursion}
 use Rattle.grid_fraction.specs.Numbers.{sum_below}
 use Rattle.grid_fraction.proofs.Sums.{sum_below-same}
 use Rattle.sched_model.specs.Priority.{stands_before, sum_before, insert_by, in_order}
-use Rattle.sched_model.proofs.PriorityLemmas.{before-self, before-trans, before-total, before-not}
+
+pub before-self : (key : ℕ → ℕ) (i : ℕ) → stands_before key i i ≡ false
+before-self key i = grind (arith, nat_tests)
+
+pub before-trans : (key : ℕ → ℕ) (k j i : ℕ) → stands_before key k j ≡ true → stands_before key j i ≡ true → stands_before key k i ≡ true
+before-trans key k j i h g = grind (arith, nat_tests)
+
+pub before-not : (key : ℕ → ℕ) (j i : ℕ) → stands_before key j i ≡ true → stands_before key i j ≡ false
+before-not key j i h = grind (arith, nat_tests)
+
+pub before-total : (key : ℕ → ℕ) (j i : ℕ) → j ≢ i → stands_before key j i ≡ false → stands_before key i j ≡ true
+before-total key j i ne h = grind (arith, nat_tests)
+
+pub split_if : (a b c : Bool) (x : ℕ) → a ≡ (b || c) → (c ≡ true → b ≡ false)
+    → (if a then x else 0) ≡ (if b then x else 0) + (if c then x else 0)
+split_if a b c x e h = grind (arith, nat_tests)
+
+pub same_not_before : (key : ℕ → ℕ) (k j : ℕ) → eqb k j ≡ true → stands_before key k j ≡ false
+same_not_before key k j e = grind (arith, nat_tests)
 
 abbrev pub sum_list : (ℕ → ℕ) → List ℕ → ℕ
 sum_list f [] = 0
@@ -33,12 +52,7 @@ sum_list-snoc f xs i = omega (arith, sum_list-append f xs (i ∷ []))
 
 sum_list-insert : (f key : ℕ → ℕ) (i : ℕ) (js : List ℕ) → sum_list f (insert_by key i js) ≡ sum_list f js + f i
 sum_list-insert f key i [] = omega arith
-sum_list-insert f key i (j ∷ js) = go (stands_before key i j) (sum_list-insert f key i js)
-  where
-    go : (b : Bool) → sum_list f (insert_by key i js) ≡ sum_list f js + f i
-        → sum_list f (if b then i ∷ j ∷ js else j ∷ insert_by key i js) ≡ f j + sum_list f js + f i
-    go true ih = omega arith
-    go false ih = omega (arith, ih)
+sum_list-insert f key i (j ∷ js) = grind (arith, nat_tests, sum_list-insert f key i js)
 
 pub sum_list-in_order : (f key : ℕ → ℕ) (n : ℕ) → sum_list f (in_order key n) ≡ sum_below n f
 unfolding in_order
@@ -51,29 +65,15 @@ ahead-trans key i j (k ∷ ks) h a = (before-trans key i j k h a.0, ahead-trans 
 
 ahead-insert : (key : ℕ → ℕ) (i j : ℕ) (js : List ℕ) → stands_before key j i ≡ true → IsAhead key j js → IsAhead key j (insert_by key i js)
 ahead-insert key i j [] h a = (h, tt)
-ahead-insert key i j (k ∷ ks) h a = go (stands_before key i k) (ahead-insert key i j ks h a.1)
-  where
-    go : (b : Bool) → IsAhead key j (insert_by key i ks) → IsAhead key j (if b then i ∷ k ∷ ks else k ∷ insert_by key i ks)
-    go true ih = (h, a)
-    go false ih = (a.0, ih)
+ahead-insert key i j (k ∷ ks) h a = grind (arith, nat_tests, ahead-insert key i j ks h a.1)
 
 ordered-insert : (key : ℕ → ℕ) (i : ℕ) (js : List ℕ) → AreBelow i js → IsOrdered key js → IsOrdered key (insert_by key i js)
 ordered-insert key i [] b o = (tt, tt)
-ordered-insert key i (j ∷ js) b o = go (stands_before key i j) refl (ordered-insert key i js b.1 o.1)
-  where
-    go : (c : Bool) → stands_before key i j ≡ c → IsOrdered key (insert_by key i js) → IsOrdered key (if c then i ∷ j ∷ js else j ∷ insert_by key i js)
-    go true e ih = ((e, ahead-trans key i j js e o.0), o)
-    go false e ih =
-        let other : i ≢ j = λ q. omega (arith, b.0) in
-        (ahead-insert key i j js (before-total key i j other e) o.0, ih)
+ordered-insert key i (j ∷ js) b o = grind (arith, nat_tests, ahead-trans, ahead-insert, before-total, ordered-insert key i js b.1 o.1)
 
 below-insert : (key : ℕ → ℕ) (n i : ℕ) (js : List ℕ) → i < n → AreBelow n js → AreBelow n (insert_by key i js)
 below-insert key n i [] lt b = (lt, tt)
-below-insert key n i (j ∷ js) lt b = go (stands_before key i j) (below-insert key n i js lt b.1)
-  where
-    go : (c : Bool) → AreBelow n (insert_by key i js) → AreBelow n (if c then i ∷ j ∷ js else j ∷ insert_by key i js)
-    go true ih = (lt, b)
-    go false ih = (b.0, ih)
+below-insert key n i (j ∷ js) lt b = grind (arith, nat_tests, below-insert key n i js lt b.1)
 
 below-more : (n : ℕ) (js : List ℕ) → AreBelow n js → AreBelow (suc n) js
 below-more n [] b = tt
@@ -118,11 +118,7 @@ sum_before-prefix key f n i pre post e =
 
 length-insert : (key : ℕ → ℕ) (i : ℕ) (js : List ℕ) → length (insert_by key i js) ≡ suc (length js)
 length-insert key i [] = refl
-length-insert key i (j ∷ js) = go (stands_before key i j) (length-insert key i js)
-  where
-    go : (b : Bool) → length (insert_by key i js) ≡ suc (length js) → length (if b then i ∷ j ∷ js else j ∷ insert_by key i js) ≡ suc (suc (length js))
-    go true ih = refl
-    go false ih = ap suc ih
+length-insert key i (j ∷ js) = grind (arith, nat_tests, length-insert key i js)
 
 pub length-in_order : (key : ℕ → ℕ) (n : ℕ) → length (in_order key n) ≡ n
 unfolding in_order
@@ -170,9 +166,7 @@ before-same key key' j i ej ei = ap₂ (λ (x y : ℕ). nat_lt x y || (nat_eq x 
 
 insert-same : (key key' : ℕ → ℕ) (n i : ℕ) (js : List ℕ) → ((k : ℕ) → k < n → key k ≡ key' k) → i < n → AreBelow n js → insert_by key i js ≡ insert_by key' i js
 insert-same key key' n i [] same lt b = refl
-insert-same key key' n i (j ∷ js) same lt b =
-    ap₂ (λ (c : Bool) (ks : List ℕ). if c then i ∷ j ∷ js else j ∷ ks)
-    (before-same key key' i j (same i lt) (same j b.0)) (insert-same key key' n i js same lt b.1)
+insert-same key key' n i (j ∷ js) same lt b = grind (arith, nat_tests, insert-same key key' n i js same lt b.1)
 
 pub in_order-same : (key key' : ℕ → ℕ) (n : ℕ) → ((k : ℕ) → k < n → key k ≡ key' k) → in_order key n ≡ in_order key' n
 unfolding in_order
@@ -183,6 +177,4 @@ in_order-same key key' (suc n) same =
     ∙ insert-same key key' (suc n) n (in_order key' n) same (omega arith) (below-more n (in_order key' n) (in_order-below key' n))
 
 pub sum_before-same : (key key' f : ℕ → ℕ) (n i : ℕ) → ((k : ℕ) → k < n → key k ≡ key' k) → i < n → sum_before n key f i ≡ sum_before n key' f i
-sum_before-same key key' f n i same lt =
-    sum_below-same n (λ j. if stands_before key j i then f j else 0) (λ j. if stands_before key' j i then f j else 0)
-    (λ j l. ap (λ (b : Bool). if b then f j else 0) (before-same key key' j i (same j l) (same i lt)))
+sum_before-same key key' f n i same lt = grind (arith, nat_tests, sum_below-same, before-same)

@@ -1,18 +1,21 @@
--- There is exactly one schedule of each length, and the entry in force on it.
-use Rattle.std.proofs.Common.{◌≡◌, ℕ, zero, suc, ◌<◌, Bool, true, false, if◌then◌else◌, List, [], ◌∷◌, length, get_or, refl, arith, ap, ◌∙◌, sym, subst}
+-- There is exactly one schedule of each length, with the entry in force on it and what its jobs have had.
+use Rattle.std.proofs.Common.{◌≡◌, ℕ, zero, suc, ◌<◌, true, if◌then◌else◌, List, [], ◌∷◌, length, get_or, refl, arith, ap, ◌∙◌, sym, subst, drop, ◌-◌, ◌≤◌}
 use Rattle.std.proofs.lemmas.List.{ext_get_or}
+use Rattle.std.proofs.lemmas.Bool.Decides.{nat_tests}
 use Rattle.freq_table.specs.Tables.{lowest_entry}
 use Rattle.freq_table.proofs.Chosen.{lowest_within}
+use Rattle.grid_fraction.specs.Numbers.{list_below}
 use Rattle.sched_model.specs.Plan.{Plan, count, point}
 use Rattle.sched_model.specs.Jobs.{JobDemands}
 use Rattle.sched_model.specs.Decision.{is_decision}
-use Rattle.sched_model.specs.Ticks.{PublishedDemand, Tick, share, left}
-use Rattle.sched_model.specs.Priority.{allotment, key_of}
+use Rattle.sched_model.specs.Ticks.{PublishedDemand, Tick, share, left, exec, at}
+use Rattle.sched_model.specs.Priority.{allotment, key_of, IsLegal}
 use Rattle.sched_model.specs.Schedule.{entry_in_force, IsNext, IsScheduleBy, next_tick, schedule_by}
-use Rattle.grid_fraction.specs.Numbers.{list_below}
 use Rattle.sched_model.proofs.Tables.{get-table}
-pub use Rattle.sched_model.proofs.Tables.{length-list_below}
 use Rattle.sched_model.proofs.Allotments.{allotment_of, allotment-shares, shares-same}
+use Rattle.sched_model.proofs.LevelSums.{share-most}
+use Rattle.sched_model.proofs.JobLaws.{latest-is}
+pub use Rattle.sched_model.proofs.Tables.{length-list_below}
 
 -- the tick that may follow is determined by the ticks before it
 pub next_unique : (p : Plan) (dem : JobDemands) (ask : PublishedDemand) (past : List Tick) (x : Tick)
@@ -91,9 +94,34 @@ force-decided p dem ask (x ∷ past) e = ap (λ b. if b then lowest_entry p.mach
 pub force-within : (p : Plan) (dem : JobDemands) (ask : PublishedDemand) → 0 < length p.machine.points → (past : List Tick)
     → entry_in_force p dem ask past < length p.machine.points
 force-within p dem ask some [] = lowest_within p.machine (ask []) some
-force-within p dem ask some (x ∷ past) = go (is_decision p dem (x ∷ past)) (force-within p dem ask some past)
-  where
-    go : (b : Bool) → entry_in_force p dem ask past < length p.machine.points
-        → (if b then lowest_entry p.machine (ask (x ∷ past)) else entry_in_force p dem ask past) < length p.machine.points
-    go true ih = lowest_within p.machine (ask (x ∷ past)) some
-    go false ih = ih
+force-within p dem ask some (x ∷ past) = grind (arith, nat_tests, force-within p dem ask some past)
+
+-- the past at its own length is itself, and the past at an earlier tick doesn't depend on its last tick
+pub at-now : (past : List Tick) → at (length past) past ≡ past
+at-now past = let z : length past - length past ≡ 0 = omega arith in rw z refl
+
+pub at-before : (r : ℕ) (x : Tick) (past : List Tick) → r ≤ length past → at r (x ∷ past) ≡ at r past
+at-before r x past le = grind (arith, nat_tests)
+
+-- a job has had no more in the earlier ticks than in all of them
+pub exec-drop : (p : Plan) (i k n : ℕ) (ticks : List Tick) → exec p (drop n ticks) i k ≤ exec p ticks i k
+exec-drop p i k zero ticks = omega arith
+exec-drop p i k (suc n) [] = omega arith
+exec-drop p i k (suc n) (x ∷ ticks) = omega (arith, exec-drop p i k n ticks)
+
+-- in a legal tick no task gets more than its latest job needs
+pub share-legal : (p : Plan) (dem : JobDemands) (past : List Tick) (f : ℕ) (x : Tick) → IsLegal p dem past f x
+    → (i : ℕ) → i < count p → share x i ≤ left p dem past i
+share-legal p dem past f x = share-most (count p) (key_of p.scheduler p (length past)) f (left p dem past) (share x)
+
+-- a tick that gives no task more than its latest job needs takes no job over its demand
+pub exec-within : (p : Plan) (dem : JobDemands) (x : Tick) (past : List Tick) (i k : ℕ) → share x i ≤ left p dem past i
+    → exec p past i k ≤ dem i k → exec p (x ∷ past) i k ≤ dem i k
+exec-within p dem x past i k own had = grind (arith, nat_tests, latest-is)
+
+-- on a schedule no job gets more than its demand
+pub exec-most : (p : Plan) (dem : JobDemands) (ask : PublishedDemand) (past : List Tick) → IsScheduleBy p dem ask past → (i k : ℕ)
+    → i < count p → exec p past i k ≤ dem i k
+exec-most p dem ask [] h i k lt = omega arith
+exec-most p dem ask (x ∷ past) h i k lt =
+    exec-within p dem x past i k (share-legal p dem past ((point p x.entry).speed) x h.1.legal i lt) (exec-most p dem ask past h.0 i k lt)
