@@ -4,7 +4,10 @@ ghost use Rattle.std.specs.Fmt.{decimal};
 ghost use Rattle.dvs_base.specs.Parts.{part_text, most_bytes, most_of, joined, name_text};
 
 use crate::{Line, Name, Pos, Short, put_num};
-use itoa::Buffer;
+use itoa::write_digits;
+
+// The most digits of a number below 2^64.
+const MOST_DIGITS: usize = 20;
 
 /// A part of a line.
 #[derive(Clone, Copy)]
@@ -53,7 +56,7 @@ pub fn push_name(line: &mut Line, name: &Name)
     ensures text { line.new ≡ line.old ++ name.now }
     ensures most { length line.new ≤ length line.old + 32 }
 {
-    line.push(name.as_bytes());
+    line.push_first(name.padded(), name.len());
 }
 
 /// Appends a number of at most 20 digits. It takes no memory.
@@ -63,8 +66,9 @@ pub fn push_number(line: &mut Line, n: u64)
     ensures text { line.new ≡ line.old ++ decimal n }
     ensures most { length line.new ≤ length line.old + 20 }
 {
-    let mut buffer = Buffer::new();
-    line.push(buffer.format(n).as_bytes());
+    let mut digits = [0; 2 * MOST_DIGITS];
+    let start = write_digits(n, &mut digits, MOST_DIGITS);
+    line.push_first(&digits[start..start + MOST_DIGITS], MOST_DIGITS - start);
 }
 
 /// Appends a number of at most 39 digits. It takes no memory.
@@ -74,7 +78,10 @@ pub fn push_wide(line: &mut Line, n: u128)
     ensures text { line.new ≡ line.old ++ decimal n }
     ensures most { length line.new ≤ length line.old + 39 }
 {
-    put_num(line, n);
+    match u64::try_from(n) {
+        Ok(short) => push_number(line, short),
+        Err(_) => put_num(line, n),
+    }
 }
 
 /// Appends a position as `tick:offset`, at most 41 bytes. It takes no memory.

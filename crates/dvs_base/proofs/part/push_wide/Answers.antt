@@ -8,7 +8,7 @@ put_num-requires c =
     let short : length (decimal c.args.n) ≤ 39 = search (rules, length-decimal-le_wide 39) in
     omega (arith, short, c.requires)
 
-pub returns-clause-most : goal.returns-clause-most
-returns-clause-most c =
+pub returns-in-Err-clause-most : goal.returns-in-Err-clause-most
+returns-in-Err-clause-most c =
     let short : length (decimal c.args.n) ≤ 39 = search (rules, length-decimal-le_wide 39) in
     rw c.put_num.ensures (simp length-append (omega (arith, short)))
