@@ -16,7 +16,7 @@ use Rattle.energy.specs.Books.{Books, Told, books_of, booked, energy_at_point, H
 use Rattle.dvs_base.specs.NoteTasks.{energy_of_task}
 use Rattle.energy.proofs.Books.{booked-sums, has-room, task-sums}
 use Rattle.event_kernel.specs.SpanNotes.{all_booked, CanBook, HasBooked}
-use Rattle.event_kernel.proofs.Fitting.{AreBooked}
+use Rattle.event_kernel.proofs.NoteRoom.{AreBooked}
 
 -- what holds of each note of a list holds of a note in it
 note-there : (P : Note → Type 0) (xs : List Note) (n : Note) (rest : List Note) → AllByRecursion P (xs ++ n ∷ rest) → P n
