@@ -11,11 +11,11 @@ loop-i-preserved c =
     let i = c.loop-i.i in
     let n : length c.self.inside.rows.items ≡ length c.self.inside.base.items =
     sym (c.self.invariant.base) in
-    let in_rows : i < length rows = rw inv.2 (omega arith) in
-    let in_base : i < length base = omega arith in (
-      inv.0,
-      inv.1,
-      inv.2,
-      grind (arith, common_steps, inv.3),
-      rw c.worst_left.ensures (mark_step rows base i c.index-row.result.now in_rows in_base c.index-row.ensures inv.4),
-    )
+    let in_rows : i < length rows = rw inv.rows (omega arith) in
+    let in_base : i < length base = omega arith in record {
+      now = inv.now;
+      base_at = inv.base_at;
+      rows = inv.rows;
+      long = grind (arith, common_steps, inv.long);
+      marked = rw c.worst_left.ensures (mark_step rows base i c.index-row.result.now in_rows in_base c.index-row.ensures inv.marked);
+    }
