@@ -10,7 +10,7 @@ use Rattle.sched_model.specs.declared.holder.Holder.{Holder}
 use Rattle.sched_model.specs.declared.holder.Holder.TheVariants.{Nobody, Held}
 use Rattle.sched_model.specs.Plan.{Plan, count, point}
 use Rattle.sched_model.specs.Jobs.{JobDemands, latest}
-use Rattle.sched_model.specs.Ticks.{PublishedDemand, Tick, exec}
+use Rattle.sched_model.specs.Ticks.{PublishedDemand, exec}
 use Rattle.sched_model.specs.Notes.{same_holder, Span, Piece, pieces_of, position_of, run_energy, had_by, segment_notes, pieces_notes, all_release_notes}
 use Rattle.sched_model.specs.States.{row_at, StateOf}
 use Rattle.sched_model.proofs.PieceLemmas.{piece, same_holder-eq, pieces_of-run, total, total-pieces}

@@ -6,7 +6,6 @@ use Rattle.grid_fraction.proofs.Counts.{count-append}
 use Rattle.dvs_base.specs.declared.note.Note.{Note}
 use Rattle.dvs_base.specs.declared.note.Note.TheVariants.{End}
 use Rattle.dvs_base.specs.declared.note.Totals.{Totals}
-use Rattle.dvs_base.specs.declared.limits.TheConstants.{MOST_TICKS}
 use Rattle.sched_model.specs.Plan.{Plan}
 use Rattle.sched_model.specs.Jobs.{JobDemands}
 use Rattle.sched_model.specs.Schedule.{schedule_by}
@@ -17,7 +16,6 @@ use Rattle.governor.specs.Schedule.{course}
 use Rattle.sched_model.specs.Notes.{notes_before_end, energy_run, energy_idle}
 use Rattle.sched_model.specs.States.{prior_state, StateOf}
 use Rattle.sched_model.specs.Totals.{totals_of, is_released, is_finished, is_decided}
-use Rattle.sched_model.specs.Admission.{IsAdmitted}
 use Rattle.energy.specs.Books.{Books}
 use Rattle.event_kernel.specs.declared.span_trace.SpanTrace.{SpanTrace}
 use Rattle.event_kernel.specs.SpanNotes.{all_booked, CanBook, HasBooked, notes_before_end_of}

@@ -1,5 +1,5 @@
 -- From one decision to the next.
-use Rattle.std.proofs.Common.{◌≡◌, ℕ, zero, suc, ◌+◌, ◌-◌, ◌*◌, ◌<◌, ◌≤◌, Bool, true, false, ◌||◌, List, [], ◌∷◌, ◌++◌, length, refl, arith, if◌then◌else◌, ap, ap₂, ◌∙◌, sym, subst, ◌⊎◌, inl, inr, nat_eq, nat_lt, nat_le, add-one, drop, true≢false}
+use Rattle.std.proofs.Common.{◌≡◌, ℕ, zero, suc, ◌+◌, ◌-◌, ◌<◌, ◌≤◌, Bool, true, false, ◌||◌, List, [], ◌∷◌, ◌++◌, length, refl, arith, if◌then◌else◌, ap, ap₂, ◌∙◌, sym, subst, ◌⊎◌, inl, inr, nat_eq, nat_lt, nat_le, add-one, drop, true≢false}
 use Rattle.std.specs.Prelude.{count_by}
 use Rattle.std.proofs.Math.Logic.{⊎_map}
 use Rattle.std.proofs.lemmas.Bool.{cases_lt, or_cases, or_parts, or_left, or_right}
@@ -251,19 +251,19 @@ module _ {set : Setting} (ok : IsSetting set) where
       in_force = i.in_force ∙ sym still;
       writing = subst (λ x. Writing p dem (ask_of demand p dem) (t + 1) x (had_at p (course demand p dem (t + 1))) (most_units (t + 1)) trace)
           (sym on) (record {
-        done = h.writing.done;
-        segments = h.writing.segments;
-        place = h.writing.place;
-        taken = held trace.segment.holder h.writing.taken;
-        had =
-            λ k l. subst
-            (λ n. exec p (whole_span demand p dem t).past k n + count_by (same_holder (Held k n)) (whole_span demand p dem t).units
-            ≡ exec p (course demand p dem (t + 1)) k (latest p k (length (course demand p dem (t + 1))))) (sym (steady k l))
-            (h.writing.had k l ∙ ap (λ n. exec p (course demand p dem (t + 1)) k n)
-            (sym (steady k l) ∙ ap (latest p k) (sym (course-len demand p dem (t + 1)))));
-        few = h.writing.few;
-        notes = h.writing.notes;
-      });
+            done = h.writing.done;
+            segments = h.writing.segments;
+            place = h.writing.place;
+            taken = held trace.segment.holder h.writing.taken;
+            had =
+                λ k l. subst
+                (λ n. exec p (whole_span demand p dem t).past k n + count_by (same_holder (Held k n)) (whole_span demand p dem t).units
+                ≡ exec p (course demand p dem (t + 1)) k (latest p k (length (course demand p dem (t + 1))))) (sym (steady k l))
+                (h.writing.had k l ∙ ap (λ n. exec p (course demand p dem (t + 1)) k n)
+                (sym (steady k l) ∙ ap (latest p k) (sym (course-len demand p dem (t + 1)))));
+            few = h.writing.few;
+            notes = h.writing.notes;
+          });
     }
       where
         past : List Tick

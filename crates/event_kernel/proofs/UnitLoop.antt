@@ -1,5 +1,5 @@
 -- The loop over the units of one tick.
-use Rattle.std.proofs.Common.{◌≡◌, ℕ, ◌+◌, ◌-◌, ◌*◌, ◌^◌, ◌<◌, ◌≤◌, min, Bool, true, false, not, ◌&&◌, ◌||◌, List, [], ◌∷◌, ◌++◌, length, replicate, refl, arith, ap, ap₂, ◌∙◌, sym, subst, ◌⊎◌, inl, inr, append-nil, append_assoc, nat_eq, nat_le}
+use Rattle.std.proofs.Common.{◌≡◌, ℕ, ◌+◌, ◌-◌, ◌^◌, ◌<◌, ◌≤◌, min, Bool, true, false, not, ◌&&◌, ◌||◌, List, [], ◌∷◌, ◌++◌, length, replicate, refl, arith, ap, ap₂, ◌∙◌, sym, subst, ◌⊎◌, inl, inr, append-nil, append_assoc, nat_eq, nat_le}
 use Rattle.std.specs.Prelude.{count_by}
 use Rattle.freq_table.specs.declared.machine.Point.{Point}
 use Rattle.freq_table.specs.Tables.{Table, point_at, speed_at}

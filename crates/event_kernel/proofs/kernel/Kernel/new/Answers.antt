@@ -1,6 +1,5 @@
 use Rattle.std.proofs.Common.{rules}
 use Rattle.sched_model.specs.States.{opening}
-use Rattle.event_kernel.specs.Start.{run_of}
 use Rattle.event_kernel.proofs.ListedDemands.{demand-within}
 use Rattle.event_kernel.proofs.MetRuns.{run-met}
 use Rattle.event_kernel.proofs.kernel.Kernel.new.Goals as goal
