@@ -62,7 +62,7 @@ impl Agenda {
         requires { Stands plan.now state.now self.now }
         ensures { result ≡ earliest_in plan.now state.entry.now }
     {
-        let _scheduler = plan.scheduler();
+        let _admitted = plan.scheduler();
         match self.calendar.first() {
             Some(e) => e.due,
             None => 0,

@@ -54,7 +54,7 @@ impl CcEdf {
         ensures rates { self.new.rates.items ≡ slice_set self.old.rates.items task (rate_for plan.now task units) }
         ensures sum { self.new.sum ≡ sum_charged plan.now self.old.rates.items self.old.sum task units }
     {
-        let _scheduler = plan.scheduler();
+        let _admitted = plan.scheduler();
         let rate = u128::from(units) * u128::from(plan.hyper() / plan.period(task));
         let old = self.rates[task as usize];
         self.sum = self.sum - old + rate;

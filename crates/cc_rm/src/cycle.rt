@@ -42,7 +42,7 @@ impl CcRm {
         ensures stands { IfOk result (λ g. ⟦<CcRm as Governor>⟧.stands g plan.now (opening plan.now)) }
         ensures worst { MeetsAtWorst plan.now }
     {
-        let _scheduler = plan.scheduler();
+        let _admitted = plan.scheduler();
         match vec![in alloc; 0; plan.count() as usize] {
             Ok(rests) => Ok(CcRm {
                 static_speed: static_speed(plan),
@@ -80,7 +80,7 @@ impl CcRm {
         requires decision { IsAtDecision plan.now view.now }
         ensures { result ≡ rm_cycle_demand plan.now view.entry.now }
     {
-        let _scheduler = plan.scheduler();
+        let _admitted = plan.scheduler();
         let first = earliest_deadline(plan, view);
         let units = u128::from(first - view.base_at) * u128::from(self.static_speed);
         Frac {

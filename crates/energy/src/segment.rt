@@ -20,7 +20,7 @@ pub fn energy_of(machine: &Machine, point: u32, units: u64, idle: bool) -> u128
     ensures value { result ≡ segment_energy machine.now point units idle }
     ensures most { result ≤ most_unit_energy * units }
 {
-    let _entries = machine.as_slice();
+    let _limits = machine.as_slice();
     let millivolts = machine.point(point).millivolts;
     let unit = millivolts * millivolts * thousandths(machine, idle);
     u128::from(units) * u128::from(unit)

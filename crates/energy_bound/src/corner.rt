@@ -23,7 +23,7 @@ pub(crate) fn nth_corner(machine: &Machine, k: u32) -> Corner
     ensures units { result.units ≡ corner_units machine.now k }
     ensures cost { result.cost ≡ corner_cost machine.now k }
 {
-    let _entries = machine.as_slice();
+    let _limits = machine.as_slice();
     if k == 0 {
         Corner {
             units: 0,
@@ -42,7 +42,7 @@ pub(crate) fn nth_corner(machine: &Machine, k: u32) -> Corner
 pub(crate) fn corner_with(machine: &Machine, units: u64) -> Option<u32>
     ensures { MatchOption result ((k : ℕ) → HasUnits machine.now units k → ⊥) (HasUnits machine.now units) }
 {
-    let _entries = machine.as_slice();
+    let _limits = machine.as_slice();
     for k in 0..machine.count() + 1 {
         if nth_corner(machine, k).units == units {
             return Some(k);
@@ -70,7 +70,7 @@ fn is_supporting(machine: &Machine, a: u32, b: u32) -> bool
     requires last { b ≤ last_corner machine.now }
     ensures { IsTrue result ↔ IsSupporting machine.now a b }
 {
-    let _entries = machine.as_slice();
+    let _limits = machine.as_slice();
     let low = nth_corner(machine, a);
     let high = nth_corner(machine, b);
     for k in 0..machine.count() + 1 {
@@ -88,7 +88,7 @@ pub(crate) fn holds(machine: &Machine, units: u64, ticks: u64, a: u32, b: u32) -
     requires low_ticks { ticks ≤ MOST_TICKS }
     ensures { IsTrue result ↔ Holds machine.now units ticks a b }
 {
-    let _entries = machine.as_slice();
+    let _limits = machine.as_slice();
     if a >= b {
         return false;
     }

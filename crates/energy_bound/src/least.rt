@@ -41,7 +41,7 @@ fn least_of(machine: &Machine, units: u64, ticks: u64, a: u32, b: u32) -> Least
     requires low_ticks { ticks ≤ MOST_TICKS }
     ensures { result ≡ least_of machine.now units ticks a b }
 {
-    let _entries = machine.as_slice();
+    let _limits = machine.as_slice();
     let low = nth_corner(machine, a);
     let high = nth_corner(machine, b);
     let low_ticks = ticks * high.units - units;
@@ -67,7 +67,7 @@ fn first_partner(machine: &Machine, units: u64, ticks: u64, a: u32) -> Option<u3
     requires low_ticks { ticks ≤ MOST_TICKS }
     ensures { MatchOption result (HasNoPartner machine.now units ticks a) (IsFirstPartner machine.now units ticks a) }
 {
-    let _entries = machine.as_slice();
+    let _limits = machine.as_slice();
     for b in a + 1..machine.count() + 1 {
         if holds(machine, units, ticks, a, b) {
             return Some(b);
@@ -89,7 +89,7 @@ pub fn least_energy(machine: &Machine, units: u64, ticks: u64) -> Result<Least, 
     // No choice and no schedule costs less, and over `rounds` repetitions some choice costs no more.
     ensures least { IfOk result (IsLeast machine.now units ticks) }
 {
-    let _entries = machine.as_slice();
+    let _limits = machine.as_slice();
     let num = u128::from(units);
     let cap = u128::from(ticks) * u128::from(machine.top());
     if num > cap {
@@ -113,7 +113,7 @@ pub fn check(machine: &Machine, units: u64, ticks: u64, given: &Least) -> bool
     // Each schedule on this machine is a choice for each tick: its segments' energies add up to its ticks' costs.
     ensures costs { SchedulesCostTheirTicks machine.now }
 {
-    let _entries = machine.as_slice();
+    let _limits = machine.as_slice();
     match (
         corner_with(machine, given.low),
         corner_with(machine, given.high),

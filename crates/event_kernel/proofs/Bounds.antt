@@ -6,6 +6,7 @@ use Rattle.std.specs.List.{slice_index_or}
 use Rattle.task_model.specs.declared.task.Task.{Task}
 use Rattle.task_model.specs.Tasks.{no_task}
 use Rattle.task_model.specs.declared.limits.TheConstants.{LONGEST_PERIOD, LATEST_OFFSET}
+use Rattle.freq_table.specs.declared.limits.TheConstants.{TOP_SPEED}
 use Rattle.freq_table.specs.declared.machine.Point.{Point}
 use Rattle.sched_model.specs.Plan.{Plan, count, period, offset, worst, point}
 use Rattle.sched_model.specs.Admission.{IsAdmitted}
@@ -18,7 +19,7 @@ pub record Bounds (p : Plan) : Type 0 where
   pub low_worst : (i : ℕ) → worst p i ≤ 2 ^ 61
   pub some_point : 0 < length p.machine.points
   pub some_speed : (e : ℕ) → e < length p.machine.points → 0 < (point p e).speed
-  pub low_speed : (e : ℕ) → (point p e).speed ≤ 1000000
+  pub low_speed : (e : ℕ) → (point p e).speed ≤ TOP_SPEED
 
 -- what holds of each element, and of the default, holds at each place
 at-each : {A : Type 0} (P : A → Type 0) (xs : List A) (d : A) → ((i : ℕ) → i < length xs → P (slice_index_or xs i d)) → P d
@@ -44,5 +45,5 @@ bounds p adm =
           (λ i lt. omega (arith, (task i lt).low_worst, charge)) (omega (arith, charge));
       some_point = adm.limits.machine.some;
       some_speed = λ e lt. (entry e lt).some_speed;
-      low_speed = at-each (λ (x : Point). x.speed ≤ 1000000) p.machine.points nothing (λ e lt. (entry e lt).low_speed) (omega arith);
+      low_speed = at-each (λ (x : Point). x.speed ≤ TOP_SPEED) p.machine.points nothing (λ e lt. (entry e lt).low_speed) (omega arith);
     }

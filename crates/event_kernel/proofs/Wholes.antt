@@ -33,9 +33,9 @@ use Rattle.event_kernel.specs.Lines.{most_lines, WritesLines}
 use Rattle.event_kernel.specs.PlainLines.{sum_lines}
 use Rattle.event_kernel.specs.Runs.{Run as RunOf, demands_of, run_ticks, notes_of_run}
 use Rattle.event_kernel.specs.SpanNotes.{notes_before_end_of}
-use Rattle.event_kernel.proofs.Fitting.{course-fits}
+use Rattle.event_kernel.proofs.NoteRoom.{course-fits}
 use Rattle.event_kernel.proofs.Courses.{course-len, course-legal}
-use Rattle.event_kernel.proofs.Writing.{stopped-some}
+use Rattle.event_kernel.proofs.WrittenLines.{stopped-some}
 
 module _ {T E : Type 0} (a b : SinkView) (ps qs : List ProbeOf) (lines : List LineOf) where
   pub writes-sure : (r : Result T E) → WritesLines a b ps qs lines r → length (text_of_lines lines) ≤ a.sure → IsOk r

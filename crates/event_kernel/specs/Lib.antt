@@ -10,3 +10,4 @@ pub mod Tickwork
 pub mod Boundary
 pub mod Settings
 pub mod Current
+pub mod Start

@@ -90,7 +90,7 @@ HeldIn n Nobody = Unit {0}
 HeldIn n (Held i k) = i < n
 
 -- the open segment's entry and task exist, and its position fits into its number
-pub record CanPut (p : Plan) (s : StateOf) (from e : ℕ) (trace : SpanTrace) : Type 0 where
+pub record CanAdd (p : Plan) (s : StateOf) (from e : ℕ) (trace : SpanTrace) : Type 0 where
   pub entry : e < length p.machine.points
   pub place : from + trace.segment.start + trace.segment.units < 2 ^ 63
   pub task : HeldIn (length s.rows) trace.segment.holder

@@ -1,6 +1,7 @@
 -- The ticks of a governor's schedule, as functions of their number.
-use Rattle.std.specs.Prelude.{ℕ, ◌+◌, Bool, slice_set, false, Option, None, Some, List, length}
+use Rattle.std.specs.Prelude.{ℕ, ◌+◌, ◌*◌, Bool, slice_set, false, Option, None, Some, List, length}
 use Rattle.dvs_base.specs.declared.note.Note.{Note}
+use Rattle.freq_table.specs.declared.limits.TheConstants.{TOP_SPEED}
 use Rattle.sched_model.specs.Plan.{Plan}
 use Rattle.sched_model.specs.Jobs.{JobDemands, latest}
 use Rattle.sched_model.specs.Ticks.{Tick, exec}
@@ -23,6 +24,10 @@ gives s (Some i) units = served s i units false
 -- the units that the latest job of a task has had
 abbrev pub had_at : Plan → List Tick → ℕ → ℕ
 had_at p past i = exec p past i (latest p i (length past))
+
+-- the most units of t ticks
+abbrev pub most_units : ℕ → ℕ
+most_units t = TOP_SPEED * t
 
 -- the span that tick t of a governor's schedule belongs to, with its units before that tick
 abbrev pub span_at : OwnDemand → Plan → JobDemands → ℕ → Span

@@ -4,7 +4,7 @@ use Rattle.sched_model.specs.Plan.{Plan, count}
 use Rattle.sched_model.specs.Jobs.{JobDemands, latest}
 use Rattle.sched_model.specs.declared.holder.Holder.{Holder}
 use Rattle.sched_model.specs.declared.holder.Holder.TheVariants.{Nobody, Held}
-use Rattle.sched_model.specs.Ticks.{PublishedDemand, Tick, exec}
+use Rattle.sched_model.specs.Ticks.{PublishedDemand, exec}
 use Rattle.sched_model.specs.Notes.{same_holder, Span, Piece}
 use Rattle.event_kernel.specs.declared.span_trace.SpanTrace.{SpanTrace}
 use Rattle.event_kernel.specs.Segment.{notes_with, IsOpen}

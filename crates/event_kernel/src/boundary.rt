@@ -12,8 +12,9 @@ ghost use Rattle.event_kernel.specs.Current.{IsCurrent};
 ghost use Rattle.event_kernel.specs.Boundary.{needs_nothing, opening_notes, speed_note};
 ghost use Rattle.event_kernel.specs.Settings.{IsSetting, IsAtBoundary, IsBetween, IsInSpan, IsMetBy, state_at};
 
+use crate::in_force::InForce;
 use crate::notes::SpanNotes;
-use crate::progress::{InForce, Progress, Setting};
+use crate::progress::{Progress, Setting};
 use crate::tick::demand;
 use dvs_base::{Note, Pos};
 use governor::Governor;

@@ -18,7 +18,7 @@ pub fn jobs_below(plan: &Admitted, task: u32, ticks: u64) -> u64
     ensures jobs { result ≡ ceil_div (ticks - offset plan.now task) (period plan.now task) }
     ensures low { result ≤ 2 ^ 41 }
 {
-    let _scheduler = plan.scheduler();
+    let _admitted = plan.scheduler();
     let span = ticks.saturating_sub(plan.offset(task));
     span.div_ceil(plan.period(task))
 }

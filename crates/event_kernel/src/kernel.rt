@@ -1,37 +1,28 @@
 // The kernel.
-ghost use Rattle.std.specs.Prelude.{◌≡◌, ◌≤◌, ◌<◌, ℕ, OnOk, OnErr, IfOk, IsOk, IsErrOf, [], length, map};
-ghost use Rattle.dvs_base.specs.declared.note.Note.TheVariants.{End};
+ghost use Rattle.std.specs.Prelude.{◌≡◌, ◌≤◌, ◌<◌, ℕ, OnOk, OnErr, IfOk, IsErrOf};
 ghost use Rattle.sched_model.specs.Totals.{totals_of};
 ghost use Rattle.sched_model.specs.States.{opening};
 ghost use Rattle.sched_model.specs.Demand.{IsAlwaysMet};
 ghost use Rattle.event_kernel.specs.Heard.{HasHeard, HasBalked};
 ghost use Rattle.event_kernel.specs.SpanNotes.{HandsOut, notes_before_end_of, HasBooked};
+ghost use Rattle.event_kernel.specs.declared.kernel.KernelFault.TheVariants as fault;
 ghost use Rattle.sched_model.specs.Jobs.{released_jobs};
 ghost use Rattle.dvs_base.specs.declared.limits.TheConstants.{MOST_JOBS, MOST_TICKS};
 ghost use Rattle.note_laws.specs.LineCounts.{AreFew};
 ghost use Rattle.event_kernel.specs.Runs.{IsListOf, notes_of_run, MeetsDeadlines, MeetsDemands};
 ghost use Rattle.event_kernel.specs.Meeting.{IsMetRun};
-ghost use Rattle.trace_reader.specs.TraceText.{text_of_lines};
-ghost use Rattle.note_laws.specs.RunText.{run_lines};
-ghost use Rattle.event_kernel.specs.Lines.{WritesLines, most_lines};
-ghost use Rattle.agenda.specs.Stands.{Stands};
 ghost use Rattle.dvs_base.specs.Outside.{Rose};
 
+use crate::ending::ending;
 use crate::jobs::count_jobs;
-use crate::notes::SpanNotes;
 use crate::progress::{Progress, Setting};
 use crate::span::Walk;
-use crate::span_trace::SpanTrace;
-use crate::teller::{WriteFault, tell_notes};
-use crate::write::{Head, put_head};
 use crate::{Listener, Stopped};
-use agenda::Agenda;
 use demand_list::Demands;
-use dvs_base::{Failed, MOST_JOBS, NoMemory, Note, Sink, Totals, Version};
+use dvs_base::{MOST_JOBS, NoMemory, Totals};
 use energy::Account;
 use governor::Governor;
-use probes::Probe;
-use sched_model::{Admitted, State};
+use sched_model::Admitted;
 use std::alloc::Global;
 use std::marker::Model;
 
@@ -42,80 +33,31 @@ pub enum KernelFault {
     NoMemory,
 }
 
-// What a run begins with: the opening state, its agenda, an account without notes, and room for the notes of a span.
-#[derive(Drop)]
-struct Opening {
-    state: State,
-    agenda: Agenda,
-    account: Account,
-    notes: SpanNotes,
-}
+impl From<NoMemory> for KernelFault {
+    ghost from_gives = { λ _ e. e ≡ fault.NoMemory };
 
-impl Opening {
-    fn of(alloc: Global, plan: &Admitted) -> Result<Opening, NoMemory>
-        ensures state { IfOk result (λ o. o.state ≡ opening plan.now) }
-        ensures agenda { IfOk result (λ o. Stands plan.now (opening plan.now) o.agenda) }
-        ensures account { IfOk result (λ o. HasBooked plan.now o.account []) }
-    {
-        let state = State::new(alloc, plan)?;
-        let agenda = Agenda::new(alloc, plan)?;
-        let account = Account::new(alloc, plan.count(), plan.machine())?;
-        let notes = SpanNotes::new(alloc)?;
-        Ok(Opening {
-            state,
-            agenda,
-            account,
-            notes,
-        })
+    fn from(_e: NoMemory) -> KernelFault {
+        KernelFault::NoMemory
     }
-}
-
-/// What a run of `ticks` ticks ends with: the totals of its account, and the `End` note.
-pub(crate) fn ending(ticks: u64, account: &Account) -> (Totals, Note)
-    ensures totals { result.0 ≡ account.now.totals }
-    ensures note { result.1 ≡ End ticks account.now.totals.run account.now.totals.idle }
-{
-    let totals = account.totals();
-    let end = Note::End {
-        ticks,
-        run: totals.run,
-        idle: totals.idle,
-    };
-    (totals, end)
 }
 
 /// A kernel at the opening state of its plan.
 #[derive(Drop)]
 pub struct Kernel<'a, G: Governor> {
-    plan: &'a Admitted,
-    demands: &'a Demands,
-    ticks: u64,
-    governor: G,
-    state: State,
-    agenda: Agenda,
+    pub(crate) set: Setting<'a>,
+    pub(crate) progress: Progress<G>,
     account: Account,
-    notes: SpanNotes,
 }
 
 impl<'a, G: Governor> Model for Kernel<'a, G> {
-    ghost use Rattle.std.specs.Prelude.{◌≡◌, ◌≤◌, []};
-    ghost use Rattle.demand_list.specs.Demands.{IsWithinWorsts};
-    ghost use Rattle.sched_model.specs.Admission.{IsAdmitted};
-    ghost use Rattle.sched_model.specs.States.{opening};
-    ghost use Rattle.event_kernel.specs.SpanNotes.{HasBooked};
-    ghost use Rattle.dvs_base.specs.declared.limits.TheConstants.{MOST_TICKS};
-    ghost use Rattle.event_kernel.specs.Runs.{Run, IsListOf};
-    ghost use Rattle.event_kernel.specs.Meeting.{IsMetRun};
-    ghost use Rattle.agenda.specs.Stands.{Stands};
+    ghost use Rattle.event_kernel.specs.Runs.{Run};
+    ghost use Rattle.event_kernel.specs.Start.{run_of, IsAtStart};
 
     ghost Value = { Run };
 
-    ghost view = { λ k. record { plan = k.plan.now; demands = k.demands.now; ticks = k.ticks } };
+    ghost view = { λ k. run_of k.set };
 
-    ghost invariant = { λ k. (k.state ≡ opening k.plan.now) × G.stands k.governor k.plan.now (opening k.plan.now)
-        × IsListOf k.plan.now k.demands.now × (k.ticks ≤ MOST_TICKS) × HasBooked k.plan.now k.account []
-        × Stands k.plan.now (opening k.plan.now) k.agenda × IsAdmitted k.plan.now × IsWithinWorsts k.demands.now
-        × IsMetRun G.the_kind G.demand (record { plan = k.plan.now; demands = k.demands.now; ticks = k.ticks }) };
+    ghost invariant = { λ k. IsAtStart G.stands G.the_kind G.demand k.set k.progress k.account };
 }
 
 impl<'a, G: Governor> Kernel<'a, G> {
@@ -143,23 +85,19 @@ impl<'a, G: Governor> Kernel<'a, G> {
         if count > MOST_JOBS {
             return Err(KernelFault::TooManyJobs { count });
         }
-        let _scheduler = plan.scheduler();
-        let _worsts = demands.worsts();
-        let Opening {
-            state,
-            agenda,
-            account,
-            notes,
-        } = Opening::of(alloc, plan).map_err(|_| KernelFault::NoMemory)?;
-        Ok(Kernel {
+        let _admitted = plan.scheduler();
+        let _within = demands.worsts();
+        let set = Setting {
             plan,
             demands,
             ticks,
-            governor,
-            state,
-            agenda,
+        };
+        let progress = Progress::new(alloc, plan, governor)?;
+        let account = Account::new(alloc, plan.count(), plan.machine())?;
+        Ok(Kernel {
+            set,
+            progress,
             account,
-            notes,
         })
     }
 
@@ -195,45 +133,6 @@ impl<'a, G: Governor> Kernel<'a, G> {
         self.whole_run(Walk::Ticks, to)
     }
 
-    /// Writes the whole trace in this version to the sink, one `put` a line, and tells the probes each note after
-    /// its line was put; the totals of the notes. `WriteFault` comes only where the sink failed at some line: the lines
-    /// before it were put and their notes told, the line itself was put in part, and nothing after it. It never comes
-    /// where the sink was sure of as many bytes as the trace has.
-    pub fn run<W: Sink, P: Probe>(
-        self,
-        out: &mut W,
-        probes: &mut Vec<P>,
-        version: Version,
-    ) -> Result<Totals, WriteFault>
-        ensures wrote { WritesLines (W.shows out.old) (W.shows out.new)
-            (map P.seen probes.old.items) (map P.seen probes.new.items)
-            (run_lines version self.entry.plan G.the_kind self.entry.ticks (notes_of_run G.demand self.entry))
-            result }
-        ensures sure { length (text_of_lines (run_lines version self.entry.plan G.the_kind self.entry.ticks
-            (notes_of_run G.demand self.entry))) ≤ (W.shows out.old).sure → IsOk result }
-        ensures totals { IfOk result (λ t. t ≡ totals_of (notes_of_run G.demand self.entry)) }
-        // At most one more decision than releases and completions together, so at most one more than two a job.
-        ensures few { IfOk result AreFew }
-        // At most seven lines for each job released in the ticks, and five more; in version 2 also two for each task.
-        ensures lines { length (run_lines version self.entry.plan G.the_kind self.entry.ticks
-            (notes_of_run G.demand self.entry)) ≤ most_lines version self.entry.plan self.entry.ticks }
-        ensures deadlines { MeetsDeadlines G.demand self.entry }
-        ensures demands { IsAlwaysMet G.the_kind → MeetsDemands G.demand self.entry }
-        ensures never_falls { (W.shows out.old).faults ≤ (W.shows out.new).faults }
-        ensures rose { OnErr result (Rose (W.shows out.old).faults (W.shows out.new).faults) }
-    {
-        let head = Head {
-            version,
-            governor: self.governor.kind(),
-            plan: self.plan,
-            ticks: self.ticks,
-        };
-        match put_head(head, out) {
-            Ok(()) => tell_notes(self, head, out, probes),
-            Err(Failed) => Err(WriteFault),
-        }
-    }
-
     // Runs the spans by this walk and hands the listener all notes, the `End` last; the totals of the notes.
     fn whole_run<L: Listener>(self, walk: Walk, to: &mut L) -> Result<Totals, Stopped>
         ensures totals { IfOk result (λ t. t ≡ totals_of (notes_of_run G.demand self.entry)) }
@@ -244,17 +143,11 @@ impl<'a, G: Governor> Kernel<'a, G> {
         ensures never_falls { L.stops to.old ≤ L.stops to.new }
         ensures rose { OnErr result (Rose (L.stops to.old) (L.stops to.new)) }
     {
-        let ticks = self.ticks;
-        match self.spans(walk, to) {
-            Ok(account) => {
-                let (totals, end) = ending(ticks, &account);
-                match to.hear(&end) {
-                    Ok(()) => Ok(totals),
-                    Err(Stopped) => Err(Stopped),
-                }
-            }
-            Err(Stopped) => Err(Stopped),
-        }
+        let ticks = self.set.ticks;
+        let account = self.spans(walk, to)?;
+        let (totals, end) = ending(ticks, &account);
+        to.hear(&end)?;
+        Ok(totals)
     }
 
     // Runs the spans by this walk and hands the listener every note before the `End`; the account of those notes.
@@ -267,32 +160,13 @@ impl<'a, G: Governor> Kernel<'a, G> {
             (notes_before_end_of G.demand self.entry) result }
     {
         let Kernel {
-            plan,
-            demands,
-            ticks,
-            governor,
-            state,
-            agenda,
+            set,
+            mut progress,
             mut account,
-            notes,
         } = self;
-        let set = Setting {
-            plan,
-            demands,
-            ticks,
-        };
-        let mut progress = Progress {
-            governor,
-            state,
-            agenda,
-            trace: SpanTrace::new(notes),
-        };
-        while progress.now() < ticks {
+        while progress.now() < set.ticks {
             let point = progress.span(walk, &set);
-            match progress.trace.notes.tell(point, &mut account, to) {
-                Ok(()) => {}
-                Err(Stopped) => return Err(Stopped),
-            }
+            progress.trace.notes.tell(point, &mut account, to)?;
         }
         Ok(account)
     }

@@ -5,6 +5,8 @@
 #![tactic(auto)]
 
 mod boundary;
+mod ending;
+mod in_force;
 mod jobs;
 mod kernel;
 mod listener;

@@ -3,11 +3,17 @@ ghost use Rattle.std.specs.Prelude.{ℕ, ◌≤◌, OnOk, OnErr};
 ghost use Rattle.dvs_base.specs.declared.note.Note.{Note as NoteOf};
 ghost use Rattle.dvs_base.specs.Outside.{Rose};
 
-use dvs_base::Note;
+use dvs_base::{Failed, Note};
 
 /// The listener accepts no more notes.
 #[derive(Clone, Copy, Debug, PartialEq, Eq)]
 pub struct Stopped;
+
+impl From<Failed> for Stopped {
+    fn from(_e: Failed) -> Stopped {
+        Stopped
+    }
+}
 
 /// Hears the notes of a run, one by one.
 pub trait Listener {

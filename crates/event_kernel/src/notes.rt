@@ -28,7 +28,7 @@ impl Model for SpanNotes {
 
     ghost view = { λ s. s.notes.items };
 
-    ghost invariant = { λ s. (vec_len s.notes ≤ MOST_NOTES) × (MOST_NOTES ≤ vec_capacity s.notes) };
+    ghost invariant = { λ s. record { few : vec_len s.notes ≤ MOST_NOTES; room : MOST_NOTES ≤ vec_capacity s.notes } };
 }
 
 impl SpanNotes {

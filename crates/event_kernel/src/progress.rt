@@ -1,11 +1,16 @@
 // The parts of a run: what stays, and what changes.
-ghost use Rattle.std.specs.Prelude.{◌≡◌};
+ghost use Rattle.std.specs.Prelude.{◌≡◌, IfOk};
+ghost use Rattle.sched_model.specs.States.{opening};
+ghost use Rattle.event_kernel.specs.Current.{IsCurrent};
 
+use crate::notes::SpanNotes;
 use crate::span_trace::SpanTrace;
 use agenda::Agenda;
 use demand_list::Demands;
+use dvs_base::NoMemory;
 use governor::Governor;
 use sched_model::{Admitted, State};
+use std::alloc::Global;
 
 /// What stays in a run: the plan, the demands of its jobs, and the number of its ticks.
 #[derive(Clone, Copy)]
@@ -13,13 +18,6 @@ pub struct Setting<'a> {
     pub plan: &'a Admitted,
     pub demands: &'a Demands,
     pub ticks: u64,
-}
-
-/// The entry of the machine's table that is in force in a span, and the first tick of the span.
-#[derive(Clone, Copy)]
-pub struct InForce {
-    pub from: u64,
-    pub index: u32,
 }
 
 /// What changes in a run: the state; the governor's counters and the agenda, which follow the state; and the trace of
@@ -33,6 +31,23 @@ pub struct Progress<G: Governor> {
 }
 
 impl<G: Governor> Progress<G> {
+    /// A run before its first tick, with room for the notes of a span. It fails only where memory runs out.
+    pub(crate) fn new(alloc: Global, plan: &Admitted, governor: G) -> Result<Progress<G>, NoMemory>
+        requires { G.stands governor plan.now (opening plan.now) }
+        ensures state { IfOk result (λ x. x.state ≡ opening plan.now) }
+        ensures current { IfOk result (λ x. IsCurrent G.stands plan.now x) }
+    {
+        let state = State::new(alloc, plan)?;
+        let agenda = Agenda::new(alloc, plan)?;
+        let trace = SpanTrace::new(SpanNotes::new(alloc)?);
+        Ok(Progress {
+            governor,
+            state,
+            agenda,
+            trace,
+        })
+    }
+
     /// The tick that the run has reached.
     pub(crate) fn now(&self) -> u64
         ensures { result ≡ self.entry.now.state.now }

@@ -6,7 +6,8 @@ ghost use Rattle.event_kernel.specs.Current.{IsCurrent};
 ghost use Rattle.event_kernel.specs.Tickwork.{gives};
 ghost use Rattle.event_kernel.specs.Settings.{IsSetting, IsInSpan, IsLastTick, AreQuiet};
 
-use crate::progress::{InForce, Progress, Setting};
+use crate::in_force::InForce;
+use crate::progress::{Progress, Setting};
 use crate::span_trace::Moment;
 use crate::tick::{holder_of, lacking};
 use governor::Governor;

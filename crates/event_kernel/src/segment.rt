@@ -2,7 +2,6 @@
 ghost use Rattle.std.specs.Prelude.{◌≡◌, ◌+◌, ◌<◌};
 ghost use Rattle.dvs_base.specs.Widths.{u64_end};
 ghost use Rattle.sched_model.specs.declared.holder.Holder.TheVariants.{Nobody};
-ghost use Rattle.sched_model.specs.Notes.{same_holder};
 
 use sched_model::Holder;
 
@@ -33,21 +32,5 @@ impl Segment {
     {
         self.start += self.units;
         self.units = 0;
-    }
-}
-
-/// Whether two holders are equal.
-pub(crate) fn is_same(a: Holder, b: Holder) -> bool
-    ensures { result ≡ same_holder a b }
-{
-    match a {
-        Holder::Nobody => match b {
-            Holder::Nobody => true,
-            Holder::Held(_, _) => false,
-        },
-        Holder::Held(i, k) => match b {
-            Holder::Nobody => false,
-            Holder::Held(j, l) => i == j && k == l,
-        },
     }
 }

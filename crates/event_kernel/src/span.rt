@@ -7,7 +7,8 @@ ghost use Rattle.event_kernel.specs.Runs.{demands_of};
 ghost use Rattle.event_kernel.specs.Settings.{IsSetting, IsBetween, IsInSpan, HasWalked, IsMetBy};
 ghost use Rattle.event_kernel.specs.Tickwork.{notes_before};
 
-use crate::progress::{InForce, Progress, Setting};
+use crate::in_force::InForce;
+use crate::progress::{Progress, Setting};
 use crate::span_trace::Moment;
 use governor::Governor;
 

@@ -4,11 +4,11 @@ ghost use Rattle.dvs_base.specs.Widths.{u64_end};
 ghost use Rattle.sched_model.specs.declared.holder.Holder.TheVariants.{Nobody, Held};
 ghost use Rattle.sched_model.specs.Plan.{point};
 ghost use Rattle.sched_model.specs.Notes.{position_of};
-ghost use Rattle.event_kernel.specs.Segment.{after_segment, is_turn, entered, ended_trace, new_trace, with_notes, written_notes, CanPut};
+ghost use Rattle.event_kernel.specs.Segment.{after_segment, is_turn, entered, ended_trace, new_trace, with_notes, written_notes, CanAdd};
 
+use crate::in_force::InForce;
 use crate::notes::SpanNotes;
-use crate::progress::InForce;
-use crate::segment::{Segment, is_same};
+use crate::segment::Segment;
 use dvs_base::{Note, Pos};
 use energy::energy_of;
 use sched_model::{Admitted, Holder, State};
@@ -31,7 +31,7 @@ pub struct Moment<'a> {
 fn turns(trace: &SpanTrace, holder: Holder) -> bool
     ensures { result ≡ is_turn trace.now holder }
 {
-    trace.segment.units > 0 && !is_same(trace.segment.holder, holder)
+    trace.segment.units > 0 && trace.segment.holder != holder
 }
 
 fn position(from: u64, speed: u64, unit: u64) -> Pos
@@ -66,7 +66,7 @@ impl SpanTrace {
 
     // The positions where the segment begins and where it ends.
     fn ends(&self, at: Moment<'_>) -> (Pos, Pos)
-        requires { CanPut at.plan.now at.state.now at.force.from at.force.index self.now }
+        requires { CanAdd at.plan.now at.state.now at.force.from at.force.index self.now }
         ensures first { result.0 ≡ position_of at.entry.force.from
             ((point at.entry.plan.now at.entry.force.index).speed) self.entry.now.segment.start }
         ensures end { result.1 ≡ position_of at.entry.force.from
@@ -83,8 +83,8 @@ impl SpanTrace {
     }
 
     // Adds the note of an idle segment.
-    fn put_idle(&mut self, at: Moment<'_>)
-        requires can { CanPut at.plan.now at.state.now at.force.from at.force.index self.old }
+    fn add_idle(&mut self, at: Moment<'_>)
+        requires can { CanAdd at.plan.now at.state.now at.force.from at.force.index self.old }
         requires idle { self.old.segment.holder ≡ Nobody }
         ensures { self.new ≡ with_notes self.old (written_notes at.entry.plan.now
             at.entry.state.now at.entry.force.from at.entry.force.index self.old) }
@@ -101,8 +101,8 @@ impl SpanTrace {
     }
 
     // Adds the note of a job's segment, and that of the job's completion where its row is done.
-    fn put_run(&mut self, at: Moment<'_>, task: u32, job: u64)
-        requires can { CanPut at.plan.now at.state.now at.force.from at.force.index self.old }
+    fn add_run(&mut self, at: Moment<'_>, task: u32, job: u64)
+        requires can { CanAdd at.plan.now at.state.now at.force.from at.force.index self.old }
         requires held { self.old.segment.holder ≡ Held task job }
         ensures { self.new ≡ with_notes self.old (written_notes at.entry.plan.now
             at.entry.state.now at.entry.force.from at.entry.force.index self.old) }
@@ -131,27 +131,27 @@ impl SpanTrace {
     }
 
     // Adds the notes of the open segment, and begins the holder's next one.
-    fn put_segment(&mut self, at: Moment<'_>)
-        requires { CanPut at.plan.now at.state.now at.force.from at.force.index self.old }
+    fn add_segment(&mut self, at: Moment<'_>)
+        requires { CanAdd at.plan.now at.state.now at.force.from at.force.index self.old }
         ensures { self.new ≡ after_segment at.entry.plan.now at.entry.state.now at.entry.force.from
             at.entry.force.index self.old }
     {
         match self.segment.holder {
-            Holder::Nobody => self.put_idle(at),
-            Holder::Held(task, job) => self.put_run(at, task, job),
+            Holder::Nobody => self.add_idle(at),
+            Holder::Held(task, job) => self.add_run(at, task, job),
         }
         self.segment.pass();
     }
 
     /// Adds units of a holder. Where another holder's segment is open, its notes are added first.
     pub(crate) fn enter(&mut self, at: Moment<'_>, holder: Holder, units: u64)
-        requires can { CanPut at.plan.now at.state.now at.force.from at.force.index self.old }
+        requires can { CanAdd at.plan.now at.state.now at.force.from at.force.index self.old }
         requires fits { self.old.segment.units + units < u64_end }
         ensures { self.new ≡ entered at.entry.plan.now at.entry.state.now at.entry.force.from
             at.entry.force.index holder units self.old }
     {
         if turns(self, holder) {
-            self.put_segment(at);
+            self.add_segment(at);
         }
         self.segment.holder = holder;
         self.segment.units += units;
@@ -159,12 +159,12 @@ impl SpanTrace {
 
     /// Adds the notes of the segment that is open at the end of a span.
     pub(crate) fn close(&mut self, at: Moment<'_>)
-        requires { CanPut at.plan.now at.state.now at.force.from at.force.index self.old }
+        requires { CanAdd at.plan.now at.state.now at.force.from at.force.index self.old }
         ensures { self.new ≡ ended_trace at.entry.plan.now at.entry.state.now at.entry.force.from
             at.entry.force.index self.old }
     {
         if self.segment.units > 0 {
-            self.put_segment(at);
+            self.add_segment(at);
         }
     }
 }

@@ -1,19 +1,22 @@
 // The trace of a run, written to a sink line by line and told to probes.
-ghost use Rattle.std.specs.Prelude.{◌≡◌, [], ◌∷◌, ◌++◌, length, map, IfOk};
+ghost use Rattle.std.specs.Prelude.{◌≡◌, ◌≤◌, [], ◌∷◌, ◌++◌, length, map, IfOk, IsOk, OnErr};
+ghost use Rattle.dvs_base.specs.Outside.{Rose};
 ghost use Rattle.dvs_base.specs.declared.note.Note.TheVariants.{End};
 ghost use Rattle.note_laws.specs.LineCounts.{AreFew};
+ghost use Rattle.note_laws.specs.RunText.{run_lines};
+ghost use Rattle.sched_model.specs.Demand.{IsAlwaysMet};
 ghost use Rattle.sched_model.specs.Plan.{count, names};
 ghost use Rattle.sched_model.specs.Totals.{totals_of};
-ghost use Rattle.trace_reader.specs.TraceText.{noted, note_lines};
-ghost use Rattle.event_kernel.specs.Lines.{WritesLines, WroteLines, StoppedIn};
+ghost use Rattle.trace_reader.specs.TraceText.{noted, note_lines, text_of_lines};
+ghost use Rattle.event_kernel.specs.Lines.{WritesLines, WroteLines, StoppedIn, most_lines};
 ghost use Rattle.event_kernel.specs.PlainLines.{sum_lines};
-ghost use Rattle.event_kernel.specs.Runs.{notes_of_run};
+ghost use Rattle.event_kernel.specs.Runs.{notes_of_run, MeetsDeadlines, MeetsDemands};
 
-use crate::kernel::ending;
+use crate::ending::ending;
 use crate::span::Walk;
-use crate::write::{Head, put_sums};
+use crate::write::{Head, put_head, put_sums};
 use crate::{Kernel, Listener, Stopped};
-use dvs_base::{Failed, Line, Name, Note, Sink, Totals, put_line};
+use dvs_base::{Failed, Line, Name, Note, Sink, Totals, Version, put_line};
 use energy::Account;
 use governor::Governor;
 use probes::{Probe, tell_all};
@@ -22,6 +25,18 @@ use trace_text::write_note;
 /// The sink failed before the whole trace was written.
 #[derive(Clone, Copy, Debug, PartialEq, Eq)]
 pub struct WriteFault;
+
+impl From<Failed> for WriteFault {
+    fn from(_e: Failed) -> WriteFault {
+        WriteFault
+    }
+}
+
+impl From<Stopped> for WriteFault {
+    fn from(_e: Stopped) -> WriteFault {
+        WriteFault
+    }
+}
 
 // Writes a note's line into `line`, puts it, and then tells the probes the note.
 fn tell_note<W: Sink, P: Probe>(
@@ -37,13 +52,9 @@ fn tell_note<W: Sink, P: Probe>(
 {
     line.clear();
     write_note(line, note, names);
-    match put_line(line, out) {
-        Ok(()) => {
-            tell_all(probes, note);
-            Ok(())
-        }
-        Err(Failed) => Err(Failed),
-    }
+    put_line(line, out)?;
+    tell_all(probes, note);
+    Ok(())
 }
 
 // A listener that puts each note's line into a sink, and then tells the probes the note. `line` is used for each.
@@ -69,10 +80,8 @@ impl<'a, 'b, 'c, W: Sink, P: Probe> Listener for Teller<'a, 'b, 'c, W, P> {
     ghost stops = { λ a. (W.shows a.out.now).faults };
 
     fn hear(&mut self, note: &Note) -> Result<(), Stopped> {
-        match tell_note(note, self.names, &mut self.line, self.out, self.probes) {
-            Ok(()) => Ok(()),
-            Err(Failed) => Err(Stopped),
-        }
+        tell_note(note, self.names, &mut self.line, self.out, self.probes)?;
+        Ok(())
     }
 }
 
@@ -91,10 +100,8 @@ fn tell_end<W: Sink, P: Probe>(
         (End head.entry.ticks account.now.totals.run account.now.totals.idle) ∷ []) result }
 {
     let (totals, end) = ending(head.ticks, account);
-    match tell_note(&end, head.plan.names(), line, out, probes) {
-        Ok(()) => Ok(totals),
-        Err(Failed) => Err(WriteFault),
-    }
+    tell_note(&end, head.plan.names(), line, out, probes)?;
+    Ok(totals)
 }
 
 // Puts the lines of the energies and the `End` line, and tells the probes the `End`; the totals.
@@ -112,10 +119,8 @@ fn tell_tail<W: Sink, P: Probe>(
         (sum_lines head.entry.version head.entry.plan.now account.now.by_task ++ noted (names head.entry.plan.now)
         (End head.entry.ticks account.now.totals.run account.now.totals.idle) ∷ []) result }
 {
-    match put_sums(head, account, out) {
-        Ok(()) => tell_end(head, account, line, out, probes),
-        Err(Failed) => Err(WriteFault),
-    }
+    put_sums(head, account, out)?;
+    tell_end(head, account, line, out, probes)
 }
 
 // Writes the lines of a run after its head through a teller; the totals.
@@ -135,15 +140,13 @@ fn notes_into<G: Governor, W: Sink, P: Probe>(
     ensures same { (teller.new.out.ghost_name ≡ teller.old.out.ghost_name)
         × (teller.new.probes.ghost_name ≡ teller.old.probes.ghost_name) }
 {
-    let _scheduler = head.plan.scheduler();
-    match kernel.spans(Walk::Events, teller) {
-        Ok(account) => tell_tail(head, &account, &mut teller.line, teller.out, teller.probes),
-        Err(Stopped) => Err(WriteFault),
-    }
+    let _admitted = head.plan.scheduler();
+    let account = kernel.spans(Walk::Events, teller)?;
+    tell_tail(head, &account, &mut teller.line, teller.out, teller.probes)
 }
 
-/// Writes the lines of a run after its head, and tells the probes its notes; the totals.
-pub(crate) fn tell_notes<G: Governor, W: Sink, P: Probe>(
+// Writes the lines of a run after its head, and tells the probes its notes; the totals.
+fn tell_notes<G: Governor, W: Sink, P: Probe>(
     kernel: Kernel<'_, G>,
     head: Head<'_>,
     out: &mut W,
@@ -164,4 +167,43 @@ pub(crate) fn tell_notes<G: Governor, W: Sink, P: Probe>(
         line: Line::new(),
     };
     notes_into(kernel, head, &mut teller)
+}
+
+impl<'a, G: Governor> Kernel<'a, G> {
+    /// Writes the whole trace in this version to the sink, one `put` a line, and tells the probes each note after
+    /// its line was put; the totals of the notes. `WriteFault` comes only where the sink failed at some line: the lines
+    /// before it were put and their notes told, the line itself was put in part, and nothing after it. It never comes
+    /// where the sink was sure of as many bytes as the trace has.
+    pub fn run<W: Sink, P: Probe>(
+        self,
+        out: &mut W,
+        probes: &mut Vec<P>,
+        version: Version,
+    ) -> Result<Totals, WriteFault>
+        ensures wrote { WritesLines (W.shows out.old) (W.shows out.new)
+            (map P.seen probes.old.items) (map P.seen probes.new.items)
+            (run_lines version self.entry.plan G.the_kind self.entry.ticks (notes_of_run G.demand self.entry))
+            result }
+        ensures sure { length (text_of_lines (run_lines version self.entry.plan G.the_kind self.entry.ticks
+            (notes_of_run G.demand self.entry))) ≤ (W.shows out.old).sure → IsOk result }
+        ensures totals { IfOk result (λ t. t ≡ totals_of (notes_of_run G.demand self.entry)) }
+        // At most one more decision than releases and completions together, so at most one more than two a job.
+        ensures few { IfOk result AreFew }
+        // At most seven lines for each job released in the ticks, and five more; in version 2 also two for each task.
+        ensures lines { length (run_lines version self.entry.plan G.the_kind self.entry.ticks
+            (notes_of_run G.demand self.entry)) ≤ most_lines version self.entry.plan self.entry.ticks }
+        ensures deadlines { MeetsDeadlines G.demand self.entry }
+        ensures demands { IsAlwaysMet G.the_kind → MeetsDemands G.demand self.entry }
+        ensures never_falls { (W.shows out.old).faults ≤ (W.shows out.new).faults }
+        ensures rose { OnErr result (Rose (W.shows out.old).faults (W.shows out.new).faults) }
+    {
+        let head = Head {
+            version,
+            governor: self.progress.governor.kind(),
+            plan: self.set.plan,
+            ticks: self.set.ticks,
+        };
+        put_head(head, out)?;
+        tell_notes(self, head, out, probes)
+    }
 }

@@ -9,7 +9,8 @@ ghost use Rattle.event_kernel.specs.Current.{IsCurrent};
 ghost use Rattle.event_kernel.specs.Tickwork.{served};
 ghost use Rattle.event_kernel.specs.Settings.{IsSetting, IsInSpan, HasWorked};
 
-use crate::progress::{InForce, Progress, Setting};
+use crate::in_force::InForce;
+use crate::progress::{Progress, Setting};
 use crate::span_trace::Moment;
 use demand_list::Demands;
 use governor::Governor;
@@ -21,7 +22,7 @@ pub(crate) fn demand(plan: &Admitted, demands: &Demands, task: u32, job: u64) ->
     requires task { task < count plan.now }
     ensures { result ≡ demands_of plan.now demands.now task job }
 {
-    let _worsts = demands.worsts();
+    let _within = demands.worsts();
     if job == 0 {
         return 0;
     }

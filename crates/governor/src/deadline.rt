@@ -9,7 +9,7 @@ pub fn earliest_deadline(plan: &Admitted, view: &State) -> u64
     requires { IsOfPlan plan.now view.now }
     ensures { result ≡ earliest_in plan.now view.entry.now }
 {
-    let _scheduler = plan.scheduler();
+    let _admitted = plan.scheduler();
     let mut least = view.rows[0].deadline;
     for i in 1..view.rows.len() {
         least = least.min(view.rows[i].deadline);

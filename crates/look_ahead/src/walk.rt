@@ -112,7 +112,7 @@ impl LookAhead {
         requires counters { Keeps self.now.left.items self.now.order.items self.now.rates.items plan.now view.now }
         ensures { result ≡ earliest_in plan.now view.entry.now }
     {
-        let _scheduler = plan.scheduler();
+        let _admitted = plan.scheduler();
         view.rows[self.order[0] as usize].deadline
     }
 
@@ -141,7 +141,7 @@ impl LookAhead {
         requires decision { IsAtDecision plan.now view.now }
         ensures { result ≡ ahead_demand plan.now view.entry.now }
     {
-        let _scheduler = plan.scheduler();
+        let _admitted = plan.scheduler();
         let soonest = self.earliest_deadline(plan, view);
         let hyper = plan.hyper();
         let mut totals = Totals {

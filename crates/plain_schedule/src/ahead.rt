@@ -30,7 +30,7 @@ fn rate(plan: &Admitted, task: u32) -> u128
     ensures value { result ≡ rate plan.now task }
     ensures low { result ≤ 2 ^ 109 }
 {
-    let _scheduler = plan.scheduler();
+    let _admitted = plan.scheduler();
     let jobs = plan.hyper() / plan.period(task);
     u128::from(worst(plan, task)) * u128::from(jobs)
 }
@@ -56,7 +56,7 @@ fn rates_before(plan: &Admitted, tick: u64, task: u32) -> u128
     requires tick { tick + 1 < u64_end }
     ensures { result ≡ sum_before (count plan.now) (key_of Edf plan.now tick) (rate plan.now) task }
 {
-    let _scheduler = plan.scheduler();
+    let _admitted = plan.scheduler();
     let mut sum = 0;
     for j in 0..plan.count() {
         sum += rate_where_before(plan, tick, j, task);
@@ -94,7 +94,7 @@ fn put_off(plan: &Admitted, demands: &Demands, past: &[PlainTick], after: u128, 
         (wleft plan.now (demand_of plan.now demands.now.rows) ticks) after task }
     ensures low { result ≤ 2 ^ 61 }
 {
-    let _scheduler = plan.scheduler();
+    let _admitted = plan.scheduler();
     let tick = now(past);
     let slack = slack(plan, tick, task);
     if slack == 0 {
@@ -122,7 +122,7 @@ fn spread_rate(
         (wleft plan.now (demand_of plan.now demands.now.rows) ticks) after task }
     ensures low { result ≤ 2 ^ 110 }
 {
-    let _scheduler = plan.scheduler();
+    let _admitted = plan.scheduler();
     let slack = slack(plan, now(past), task);
     if slack == 0 {
         return rate(plan, task);

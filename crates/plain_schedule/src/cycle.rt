@@ -42,7 +42,7 @@ fn charged_rate(plan: &Admitted, demands: &Demands, past: &[PlainTick], task: u3
         * (hyper plan.now / period plan.now task) }
     ensures low { result ≤ 2 ^ 109 }
 {
-    let _scheduler = plan.scheduler();
+    let _admitted = plan.scheduler();
     let jobs = plan.hyper() / plan.period(task);
     u128::from(charged(plan, demands, past, task)) * u128::from(jobs)
 }
@@ -55,7 +55,7 @@ pub(crate) fn edf_cycle(plan: &Admitted, demands: &Demands, past: &[PlainTick]) 
     ensures some_den { 1 ≤ result.den }
     ensures low_den { result.den ≤ u64_end }
 {
-    let _scheduler = plan.scheduler();
+    let _admitted = plan.scheduler();
     let mut sum = 0;
     for task in 0..plan.count() {
         sum += charged_rate(plan, demands, past, task);
@@ -185,7 +185,7 @@ pub(crate) fn rm_cycle(plan: &Admitted, demands: &Demands, past: &[PlainTick]) -
     ensures some_den { 1 ≤ result.den }
     ensures low_den { result.den ≤ u64_end }
 {
-    let _scheduler = plan.scheduler();
+    let _admitted = plan.scheduler();
     let tick = now(past);
     let mut sum = 0;
     for task in 0..plan.count() {

@@ -33,7 +33,7 @@ pub(crate) fn latest(plan: &Admitted, task: u32, tick: u64) -> u64
     requires tick { tick + 1 < u64_end }
     ensures { result ≡ latest plan.now task tick }
 {
-    let _scheduler = plan.scheduler();
+    let _admitted = plan.scheduler();
     let offset = plan.offset(task);
     if offset <= tick {
         (tick - offset) / plan.period(task) + 1
@@ -51,7 +51,7 @@ pub(crate) fn deadline(plan: &Admitted, task: u32, tick: u64) -> u128
     ensures later { tick < result }
     ensures low { result ≤ tick + LONGEST_PERIOD }
 {
-    let _scheduler = plan.scheduler();
+    let _admitted = plan.scheduler();
     due(plan, task, latest(plan, task, tick))
 }
 
@@ -63,7 +63,7 @@ pub(crate) fn earliest(plan: &Admitted, tick: u64) -> u128
     ensures later { tick < result }
     ensures low { result ≤ tick + LONGEST_PERIOD }
 {
-    let _scheduler = plan.scheduler();
+    let _admitted = plan.scheduler();
     let mut least = deadline(plan, 0, tick);
     for task in 1..plan.count() {
         least = least.min(deadline(plan, task, tick));

@@ -34,7 +34,7 @@ pub(crate) fn edf_order(alloc: Global, plan: &Admitted, tick: u64) -> Result<Vec
     ensures below { IfOk result (λ v. AllByRecursion (λ i. i < count plan.now) v.items) }
     ensures few { IfOk result (λ v. length v.items ≤ MOST_TASKS) }
 {
-    let _scheduler = plan.scheduler();
+    let _admitted = plan.scheduler();
     let keys = keys_of(alloc, plan, tick)?;
     numbers_in_order(alloc, keys)
 }

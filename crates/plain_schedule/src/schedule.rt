@@ -34,7 +34,7 @@ fn entry_in_force(
         (published plan.now governor (demand_of plan.now demands.now.rows)) (reverse past.now)) }
     ensures low { IfOk result (λ e. e < length plan.now.machine.points) }
 {
-    let _scheduler = plan.scheduler();
+    let _admitted = plan.scheduler();
     if is_decision(plan, demands, past) {
         let demand = published(alloc, plan, demands, governor, past)?;
         return Ok(plan.machine().lowest(demand).index);

@@ -18,7 +18,7 @@ pub(crate) fn demand(plan: &Admitted, demands: &Demands, task: u32, job: u64) ->
     ensures value { result ≡ demand_of plan.now demands.now.rows task job }
     ensures low { result ≤ 2 ^ 61 }
 {
-    let _worsts = demands.worsts();
+    let _within = demands.worsts();
     if job == 0 {
         return 0;
     }
@@ -97,7 +97,7 @@ pub(crate) fn worst(plan: &Admitted, task: u32) -> u64
     ensures value { result ≡ worst plan.now task }
     ensures low { result ≤ 2 ^ 61 }
 {
-    let _scheduler = plan.scheduler();
+    let _admitted = plan.scheduler();
     plan.worst(task)
 }
 

@@ -61,7 +61,7 @@ pub fn poll<G: Governor>(
         → (n ≡ released_jobs plan.now ticks) × (MOST_JOBS < n) }
     ensures memory { IsErrOf result PollFault.NoMemory → released_jobs plan.now ticks ≤ MOST_JOBS }
 {
-    let _scheduler = plan.scheduler();
+    let _admitted = plan.scheduler();
     let own = Server {
         plan,
         task: server,

@@ -34,7 +34,7 @@ impl<'a> Server<'a> {
         ensures budget { result ≡ budget self.now }
         ensures low { result ≤ MOST_WORK }
     {
-        let _scheduler = self.plan.scheduler();
+        let _admitted = self.plan.scheduler();
         self.plan.declared(self.task)
     }
 

@@ -65,7 +65,7 @@ pub(crate) fn polled_demands(
     requires few { jobs ≤ MOST_JOBS }
     ensures { IfOk result (IsServable server.now jobs) }
 {
-    let _scheduler = server.plan.scheduler();
+    let _admitted = server.plan.scheduler();
     let mut demands = worst_demands(alloc, server.plan)?;
     let mut waiting = Waiting {
         next: 0,

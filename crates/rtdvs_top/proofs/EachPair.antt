@@ -20,7 +20,7 @@ use Rattle.cc_rm_laws.proofs.Publishing.{cycle_publishing as rm_cycle_publishing
 use Rattle.look_ahead_laws.proofs.AheadLaws.{ahead_laws}
 use Rattle.look_ahead_laws.proofs.Publishing.{ahead_publishing}
 use Rattle.event_kernel.specs.Runs.{Run}
-use Rattle.event_kernel.proofs.Meeting.{run-met}
+use Rattle.event_kernel.proofs.MetRuns.{run-met}
 use Rattle.rtdvs_top.specs.Run.{HasMet}
 use Rattle.rtdvs_top.proofs.Published.{met-published}
 use Rattle.rtdvs_top.specs.Prepared.{IsReadyRun}

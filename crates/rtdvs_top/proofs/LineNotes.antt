@@ -7,7 +7,7 @@ use Rattle.dvs_base.specs.declared.kind.Scheduler.{Scheduler}
 use Rattle.dvs_base.specs.declared.note.Note.{Note}
 use Rattle.dvs_base.specs.declared.note.Note.TheVariants.{End}
 use Rattle.trace_reader.specs.TraceText.{plain, noted, shares_from, for_tasks, head_lines, lines_of_note, note_lines, trace_lines, notes_of_lines}
-use Rattle.event_kernel.proofs.Writing.{notes-append}
+use Rattle.event_kernel.proofs.WrittenLines.{notes-append}
 
 notes-plain : (texts : List (List ℕ)) → notes_of_lines (map plain texts) ≡ []
 notes-plain [] = refl

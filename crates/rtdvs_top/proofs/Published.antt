@@ -23,8 +23,8 @@ use Rattle.sched_model.specs.Jobs.{JobDemands, released_jobs, demand_of, IsWithi
 use Rattle.event_kernel.specs.Runs.{Run, IsListOf, notes_of_run}
 use Rattle.event_kernel.specs.Meeting.{IsMetRun}
 use Rattle.event_kernel.specs.Lines.{WroteLines, StoppedIn}
-use Rattle.event_kernel.proofs.Writing.{all-as, some-as, stopped-some}
-use Rattle.event_kernel.proofs.Demanding.{demand-within}
+use Rattle.event_kernel.proofs.WrittenLines.{all-as, some-as, stopped-some}
+use Rattle.event_kernel.proofs.ListedDemands.{demand-within}
 use Rattle.sched_model.specs.Demand.{published}
 use Rattle.sched_model.proofs.Schedules.{schedule_exists, schedule_unique}
 use Rattle.sched_model.specs.Totals.{totals_of}

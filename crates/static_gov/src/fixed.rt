@@ -32,7 +32,7 @@ impl Static {
         ensures stands { IfOk result (λ g. ⟦<Static as Governor>⟧.stands g plan.now (opening plan.now)) }
         ensures worst { MeetsAtWorst plan.now }
     {
-        let _scheduler = plan.scheduler();
+        let _admitted = plan.scheduler();
         Ok(Static {
             demand: plan.static_demand(),
         })

@@ -8,8 +8,8 @@ use Rattle.sched_model.specs.Admission.{IsAdmitted}
 use Rattle.sched_model.specs.States.{StateOf, opening, state_of, after_release, after_mark, no_row, row_at, released_row, IsOfPlan, CanRelease}
 use Rattle.governor.specs.Steps.{IsAtDecision}
 use Rattle.event_kernel.proofs.Bounds.{Bounds, bounds}
-use Rattle.event_kernel.proofs.Releasing.{Releasing, releasing-start, row-there, skips, opens, can-release, released-marked, released-unmarked}
-use Rattle.event_kernel.proofs.Deciding.{at-decision}
+use Rattle.event_kernel.proofs.BoundaryReleases.{Releasing, releasing-start, row-there, skips, opens, can-release, released-marked, released-unmarked}
+use Rattle.event_kernel.proofs.DecisionStates.{at-decision}
 use Rattle.event_kernel.proofs.Ofplan.{of-prior, of-state}
 
 module _ (p : Plan) where

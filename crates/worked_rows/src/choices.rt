@@ -25,7 +25,7 @@ fn release_all<G: Governor>(plan: &Admitted, governor: &mut G, state: &mut State
     ensures decision { IsAtDecision plan.now state.new }
     ensures counters { G.stands governor.new plan.now state.new }
 {
-    let _scheduler = plan.scheduler();
+    let _admitted = plan.scheduler();
     let mut any = false;
     for task in 0..plan.count() {
         if plan.offset(task) == 0 {

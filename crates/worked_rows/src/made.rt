@@ -46,7 +46,7 @@ fn each_governor_is_made_for_its_plan(rt: HostRuntime) -> Result<(), Fail> {
 
 // The opening state of a plan, after the first release of its first task if that is at tick 0.
 fn opened(alloc: Global, plan: &Admitted) -> Result<State, Fail> {
-    let _scheduler = plan.scheduler();
+    let _admitted = plan.scheduler();
     match State::new(alloc, plan) {
         Ok(mut state) => {
             if plan.offset(0) == 0 {

@@ -6,7 +6,7 @@ use Rattle.grid_fraction.proofs.Multiples.{least_common_multiple-none, least_com
 use Rattle.grid_fraction.proofs.lcm_within.Goals as goal
 
 pub loop-period-init : goal.loop-period-init
-loop-period-init c = (sym least_common_multiple-none, c.requires.cap)
+loop-period-init c = record { least = sym least_common_multiple-none; within = c.requires.cap }
 
 pub joint_multiple-requires-clause-a : goal.joint_multiple-requires-clause-a
 joint_multiple-requires-clause-a c =
@@ -14,7 +14,7 @@ joint_multiple-requires-clause-a c =
       arith,
       least_common_multiple-pos (take c.loop-period.period-index c.args.periods.now)
           (All-take (λ n. 0 < n) c.loop-period.period-index c.args.periods.now c.requires.periods),
-      c.loop-period.invariant.0,
+      c.loop-period.invariant.least,
     )
 
 pub returns-in-None-clause-beyond : goal.returns-in-None-clause-beyond
@@ -23,7 +23,7 @@ returns-in-None-clause-beyond c =
     c.in-None.ensures.beyond in
     let more = least_common_multiple-take_more c.args.periods.now c.loop-period.period-index 0 c.requires.periods c.loop-period-test.true in
     let grows = least_common_multiple-take c.args.periods.now (c.loop-period.period-index + 1) c.requires.periods in
-    let same = rw c.loop-period.invariant.0 at beyond in
+    let same = rw c.loop-period.invariant.least at beyond in
     omega arith
 
 pub loop-period-preserved : goal.loop-period-preserved
@@ -31,5 +31,5 @@ loop-period-preserved c =
     let more = least_common_multiple-take_more c.args.periods.now c.loop-period.period-index 0 c.requires.periods c.loop-period-test.true in
     let next : c.in-Some.next ≡ least_common_multiple (c.loop-period.multiple ∷ get_or c.args.periods.now c.loop-period.period-index 0 ∷ []) =
     c.in-Some.ensures.multiple in
-    let same = rw c.loop-period.invariant.0 at next in
-    (same ∙ sym more, c.in-Some.ensures.within)
+    let same = rw c.loop-period.invariant.least at next in
+    record { least = same ∙ sym more; within = c.in-Some.ensures.within }

@@ -7,7 +7,7 @@ pub is_above-requires-clause-slower : goal.is_above-requires-clause-slower
 is_above-requires-clause-slower c =
     omega (
       arith,
-      units-rise c.args.machine.now c.as_slice-entries.ensures.limits c.args.a c.args.b c.requires.order
+      units-rise c.args.machine.now c.as_slice-limits.ensures.limits c.args.a c.args.b c.requires.order
           c.requires.last,
       c.nth_corner-low.ensures.units,
       c.nth_corner-high.ensures.units,
@@ -18,7 +18,7 @@ is_above-requires-clause-cheaper c =
     let le : c.args.a ≤ c.args.b = omega arith in
     omega (
       arith,
-      cost-climb c.args.machine.now c.as_slice-entries.ensures.limits c.args.a c.args.b le
+      cost-climb c.args.machine.now c.as_slice-limits.ensures.limits c.args.a c.args.b le
           c.requires.last,
       c.nth_corner-low.ensures.cost,
       c.nth_corner-high.ensures.cost,

@@ -24,13 +24,13 @@ returns-in-Some-clause-first c =
     let b = c.in-Some.b in (
       a,
       b,
-      first-pair c.args.machine.now c.as_slice-entries.ensures.limits c.args.units c.args.ticks a b c.loop-a.invariant c.in-Some.ensures,
+      first-pair c.args.machine.now c.as_slice-limits.ensures.limits c.args.units c.args.ticks a b c.loop-a.invariant c.in-Some.ensures,
       c.least_of.ensures,
     )
 
 pub returns-in-Some-clause-least : goal.returns-in-Some-clause-least
 returns-in-Some-clause-least c =
-    certificate-least c.args.machine.now c.as_slice-entries.ensures.limits c.args.units c.args.ticks c.least_of.result
+    certificate-least c.args.machine.now c.as_slice-limits.ensures.limits c.args.units c.args.ticks c.least_of.result
     (c.loop-a.a, c.in-Some.b, c.in-Some.ensures.holds, c.least_of.ensures)
 
 pub unreachable-requires : goal.unreachable-requires
@@ -44,6 +44,6 @@ unreachable-requires c =
       ap (λ v. v * c.from-2.result) c.from.ensures,
       ap (λ v. c.args.ticks * v) (c.from-2.ensures ∙ c.top.ensures),
     ) in
-    let (a, (b, h)) = some-holds m c.as_slice-entries.ensures.limits c.args.units c.args.ticks fits in
-    let before : a < b = units-order m c.as_slice-entries.ensures.limits a b h.low h.high h.slower in
+    let (a, (b, h)) = some-holds m c.as_slice-limits.ensures.limits c.args.units c.args.ticks fits in
+    let before : a < b = units-order m c.as_slice-limits.ensures.limits a b h.low h.high h.slower in
     c.loop-a.invariant a b (omega (arith, h.high)) h

@@ -21,7 +21,7 @@ ceil-is n d pos =
 pub returns-clause-jobs : goal.returns-clause-jobs
 returns-clause-jobs c =
     let p = c.args.plan.now in
-    let adm = bounds p c.scheduler-scheduler.ensures.admitted in
+    let adm = bounds p c.scheduler-admitted.ensures.admitted in
     let i = c.args.task in
     let n = c.args.ticks - offset p i in
     let span_is : c.saturating_sub-span.result ≡ n = c.saturating_sub-span.ensures ∙ ap (λ o. c.args.ticks - o) c.offset.ensures.offset in

@@ -9,60 +9,61 @@ use Rattle.sched_model.proofs.Schedules.{length-list_below}
 use Rattle.trace_reader.specs.TraceText.{noted, task_energy}
 use Rattle.event_kernel.specs.PlainLines.{sum_lines}
 use Rattle.event_kernel.specs.SpanNotes.{notes_before_end_of}
-use Rattle.event_kernel.proofs.Booking.{booked-tasks, booked-totals}
+use Rattle.event_kernel.proofs.RunAccount.{booked-tasks, booked-totals}
 use Rattle.event_kernel.proofs.Tellers.{heard-written, balked-written}
 use Rattle.event_kernel.proofs.Wholes.{told-lines, few-of}
-use Rattle.event_kernel.proofs.Writing.{writes-then, lines-as, some-as, lines-some-more}
+use Rattle.event_kernel.proofs.WrittenLines.{writes-then, lines-as, some-as, lines-some-more, stopped-exit}
 use Rattle.event_kernel.proofs.teller.notes_into.Goals as goal
 
 pub tell_tail-requires : goal.tell_tail-requires
 tell_tail-requires g c =
     let r = c.args.kernel in
-    ap (λ (es : List ℕ). length es) (booked-tasks r.plan c.in-Ok.account _ c.in-Ok.ensures.booked)
+    ap (λ (es : List ℕ). length es) (booked-tasks r.plan c.in_ok-account.account _ c.in_ok-account.ensures.booked)
     ∙ (length-list_below (count r.plan) _ ∙ ap count (sym c.requires.plan))
 
-pub returns-in-Ok-clause-totals : goal.returns-in-Ok-clause-totals
-returns-in-Ok-clause-totals g c =
-    subst (λ (t : Totals). IfOk c.tell_tail.result (λ x. x ≡ t)) c.in-Ok.ensures.totals c.tell_tail.ensures.totals
+pub returns-clause-totals : goal.returns-clause-totals
+returns-clause-totals g c =
+    subst (λ (t : Totals). IfOk c.tell_tail.result (λ x. x ≡ t)) c.in_ok-account.ensures.totals c.tell_tail.ensures.totals
 
-pub returns-in-Ok-clause-few : goal.returns-in-Ok-clause-few
-returns-in-Ok-clause-few g c =
-    few-of c.tell_tail.result c.in-Ok.account.totals c.in-Ok.ensures.few c.tell_tail.ensures.totals
+pub returns-clause-few : goal.returns-clause-few
+returns-clause-few g c =
+    few-of c.tell_tail.result c.in_ok-account.account.totals c.in_ok-account.ensures.few c.tell_tail.ensures.totals
 
-pub returns-in-Ok-clause-writes : goal.returns-in-Ok-clause-writes
-returns-in-Ok-clause-writes g c =
+pub returns-clause-writes : goal.returns-clause-writes
+returns-clause-writes g c =
     let r = c.args.kernel in
     let h = c.args.head in
     let a = c.args.teller.now in
-    let s = c.in-Ok.account in
-    let booked = c.in-Ok.ensures.booked in
+    let s = c.in_ok-account.account in
+    let booked = c.in_ok-account.ensures.booked in
     lines-as _ _ _ _ _ _ c.tell_tail.result
     (told-lines g.G.Governor.demand r h.version a.names.now h.plan.now h.ticks s.by_task s.totals
-    c.scheduler-scheduler.ensures.admitted c.requires.names c.requires.plan c.requires.ticks
+    c.scheduler-admitted.ensures.admitted c.requires.names c.requires.plan c.requires.ticks
     (booked-tasks r.plan s _ booked) (booked-totals r.plan s _ booked))
     (writes-then _ _ _ _ _ _ (map (noted a.names.now) (notes_before_end_of g.G.Governor.demand r))
     (sum_lines h.version h.plan.now s.by_task ++ noted (names h.plan.now) (End h.ticks s.totals.run s.totals.idle) ∷ []) c.tell_tail.result
-    (heard-written g.W.Sink.shows g.P.Probe.seen a _ c.spans.new.to c.in-Ok.ensures.told.0).0 c.tell_tail.ensures.writes)
+    (heard-written g.W.Sink.shows g.P.Probe.seen a _ c.spans.new.to c.in_ok-account.ensures.told.0).0 c.tell_tail.ensures.writes)
 
-pub returns-in-Err-clause-writes : goal.returns-in-Err-clause-writes
-returns-in-Err-clause-writes g c =
+pub returns-in_err-account-clause-writes : goal.returns-in_err-account-clause-writes
+returns-in_err-account-clause-writes g c =
     let r = c.args.kernel in
     let h = c.args.head in
     let a = c.args.teller.now in
     let before = notes_before_end_of g.G.Governor.demand r in
     let es : List ℕ = list_below (count r.plan) (task_energy before) in
     let t : Totals = totals_of before in
-    some-as
+    stopped-exit _ _ _ _ _ c.from_residual.result c.from_residual.ensures.0
+    (some-as
     (told-lines g.G.Governor.demand r h.version a.names.now h.plan.now h.ticks es t
-    c.scheduler-scheduler.ensures.admitted c.requires.names c.requires.plan c.requires.ticks refl refl)
+    c.scheduler-admitted.ensures.admitted c.requires.names c.requires.plan c.requires.ticks refl refl)
     (lines-some-more _ _ _ _ (map (noted a.names.now) before)
     (sum_lines h.version h.plan.now es ++ noted (names h.plan.now) (End h.ticks t.run t.idle) ∷ [])
-    (balked-written g.W.Sink.shows g.P.Probe.seen a _ c.spans.new.to c.in-Err.ensures.told.0).0)
+    (balked-written g.W.Sink.shows g.P.Probe.seen a _ c.spans.new.to c.in_err-account.ensures.told.0).0))
 
-pub returns-in-Ok-clause-same : goal.returns-in-Ok-clause-same
-returns-in-Ok-clause-same g c =
-    let same = (heard-written g.W.Sink.shows g.P.Probe.seen c.args.teller.now _ c.spans.new.to c.in-Ok.ensures.told.0).1 in (same.0, same.1)
+pub returns-clause-same : goal.returns-clause-same
+returns-clause-same g c =
+    let same = (heard-written g.W.Sink.shows g.P.Probe.seen c.args.teller.now _ c.spans.new.to c.in_ok-account.ensures.told.0).1 in (same.0, same.1)
 
-pub returns-in-Err-clause-same : goal.returns-in-Err-clause-same
-returns-in-Err-clause-same g c =
-    let same = (balked-written g.W.Sink.shows g.P.Probe.seen c.args.teller.now _ c.spans.new.to c.in-Err.ensures.told.0).1 in (same.0, same.1)
+pub returns-in_err-account-clause-same : goal.returns-in_err-account-clause-same
+returns-in_err-account-clause-same g c =
+    let same = (balked-written g.W.Sink.shows g.P.Probe.seen c.args.teller.now _ c.spans.new.to c.in_err-account.ensures.told.0).1 in (same.0, same.1)

@@ -12,7 +12,7 @@ overflow_add-result c =
       c.units.ensures.units,
       c.charge.ensures.charge,
       ap (λ (m : Table). m.charge) c.machine.ensures.machine,
-      c.worsts-worsts.ensures.within c.args.task c.args.job (omega (arith, worsts-long p.tasks d c.requires.list, c.requires.task)),
+      c.worsts-within.ensures.within c.args.task c.args.job (omega (arith, worsts-long p.tasks d c.requires.list, c.requires.task)),
       worst-listed p.tasks d c.requires.list c.args.task c.requires.task,
       (c.machine.ensures.admitted.limits.tasks.each c.args.task c.requires.task).low_worst,
       c.machine.ensures.admitted.limits.machine.low_charge,

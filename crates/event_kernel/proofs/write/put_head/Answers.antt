@@ -2,7 +2,7 @@ use Rattle.std.proofs.Common.{[], ◌∷◌}
 use Rattle.trace_text.specs.TraceLines.{plan_text}
 use Rattle.note_laws.specs.RunText.{task_texts}
 use Rattle.trace_reader.specs.TraceText.{version_line, plain, for_tasks}
-use Rattle.event_kernel.proofs.Writing.{plain-line, plain-part, lines-then, lines-then-some, lines-some-more, writes-then, stopped-exit}
+use Rattle.event_kernel.proofs.WrittenLines.{plain-line, plain-part, lines-then, lines-then-some, lines-some-more, writes-then, stopped-exit}
 use Rattle.event_kernel.proofs.write.put_head.Goals as goal
 
 pub returns-in_err-put_line : goal.returns-in_err-put_line

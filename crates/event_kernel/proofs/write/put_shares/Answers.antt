@@ -2,7 +2,7 @@ use Rattle.std.proofs.Common.{◌∙◌, ap, arith}
 use Rattle.sched_model.specs.Plan.{count, names}
 use Rattle.dvs_base.specs.Parts.{name_of}
 use Rattle.trace_reader.specs.TraceText.{share_text}
-use Rattle.event_kernel.proofs.Writing.{below-next, below-stopped, below-all, stopped-exit}
+use Rattle.event_kernel.proofs.WrittenLines.{below-next, below-stopped, below-all, stopped-exit}
 use Rattle.event_kernel.proofs.write.put_shares.Goals as goal
 
 pub loop-i-preserved : goal.loop-i-preserved

@@ -1,5 +1,5 @@
 use Rattle.event_kernel.specs.PlainLines.{sum_texts}
-use Rattle.event_kernel.proofs.Writing.{lines-as, task-lines}
+use Rattle.event_kernel.proofs.WrittenLines.{lines-as, task-lines}
 use Rattle.event_kernel.proofs.write.put_sums.Goals as goal
 
 pub returns-then-has_task_lines : goal.returns-then-has_task_lines

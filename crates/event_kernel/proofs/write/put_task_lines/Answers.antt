@@ -1,5 +1,5 @@
 use Rattle.note_laws.specs.RunText.{task_texts}
-use Rattle.event_kernel.proofs.Writing.{lines-as, task-lines}
+use Rattle.event_kernel.proofs.WrittenLines.{lines-as, task-lines}
 use Rattle.event_kernel.proofs.write.put_task_lines.Goals as goal
 
 pub returns-then-has_task_lines : goal.returns-then-has_task_lines

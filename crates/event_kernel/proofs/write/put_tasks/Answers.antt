@@ -1,6 +1,6 @@
 use Rattle.std.proofs.Common.{arith}
 use Rattle.sched_model.specs.Plan.{count}
-use Rattle.event_kernel.proofs.Writing.{below-next, below-stopped, below-all, stopped-exit}
+use Rattle.event_kernel.proofs.WrittenLines.{below-next, below-stopped, below-all, stopped-exit}
 use Rattle.event_kernel.proofs.write.put_tasks.Goals as goal
 
 pub loop-i-preserved : goal.loop-i-preserved

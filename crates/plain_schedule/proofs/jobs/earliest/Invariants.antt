@@ -5,4 +5,8 @@ use Rattle.sched_model.specs.Jobs.{deadline}
 use Rattle.plain_schedule.proofs.jobs.earliest.Given as goal
 
 abbrev pub invariant-loop-task : goal.invariant-loop-task
-invariant-loop-task l = (l.least ≡ least_below l.task (λ i. deadline l.plan i l.tick)) × (l.tick < l.least) × (l.least ≤ l.tick + LONGEST_PERIOD)
+invariant-loop-task l = record {
+  least_of : l.least ≡ least_below l.task (λ i. deadline l.plan i l.tick);
+  later : l.tick < l.least;
+  soon : l.least ≤ l.tick + LONGEST_PERIOD;
+}

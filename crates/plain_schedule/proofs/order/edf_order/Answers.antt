@@ -14,11 +14,11 @@ returns-clause-order c =
 pub returns-clause-below : goal.returns-clause-below
 returns-clause-below c =
     let p : Plan = c.args.plan.now in
-    (order_facts (λ v. v.items) (key_of Edf p c.args.tick) (count p) c.scheduler-scheduler.ensures.admitted.limits.tasks.few
+    (order_facts (λ v. v.items) (key_of Edf p c.args.tick) (count p) c.scheduler-admitted.ensures.admitted.limits.tasks.few
     c.numbers_in_order.result (returns-clause-order c)).0
 
 pub returns-clause-few : goal.returns-clause-few
 returns-clause-few c =
     let p : Plan = c.args.plan.now in
-    (order_facts (λ v. v.items) (key_of Edf p c.args.tick) (count p) c.scheduler-scheduler.ensures.admitted.limits.tasks.few
+    (order_facts (λ v. v.items) (key_of Edf p c.args.tick) (count p) c.scheduler-admitted.ensures.admitted.limits.tasks.few
     c.numbers_in_order.result (returns-clause-order c)).1

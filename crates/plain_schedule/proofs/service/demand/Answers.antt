@@ -10,7 +10,7 @@ overflow_add-result c =
       c.units.ensures.units,
       c.charge.ensures.charge,
       ap (λ (m : Table). m.charge) c.machine.ensures.machine,
-      low_units c.args.plan.now c.args.demands.now c.requires.list c.machine.ensures.admitted c.worsts-worsts.ensures.within
+      low_units c.args.plan.now c.args.demands.now c.requires.list c.machine.ensures.admitted c.worsts-within.ensures.within
           c.args.task c.args.job c.requires.task,
     )
 
@@ -21,6 +21,6 @@ returns-clause-low c =
       c.units.ensures.units,
       c.charge.ensures.charge,
       ap (λ (m : Table). m.charge) c.machine.ensures.machine,
-      low_units c.args.plan.now c.args.demands.now c.requires.list c.machine.ensures.admitted c.worsts-worsts.ensures.within
+      low_units c.args.plan.now c.args.demands.now c.requires.list c.machine.ensures.admitted c.worsts-within.ensures.within
           c.args.task c.args.job c.requires.task,
     )

@@ -10,7 +10,7 @@ use Rattle.poll_server.proofs.polling.poll.Goals as goal
 
 pub returns-then-count-gt-MOST_JOBS-clause-in_order : goal.returns-then-count-gt-MOST_JOBS-clause-in_order
 returns-then-count-gt-MOST_JOBS-clause-in_order g c =
-    server-jobs c.args.plan.now c.args.server c.args.requests.now c.scheduler-scheduler.ensures.admitted c.requires.server c.as_slice.ensures.limits
+    server-jobs c.args.plan.now c.args.server c.args.requests.now c.scheduler-admitted.ensures.admitted c.requires.server c.as_slice.ensures.limits
 
 pub polled_demands-requires-clause-few : goal.polled_demands-requires-clause-few
 polled_demands-requires-clause-few g c =
@@ -24,15 +24,15 @@ polled_demands-requires-clause-few g c =
 
 pub returns-in_err-demands-clause-in_order : goal.returns-in_err-demands-clause-in_order
 returns-in_err-demands-clause-in_order g c =
-    server-jobs c.args.plan.now c.args.server c.args.requests.now c.scheduler-scheduler.ensures.admitted c.requires.server c.as_slice.ensures.limits
+    server-jobs c.args.plan.now c.args.server c.args.requests.now c.scheduler-admitted.ensures.admitted c.requires.server c.as_slice.ensures.limits
 
 pub returns-in_err-ends-clause-in_order : goal.returns-in_err-ends-clause-in_order
 returns-in_err-ends-clause-in_order g c =
-    server-jobs c.args.plan.now c.args.server c.args.requests.now c.scheduler-scheduler.ensures.admitted c.requires.server c.as_slice.ensures.limits
+    server-jobs c.args.plan.now c.args.server c.args.requests.now c.scheduler-admitted.ensures.admitted c.requires.server c.as_slice.ensures.limits
 
 pub returns-in_err-kernel-clause-in_order : goal.returns-in_err-kernel-clause-in_order
 returns-in_err-kernel-clause-in_order g c =
-    server-jobs c.args.plan.now c.args.server c.args.requests.now c.scheduler-scheduler.ensures.admitted c.requires.server c.as_slice.ensures.limits
+    server-jobs c.args.plan.now c.args.server c.args.requests.now c.scheduler-admitted.ensures.admitted c.requires.server c.as_slice.ensures.limits
 
 pub outcomes-requires-clause-long : goal.outcomes-requires-clause-long
 outcomes-requires-clause-long g c =
@@ -42,7 +42,7 @@ outcomes-requires-clause-long g c =
 
 pub returns-in_err-list-clause-in_order : goal.returns-in_err-list-clause-in_order
 returns-in_err-list-clause-in_order g c =
-    server-jobs c.args.plan.now c.args.server c.args.requests.now c.scheduler-scheduler.ensures.admitted c.requires.server c.as_slice.ensures.limits
+    server-jobs c.args.plan.now c.args.server c.args.requests.now c.scheduler-admitted.ensures.admitted c.requires.server c.as_slice.ensures.limits
 
 pub returns : goal.returns
 returns g c =
@@ -61,7 +61,7 @@ returns g c =
     record {
       served = all.served;
       outcomes = all.outcomes;
-      in_order = server-jobs p i c.args.requests.now c.scheduler-scheduler.ensures.admitted c.requires.server c.as_slice.ensures.limits;
+      in_order = server-jobs p i c.args.requests.now c.scheduler-admitted.ensures.admitted c.requires.server c.as_slice.ensures.limits;
       bound = all.bound;
       few = search rules;
       many = search rules;

@@ -20,7 +20,7 @@ overflow_add-self c =
     let within = rate_place plan c.args.view.now c.requires.of rates c.args.self.now.sum c.requires.counters i c.requires.task in
     let was : c.index-old.result.now ≡ get_or rates i 0 = get_or_read rates i c.index-old.result.now within c.index-old.ensures 0 in
     let fits =
-    sum_fits plan c.args.view.now c.requires.of rates c.args.self.now.sum c.requires.counters i c.requires.task c.scheduler-scheduler.ensures.admitted
+    sum_fits plan c.args.view.now c.requires.of rates c.args.self.now.sum c.requires.counters i c.requires.task c.scheduler-admitted.ensures.admitted
     c.args.units c.requires.within in
     let units : c.from.result ≡ c.args.units = c.from.ensures in
     let jobs : c.from-2.result ≡ hyper plan / period plan i =

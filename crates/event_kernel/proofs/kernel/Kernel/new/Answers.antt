@@ -1,21 +1,21 @@
 use Rattle.std.proofs.Common.{rules}
 use Rattle.sched_model.specs.States.{opening}
-use Rattle.event_kernel.proofs.Meeting.{run-met}
+use Rattle.event_kernel.proofs.ListedDemands.{demand-within}
+use Rattle.event_kernel.proofs.MetRuns.{run-met}
 use Rattle.event_kernel.proofs.kernel.Kernel.new.Goals as goal
 
 pub invariant_of-result : goal.invariant_of-result
 invariant_of-result g c =
     let m = g.G.Governor in
-    let p = c.args.plan.now in (
-      search rules,
-      search rules,
-      search rules,
-      search rules,
-      search rules,
-      search rules,
-      search rules,
-      search rules,
-      run-met m.the_kind m.serves m.demand m.calm m.safe g.met.G.Governor.laws
-          (record { plan = p; demands = c.args.demands.now; ticks = c.args.ticks }) c.scheduler-scheduler.ensures.admitted c.requires.list
-          c.worsts-worsts.ensures.within (g.met.G.Governor.serves_plan c.args.governor p (opening p) c.requires.stands),
-    )
+    let p = c.args.plan.now in
+    let d = c.args.demands.now in
+    let admitted = c.scheduler-admitted.ensures.admitted in
+    let worsts = c.worsts-within.ensures.within in record {
+      setting = record { admitted = admitted; list = c.requires.list; within = demand-within p d c.requires.list worsts; low_ticks = c.requires.low_ticks };
+      state = search rules;
+      current = search rules;
+      booked = search rules;
+      met = run-met m.the_kind m.serves m.demand m.calm m.safe g.met.G.Governor.laws
+          (record { plan = p; demands = d; ticks = c.args.ticks }) admitted c.requires.list worsts
+          (g.met.G.Governor.serves_plan c.args.governor p (opening p) c.requires.stands);
+    }

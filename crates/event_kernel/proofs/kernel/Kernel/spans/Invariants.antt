@@ -10,12 +10,14 @@ use Rattle.event_kernel.proofs.kernel.Kernel.spans.Given as goal
 abbrev pub invariant-loop-set : goal.invariant-loop-set
 invariant-loop-set g l =
     let before = notes_before g.G.Governor.demand l.set.plan.now (demands_of l.set.plan.now l.set.demands.now) l.progress.state.now in
-    IsBetween l.set g.G.Governor.demand l.progress.state
-    × IsCurrent g.G.Governor.stands l.set.plan.now l.progress
-    × (l.progress.state.now ≤ l.set.ticks)
-    × (g.L.Listener.stops l.fn.to ≤ g.L.Listener.stops l.to)
-    × HasHeard g.L.Listener.heard l.fn.to before l.to
-    × HasBooked l.set.plan.now l.account before
+    record {
+      between : IsBetween l.set g.G.Governor.demand l.progress.state;
+      current : IsCurrent g.G.Governor.stands l.set.plan.now l.progress;
+      limit : l.progress.state.now ≤ l.set.ticks;
+      stops : g.L.Listener.stops l.fn.to ≤ g.L.Listener.stops l.to;
+      heard : HasHeard g.L.Listener.heard l.fn.to before l.to;
+      booked : HasBooked l.set.plan.now l.account before;
+    }
 
 abbrev pub decreases-loop-set : goal.decreases-loop-set
 decreases-loop-set g l = l.set.ticks - l.progress.state.now

@@ -7,10 +7,12 @@ use Rattle.event_kernel.proofs.notes.SpanNotes.tell.Given as goal
 abbrev pub invariant-loop-note : goal.invariant-loop-note
 invariant-loop-note g l =
     let rest = drop l.note-index l.note-items in
-    ((b : g.row.L.Denot) → HasHeard g.L.Listener.heard l.to rest b → HasHeard g.L.Listener.heard l.fn.to l.note-items b)
-    × ((b : g.row.L.Denot) → HasBalked g.L.Listener.heard g.L.Listener.balked l.to rest b
-    → HasBalked g.L.Listener.heard g.L.Listener.balked l.fn.to l.note-items b)
-    × (g.L.Listener.stops l.fn.to ≤ g.L.Listener.stops l.to)
-    × CanBook l.account rest l.fn.point
-    × (all_booked l.account rest l.fn.point ≡ all_booked l.fn.account l.note-items l.fn.point)
-    × (l.fn.point < length l.account.by_point)
+    record {
+      heard : (b : g.row.L.Denot) → HasHeard g.L.Listener.heard l.to rest b → HasHeard g.L.Listener.heard l.fn.to l.note-items b;
+      balked : (b : g.row.L.Denot) → HasBalked g.L.Listener.heard g.L.Listener.balked l.to rest b
+          → HasBalked g.L.Listener.heard g.L.Listener.balked l.fn.to l.note-items b;
+      stops : g.L.Listener.stops l.fn.to ≤ g.L.Listener.stops l.to;
+      room : CanBook l.account rest l.fn.point;
+      booked : all_booked l.account rest l.fn.point ≡ all_booked l.fn.account l.note-items l.fn.point;
+      point : l.fn.point < length l.account.by_point;
+    }

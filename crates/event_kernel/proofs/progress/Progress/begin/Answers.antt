@@ -10,11 +10,11 @@ use Rattle.event_kernel.specs.SpanNotes.{kept_notes}
 use Rattle.event_kernel.specs.Segment.{with_notes, new_trace}
 use Rattle.event_kernel.specs.Runs.{demands_of}
 use Rattle.event_kernel.proofs.Bounds.{bounds}
-use Rattle.event_kernel.proofs.Deciding.{at-decision}
-use Rattle.event_kernel.proofs.Keeping.{kept_notes-append}
+use Rattle.event_kernel.proofs.DecisionStates.{at-decision}
+use Rattle.event_kernel.proofs.SpanBuffer.{kept_notes-append}
 use Rattle.event_kernel.proofs.Ofplan.{of-state}
 use Rattle.event_kernel.proofs.Courses.{low-exec}
-use Rattle.event_kernel.proofs.Spanning.{at-boundary, begins-span}
+use Rattle.event_kernel.proofs.SpanSteps.{at-boundary, begins-span}
 use Rattle.event_kernel.proofs.progress.Progress.begin.Goals as goal
 
 pub release_all-requires-clause-at : goal.release_all-requires-clause-at

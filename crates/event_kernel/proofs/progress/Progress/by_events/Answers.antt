@@ -1,7 +1,7 @@
 use Rattle.std.proofs.Common.{◌≡◌, ◌-◌, arith, subst}
 use Rattle.event_kernel.specs.Settings.{HasWalked}
-use Rattle.event_kernel.proofs.Spanning.{now-next}
-use Rattle.event_kernel.proofs.Quieting.{last-ends}
+use Rattle.event_kernel.proofs.SpanSteps.{now-next}
+use Rattle.event_kernel.proofs.QuietTicks.{last-ends}
 use Rattle.event_kernel.proofs.progress.Progress.by_events.Goals as goal
 
 pub returns-clause-walked : goal.returns-clause-walked

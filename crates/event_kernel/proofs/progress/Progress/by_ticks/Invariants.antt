@@ -5,8 +5,10 @@ use Rattle.event_kernel.proofs.progress.Progress.by_ticks.Given as goal
 
 abbrev pub invariant-loop-force : goal.invariant-loop-force
 invariant-loop-force g l =
-    IsInSpan l.fn.set g.G.Governor.demand l.fn.force l.self.state.now l.self.state l.self.trace
-    × IsCurrent g.G.Governor.stands l.fn.set.plan.now l.self
+    record {
+      in_span : IsInSpan l.fn.set g.G.Governor.demand l.fn.force l.self.state.now l.self.state l.self.trace;
+      current : IsCurrent g.G.Governor.stands l.fn.set.plan.now l.self;
+    }
 
 abbrev pub decreases-loop-force : goal.decreases-loop-force
 decreases-loop-force g l = l.fn.set.ticks - l.self.state.now

@@ -3,8 +3,8 @@ use Rattle.std.specs.Prelude.{Option}
 use Rattle.sched_model.specs.States.{StateOf}
 use Rattle.event_kernel.specs.Segment.{IsFirst}
 use Rattle.event_kernel.specs.Settings.{AreQuiet}
-use Rattle.event_kernel.proofs.Working.{entry-in, speed-in}
-use Rattle.event_kernel.proofs.Quieting.{some-speed, of-plan, first-event, needs, quiet-held, quiet-idle}
+use Rattle.event_kernel.proofs.UnitLoop.{entry-in, speed-in}
+use Rattle.event_kernel.proofs.QuietTicks.{some-speed, of-plan, first-event, needs, quiet-held, quiet-idle}
 use Rattle.event_kernel.proofs.progress.Progress.quiet_ticks.Goals as goal
 
 pub point-speed-requires : goal.point-speed-requires

@@ -15,9 +15,9 @@ use Rattle.event_kernel.specs.Segment.{with_notes}
 use Rattle.event_kernel.specs.Settings.{IsSetting, IsAtBoundary, state_at}
 use Rattle.event_kernel.proofs.Bounds.{bounds}
 use Rattle.event_kernel.proofs.Courses.{low-exec, course-len}
-use Rattle.event_kernel.proofs.Keeping.{with-none}
+use Rattle.event_kernel.proofs.SpanBuffer.{with-none}
 use Rattle.event_kernel.proofs.Ofplan.{of-prior}
-use Rattle.event_kernel.proofs.Releasing.{Releasing, notes_upto, releasing-start, none-past, at-due, at-end, opens, opens-trace, can-release, released-marked, released-unmarked, prior-done}
+use Rattle.event_kernel.proofs.BoundaryReleases.{Releasing, notes_upto, releasing-start, none-past, at-due, at-end, opens, opens-trace, can-release, released-marked, released-unmarked, prior-done}
 use Rattle.event_kernel.proofs.progress.Progress.release_all.Goals as goal
 
 -- the rows of the first m tasks are released
@@ -69,63 +69,64 @@ loop-task-init g c =
     let dem = demands_of p c.args.set.now.demands.now in
     let t = c.args.self.now.state.now in
     let here = c.requires.at in
-    let past = course m p dem t in (
-      0,
-      omega arith,
-      subst (λ (s : StateOf). Releasing p dem past 0 false s) (sym here.state) (releasing-start p dem past),
-      c.requires.current,
-      subst (λ (s : StateOf). IsOfPlan p s) (sym here.state) (of-prior p dem past (low-exec m p dem t c.requires.set.within)),
-      with-none c.args.self.now.trace c.requires.none,
-    )
+    let past = course m p dem t in record {
+      released = 0;
+      within = omega arith;
+      so_far = subst (λ (s : StateOf). Releasing p dem past 0 false s) (sym here.state) (releasing-start p dem past);
+      current = c.requires.current;
+      of = subst (λ (s : StateOf). IsOfPlan p s) (sym here.state) (of-prior p dem past (low-exec m p dem t c.requires.set.within));
+      trace = with-none c.args.self.now.trace c.requires.none;
+    }
 
 pub first_due-requires-clause-past : goal.first_due-requires-clause-past
-first_due-requires-clause-past g c = none-past (bounds _ c.requires.set.admitted).some_period c.loop-task.invariant.2
+first_due-requires-clause-past g c = none-past (bounds _ c.requires.set.admitted).some_period c.loop-task.invariant.so_far
 
 pub release_one-requires-clause-past : goal.release_one-requires-clause-past
-release_one-requires-clause-past g c = none-past (bounds _ c.requires.set.admitted).some_period c.loop-task.invariant.2
+release_one-requires-clause-past g c = none-past (bounds _ c.requires.set.admitted).some_period c.loop-task.invariant.so_far
 
 pub release_one-requires-clause-can : goal.release_one-requires-clause-can
-release_one-requires-clause-can g c = can c.requires.set c.requires.at c.loop-task.invariant.2 c.in-Some.ensures.due
+release_one-requires-clause-can g c = can c.requires.set c.requires.at c.loop-task.invariant.so_far c.in-Some.ensures.due
 
 pub loop-task-preserved : goal.loop-task-preserved
 loop-task-preserved g c =
     let some_period = (bounds _ c.requires.set.admitted).some_period in
     let i = c.loop-task.invariant in
     let d = c.in-Some.ensures.due in
-    let here = at c.requires.set c.requires.at i.2 d in
-    let w = c.release_one.ensures in (
-      c.in-Some.task + 1,
-      omega (arith, d.below),
-      opens some_period here.0 d.below d.due c.release_one.new.self.state w.state,
-      w.current,
-      w.of,
-      opens-trace some_period here.0 d.below d.due c.args.self.now.trace (i.5 ∙ ap (λ ns. with_notes c.args.self.now.trace ns) here.1) w.trace,
-    )
+    let here = at c.requires.set c.requires.at i.so_far d in
+    let w = c.release_one.ensures in record {
+      released = c.in-Some.task + 1;
+      within = omega (arith, d.below);
+      so_far = opens some_period here.0 d.below d.due c.release_one.new.self.state w.state;
+      current = w.current;
+      of = w.of;
+      trace = opens-trace some_period here.0 d.below d.due c.args.self.now.trace
+          (i.trace ∙ ap (λ ns. with_notes c.args.self.now.trace ns) here.1) w.trace;
+    }
 
 pub loop-task-smaller : goal.loop-task-smaller
 loop-task-smaller g c =
     let p = c.args.set.now.plan.now in
     let d = c.in-Some.ensures.due in
-    let long = c.loop-task.invariant.4 in
+    let long = c.loop-task.invariant.of in
     subst (λ (s : StateOf). due_left p s < due_left p c.loop-task.self.state) (sym c.release_one.ensures.state)
     (due-falls p c.loop-task.self.state c.in-Some.task _ (omega (arith, d.below, long.rows))
     ((bounds p c.requires.set.admitted).some_period c.in-Some.task) d)
 
 pub returns-then-any-clause-trace : goal.returns-then-any-clause-trace
 returns-then-any-clause-trace g c =
-    let i = c.loop-task.invariant in all-notes c.requires.set c.requires.at i.2 i.1 c.in_default.ensures.none c.args.self.now.trace i.5
+    let i = c.loop-task.invariant in all-notes c.requires.set c.requires.at i.so_far i.within c.in_default.ensures.none c.args.self.now.trace i.trace
 
 pub returns-else-any-clause-trace : goal.returns-else-any-clause-trace
 returns-else-any-clause-trace g c =
-    let i = c.loop-task.invariant in all-notes c.requires.set c.requires.at i.2 i.1 c.in_default.ensures.none c.args.self.now.trace i.5
+    let i = c.loop-task.invariant in all-notes c.requires.set c.requires.at i.so_far i.within c.in_default.ensures.none c.args.self.now.trace i.trace
 
 pub returns-then-any-clause-state : goal.returns-then-any-clause-state
 returns-then-any-clause-state g c =
-    let i = c.loop-task.invariant in c.mark.ensures.marked ∙ marked c.requires.set c.requires.at i.2 i.1 c.in_default.ensures.none c.if-any.true
+    let i = c.loop-task.invariant in c.mark.ensures.marked ∙ marked c.requires.set c.requires.at i.so_far i.within c.in_default.ensures.none c.if-any.true
 
 pub returns-else-any-clause-state : goal.returns-else-any-clause-state
 returns-else-any-clause-state g c =
-    let i = c.loop-task.invariant in unmarked c.requires.set c.requires.at i.2 i.1 c.in_default.ensures.none c.if-any.false
+    let i = c.loop-task.invariant in unmarked c.requires.set c.requires.at i.so_far i.within c.in_default.ensures.none c.if-any.false
 
 pub returns-then-any-clause-current : goal.returns-then-any-clause-current
 returns-then-any-clause-current g c =

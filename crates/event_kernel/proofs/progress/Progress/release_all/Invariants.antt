@@ -6,21 +6,23 @@ use Rattle.agenda.specs.Agenda.{due_left}
 use Rattle.event_kernel.specs.Current.{IsCurrent}
 use Rattle.event_kernel.specs.Segment.{with_notes}
 use Rattle.event_kernel.specs.Runs.{demands_of}
-use Rattle.event_kernel.proofs.Releasing.{Releasing, notes_upto}
+use Rattle.event_kernel.proofs.BoundaryReleases.{Releasing, notes_upto}
 use Rattle.event_kernel.proofs.progress.Progress.release_all.Given as goal
 
--- the rows before some task are released
+-- the rows of the first `released` tasks are released
 abbrev pub invariant-loop-task : goal.invariant-loop-task
 invariant-loop-task g l =
     let p = l.fn.set.plan.now in
     let dem = demands_of l.fn.set.plan.now l.fn.set.demands.now in
     let past = course g.G.Governor.demand p dem l.fn.self.state.now in
-    (m : ℕ)
-    × (m ≤ count p)
-    × Releasing p dem past m l.any l.self.state
-    × IsCurrent g.G.Governor.stands p l.self
-    × IsOfPlan p l.self.state
-    × (l.self.trace ≡ with_notes l.fn.self.trace (notes_upto p dem past m))
+    record {
+      released : ℕ;
+      within : released ≤ count p;
+      so_far : Releasing p dem past released l.any l.self.state;
+      current : IsCurrent g.G.Governor.stands p l.self;
+      of : IsOfPlan p l.self.state;
+      trace : l.self.trace ≡ with_notes l.fn.self.trace (notes_upto p dem past released);
+    }
 
 abbrev pub decreases-loop-task : goal.decreases-loop-task
 decreases-loop-task g l = due_left l.fn.set.plan.now l.self.state

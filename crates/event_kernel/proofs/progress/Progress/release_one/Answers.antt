@@ -4,7 +4,7 @@ use Rattle.dvs_base.specs.declared.note.Note.TheVariants.{Release, Done}
 use Rattle.event_kernel.specs.Boundary.{needs_nothing}
 use Rattle.event_kernel.specs.Segment.{with_notes}
 use Rattle.event_kernel.specs.SpanNotes.{kept_notes}
-use Rattle.event_kernel.proofs.Keeping.{kept_notes-append}
+use Rattle.event_kernel.proofs.SpanBuffer.{kept_notes-append}
 use Rattle.sched_model.specs.declared.state.Row.{Row}
 use Rattle.sched_model.specs.Jobs.{JobDemands}
 use Rattle.sched_model.specs.States.{row_at, after_finish, StateOf}
@@ -12,7 +12,7 @@ use Rattle.sched_model.proofs.States.{row_read}
 use Rattle.agenda.specs.Agenda.{opened}
 use Rattle.agenda.specs.Stands.{Stands}
 use Rattle.event_kernel.specs.Runs.{demands_of}
-use Rattle.event_kernel.proofs.Releasing.{opened-done, opening-done}
+use Rattle.event_kernel.proofs.BoundaryReleases.{opened-done, opening-done}
 use Rattle.event_kernel.proofs.progress.Progress.release_one.Given.{Over}
 use Rattle.event_kernel.proofs.progress.Progress.release_one.Goals as goal
 

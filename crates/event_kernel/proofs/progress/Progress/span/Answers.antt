@@ -2,9 +2,9 @@ use Rattle.std.proofs.Common.{◌++◌, arith, ap₂, ◌∙◌, sym}
 use Rattle.event_kernel.specs.declared.span_trace.SpanTrace.{SpanTrace}
 use Rattle.event_kernel.specs.Runs.{demands_of}
 use Rattle.event_kernel.specs.Tickwork.{notes_before}
-use Rattle.event_kernel.proofs.Closing.{close-between, close-notes}
-use Rattle.event_kernel.proofs.Spanning.{closing-can}
-use Rattle.event_kernel.proofs.Working.{entry-there}
+use Rattle.event_kernel.proofs.RunEnds.{close-between, close-notes}
+use Rattle.event_kernel.proofs.SpanSteps.{closing-can}
+use Rattle.event_kernel.proofs.UnitLoop.{entry-there}
 use Rattle.event_kernel.proofs.progress.Progress.span.Goals as goal
 
 pub close-requires : goal.close-requires

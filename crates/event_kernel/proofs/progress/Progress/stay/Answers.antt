@@ -6,9 +6,9 @@ use Rattle.agenda.proofs.Standing.{stands-rows}
 use Rattle.event_kernel.specs.Segment.{entered, holder_at, IsFirst}
 use Rattle.event_kernel.specs.Tickwork.{gives}
 use Rattle.event_kernel.specs.Settings.{IsLastTick}
-use Rattle.event_kernel.proofs.Working.{entry-in, speed-in}
-use Rattle.event_kernel.proofs.Quieting.{is-first, of-plan, can-put, fit, can-run-first, last-then}
-use Rattle.event_kernel.proofs.Staying.{stays}
+use Rattle.event_kernel.proofs.UnitLoop.{entry-in, speed-in}
+use Rattle.event_kernel.proofs.QuietTicks.{is-first, of-plan, can-add, fit, can-run-first, last-then}
+use Rattle.event_kernel.proofs.QuietStep.{stays}
 use Rattle.event_kernel.proofs.progress.Progress.stay.Given.{Over}
 use Rattle.event_kernel.proofs.progress.Progress.stay.Goals as goal
 
@@ -16,7 +16,7 @@ pub point-requires : goal.point-requires
 point-requires g c = entry-in c.requires.set c.requires.at c.machine.ensures.machine
 
 pub enter-requires-clause-can : goal.enter-requires-clause-can
-enter-requires-clause-can g c = can-put c.requires.set c.requires.at
+enter-requires-clause-can g c = can-add c.requires.set c.requires.at
 
 pub enter-requires-clause-fits : goal.enter-requires-clause-fits
 enter-requires-clause-fits g c =

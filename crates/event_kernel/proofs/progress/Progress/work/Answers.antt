@@ -6,8 +6,8 @@ use Rattle.event_kernel.specs.declared.progress.Progress.{Progress}
 use Rattle.event_kernel.specs.Current.{IsCurrent}
 use Rattle.event_kernel.specs.Segment.{entered}
 use Rattle.event_kernel.specs.Settings.{HasWorked}
-use Rattle.event_kernel.proofs.Working.{entry-in, speed-in, begin, can, fits, ready, turned, idled, full, finished}
-use Rattle.event_kernel.proofs.Quieting.{of-plan}
+use Rattle.event_kernel.proofs.UnitLoop.{entry-in, speed-in, begin, can, fits, ready, turned, idled, full, finished}
+use Rattle.event_kernel.proofs.QuietTicks.{of-plan}
 use Rattle.event_kernel.proofs.progress.Progress.work.Given.{Over}
 use Rattle.event_kernel.proofs.progress.Progress.work.Goals as goal
 use Rattle.event_kernel.proofs.progress.Progress.work.Goals.{then-completed, else-completed, else-loop-rest-test, then-loop-rest-test+in_default, then-rest-gt0, else-rest-gt0}
@@ -16,29 +16,29 @@ pub point-rest-requires : goal.point-rest-requires
 point-rest-requires g c = entry-in c.requires.set c.requires.at c.machine.ensures.machine
 
 pub loop-rest-init : goal.loop-rest-init
-loop-rest-init g c = (
-  begin c.requires.set c.requires.at c.point-rest.result.speed
-      (speed-in c.requires.set c.requires.at c.machine.ensures.machine c.point-rest.ensures),
-  c.requires.current,
-  of-plan c.requires.set c.requires.at,
-)
+loop-rest-init g c = record {
+  so_far = begin c.requires.set c.requires.at c.point-rest.result.speed
+      (speed-in c.requires.set c.requires.at c.machine.ensures.machine c.point-rest.ensures);
+  current = c.requires.current;
+  of = of-plan c.requires.set c.requires.at;
+}
 
 pub lacking-lacks-requires-clause-within : goal.lacking-lacks-requires-clause-within
 lacking-lacks-requires-clause-within g c =
-    (ready c.requires.set c.requires.at c.loop-rest.invariant.0 c.in-Some.task _ c.in-Some.ensures.first refl).1
+    (ready c.requires.set c.requires.at c.loop-rest.invariant.so_far c.in-Some.task _ c.in-Some.ensures.first refl).1
 
 pub enter-requires-clause-can : goal.enter-requires-clause-can
-enter-requires-clause-can g c = can c.requires.set c.requires.at c.loop-rest.invariant.0
+enter-requires-clause-can g c = can c.requires.set c.requires.at c.loop-rest.invariant.so_far
 
 pub enter-requires-clause-fits : goal.enter-requires-clause-fits
 enter-requires-clause-fits g c = omega
-    (arith, c.min-share.ensures, fits c.requires.set c.requires.at c.loop-rest.invariant.0)
+    (arith, c.min-share.ensures, fits c.requires.set c.requires.at c.loop-rest.invariant.so_far)
 
 pub loop-rest-smaller : goal.loop-rest-smaller
 loop-rest-smaller g c =
     let se = c.min-share.ensures ∙ ap (λ u. min c.loop-rest.rest u) c.lacking-lacks.ensures in
     let some : 0 < c.min-share.result =
-    (ready c.requires.set c.requires.at c.loop-rest.invariant.0 c.in-Some.task
+    (ready c.requires.set c.requires.at c.loop-rest.invariant.so_far c.in-Some.task
     c.min-share.result c.in-Some.ensures.first se).2 c.loop-rest-test.true in
     omega (arith, c.loop-rest-test.true, some)
 
@@ -53,22 +53,22 @@ loop-rest-preserved g c =
     elim c.if-completed.branch [
       | then-completed w ↦ w.completed-is ∙ w.if-completed.true ∙ sym (ap (λ b. b || whole) w.if-completed.true)
       | else-completed w ↦ w.completed-is ∙ sym (ap (λ b. b || whole) w.if-completed.false)
-    ] in (
-      turned c.requires.set c.requires.at c.loop-rest.invariant.0
+    ] in record {
+      so_far = turned c.requires.set c.requires.at c.loop-rest.invariant.so_far
           c.in-Some.task share c.in-Some.ensures.first (c.min-share.ensures ∙ ap (λ u. min c.loop-rest.rest u) c.lacking-lacks.ensures)
           whole c.if-completed.completed c.serve.new.self.state c.serve.new.self.trace c.loop-rest-test.true
           (ap (λ u. nat_eq share u) c.lacking-lacks.ensures) now_is c.serve.ensures.state
           (c.serve.ensures.trace ∙ (c.enter.ensures ∙ ap
-          (λ h. entered p st c.args.force.from c.args.force.index h share trace) c.holder_of-holder.ensures)),
-      c.serve.ensures.current,
-      c.serve.ensures.of,
-    )
+          (λ h. entered p st c.args.force.from c.args.force.index h share trace) c.holder_of-holder.ensures));
+      current = c.serve.ensures.current;
+      of = c.serve.ensures.of;
+    }
 
 pub enter-requires-then-rest-gt0-clause-can : goal.enter-requires-then-rest-gt0-clause-can
-enter-requires-then-rest-gt0-clause-can g c = can c.requires.set c.requires.at c.loop-rest.invariant.0
+enter-requires-then-rest-gt0-clause-can g c = can c.requires.set c.requires.at c.loop-rest.invariant.so_far
 
 pub enter-requires-then-rest-gt0-clause-fits : goal.enter-requires-then-rest-gt0-clause-fits
-enter-requires-then-rest-gt0-clause-fits g c = fits c.requires.set c.requires.at c.loop-rest.invariant.0
+enter-requires-then-rest-gt0-clause-fits g c = fits c.requires.set c.requires.at c.loop-rest.invariant.so_far
 
 -- the state and the trace after the tick
 module _ (g : Over) (c : goal.After-advance g) where
@@ -91,22 +91,22 @@ returns-clause-worked g c =
     let ok = c.requires.set in
     let at = c.requires.at in
     elim c.if-rest-gt0.branch [
-      | then-rest-gt0 w ↦ finished ok at c.loop-rest.invariant.0 (ends g c) c.if-rest-gt0.self.trace c.advance.new.self
-          (idled ok at c.loop-rest.invariant.0 c.if-rest-gt0.self.trace w.if-rest-gt0.true
+      | then-rest-gt0 w ↦ finished ok at c.loop-rest.invariant.so_far (ends g c) c.if-rest-gt0.self.trace c.advance.new.self
+          (idled ok at c.loop-rest.invariant.so_far c.if-rest-gt0.self.trace w.if-rest-gt0.true
           (ap (λ (x : Progress g.row.G.Denot). x.trace) w.self-is ∙ w.enter-then-rest-gt0.ensures))
           (moved g c (ap (λ (x : Progress g.row.G.Denot). x.state) w.self-is))
       | else-rest-gt0 w ↦ subst (λ q. HasWorked c.args.set.now g.G.Governor.demand c.args.self.now.state.now c.advance.new.self q c.loop-rest.completed)
           (sym (ap (λ (x : Progress g.row.G.Denot). x.trace) w.self-is))
-          (finished ok at c.loop-rest.invariant.0 (ends g c) c.loop-rest.self.trace c.advance.new.self
-          (full ok at c.loop-rest.invariant.0 (omega arith)) (moved g c (ap (λ (x : Progress g.row.G.Denot). x.state) w.self-is)))
+          (finished ok at c.loop-rest.invariant.so_far (ends g c) c.loop-rest.self.trace c.advance.new.self
+          (full ok at c.loop-rest.invariant.so_far (omega arith)) (moved g c (ap (λ (x : Progress g.row.G.Denot). x.state) w.self-is)))
     ]
 
 -- the counters and the agenda are right before the clock advances
 current : (g : Over) (c : goal.After-advance g) → IsCurrent g.G.Governor.stands c.args.set.now.plan.now c.if-rest-gt0.self
 current g c =
     elim c.if-rest-gt0.branch [
-      | then-rest-gt0 w ↦ subst (IsCurrent g.G.Governor.stands c.args.set.now.plan.now) (sym w.self-is) c.loop-rest.invariant.1
-      | else-rest-gt0 w ↦ subst (IsCurrent g.G.Governor.stands c.args.set.now.plan.now) (sym w.self-is) c.loop-rest.invariant.1
+      | then-rest-gt0 w ↦ subst (IsCurrent g.G.Governor.stands c.args.set.now.plan.now) (sym w.self-is) c.loop-rest.invariant.current
+      | else-rest-gt0 w ↦ subst (IsCurrent g.G.Governor.stands c.args.set.now.plan.now) (sym w.self-is) c.loop-rest.invariant.current
     ]
 
 pub returns-clause-current : goal.returns-clause-current

@@ -8,7 +8,7 @@ use Rattle.look_ahead.proofs.ahead.LookAhead.earliest_deadline.Goals as goal
 pub index-requires : goal.index-requires
 index-requires c =
     let order = c.args.self.now.order.items in
-    let some = some_first c.args.plan.now c.args.view.now c.scheduler-scheduler.ensures.admitted.limits order c.requires.counters.order_is in
+    let some = some_first c.args.plan.now c.args.view.now c.scheduler-admitted.ensures.admitted.limits order c.requires.counters.order_is in
     omega (arith, some)
 
 pub index-requires-2 : goal.index-requires-2
@@ -16,7 +16,7 @@ index-requires-2 c =
     let order = c.args.self.now.order.items in
     let is = c.requires.counters.order_is in
     let i = c.index.result.now in
-    let below = first_below c.args.plan.now c.args.view.now c.scheduler-scheduler.ensures.admitted.limits order is i c.index.ensures in
+    let below = first_below c.args.plan.now c.args.view.now c.scheduler-admitted.ensures.admitted.limits order is i c.index.ensures in
     let rows = ap (λ (v : StateOf). length v.rows) c.view.view_is in
     omega (arith, below, c.requires.of.rows, rows)
 
@@ -27,7 +27,7 @@ returns c =
     let order = c.args.self.now.order.items in
     let is = c.requires.counters.order_is in
     let i = c.index.result.now in
-    let below = first_below plan s c.scheduler-scheduler.ensures.admitted.limits order is i c.index.ensures in
+    let below = first_below plan s c.scheduler-admitted.ensures.admitted.limits order is i c.index.ensures in
     let read = c.index-2.result.now in
     let row = row_read s _ i read c.view.view_is (omega (arith, below, c.requires.of.rows)) c.index-2.ensures in
-    ap (λ (r : Row). r.deadline) row ∙ first_due plan s c.scheduler-scheduler.ensures.admitted.limits order is i c.index.ensures
+    ap (λ (r : Row). r.deadline) row ∙ first_due plan s c.scheduler-admitted.ensures.admitted.limits order is i c.index.ensures

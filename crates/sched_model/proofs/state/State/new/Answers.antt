@@ -8,5 +8,5 @@ pub invariant_of-result : goal.invariant_of-result
 invariant_of-result c =
     let p = c.args.plan.now in
     let all : c.loop-i.i ≡ count p = omega arith in
-    let is = opening_by p c.loop-i.i c.loop-i.rows.items c.loop-i.base.items all c.loop-i.invariant.0 c.loop-i.invariant.1 in
+    let is = opening_by p c.loop-i.i c.loop-i.rows.items c.loop-i.base.items all c.loop-i.invariant.rows c.loop-i.invariant.base in
     subst IsStateOf (sym is) (opening-is_state p)

@@ -5,7 +5,7 @@ use Rattle.std.specs.List.{AllByRecursion}
 use Rattle.std.proofs.lemmas.List.{map-append, length-map}
 use Rattle.std.proofs.lemmas.List.Sums.{sum_by-append, sum_by-cons}
 use Rattle.dvs_base.specs.declared.note.Note.{Note}
-use Rattle.dvs_base.specs.declared.note.Note.TheVariants.{Release, Speed, Run, Idle, Done, End}
+use Rattle.dvs_base.specs.declared.note.Note.TheVariants.{Release, Run, Done}
 use Rattle.grid_fraction.specs.Numbers.{list_below}
 use Rattle.sched_model.specs.Plan.{Plan, count}
 use Rattle.sched_model.specs.Notes.{energy_run, energy_idle}
@@ -16,7 +16,7 @@ use Rattle.energy.specs.Books.{Books, Told, books_of, booked, energy_at_point, H
 use Rattle.dvs_base.specs.NoteTasks.{energy_of_task}
 use Rattle.energy.proofs.Books.{booked-sums, has-room, task-sums}
 use Rattle.event_kernel.specs.SpanNotes.{all_booked, CanBook, HasBooked}
-use Rattle.event_kernel.proofs.Fitting.{AreBooked}
+use Rattle.event_kernel.proofs.NoteRoom.{AreBooked}
 
 -- what holds of each note of a list holds of a note in it
 note-there : (P : Note → Type 0) (xs : List Note) (n : Note) (rest : List Note) → AllByRecursion P (xs ++ n ∷ rest) → P n

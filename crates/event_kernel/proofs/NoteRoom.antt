@@ -15,7 +15,7 @@ use Rattle.governor.specs.Schedule.{ask_of, course}
 use Rattle.event_kernel.specs.declared.notes.TheConstants.{MOST_NOTES}
 use Rattle.event_kernel.specs.Tickwork.{tick_at, whole_span, notes_before}
 use Rattle.event_kernel.proofs.Courses.{course-next, course-len, course-legal}
-use Rattle.event_kernel.proofs.Spanning.{spans-whole}
+use Rattle.event_kernel.proofs.SpanSteps.{spans-whole}
 
 -- the notes are of the plan's tasks, and the sums and the count over them fit into their numbers
 pub record AreBooked (p : Plan) (notes : List Note) : Type 0 where

@@ -1,5 +1,5 @@
 -- From one decision to the next.
-use Rattle.std.proofs.Common.{◌≡◌, ℕ, zero, suc, ◌+◌, ◌-◌, ◌*◌, ◌<◌, ◌≤◌, Bool, true, false, ◌||◌, List, [], ◌∷◌, ◌++◌, length, refl, arith, if◌then◌else◌, ap, ap₂, ◌∙◌, sym, subst, ◌⊎◌, inl, inr, nat_eq, nat_lt, nat_le, add-one, drop, true≢false}
+use Rattle.std.proofs.Common.{◌≡◌, ℕ, zero, suc, ◌+◌, ◌-◌, ◌<◌, ◌≤◌, Bool, true, false, ◌||◌, List, [], ◌∷◌, ◌++◌, length, refl, arith, if◌then◌else◌, ap, ap₂, ◌∙◌, sym, subst, ◌⊎◌, inl, inr, nat_eq, nat_lt, nat_le, add-one, drop, true≢false}
 use Rattle.std.specs.Prelude.{count_by}
 use Rattle.std.proofs.Math.Logic.{⊎_map}
 use Rattle.std.proofs.lemmas.Bool.{cases_lt, or_cases, or_parts, or_left, or_right}
@@ -25,21 +25,21 @@ use Rattle.grid_fraction.proofs.Searches.{any_below-same}
 use Rattle.event_kernel.specs.declared.span_trace.SpanTrace.{SpanTrace}
 use Rattle.governor.specs.Meanings.{OwnDemand}
 use Rattle.governor.specs.Schedule.{ask_of, course}
-use Rattle.event_kernel.specs.Segment.{first_span, notes_with, IsOpen, holder_notes, written_notes, after_segment, ended_trace, new_trace, CanPut, HeldIn}
+use Rattle.event_kernel.specs.Segment.{first_span, notes_with, IsOpen, holder_notes, written_notes, after_segment, ended_trace, new_trace, CanAdd, HeldIn}
 use Rattle.event_kernel.specs.declared.notes.TheConstants.{MOST_NOTES}
 use Rattle.event_kernel.specs.SpanNotes.{kept_notes}
-use Rattle.event_kernel.proofs.Keeping.{kept_notes-then, kept_notes-all}
+use Rattle.event_kernel.proofs.SpanBuffer.{kept_notes-then, kept_notes-all}
 use Rattle.event_kernel.specs.Writing.{HeldNow, Writing}
-use Rattle.event_kernel.specs.Tickwork.{had_at, span_at, tick_at, whole_span, notes_before}
+use Rattle.event_kernel.specs.Tickwork.{had_at, span_at, tick_at, whole_span, notes_before, most_units}
 use Rattle.event_kernel.specs.Boundary.{some_due, speed_note}
 use Rattle.event_kernel.specs.declared.progress.Setting.{Setting}
-use Rattle.event_kernel.specs.declared.progress.InForce.{InForce}
+use Rattle.event_kernel.specs.declared.in_force.InForce.{InForce}
 use Rattle.event_kernel.specs.Runs.{demands_of}
 use Rattle.event_kernel.specs.Settings.{IsSetting, IsAtBoundary, IsBetween, IsInSpan, HasWorked, HasWalked}
-use Rattle.event_kernel.proofs.Entering.{Shows, tells, notes-more, open-start}
+use Rattle.event_kernel.proofs.OpenSegment.{Shows, tells, notes-more, open-start}
 use Rattle.event_kernel.proofs.Courses.{course-next, course-len, exec-within}
 use Rattle.agenda.specs.Agenda.{NonePast}
-use Rattle.event_kernel.proofs.Releasing.{prior-past}
+use Rattle.event_kernel.proofs.BoundaryReleases.{prior-past}
 use Rattle.freq_table.specs.Tables.{lowest_entry}
 
 pub start_decision : (demand : OwnDemand) (p : Plan) (dem : JobDemands) → is_decision p dem (course demand p dem zero) ≡ true
@@ -204,8 +204,8 @@ module _ {set : Setting} (ok : IsSetting set) where
       began = ap (λ (x : Span). x.past) new ∙ ap (course demand p dem) (sym from);
       entry = in_force ∙ sym (ap (λ (x : Span). x.entry) new);
       in_force = in_force;
-      writing = subst (λ x. Writing p dem (ask_of demand p dem) t x (had_at p (course demand p dem t)) (1000000 * t) trace) (sym new)
-          (subst (λ q. Writing p dem (ask_of demand p dem) t fresh (had_at p (course demand p dem t)) (1000000 * t) q) (sym pe) (record {
+      writing = subst (λ x. Writing p dem (ask_of demand p dem) t x (had_at p (course demand p dem t)) (most_units t) trace) (sym new)
+          (subst (λ q. Writing p dem (ask_of demand p dem) t fresh (had_at p (course demand p dem t)) (most_units t) q) (sym pe) (record {
             done = [];
             segments = inl (refl, refl, refl);
             place = omega arith;
@@ -248,20 +248,21 @@ module _ {set : Setting} (ok : IsSetting set) where
       began = ap (λ (x : Span). x.past) on ∙ i.began;
       entry = i.entry ∙ sym (ap (λ (x : Span). x.entry) on);
       in_force = i.in_force ∙ sym still;
-      writing = subst (λ x. Writing p dem (ask_of demand p dem) (t + 1) x (had_at p (course demand p dem (t + 1))) (1000000 * (t + 1)) trace) (sym on) (record {
-        done = h.writing.done;
-        segments = h.writing.segments;
-        place = h.writing.place;
-        taken = held trace.segment.holder h.writing.taken;
-        had =
-            λ k l. subst
-            (λ n. exec p (whole_span demand p dem t).past k n + count_by (same_holder (Held k n)) (whole_span demand p dem t).units
-            ≡ exec p (course demand p dem (t + 1)) k (latest p k (length (course demand p dem (t + 1))))) (sym (steady k l))
-            (h.writing.had k l ∙ ap (λ n. exec p (course demand p dem (t + 1)) k n)
-            (sym (steady k l) ∙ ap (latest p k) (sym (course-len demand p dem (t + 1)))));
-        few = h.writing.few;
-        notes = h.writing.notes;
-      });
+      writing = subst (λ x. Writing p dem (ask_of demand p dem) (t + 1) x (had_at p (course demand p dem (t + 1))) (most_units (t + 1)) trace)
+          (sym on) (record {
+            done = h.writing.done;
+            segments = h.writing.segments;
+            place = h.writing.place;
+            taken = held trace.segment.holder h.writing.taken;
+            had =
+                λ k l. subst
+                (λ n. exec p (whole_span demand p dem t).past k n + count_by (same_holder (Held k n)) (whole_span demand p dem t).units
+                ≡ exec p (course demand p dem (t + 1)) k (latest p k (length (course demand p dem (t + 1))))) (sym (steady k l))
+                (h.writing.had k l ∙ ap (λ n. exec p (course demand p dem (t + 1)) k n)
+                (sym (steady k l) ∙ ap (latest p k) (sym (course-len demand p dem (t + 1)))));
+            few = h.writing.few;
+            notes = h.writing.notes;
+          });
     }
       where
         past : List Tick
@@ -355,7 +356,7 @@ module _ {set : Setting} (ok : IsSetting set) where
       from_is : force.from ≡ length whole.past
       from_is = sym (ap length h.began ∙ course-len demand p dem force.from)
 
-      w : Writing p dem (ask_of demand p dem) last whole (λ i. exec p (course demand p dem (last + 1)) i (latest p i last)) (1000000 * (last + 1)) trace
+      w : Writing p dem (ask_of demand p dem) last whole (λ i. exec p (course demand p dem (last + 1)) i (latest p i last)) (most_units (last + 1)) trace
       w = h.worked.writing
 
       row-last : (i : ℕ) → i < count p → row_at s i ≡ prior_row p dem (tick_at demand p dem last ∷ course demand p dem last) i
@@ -409,7 +410,7 @@ module _ {set : Setting} (ok : IsSetting set) where
           ∙ ap₂ (λ (ps : List Tick) ns. notes_to demand p dem ps ++ ns) h.began
           (sym (ended_trace-whole ∙ kept_notes-all (span_notes p dem (ask_of demand p dem) whole) few))
 
-      pub closing-can : force.index < length p.machine.points → CanPut p s force.from force.index trace
+      pub closing-can : force.index < length p.machine.points → CanAdd p s force.from force.index trace
       closing-can there = record {
         entry = there;
         place = omega (arith, w.place, w.few, h.later, h.before_end, ok.low_ticks);

@@ -6,7 +6,6 @@ use Rattle.grid_fraction.proofs.Counts.{count-append}
 use Rattle.dvs_base.specs.declared.note.Note.{Note}
 use Rattle.dvs_base.specs.declared.note.Note.TheVariants.{End}
 use Rattle.dvs_base.specs.declared.note.Totals.{Totals}
-use Rattle.dvs_base.specs.declared.limits.TheConstants.{MOST_TICKS}
 use Rattle.sched_model.specs.Plan.{Plan}
 use Rattle.sched_model.specs.Jobs.{JobDemands}
 use Rattle.sched_model.specs.Schedule.{schedule_by}
@@ -17,21 +16,20 @@ use Rattle.governor.specs.Schedule.{course}
 use Rattle.sched_model.specs.Notes.{notes_before_end, energy_run, energy_idle}
 use Rattle.sched_model.specs.States.{prior_state, StateOf}
 use Rattle.sched_model.specs.Totals.{totals_of, is_released, is_finished, is_decided}
-use Rattle.sched_model.specs.Admission.{IsAdmitted}
 use Rattle.energy.specs.Books.{Books}
 use Rattle.event_kernel.specs.declared.span_trace.SpanTrace.{SpanTrace}
 use Rattle.event_kernel.specs.SpanNotes.{all_booked, CanBook, HasBooked, notes_before_end_of}
 use Rattle.event_kernel.specs.Runs.{Run, demands_of, notes_of_run}
 use Rattle.event_kernel.specs.Segment.{ended_trace}
 use Rattle.event_kernel.specs.Heard.{HasHeard, HasBalked}
-use Rattle.event_kernel.proofs.Hearing.{heard-append, balked-append, balked_after}
+use Rattle.event_kernel.proofs.HeardLists.{heard-append, balked-append, balked_after}
 use Rattle.event_kernel.specs.Tickwork.{notes_before}
 use Rattle.event_kernel.specs.declared.progress.Setting.{Setting}
-use Rattle.event_kernel.specs.declared.progress.InForce.{InForce}
+use Rattle.event_kernel.specs.declared.in_force.InForce.{InForce}
 use Rattle.event_kernel.specs.Settings.{IsSetting, IsBetween, HasWalked}
-use Rattle.event_kernel.proofs.Booking.{book-all, booked-totals}
-use Rattle.event_kernel.proofs.Fitting.{AreBooked, course-fits}
-use Rattle.event_kernel.proofs.Spanning.{closing-notes}
+use Rattle.event_kernel.proofs.RunAccount.{book-all, booked-totals}
+use Rattle.event_kernel.proofs.NoteRoom.{AreBooked, course-fits}
+use Rattle.event_kernel.proofs.SpanSteps.{closing-notes}
 use Rattle.event_kernel.proofs.Courses.{course-len}
 
 module _ {demand : OwnDemand} {set : Setting} (ok : IsSetting set) {force : InForce} {s : StateOf} {trace : SpanTrace}
@@ -73,12 +71,17 @@ first-between {demand} {set} {s} e =
     )
 
 -- the notes of a span can be added to the account, and it has them then
-pub span-booked : (demand : OwnDemand) (p : Plan) (dem : JobDemands) → IsAdmitted p → ((i : ℕ) → dem i 0 ≡ 0) → (t t' : ℕ)
-    (ns : List Note) (b : Books) (e : ℕ) → t' ≤ MOST_TICKS → notes_before demand p dem t' ≡ notes_before demand p dem t ++ ns
-    → HasBooked p b (notes_before demand p dem t) → e < length p.machine.points
-    → CanBook b ns e × HasBooked p (all_booked b ns e) (notes_before demand p dem t')
-span-booked demand p dem adm none t t' ns b e early is h lt =
-    let all = book-all p ns b (notes_before demand p dem t) e h (subst (AreBooked p) is ((course-fits demand p dem adm none t').all early)) lt in
+pub span-booked : (demand : OwnDemand) {set : Setting} → IsSetting set → (t : ℕ) {t' : ℕ} (ns : List Note) {b : Books} {e : ℕ} → t' ≤ set.ticks
+    → notes_before demand set.plan.now (demands_of set.plan.now set.demands.now) t'
+    ≡ notes_before demand set.plan.now (demands_of set.plan.now set.demands.now) t ++ ns
+    → HasBooked set.plan.now b (notes_before demand set.plan.now (demands_of set.plan.now set.demands.now) t)
+    → e < length set.plan.now.machine.points
+    → CanBook b ns e
+    × HasBooked set.plan.now (all_booked b ns e) (notes_before demand set.plan.now (demands_of set.plan.now set.demands.now) t')
+span-booked demand {set} ok t {t'} ns {b} {e} early is h lt =
+    let p = set.plan.now in
+    let fits = (course-fits demand p (demands_of p set.demands.now) ok.admitted ok.within.none t').all (omega (arith, early, ok.low_ticks)) in
+    let all = book-all p ns b (notes_before demand p (demands_of p set.demands.now) t) e h (subst (AreBooked p) is fits) lt in
     (all.0, subst (HasBooked p (all_booked b ns e)) (sym is) all.1)
 
 -- all notes of a run, and their totals

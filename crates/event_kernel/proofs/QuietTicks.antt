@@ -6,6 +6,7 @@ use Rattle.std.proofs.lemmas.Bool.{cases_lt}
 use Rattle.std.proofs.lemmas.Bool.Decides.{nat_tests}
 use Rattle.grid_fraction.proofs.Searches.{any_below-found}
 use Rattle.grid_fraction.proofs.Least.{least-below, least-above, least-found}
+use Rattle.freq_table.specs.declared.limits.TheConstants.{TOP_SPEED}
 use Rattle.sched_model.specs.declared.state.Row.{Row}
 use Rattle.sched_model.specs.Plan.{Plan, count, point}
 use Rattle.sched_model.specs.Jobs.{JobDemands, latest}
@@ -22,21 +23,21 @@ use Rattle.governor.specs.Schedule.{course}
 use Rattle.governor.specs.Steps.{IsBeforeAll}
 use Rattle.event_kernel.specs.declared.span_trace.SpanTrace.{SpanTrace}
 use Rattle.agenda.specs.Agenda.{IsFirstUndone}
-use Rattle.event_kernel.specs.Segment.{CanPut, IsFirst}
+use Rattle.event_kernel.specs.Segment.{CanAdd, IsFirst}
 use Rattle.event_kernel.specs.Tickwork.{tick_at, gives}
 use Rattle.event_kernel.specs.Boundary.{some_due}
 use Rattle.event_kernel.specs.declared.progress.Setting.{Setting}
-use Rattle.event_kernel.specs.declared.progress.InForce.{InForce}
+use Rattle.event_kernel.specs.declared.in_force.InForce.{InForce}
 use Rattle.event_kernel.specs.Runs.{demands_of}
 use Rattle.event_kernel.specs.Settings.{IsSetting, AreQuiet, IsInSpan, IsLastTick, IsLastAfter, HasWorked, HasWalked}
 use Rattle.event_kernel.proofs.Bounds.{Bounds, bounds}
-use Rattle.event_kernel.proofs.Handing.{Handing, key, start, first-open}
+use Rattle.event_kernel.proofs.GivenUnits.{Handing, key, start, first-open}
 use Rattle.event_kernel.proofs.Ofplan.{of-state}
-use Rattle.event_kernel.proofs.Deciding.{at-decision}
+use Rattle.event_kernel.proofs.DecisionStates.{at-decision}
 use Rattle.event_kernel.proofs.Courses.{course-next, course-len, low-exec}
-use Rattle.event_kernel.proofs.Working.{Working, entry-there, begin, can, ready}
-use Rattle.event_kernel.proofs.Spanning.{ends-span}
-use Rattle.event_kernel.proofs.Staying.{run_on, row-served, due-served, first-served}
+use Rattle.event_kernel.proofs.UnitLoop.{Working, entry-there, begin, can, ready}
+use Rattle.event_kernel.proofs.SpanSteps.{ends-span}
+use Rattle.event_kernel.proofs.QuietStep.{run_on, row-served, due-served, first-served}
 
 -- the first row that is not done, from the two clauses of the search for it
 pub is-first : (p : Plan) (s : StateOf) (r : Option ℕ) → IfNone r ((k : ℕ) → k < count p → (row_at s k).done ≡ true)
@@ -81,12 +82,12 @@ module _ {set : Setting} (ok : IsSetting set) where
         (λ i l. (let b = before i l in omega (arith, b))) in
         omega (arith, late, here.before_end)
 
-    pub can-put : CanPut p st force.from force.index trace
-    can-put = can ok here w0
+    pub can-add : CanAdd p st force.from force.index trace
+    can-add = can ok here w0
 
     pub fit : {first : Option ℕ} {n : ℕ} → AreQuiet set force st first n → (n * f < 2 ^ 63) × (trace.segment.units + n * f < 2 ^ 64)
     fit {first} {n} quiet =
-        let some : n * f ≤ n * 1000000 = mul-le-mul_left n (adm.low_speed force.index) in
+        let some : n * f ≤ n * TOP_SPEED = mul-le-mul_left n (adm.low_speed force.index) in
         let lt = quiet.before_end in
         (omega (arith, some, lt, ok.low_ticks), omega (arith, some, lt, ok.low_ticks, here.writing.place, here.writing.few))
 

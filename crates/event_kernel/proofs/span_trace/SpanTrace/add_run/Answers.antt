@@ -11,8 +11,8 @@ use Rattle.sched_model.proofs.States.{row_read}
 use Rattle.energy.specs.Segments.{segment_energy}
 use Rattle.event_kernel.specs.SpanNotes.{kept_notes}
 use Rattle.event_kernel.specs.Segment.{with_notes, holder_notes, HeldIn}
-use Rattle.event_kernel.proofs.Keeping.{kept_notes-append}
-use Rattle.event_kernel.proofs.span_trace.SpanTrace.put_run.Goals as goal
+use Rattle.event_kernel.proofs.SpanBuffer.{kept_notes-append}
+use Rattle.event_kernel.proofs.span_trace.SpanTrace.add_run.Goals as goal
 
 pub returns-then-row : goal.returns-then-row
 returns-then-row c =

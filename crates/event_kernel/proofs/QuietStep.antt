@@ -21,12 +21,12 @@ use Rattle.event_kernel.specs.Segment.{after_segment, is_turn, with_units, enter
 use Rattle.event_kernel.specs.Tickwork.{served, gives}
 use Rattle.event_kernel.specs.Boundary.{some_due}
 use Rattle.event_kernel.specs.declared.progress.Setting.{Setting}
-use Rattle.event_kernel.specs.declared.progress.InForce.{InForce}
+use Rattle.event_kernel.specs.declared.in_force.InForce.{InForce}
 use Rattle.event_kernel.specs.Runs.{demands_of}
 use Rattle.event_kernel.specs.Settings.{IsSetting, AreQuiet, IsInSpan, HasWorked}
 use Rattle.event_kernel.proofs.Bounds.{Bounds, bounds}
-use Rattle.event_kernel.proofs.Working.{Working, entry-there, begin, rows-there, turned, idled, full, finished}
-use Rattle.event_kernel.proofs.Spanning.{goes-on}
+use Rattle.event_kernel.proofs.UnitLoop.{Working, entry-there, begin, rows-there, turned, idled, full, finished}
+use Rattle.event_kernel.proofs.SpanSteps.{goes-on}
 
 -- the units of a tick and of n more
 abbrev pub units_in : ℕ → ℕ → ℕ

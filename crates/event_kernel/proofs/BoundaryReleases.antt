@@ -24,7 +24,7 @@ use Rattle.sched_model.proofs.States.{next_job, prior-due, due_released, row-ope
 use Rattle.agenda.specs.Agenda.{NonePast, IsFirstDue, next_job_row, opened}
 use Rattle.event_kernel.specs.declared.span_trace.SpanTrace.{SpanTrace}
 use Rattle.event_kernel.specs.Segment.{with_notes}
-use Rattle.event_kernel.proofs.Keeping.{with-append}
+use Rattle.event_kernel.proofs.SpanBuffer.{with-append}
 use Rattle.governor.specs.Meanings.{OwnDemand}
 use Rattle.governor.specs.Schedule.{course}
 use Rattle.event_kernel.specs.Boundary.{needs_nothing, opening_notes}

@@ -25,7 +25,7 @@ use Rattle.grid_fraction.proofs.Searches.{any_below-none, any_below-same, any_be
 use Rattle.sched_model.proofs.States.{row_by}
 use Rattle.agenda.specs.Agenda.{IsFirstUndone}
 use Rattle.event_kernel.specs.Tickwork.{served}
-use Rattle.event_kernel.proofs.Entering.{Shows}
+use Rattle.event_kernel.proofs.OpenSegment.{Shows}
 
 pub given_units-same : (job given given' : ℕ → ℕ) (n : ℕ) (js : List ℕ) → AreBelow n js → ((j : ℕ) → j < n → given j ≡ given' j)
     → given_units given job js ≡ given_units given' job js

@@ -1,11 +1,12 @@
 -- The loop over the units of one tick.
-use Rattle.std.proofs.Common.{◌≡◌, ℕ, ◌+◌, ◌-◌, ◌*◌, ◌^◌, ◌<◌, ◌≤◌, min, Bool, true, false, not, ◌&&◌, ◌||◌, List, [], ◌∷◌, ◌++◌, length, replicate, refl, arith, ap, ap₂, ◌∙◌, sym, subst, ◌⊎◌, inl, inr, append-nil, append_assoc, nat_eq, nat_le}
+use Rattle.std.proofs.Common.{◌≡◌, ℕ, ◌+◌, ◌-◌, ◌^◌, ◌<◌, ◌≤◌, min, Bool, true, false, not, ◌&&◌, ◌||◌, List, [], ◌∷◌, ◌++◌, length, replicate, refl, arith, ap, ap₂, ◌∙◌, sym, subst, ◌⊎◌, inl, inr, append-nil, append_assoc, nat_eq, nat_le}
 use Rattle.std.specs.Prelude.{count_by}
 use Rattle.freq_table.specs.declared.machine.Point.{Point}
 use Rattle.freq_table.specs.Tables.{Table, point_at, speed_at}
 use Rattle.grid_fraction.specs.Numbers.{sum_below, any_below}
 use Rattle.grid_fraction.proofs.Sums.{sum_below-same}
 use Rattle.grid_fraction.proofs.Searches.{any_below-same}
+use Rattle.freq_table.specs.declared.limits.TheConstants.{TOP_SPEED}
 use Rattle.sched_model.specs.declared.state.Row.{Row}
 use Rattle.sched_model.specs.declared.holder.Holder.{Holder}
 use Rattle.sched_model.specs.declared.holder.Holder.TheVariants.{Nobody, Held}
@@ -28,17 +29,17 @@ use Rattle.agenda.specs.Agenda.{IsFirstUndone}
 use Rattle.governor.specs.Meanings.{OwnDemand}
 use Rattle.governor.specs.Schedule.{ask_of, course}
 use Rattle.event_kernel.specs.declared.span_trace.SpanTrace.{SpanTrace}
-use Rattle.event_kernel.specs.Segment.{entered, CanPut, HeldIn}
+use Rattle.event_kernel.specs.Segment.{entered, CanAdd, HeldIn}
 use Rattle.event_kernel.specs.Writing.{HeldNow, Writing}
-use Rattle.event_kernel.specs.Tickwork.{served, span_at, tick_at, whole_span}
+use Rattle.event_kernel.specs.Tickwork.{served, span_at, tick_at, whole_span, most_units}
 use Rattle.event_kernel.specs.declared.progress.Setting.{Setting}
-use Rattle.event_kernel.specs.declared.progress.InForce.{InForce}
+use Rattle.event_kernel.specs.declared.in_force.InForce.{InForce}
 use Rattle.event_kernel.specs.Runs.{demands_of}
 use Rattle.event_kernel.specs.Settings.{IsSetting, IsInSpan, HasWorked}
 use Rattle.event_kernel.proofs.Bounds.{Bounds, bounds}
 use Rattle.event_kernel.proofs.Courses.{course-next, course-len, exec-within}
-use Rattle.event_kernel.proofs.Entering.{Shows, enters}
-use Rattle.event_kernel.proofs.Handing.{raised, sum-raised, key, job, had, units_by, given_units-same, given_row, ends_in, Handing, start, start-units, row-is, shows, first-open, none-open, gives, gives-units, gives-had, count_idle}
+use Rattle.event_kernel.proofs.OpenSegment.{Shows, enters}
+use Rattle.event_kernel.proofs.GivenUnits.{raised, sum-raised, key, job, had, units_by, given_units-same, given_row, ends_in, Handing, start, start-units, row-is, shows, first-open, none-open, gives, gives-units, gives-had, count_idle}
 
 module _ (demand : OwnDemand) (p : Plan) (dem : JobDemands) (t : ℕ) where
   abbrev pub past : List Tick
@@ -53,7 +54,7 @@ module _ (demand : OwnDemand) (p : Plan) (dem : JobDemands) (t : ℕ) where
   Wrote given us more trace =
       Writing p dem (ask_of demand p dem) (length past)
       (record { past = (span_at demand p dem t).past; entry = (span_at demand p dem t).entry; units = (span_at demand p dem t).units ++ us })
-      (λ i. had p dem past i + given i) (1000000 * length past + more) trace
+      (λ i. had p dem past i + given i) (most_units (length past) + more) trace
 
   -- the units of the tick are handed out but for `rest`, and the trace holds those
   pub record Working (rest : ℕ) (completed : Bool) (st : StateOf) (trace : SpanTrace) : Type 0 where
@@ -70,12 +71,12 @@ module _ (demand : OwnDemand) (p : Plan) (dem : JobDemands) (t : ℕ) where
   wrote-more given given' us vs more more' st h n trace some w sh now had_is units much =
       let s0 = span_at demand p dem t in
       let e = enters p dem (ask_of demand p dem) (length past) (record { past = s0.past; entry = s0.entry; units = s0.units ++ us })
-      (λ i. had p dem past i + given i) (λ i. had p dem past i + given' i) (1000000 * length past + more) st h n trace some w sh now had_is in
-      let all : 1000000 * length past + more + n ≡ 1000000 * length past + more' = omega (arith, much) in
+      (λ i. had p dem past i + given i) (λ i. had p dem past i + given' i) (most_units (length past) + more) st h n trace some w sh now had_is in
+      let all : most_units (length past) + more + n ≡ most_units (length past) + more' = omega (arith, much) in
       subst (λ m. Writing p dem (ask_of demand p dem) (length past) (record { past = s0.past; entry = s0.entry; units = s0.units ++ vs })
       (λ i. had p dem past i + given' i) m (entered p st (length s0.past) s0.entry h n trace)) all
       (subst (λ ls. Writing p dem (ask_of demand p dem) (length past) (record { past = s0.past; entry = s0.entry; units = ls })
-      (λ i. had p dem past i + given' i) (1000000 * length past + more + n) (entered p st (length s0.past) s0.entry h n trace))
+      (λ i. had p dem past i + given' i) (most_units (length past) + more + n) (entered p st (length s0.past) s0.entry h n trace))
       (append_assoc s0.units us (replicate n h) ∙ ap (λ ls. s0.units ++ ls) units) e)
 
 module _ {demand : OwnDemand} {set : Setting} (ok : IsSetting set) {force : InForce} {t : ℕ} {st0 : StateOf} {trace0 : SpanTrace}
@@ -122,11 +123,11 @@ module _ {demand : OwnDemand} {set : Setting} (ok : IsSetting set) {force : InFo
       }))
     where
       w0 : Writing p dem (ask_of demand p dem) (length so_far) (record { past = s0.past; entry = s0.entry; units = s0.units ++ [] }) (had p dem so_far)
-          (1000000 * length so_far) trace0
+          (most_units (length so_far)) trace0
       w0 =
           subst (λ ls. Writing p dem (ask_of demand p dem) (length so_far) (record { past = s0.past; entry = s0.entry; units = ls }) (had p dem so_far)
-          (1000000 * length so_far) trace0) (sym (append-nil s0.units))
-          (subst (λ n. Writing p dem (ask_of demand p dem) n s0 (had p dem so_far) (1000000 * n) trace0) (sym long) at.writing)
+          (most_units (length so_far)) trace0) (sym (append-nil s0.units))
+          (subst (λ n. Writing p dem (ask_of demand p dem) n s0 (had p dem so_far) (most_units n) trace0) (sym long) at.writing)
 
       none : Wrote demand p dem t (λ _. 0) [] (sum_below (count p) (λ _. 0)) trace0
       none = record {
@@ -143,10 +144,10 @@ module _ {demand : OwnDemand} {set : Setting} (ok : IsSetting set) {force : InFo
     pub rows-there : length st.rows ≡ count p
     rows-there = ap (λ (s : StateOf). length s.rows) w.hand.state ∙ length-list_below (count p) (given_row p dem so_far w.given)
 
-    slow : fast demand p dem t ≤ 1000000
+    slow : fast demand p dem t ≤ TOP_SPEED
     slow = adm.low_speed (entry_in_force p dem (ask_of demand p dem) so_far)
 
-    pub can : CanPut p st force.from force.index trace
+    pub can : CanAdd p st force.from force.index trace
     can = record {
       entry = entry-there;
       place = omega (arith, w.writing.place, w.writing.few, w.hand.sum, slow, long, at.before_end, ok.low_ticks, at.later);
@@ -271,12 +272,12 @@ module _ {demand : OwnDemand} {set : Setting} (ok : IsSetting set) {force : InFo
           ap (λ u. not (nat_le (dem i (job p dem so_far i)) (had p dem so_far i)) && nat_le (dem i (job p dem so_far i)) u) (had-next i lt))
 
       done : (trace' : SpanTrace) → HasIdled trace' → Writing p dem (ask_of demand p dem) t (whole_span demand p dem t)
-          (λ i. exec p (x ∷ so_far) i (latest p i t)) (1000000 * (t + 1)) trace'
+          (λ i. exec p (x ∷ so_far) i (latest p i t)) (most_units (t + 1)) trace'
       done trace' d =
           subst (λ n. Writing p dem (ask_of demand p dem) n (whole_span demand p dem t) (λ i. exec p (x ∷ so_far) i (latest p i n))
-          (1000000 * (n + 1)) trace') long
+          (most_units (n + 1)) trace') long
           (subst (λ us. Writing p dem (ask_of demand p dem) (length so_far) (record { past = s0.past; entry = s0.entry; units = s0.units ++ us })
-          (λ i. exec p (x ∷ so_far) i (job p dem so_far i)) (1000000 * (length so_far + 1)) trace') units (record {
+          (λ i. exec p (x ∷ so_far) i (job p dem so_far i)) (most_units (length so_far + 1)) trace') units (record {
             done = d.done;
             segments = d.segments;
             place = d.place;
@@ -292,6 +293,6 @@ module _ {demand : OwnDemand} {set : Setting} (ok : IsSetting set) {force : InFo
           record {
             state = is ∙ (ap (λ n. after_advance st (n + 1)) (sym long) ∙ (state ∙ ap (λ ps. prior_state p dem ps) later));
             writing = subst (λ (ps : List Tick). Writing p dem (ask_of demand p dem) t (whole_span demand p dem t) (λ i. exec p ps i (latest p i t))
-                (1000000 * (t + 1)) trace') later (done trace' d);
+                (most_units (t + 1)) trace') later (done trace' d);
             completes = w.hand.ends ∙ completes;
           }

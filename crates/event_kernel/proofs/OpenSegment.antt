@@ -10,7 +10,7 @@ use Rattle.sched_model.specs.declared.holder.Holder.{Holder}
 use Rattle.sched_model.specs.declared.holder.Holder.TheVariants.{Nobody, Held}
 use Rattle.sched_model.specs.Plan.{Plan, count, point}
 use Rattle.sched_model.specs.Jobs.{JobDemands, latest}
-use Rattle.sched_model.specs.Ticks.{PublishedDemand, Tick, exec}
+use Rattle.sched_model.specs.Ticks.{PublishedDemand, exec}
 use Rattle.sched_model.specs.Notes.{same_holder, Span, Piece, pieces_of, position_of, run_energy, had_by, segment_notes, pieces_notes, all_release_notes}
 use Rattle.sched_model.specs.States.{row_at, StateOf}
 use Rattle.sched_model.proofs.PieceLemmas.{piece, same_holder-eq, pieces_of-run, total, total-pieces}
@@ -18,7 +18,7 @@ use Rattle.event_kernel.specs.declared.segment.Segment.{Segment}
 use Rattle.event_kernel.specs.declared.span_trace.SpanTrace.{SpanTrace}
 use Rattle.event_kernel.specs.Segment.{grown, notes_with, IsOpen, holder_notes, written_notes, after_segment, is_turn, with_units, entered}
 use Rattle.event_kernel.specs.SpanNotes.{kept_notes}
-use Rattle.event_kernel.proofs.Keeping.{kept_notes-then}
+use Rattle.event_kernel.proofs.SpanBuffer.{kept_notes-then}
 use Rattle.grid_fraction.proofs.Counts.{count-append}
 use Rattle.event_kernel.specs.Writing.{HeldNow, Writing}
 use Rattle.event_kernel.proofs.Pieces.{pieces_of-more, pieces_of-other, total-append, pieces_notes-append, pieces_notes-grown}

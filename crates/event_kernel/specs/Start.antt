@@ -1,0 +1,32 @@
+-- What a kernel is before its run.
+use Rattle.std.specs.Prelude.{◌≡◌, []}
+use Rattle.dvs_base.specs.declared.kind.GovernorKind.{GovernorKind}
+use Rattle.sched_model.specs.Plan.{Plan}
+use Rattle.sched_model.specs.States.{opening, StateOf}
+use Rattle.energy.specs.Books.{Books}
+use Rattle.governor.specs.Meanings.{OwnDemand}
+use Rattle.event_kernel.specs.declared.progress.Setting.{Setting}
+use Rattle.event_kernel.specs.declared.progress.Progress.{Progress}
+use Rattle.event_kernel.specs.Current.{IsCurrent}
+use Rattle.event_kernel.specs.Meeting.{IsMetRun}
+use Rattle.event_kernel.specs.Runs.{Run}
+use Rattle.event_kernel.specs.Settings.{IsSetting}
+use Rattle.event_kernel.specs.SpanNotes.{HasBooked}
+
+-- the run of a setting
+abbrev pub run_of : Setting → Run
+run_of set = record { plan = set.plan.now; demands = set.demands.now; ticks = set.ticks }
+
+-- a governor's run is at its start
+pub record IsAtStart {G : Type 0} (stands : G → Plan → StateOf → Type 0) (kind : GovernorKind) (demand : OwnDemand)
+    (set : Setting) (progress : Progress G) (account : Books) : Type 0 where
+  -- its plan, its demands and its ticks are those of a run
+  pub setting : IsSetting set
+  -- no job is released yet
+  pub state : progress.state ≡ opening set.plan.now
+  -- the governor's counters and the agenda are right for that state
+  pub current : IsCurrent stands set.plan.now progress
+  -- the account has no note yet
+  pub booked : HasBooked set.plan.now account []
+  -- every deadline of the run will be met, and so will its demands where the kind's always are
+  pub met : IsMetRun kind demand (run_of set)
