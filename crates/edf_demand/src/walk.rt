@@ -71,7 +71,7 @@ fn take_first(next: &mut Queue<ByDue>, tasks: &TaskSet, machine: &Machine) -> u6
     requires low { least_below next.old.limit (due_of next.old.entries) ≤ LONGEST_HYPERPERIOD }
     ensures one_each { next.new.limit ≡ length tasks.now }
     ensures calendar { IsCalendar next.new }
-    ensures first { TakesFirst (plan_of tasks.now machine.now Edf) (due_of next.old.entries) (due_of next.new.entries)
+    ensures taken { TakesFirst (plan_of tasks.now machine.now Edf) (due_of next.old.entries) (due_of next.new.entries)
         result }
 {
     match next.take_first() {

@@ -23,16 +23,13 @@ all-false : (n : ℕ) (test : ℕ → Bool) (i : ℕ) → i < n → test i ≡ f
 all-false n test i lt h = ap not (any_below-found n (λ j. not (test j)) i lt (ap not h))
 
 module _ (p : Plan) (relative : ℕ → ℕ) (con : IsConstrained p relative) where
-  some_period : (i : ℕ) → i < count p → 0 < period p i
-  some_period i h = omega (arith, con.some i h, con.within i h)
-
   -- a job's number is at most its absolute deadline
   few_jobs : (i k : ℕ) → i < count p → suc k ≤ absolute p relative i (suc k)
   unfolding release
   few_jobs i k h =
       let less : suc k - 1 ≡ k = omega arith in
       let grown : (suc k - 1) * period p i ≡ k * period p i = ap (λ (n : ℕ). n * period p i) less in
-      omega (arith, grown, le-mul_of_pos_right k (some_period i h), con.some i h)
+      omega (arith, grown, le-mul_of_pos_right k (omega (arith, con.some i h, con.within i h)), con.some i h)
 
   found : (d : ℕ) → IsDeadline p relative d → is_deadline p relative d ≡ true
   found d at = go at.job at.some at.is

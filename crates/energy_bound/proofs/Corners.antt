@@ -1,6 +1,6 @@
 -- The corners of a table within the limits: their units rise, their costs don't fall, and the first two that hold are those
 -- that the search finds.
-use Rattle.std.proofs.Common.{◌≡◌, ◌≢◌, true, false, ◌⊎◌, inl, inr, ℕ, zero, suc, ◌+◌, ◌-◌, ◌*◌, ◌<◌, ◌≤◌, length, refl, sym, ◌∙◌, ap, ap₂, arith, mul-le-mul, mul-le-mul_left, mul-le-mul_right, eq-or-lt_of_le, subst, Bool, not, nat_lt, nat_le, Ok}
+use Rattle.std.proofs.Common.{◌≡◌, ◌≢◌, true, false, ℕ, zero, suc, ◌+◌, ◌-◌, ◌*◌, ◌<◌, ◌≤◌, length, refl, sym, ◌∙◌, ap, arith, mul-le-mul, mul-le-mul_left, mul-le-mul_right, Bool, not, nat_lt, nat_le, Ok}
 use Rattle.std.proofs.lemmas.Bool.{cases_lt, and_parts, and_from, not-true, not-false, ltb-true, leb-true, lt-ltb, le-leb, false_from_ne_true}
 use Rattle.std.proofs.lemmas.Bool.Decides.{nat_tests}
 use Rattle.freq_table.specs.declared.machine.Point.{Point}
@@ -8,7 +8,7 @@ use Rattle.freq_table.specs.Tables.{Table, point_at, speed_at, IsTable, highest_
 use Rattle.energy.specs.Segments.{segment_energy}
 use Rattle.grid_fraction.specs.Numbers.{all_below, any_below}
 use Rattle.grid_fraction.proofs.Searches.{first_from-is, any_below-none, any_below-false, any_below-found, all-found}
-use Rattle.energy_bound.specs.Corners.{corner_units, corner_cost, last_corner, IsAbove, Holds, IsNoLater, IsFirstPartner, IsFirstPair}
+use Rattle.energy_bound.specs.Corners.{corner_units, corner_cost, last_corner, IsAbove, Holds, IsFirstPartner, IsFirstPair}
 use Rattle.energy_bound.proofs.Lines.{Above, above-rise}
 use Rattle.energy_bound.proofs.Pairs.{enclosed}
 use Rattle.energy_bound.specs.declared.least.Least.{Least}
@@ -18,11 +18,7 @@ use Rattle.energy_bound.specs.FirstPairs.{corner_count, is_above, is_holding, hi
 -- a function that doesn't fall from one number to the next doesn't fall between any two
 pub climb-le : (f : ℕ → ℕ) (last : ℕ) → ((k : ℕ) → suc k ≤ last → f k ≤ f (suc k)) → (j k : ℕ) → j ≤ k → k ≤ last → f j ≤ f k
 climb-le f last step j zero le within = let e : j ≡ 0 = omega arith in omega (arith, ap f e)
-climb-le f last step j (suc k) le within = go (eq-or-lt_of_le le) (climb-le f last step j k)
-  where
-    go : (j ≡ suc k) ⊎ (j < suc k) → (j ≤ k → k ≤ last → f j ≤ f k) → f j ≤ f (suc k)
-    go (inl e) ih = omega (arith, ap f e)
-    go (inr lt) ih = omega (arith, ih (omega arith) (omega arith), step k within)
+climb-le f last step j (suc k) le within = grind (arith, nat_tests, climb-le f last step j k)
 
 pub climb-lt : (f : ℕ → ℕ) (last : ℕ) → ((k : ℕ) → suc k ≤ last → f k < f (suc k)) → (j k : ℕ) → j < k → k ≤ last → f j < f k
 climb-lt f last step j zero lt within = absurd (omega arith)
@@ -52,19 +48,11 @@ corner-idle m k p cost z e is = is ∙ (ap (λ (q : Point). segment_energy m 0 q
 
 pub corner-full : (m : Table) (k : ℕ) (p : Point) (cost : ℕ) → k ≢ 0 → p ≡ point_at m (k - 1)
     → cost ≡ segment_energy m (k - 1) p.speed false → cost ≡ corner_cost m k
-corner-full m zero p cost ne e is = absurd (ne refl)
-corner-full m (suc n) p cost ne e is =
-    let before : suc n - 1 ≡ n = omega arith in
-    is ∙ (ap (λ (q : Point). segment_energy m (suc n - 1) q.speed false) e
-    ∙ (ap (λ i. segment_energy m i (speed_at m i) false) before ∙ full-cost m n))
+corner-full m k p cost ne e is = grind (arith, nat_tests, full-cost)
 
 module _ (m : Table) (table : IsTable m) where
   next-units : (k : ℕ) → suc k ≤ last_corner m → corner_units m k < corner_units m (suc k)
-  next-units zero le = (table.each 0 (omega arith)).some_speed
-  next-units (suc e) le =
-      let next : e + 1 ≡ suc e = omega arith in
-      let rises : speed_at m e < speed_at m (e + 1) = table.rising e (omega arith) in
-      omega (arith, rises, ap (speed_at m) next)
+  next-units k le = grind (arith, nat_tests)
 
   pub units-rise : (j k : ℕ) → j < k → k ≤ last_corner m → corner_units m j < corner_units m k
   units-rise = climb-lt (corner_units m) (last_corner m) next-units
@@ -74,28 +62,16 @@ module _ (m : Table) (table : IsTable m) where
 
   -- corners are in the order of their units
   pub units-order : (j k : ℕ) → j ≤ last_corner m → k ≤ last_corner m → corner_units m j < corner_units m k → j < k
-  units-order j k jl kl lt = go (cases_lt j k)
-    where
-      go : (j < k) ⊎ (k ≤ j) → j < k
-      go (inl less) = less
-      go (inr le) = absurd (omega (arith, units-climb k j le jl))
+  units-order j k jl kl lt = grind (arith, nat_tests, cases_lt, units-climb)
 
   pub units-same : (j k : ℕ) → j ≤ last_corner m → k ≤ last_corner m → corner_units m j ≡ corner_units m k → j ≡ k
-  units-same j k jl kl e = go (cases_lt j k) (cases_lt k j)
-    where
-      go : (j < k) ⊎ (k ≤ j) → (k < j) ⊎ (j ≤ k) → j ≡ k
-      go (inl less) h = absurd (omega (arith, units-rise j k less kl))
-      go (inr le) (inl less) = absurd (omega (arith, units-rise k j less jl))
-      go (inr le) (inr ge) = omega arith
+  units-same j k jl kl e = grind (arith, nat_tests, cases_lt, units-rise)
 
   pub volts-climb : (j k : ℕ) → j ≤ k → k < length m.points → volts m j ≤ volts m k
   volts-climb j k le lt = climb-le (volts m) (length m.points - 1) step j k le (omega arith)
     where
       step : (e : ℕ) → suc e ≤ length m.points - 1 → volts m e ≤ volts m (suc e)
-      step e le' =
-          let next : e + 1 ≡ suc e = omega arith in
-          let more : volts m e ≤ volts m (e + 1) = table.not_falling e (omega arith) in
-          omega (arith, more, ap (volts m) next)
+      step e le' = grind (arith, nat_tests)
 
   -- a full tick costs no less at an entry with a higher speed and voltage
   full-climb : (f g v w : ℕ) → f ≤ g → v ≤ w → f * v * v * 1000 ≤ g * w * w * 1000
@@ -128,28 +104,12 @@ module _ (m : Table) (table : IsTable m) where
 
 -- being above a line, carried over to equal units and costs
 pub above-found : (p c q d x y p' c' q' d' x' y' : ℕ) → p ≡ p' → c ≡ c' → q ≡ q' → d ≡ d' → x ≡ x' → y ≡ y' → IsAbove p c q d x y → IsAbove p' c' q' d' x' y'
-above-found p c q d x y p' c' q' d' x' y' pe ce qe de xe ye h =
-    let rise : d - c ≡ d' - c' = ap₂ (λ v w. v - w) de ce in
-    let more : q - p ≡ q' - p' = ap₂ (λ v w. v - w) qe pe in
-    omega (
-      arith,
-      h,
-      ap₂ (λ v w. v * w) rise xe,
-      ap₂ (λ v w. v * w) ce qe,
-      ap₂ (λ v w. v * w) more ye,
-      ap₂ (λ v w. v * w) de pe,
-    )
+above-found p c q d x y p' c' q' d' x' y' pe ce qe de xe ye h = grind (arith, nat_tests)
 
 module _ (m : Table) (table : IsTable m) (units ticks : ℕ) where
   -- the last corner is a full tick at the highest speed
   pub last-units : corner_units m (last_corner m) ≡ highest_speed m
-  last-units = go (last_corner m) refl
-    where
-      go : (n : ℕ) → last_corner m ≡ n → corner_units m (last_corner m) ≡ highest_speed m
-      go zero e = absurd (let some = table.some in omega arith)
-      go (suc n) e =
-          let before : length m.points - 1 ≡ n = omega arith in
-          ap (corner_units m) e ∙ ap (speed_at m) (sym before)
+  last-units = grind (arith, nat_tests)
 
   -- where the highest speed does the units in the ticks, some two corners hold
   pub some-holds : units ≤ ticks * highest_speed m → (a : ℕ) × ((b : ℕ) × Holds m units ticks a b)
@@ -177,22 +137,7 @@ module _ (m : Table) (table : IsTable m) (units ticks : ℕ) where
 
   -- where no low corner below a holds with any, and b is the first that holds with a, they are the first pair
   pub first-pair : (a b : ℕ) → ((c d : ℕ) → c < a → Holds m units ticks c d → ⊥) → IsFirstPartner m units ticks a b → IsFirstPair m units ticks a b
-  first-pair a b none r = record { holds = r.holds; first = earlier }
-    where
-      earlier : (c d : ℕ) → Holds m units ticks c d → IsNoLater m a b c d
-      earlier c d g = go (cases_lt a c) (cases_lt c a)
-        where
-          go : (a < c) ⊎ (c ≤ a) → (c < a) ⊎ (a ≤ c) → IsNoLater m a b c d
-          go (inl less) over = inl (units-rise m table a c less g.low)
-          go (inr le) (inl less) = absurd (none c d less g)
-          go (inr le) (inr ge) = inr (ap (corner_units m) same, units-climb m table b d (high (cases_lt d b)) g.high)
-            where
-              same : a ≡ c
-              same = omega arith
-
-              high : (d < b) ⊎ (b ≤ d) → b ≤ d
-              high (inl less) = absurd (r.first d less (subst (λ e. Holds m units ticks e d) (sym same) g))
-              high (inr after) = after
+  first-pair a b none r = grind (arith, nat_tests, cases_lt, units-rise, units-climb)
 
 all-each : (n : ℕ) (test : ℕ → Bool) → all_below n test ≡ true → (k : ℕ) → k < n → test k ≡ true
 all-each n test all k lt =
@@ -206,11 +151,7 @@ true-above p c q d x y e = grind (arith, nat_tests)
 
 module _ (m : Table) (units ticks : ℕ) where
   holding-true : (a b : ℕ) → Holds m units ticks a b → is_holding m units ticks a b ≡ true
-  holding-true a b h =
-      and_from _ _ (lt-ltb _ _ h.slower)
-      (and_from _ _ (le-leb _ _ h.enough)
-      (and_from _ _ (le-leb _ _ h.within)
-      (all-found (corner_count m) _ (λ k lt. above-true _ _ _ _ _ _ (h.supporting k (omega arith))))))
+  holding-true a b h = grind (arith, nat_tests, and_from, lt-ltb, le-leb, all-found, above-true)
 
   true-holding : (a b : ℕ) → a ≤ last_corner m → b ≤ last_corner m → is_holding m units ticks a b ≡ true
       → Holds m units ticks a b

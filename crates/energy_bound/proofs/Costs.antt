@@ -49,10 +49,7 @@ module _ (p : Plan) (dem : JobDemands) (ask : PublishedDemand) (some : 1 ≤ len
 
   -- the cost of a tick is that of its running units and of its idle ones
   tick_cost : (v f w share : ℕ) → (w * (v * v * 1000) + (f - w) * 0) + (w * 0 + (f - w) * (v * v * share)) ≡ v * v * (1000 * w + share * (f - w))
-  tick_cost v f w share = go (f - w)
-    where
-      go : (r : ℕ) → (w * (v * v * 1000) + r * 0) + (w * 0 + r * (v * v * share)) ≡ v * v * (1000 * w + share * r)
-      go r = omega arith
+  tick_cost v f w share = grind (arith, nat_tests)
 
   costs : (ticks : List Tick) → IsScheduleBy p dem ask ticks
       → sum_by energy_run (notes ticks) + sum_by energy_idle (notes ticks) ≡ total_cost p.machine (choices_of p ticks)
@@ -82,10 +79,7 @@ module _ (p : Plan) (dem : JobDemands) (ask : PublishedDemand) (some : 1 ≤ len
 
   -- a legal tick gives at most its speed
   choice-next : (past : List Tick) (x : Tick) → IsNext p dem ask past x → IsChoice p.machine (choice_of p x)
-  choice-next past x h = record {
-    entry = subst (λ e. e < length p.machine.points) (sym h.entry) (force-within p dem ask some past);
-    units = shares-fit p dem ask past x h;
-  }
+  choice-next past x h = grind (arith, nat_tests, force-within, units, shares-fit)
 
   choices : (ticks : List Tick) → IsScheduleBy p dem ask ticks → AllByRecursion (IsChoice p.machine) (choices_of p ticks)
   choices [] h = tt
@@ -234,10 +228,7 @@ module _ (m : Table) (table : IsTable m) (units ticks a b : ℕ) (h : Holds m un
 
   mixed-sum : (f : Choice → ℕ) → sum_by f (low_part ++ high_part) ≡ (ticks * corner_units m b - units) * f
       (corner m a) + (units - ticks * corner_units m a) * f (corner m b)
-  mixed-sum f =
-      sum_by-append f low_part high_part
-      ∙ ap₂ (λ v w. v + w) (sum_by-replicate f (ticks * corner_units m b - units) (corner m a))
-      (sum_by-replicate f (units - ticks * corner_units m a) (corner m b))
+  mixed-sum f = grind (arith, nat_tests, sum_by-append, sum_by-replicate, units)
 
   pub reached : IsReached m units ticks (least_of m units ticks a b)
   reached = record {
@@ -276,11 +267,7 @@ module _ (m : Table) (table : IsTable m) (units ticks : ℕ) (l : Least) where
   -- the corners with the low and the high speed are those of the certificate
   pub certified : (a b : ℕ) → a ≤ last_corner m → b ≤ last_corner m → corner_units m a ≡ l.low → corner_units m b ≡ l.high
       → IsCertificate m units ticks l → Holds m units ticks a b × (l ≡ least_of m units ticks a b)
-  certified a b al bl low high (c, d, h, e) =
-      let same_low : c ≡ a = units-same m table c a h.low al (sym (ap (λ (x : Least). x.low) e) ∙ sym low) in
-      let same_high : d ≡ b = units-same m table d b h.high bl (sym (ap (λ (x : Least). x.high) e) ∙ sym high) in
-      subst (λ x. Holds m units ticks x b × (l ≡ least_of m units ticks x b)) same_low
-      (subst (λ y. Holds m units ticks c y × (l ≡ least_of m units ticks c y)) same_high (h, e))
+  certified a b al bl low high c = grind (arith, nat_tests, units-same, units)
 
   -- a bound on the choices for one repetition of the ticks is a bound on the schedules
   bounds-schedules : BoundsChoices m units ticks l → BoundsSchedules m units ticks l

@@ -1,5 +1,6 @@
 -- Some two corners hold, for every number of units that the highest speed does in the ticks.
-use Rattle.std.proofs.Common.{◌≡◌, ◌⊎◌, inl, inr, ℕ, zero, suc, ◌-◌, ◌*◌, ◌<◌, ◌≤◌, sym, ap, subst, arith, mul-le-mul_left, eq-or-lt_of_le}
+use Rattle.std.proofs.lemmas.Bool.Decides.{nat_tests}
+use Rattle.std.proofs.Common.{◌≡◌, ◌⊎◌, inl, inr, ℕ, zero, suc, ◌-◌, ◌*◌, ◌<◌, ◌≤◌, ap, subst, arith, mul-le-mul_left}
 use Rattle.std.proofs.lemmas.Bool.{cases_lt}
 use Rattle.energy_bound.proofs.Lines.{Above, above-first, above-second, ratio-trans, slope-above, above-slope, above-chain}
 
@@ -12,11 +13,7 @@ module _ (u c : ℕ → ℕ) (last : ℕ)
 
   -- what holds up to n and of n + 1 holds up to n + 1
   up_to-more : (P : ℕ → Type 0) (n : ℕ) → ((k : ℕ) → k ≤ n → P k) → P (suc n) → (k : ℕ) → k ≤ suc n → P k
-  up_to-more P n below here k le = go (eq-or-lt_of_le le)
-    where
-      go : (k ≡ suc n) ⊎ (k < suc n) → P k
-      go (inl e) = subst P (sym e) here
-      go (inr lt) = below k (omega arith)
+  up_to-more P n below here k le = grind (arith, nat_tests)
 
   -- the first coordinate's rise from point k to a later point z; `fall` is the second's
   abbrev run : ℕ → ℕ → ℕ
@@ -95,11 +92,7 @@ module _ (u c : ℕ → ℕ) (last : ℕ)
   Enclosed T W n = (a : ℕ) × ((b : ℕ) × Encloses T W n a b)
 
   u-climb : (j k : ℕ) → j ≤ k → k ≤ last → u j ≤ u k
-  u-climb j k jk kl = same (eq-or-lt_of_le jk)
-    where
-      same : (j ≡ k) ⊎ (j < k) → u j ≤ u k
-      same (inl e) = omega (arith, ap u e)
-      same (inr lt) = (let s = rise j k lt kl in omega arith)
+  u-climb j k jk kl = grind (arith, nat_tests)
 
   first-two : (T W : ℕ) → u 0 ≡ 0 → 1 ≤ last → W ≤ T * u 1 → Enclosed T W 1
   first-two T W none le fits = (
@@ -120,19 +113,7 @@ module _ (u c : ℕ → ℕ) (last : ℕ)
 
   -- with one more point, the tangent to it encloses W where it begins low enough
   with-tangent : (T W n p : ℕ) → W ≤ T * u (suc n) → Touches n (suc n) p → T * u p ≤ W → Enclosed T W (suc n)
-  with-tangent T W n p fits t low = (
-    p,
-    (
-      suc n,
-      record {
-        order = omega (arith, t.within);
-        within = omega arith;
-        low = low;
-        high = fits;
-        above = up_to-more (OnLine p (suc n)) n t.above (above-second (u p) (c p) (u (suc n)) (c (suc n)));
-      },
-    ),
-  )
+  with-tangent T W n p fits t low = grind (arith, nat_tests, up_to-more, above-second)
 
   -- with one more point, the pair before it encloses W where the tangent begins too high
   with-before : (T W n p a b : ℕ) → suc n ≤ last → Touches n (suc n) p → W < T * u p → Encloses T W n a b → Encloses T W (suc n) a b

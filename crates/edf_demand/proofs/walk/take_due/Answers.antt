@@ -35,7 +35,7 @@ loop-next-preserved c =
     let is : least_below (count p) next ≡ c.args.now =
     ap (λ (n : ℕ). least_below n next) (sym l.invariant.one_each) ∙ sym c.earliest.ensures ∙ c.loop-next-test.true in
     let on = taken-on p lim old next after c.args.now l.work c.take_first.result l.invariant.taken
-    c.take_first.ensures.first is in
+    c.take_first.ensures.taken is in
     record {
       one_each = c.take_first.ensures.one_each;
       calendar = c.take_first.ensures.calendar;
@@ -51,7 +51,7 @@ loop-next-smaller c =
     let is : least_below (count p) next ≡ c.args.now =
     ap (λ (n : ℕ). least_below n next) (sym l.invariant.one_each) ∙ sym c.earliest.ensures ∙ c.loop-next-test.true in
     falls p lim (due_of c.args.next.now.entries) next (due_of c.take_first.new.next.entries) c.args.now l.work
-    c.take_first.result l.invariant.taken c.take_first.ensures.first is
+    c.take_first.result l.invariant.taken c.take_first.ensures.taken is
 
 pub returns : goal.returns
 returns c =

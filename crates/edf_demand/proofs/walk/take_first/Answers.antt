@@ -18,8 +18,8 @@ returns-in-Some-clause-calendar c =
     put-calendar c.args.next.now c.requires.calendar c.in-Some.job c.take_first.new.self.entries t.entries t.first
     c.task-period.result.period c.insert.new.self t.out (c.insert.ensures.limit ∙ t.limit) c.insert.ensures.entries
 
-pub returns-in-Some-clause-first : goal.returns-in-Some-clause-first
-returns-in-Some-clause-first c =
+pub returns-in-Some-clause-taken : goal.returns-in-Some-clause-taken
+returns-in-Some-clause-taken c =
     let t = c.in-Some.ensures in
     takes-first c.args.next.now c.requires.calendar c.in-Some.job c.take_first.new.self.entries t.entries t.first
     c.task-period.result.period c.insert.new.self t.out (c.insert.ensures.limit ∙ t.limit) c.insert.ensures.entries

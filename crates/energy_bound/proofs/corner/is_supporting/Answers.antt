@@ -1,17 +1,11 @@
+use Rattle.std.proofs.lemmas.Grind.{common_steps}
 use Rattle.std.proofs.Common.{◌≤◌, arith, below_more, refl}
 use Rattle.energy_bound.specs.Corners.{corner_units, corner_cost, IsAbove}
 use Rattle.energy_bound.proofs.Corners.{units-rise, cost-climb, above-found}
 use Rattle.energy_bound.proofs.corner.is_supporting.Goals as goal
 
 pub is_above-requires-clause-slower : goal.is_above-requires-clause-slower
-is_above-requires-clause-slower c =
-    omega (
-      arith,
-      units-rise c.args.machine.now c.as_slice-limits.ensures.limits c.args.a c.args.b c.requires.order
-          c.requires.last,
-      c.nth_corner-low.ensures.units,
-      c.nth_corner-high.ensures.units,
-    )
+is_above-requires-clause-slower c = grind (arith, common_steps, units-rise)
 
 pub is_above-requires-clause-cheaper : goal.is_above-requires-clause-cheaper
 is_above-requires-clause-cheaper c =
