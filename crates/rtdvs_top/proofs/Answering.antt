@@ -4,13 +4,13 @@ use Rattle.dvs_base.specs.Outside.{Files, ShelfView, SinkView, Rose, Lacks, file
 use Rattle.words.specs.declared.command.WordFault.{WordFault}
 use Rattle.words.specs.Commands.{CommandOf, run, admit, traced, workload, response, constrain, poll, least}
 use Rattle.rtdvs_top.specs.Promises.{answer_of_command, Answers, Writes, WritesPart, IsSureOf}
-use Rattle.rtdvs_top.specs.Files.{NamedFile, files_of, CountsPuts, files_needed, files_for, is_passed, passes}
+use Rattle.rtdvs_top.specs.Files.{NamedFile, files_of, files_needed, files_for, is_passed, passes}
+use Rattle.statuses.specs.Status.{CountsPuts, Leaves}
 use Rattle.rtdvs_top.specs.Failing.{FailsFrom, FailsIn}
 use Rattle.rtdvs_top.specs.Prepared.{Ends, EndsSomehow, EndsAs}
-use Rattle.rtdvs_top.specs.Status.{Leaves}
-use Rattle.rtdvs_top.specs.declared.status.FileKind.{FileKind}
-use Rattle.rtdvs_top.specs.declared.status.Status.{Status}
-use Rattle.rtdvs_top.specs.declared.status.Status.TheVariants as status
+use Rattle.statuses.specs.declared.status.FileKind.{FileKind}
+use Rattle.statuses.specs.declared.status.Status.{Status}
+use Rattle.statuses.specs.declared.status.Status.TheVariants as status
 
 -- the answer ends with the load of the first of these files that is lacking, where those before it are passed
 abbrev StopsAt : Files → CommandOf → List NamedFile → Result (List ℕ) Status → Type 0

@@ -16,14 +16,14 @@ use Rattle.words.specs.declared.command.TraceUse.{TraceUse}
 use Rattle.words.specs.declared.command.TraceUse.TheVariants.{Replay, Migrate}
 use Rattle.rtdvs_top.specs.Meanings.{tasks_at, machine_at}
 use Rattle.rtdvs_top.specs.Constrain.{deadlines_at, constrain_answer}
-use Rattle.rtdvs_top.specs.Files.{CountsLoads, CountsPuts, LoadOf, loads_needed}
-use Rattle.rtdvs_top.specs.Probing.{LeavesProbes}
-use Rattle.rtdvs_top.specs.Status.{status_text, Leaves}
-use Rattle.rtdvs_top.specs.declared.status.FileKind.{FileKind}
-use Rattle.rtdvs_top.specs.declared.status.FileKind.TheVariants.{Machine, Demands}
-use Rattle.rtdvs_top.specs.declared.status.Status.{Status}
-use Rattle.rtdvs_top.specs.declared.status.Status.TheVariants.{Done, NotAdmitted, Words, Load, Text, Limit, OverWorst, Differs, Write, NoMemory}
-use Rattle.rtdvs_top.specs.declared.status.Denied.TheVariants.{Offset}
+use Rattle.rtdvs_top.specs.Files.{LoadOf, loads_needed}
+use Rattle.statuses.specs.Status.{CountsLoads, CountsPuts, LeavesProbes, Leaves}
+use Rattle.statuses.specs.StatusLines.{status_text}
+use Rattle.statuses.specs.declared.status.FileKind.{FileKind}
+use Rattle.statuses.specs.declared.status.FileKind.TheVariants.{Machine, Demands}
+use Rattle.statuses.specs.declared.status.Status.{Status}
+use Rattle.statuses.specs.declared.status.Status.TheVariants.{Done, NotAdmitted, Words, Load, Text, Limit, OverWorst, Differs, Write, NoMemory}
+use Rattle.statuses.specs.declared.status.Denied.TheVariants.{Offset}
 
 -- words that name the files t, m and d
 abbrev words : ConstrainOf

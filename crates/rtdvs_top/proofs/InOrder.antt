@@ -4,9 +4,9 @@ use Rattle.dvs_base.specs.Outside.{ShelfView}
 use Rattle.words.specs.Commands.{CommandOf}
 use Rattle.rtdvs_top.specs.Files.{NamedFile, files_of, FailsAt, ReadBefore, LoadOf, PassesBefore, files_for, passes}
 use Rattle.rtdvs_top.specs.Failing.{FailsFrom, FailsIn}
-use Rattle.rtdvs_top.specs.declared.status.FileKind.{FileKind}
-use Rattle.rtdvs_top.specs.declared.status.Status.{Status}
-use Rattle.rtdvs_top.specs.declared.status.Status.TheVariants as status
+use Rattle.statuses.specs.declared.status.FileKind.{FileKind}
+use Rattle.statuses.specs.declared.status.Status.{Status}
+use Rattle.statuses.specs.declared.status.Status.TheVariants as status
 
 fails-at : (passed : NamedFile → Bool) (old new : ShelfView) (kind : FileKind) (place : ℕ) (fs : List NamedFile)
     → FailsFrom passed old new place fs kind → FailsAt old new place fs kind

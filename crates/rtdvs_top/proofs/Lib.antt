@@ -1,10 +1,8 @@
 pub mod Loading
 pub mod Refusing
-pub mod Texts
 pub mod Overloads
 pub mod LineNotes
-pub mod NumberedPuts
-pub mod ProbePuts
+pub mod JoinedLines
 pub mod Noting
 pub mod Published
 pub mod EachPair

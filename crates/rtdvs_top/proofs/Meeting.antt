@@ -6,13 +6,12 @@ use Rattle.probes.specs.Tallies.{ProbeOf}
 use Rattle.words.specs.Commands.{CommandOf, run, traced, poll, least, asks_probes}
 use Rattle.rtdvs_top.specs.Promises.{ToldIn, answer_of_command}
 use Rattle.rtdvs_top.specs.Failing.{IsRefusal, Refuses, FailsIn, CountsStep}
-use Rattle.rtdvs_top.specs.Files.{CountsLoads, files_for}
+use Rattle.rtdvs_top.specs.Files.{files_for}
+use Rattle.statuses.specs.Status.{CountsLoads, LeavesProbes, IsShown}
 use Rattle.rtdvs_top.specs.Prepared.{Ends, EndsAs, PutEnds, NamedBy, NamedIfDone, HasAnswer, IsPrepared, IsPuttable, IsRefused, answer_of, tells_probes, ToldOf, Seen, IsAnswered, MetIn}
-use Rattle.rtdvs_top.specs.Probing.{LeavesProbes}
-use Rattle.rtdvs_top.specs.Status.{IsShown}
-use Rattle.rtdvs_top.specs.declared.put.Prepared.{Prepared}
-use Rattle.rtdvs_top.specs.declared.status.Status.{Status}
-use Rattle.rtdvs_top.specs.declared.status.Status.TheVariants as status
+use Rattle.rtdvs_top.specs.declared.prepared.Prepared.{Prepared}
+use Rattle.statuses.specs.declared.status.Status.{Status}
+use Rattle.statuses.specs.declared.status.Status.TheVariants as status
 use Rattle.rtdvs_top.proofs.Refusing.{ends-refusal}
 
 -- the put of an answer ends as a command with this answer does

@@ -7,11 +7,12 @@ use Rattle.words.specs.Commands.{CommandOf, asks_probes}
 use Rattle.task_model.specs.Tasks.{names_of}
 use Rattle.rtdvs_top.specs.Files.{names_by}
 use Rattle.rtdvs_top.specs.Prepared.{NamedBy, NamedIfDone}
-use Rattle.rtdvs_top.specs.Status.{NotedAs, probe_lines, noted_text}
+use Rattle.statuses.specs.ProbeLines.{probe_lines}
+use Rattle.statuses.specs.Noted.{NotedAs, noted_text}
 use Rattle.rtdvs_top.specs.Probing.{IfAsked}
 use Rattle.rtdvs_top.specs.Promises.{Notes}
-use Rattle.rtdvs_top.specs.declared.status.Status.{Status}
-use Rattle.rtdvs_top.specs.declared.status.Status.TheVariants as status
+use Rattle.statuses.specs.declared.status.Status.{Status}
+use Rattle.statuses.specs.declared.status.Status.TheVariants as status
 
 module _ (files : Files) (c : CommandOf) (tasks : Option (List Task)) (ps : List ProbeOf) where
   same-noted : (asks : Bool) (s : Status) → asks_probes c ≡ asks → NamedBy (Some files) c tasks s → NamedIfDone (Some files) c tasks s

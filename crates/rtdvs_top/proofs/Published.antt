@@ -34,8 +34,8 @@ use Rattle.rtdvs_top.specs.Generated.{run_totals}
 use Rattle.rtdvs_top.specs.Prepared.{answer_of_run, Ends}
 use Rattle.rtdvs_top.specs.Run.{HasMet, text_under}
 use Rattle.probes.specs.Tallies.{ProbeOf, told_notes}
-use Rattle.rtdvs_top.specs.declared.status.Status.{Status}
-use Rattle.rtdvs_top.specs.declared.status.Status.TheVariants as status
+use Rattle.statuses.specs.declared.status.Status.{Status}
+use Rattle.statuses.specs.declared.status.Status.TheVariants as status
 use Rattle.rtdvs_top.proofs.LineNotes.{trace-notes}
 use Rattle.rtdvs_top.proofs.Denying.{within-few}
 use Rattle.rtdvs_top.proofs.Comparisons as comparisons

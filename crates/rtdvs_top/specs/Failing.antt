@@ -2,11 +2,12 @@
 use Rattle.std.specs.Prelude.{◌≡◌, Result, Err, ⊤, ℕ, Ok, Option, Some, None, List, ◌⊎◌, ◌+◌, Bool, [], ◌∷◌, IsTrue, IsOk, is_ok, if◌then◌else◌}
 use Rattle.dvs_base.specs.Outside.{Files, ShelfView}
 use Rattle.words.specs.Commands.{CommandOf}
-use Rattle.rtdvs_top.specs.declared.status.FileKind.{FileKind}
-use Rattle.rtdvs_top.specs.declared.status.Status.{Status}
-use Rattle.rtdvs_top.specs.declared.status.Status.TheVariants as status
+use Rattle.statuses.specs.declared.status.FileKind.{FileKind}
+use Rattle.statuses.specs.declared.status.Status.{Status}
+use Rattle.statuses.specs.declared.status.Status.TheVariants as status
 use Rattle.task_model.specs.declared.task.Task.{Task}
-use Rattle.rtdvs_top.specs.Files.{OfLoad, CountsLoads, LoadFails, NamedFile, files_of, files_for, passes, loads_while}
+use Rattle.rtdvs_top.specs.Files.{LoadFails, NamedFile, files_of, files_for, passes, loads_while}
+use Rattle.statuses.specs.Status.{OfLoad, CountsLoads}
 use Rattle.rtdvs_top.specs.Poll.{server_at}
 
 -- the status of a step that gave no value: the step's refusal, unless the outside or memory explains the status
@@ -33,13 +34,6 @@ IsNoLoad s = OfLoad (λ kind. ⊥) s
 abbrev pub CountsStep : {A : Type 0} → ℕ → ℕ → Result A Status → Type 0
 CountsStep before now (Ok a) = now ≡ before
 CountsStep before now (Err s) = CountsLoads before now s
-
--- the status of a file that wasn't loaded or is refused: it says nothing of a test
-abbrev pub IsOfFile : Status → Type 0
-IsOfFile (status.Load kind) = ⊤
-IsOfFile (status.Text why) = ⊤
-IsOfFile status.NoMemory = ⊤
-IsOfFile s = ⊥
 
 -- where the files are known, the step ends with this status
 abbrev pub Refuses : {A : Type 0} → Option Files → (Files → Result A Status) → Status → Type 0

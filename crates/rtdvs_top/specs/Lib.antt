@@ -1,7 +1,6 @@
 pub mod Meanings
 pub mod Admit
 pub mod Generated
-pub mod Status
 pub mod Probing
 pub mod Run
 pub mod Poll

@@ -8,30 +8,31 @@ use Rattle.sched_model.specs.Plan.{Plan, count, plan_of}
 use Rattle.event_kernel.specs.Runs.{Run, IsListOf}
 use Rattle.dvs_base.specs.declared.limits.TheConstants.{MOST_TICKS}
 use Rattle.words.specs.Commands.{CommandOf, asks_probes, RunOf, TracedOf, LeastOf, PollOf, run, traced, poll, least, ResponseOf}
-use Rattle.rtdvs_top.specs.declared.status.Status.{Status}
-use Rattle.rtdvs_top.specs.declared.status.Status.TheVariants as status
+use Rattle.statuses.specs.declared.status.Status.{Status}
+use Rattle.statuses.specs.declared.status.Status.TheVariants as status
 use Rattle.task_model.specs.Tasks.{names_of}
 use Rattle.edf_demand.specs.Answers.{IsTooLong}
-use Rattle.rtdvs_top.specs.declared.generated.Workload.{Workload}
+use Rattle.rtdvs_top.specs.declared.prepared.Workload.{Workload}
 use Rattle.trace_reader.specs.Traces.{TraceOf, IsEnded}
 use Rattle.dvs_base.specs.WritesText.{Wrote, WroteSome}
 use Rattle.energy_bound.specs.declared.least.Least.{Least}
 use Rattle.dvs_base.specs.PlanWords.{IsPair}
 use Rattle.poll_server.specs.Serving.{ServerOf, request_count}
 use Rattle.probes.specs.Tallies.{ProbeOf}
-use Rattle.rtdvs_top.specs.declared.put.Prepared.{Prepared}
-use Rattle.rtdvs_top.specs.declared.put.Prepared.TheVariants as prepared
+use Rattle.rtdvs_top.specs.declared.prepared.Prepared.{Prepared}
+use Rattle.rtdvs_top.specs.declared.prepared.Prepared.TheVariants as prepared
 use Rattle.std.specs.List.{AllByRecursion}
 use Rattle.dvs_base.specs.declared.note.Totals.{Totals}
 use Rattle.replay.specs.Replays.{NamesTask}
 use Rattle.rtdvs_top.specs.declared.generated.PlannedRun.{PlannedRun}
-use Rattle.rtdvs_top.specs.declared.run.ReadyRun.{ReadyRun}
+use Rattle.rtdvs_top.specs.declared.prepared.ReadyRun.{ReadyRun}
 use Rattle.rtdvs_top.specs.Failing.{FailsIn, EndsWith, IsRefusal, Refuses}
-use Rattle.rtdvs_top.specs.Files.{CountsLoads, files_for, names_by}
+use Rattle.rtdvs_top.specs.Files.{files_for, names_by}
+use Rattle.statuses.specs.Status.{CountsLoads, IsShown}
+use Rattle.statuses.specs.StatusLines.{status_text}
 use Rattle.rtdvs_top.specs.Probing.{IfAsked, RunTold}
 use Rattle.rtdvs_top.specs.Run.{answer_of_plan, run_with, prepared_of}
 use Rattle.rtdvs_top.specs.Promises.{TestedIn, ToldIn, answer_of_command}
-use Rattle.rtdvs_top.specs.Status.{IsShown, status_text}
 use Rattle.rtdvs_top.specs.Constrain.{FailsToKeep}
 use Rattle.rtdvs_top.specs.Generated.{workload_tasks, workload_ticks, workload_totals, workload_text}
 use Rattle.rtdvs_top.specs.Trace.{totals_at, traced_of}
@@ -170,9 +171,9 @@ pub record IsSmall (made : Workload) : Type 0 where
   pub few_ticks : made.ticks ≤ workload_ticks
 
 -- the status of a put: `Done`, or `Write` where it failed
-abbrev pub put_status : {T E : Type 0} → Result T E → Status
-put_status (Ok v) = status.Done
-put_status (Err e) = status.Write
+abbrev pub status_of_put : {T E : Type 0} → Result T E → Status
+status_of_put (Ok v) = status.Done
+status_of_put (Err e) = status.Write
 
 -- a status that the put of an answer can end with; too many jobs are those of the answer
 abbrev pub PutEnds : Result (List ℕ) Status → Status → Type 0

@@ -10,9 +10,9 @@ use Rattle.event_kernel.specs.Runs.{Run, demands_of}
 use Rattle.note_laws.specs.RunText.{run_lines}
 use Rattle.event_kernel.specs.Lines.{StoppedIn}
 use Rattle.probes.specs.Tallies.{ProbeOf, told_notes}
-use Rattle.rtdvs_top.specs.declared.status.Status.{Status}
-use Rattle.rtdvs_top.specs.declared.status.Status.TheVariants as status
-use Rattle.rtdvs_top.specs.Status.{Leaves}
+use Rattle.statuses.specs.declared.status.Status.{Status}
+use Rattle.statuses.specs.declared.status.Status.TheVariants as status
+use Rattle.statuses.specs.Status.{Leaves}
 
 -- Probes under a run of these notes. Where it is done they were told the notes, one by one. Where a write failed they
 -- were told those of the lines before the one that was put.
@@ -32,8 +32,3 @@ RunTold v kind r old new before after s =
 abbrev pub IfAsked : Bool → Type 0 → Type 0
 IfAsked true X = X
 IfAsked false X = ⊤
-
--- where no probes are asked for their list is as before; else every status but `Done` and `Write` leaves it as it was
-abbrev pub LeavesProbes : {V : Type 0} → Bool → Status → V → V → Type 0
-LeavesProbes true s old new = Leaves s old new
-LeavesProbes false s old new = new ≡ old

@@ -1,14 +1,14 @@
 -- What the top call promises, clause by clause.
 use Rattle.std.specs.Prelude.{Result, Ok, ◌≡◌, ⊤, Option, Some, ℕ, List, map, string_bytes, String, [], Err, ◌⊎◌, IsOk, None, ◌≤◌, length, ◌*◌, ◌<◌, ◌≢◌, Bool, false}
-use Rattle.dvs_base.specs.Checks.{and_then}
+use Rattle.dvs_base.specs.Checks.{◌>>=◌}
 use Rattle.dvs_base.specs.Outside.{Files, SinkView, ShelfView, Rose}
 use Rattle.sched_model.specs.Plan.{Plan, plan_of, period, hyper, top_speed}
 use Rattle.sched_model.specs.Admission.{PassesTest}
 use Rattle.words.specs.Commands.{RunOf, AdmitOf, TracedOf, PollOf, CommandOf, run, admit, traced, poll, workload, response, constrain, least, asks_probes}
 use Rattle.words.specs.declared.command.WordFault.{WordFault}
-use Rattle.rtdvs_top.specs.declared.status.Denied.{Denied}
-use Rattle.rtdvs_top.specs.declared.status.Status.{Status}
-use Rattle.rtdvs_top.specs.declared.status.Status.TheVariants as status
+use Rattle.statuses.specs.declared.status.Denied.{Denied}
+use Rattle.statuses.specs.declared.status.Status.{Status}
+use Rattle.statuses.specs.declared.status.Status.TheVariants as status
 use Rattle.std.specs.Io.KnownBytes.{Appends}
 use Rattle.std.specs.declared.alloc.Global.{Global}
 use Rattle.dvs_base.specs.WritesText.{Wrote, WroteSome}
@@ -27,7 +27,7 @@ use Rattle.words.specs.Reading.{command_of}
 use Rattle.energy_bound.specs.declared.least.Least.{Least}
 use Rattle.probes.specs.Tallies.{ProbeOf}
 use Rattle.poll_server.specs.Serving.{ServerOf}
-use Rattle.rtdvs_top.specs.declared.status.Denied.TheVariants as denied
+use Rattle.statuses.specs.declared.status.Denied.TheVariants as denied
 use Rattle.rtdvs_top.specs.Meanings.{tasks_at, machine_at, demands_at}
 use Rattle.rtdvs_top.specs.Trace.{trace_at, trace_answer}
 use Rattle.rtdvs_top.specs.Poll.{server_at, requests_at, poll_answer, polling_of, HasServed}
@@ -38,40 +38,41 @@ use Rattle.rtdvs_top.specs.Response.{response_answer, MeansPlan, RespondsOrIsDen
 use Rattle.rtdvs_top.specs.Constrain.{constrain_answer, OfConstrain}
 use Rattle.rtdvs_top.specs.Least.{least_answer, least_text, IsLeastOn, AreTooMany}
 use Rattle.rtdvs_top.specs.Files.{files_for, LoadOf, PassesBefore, loads_of, loads_needed, names_by}
-use Rattle.rtdvs_top.specs.Status.{status_text, NotedAs, noted_text}
+use Rattle.statuses.specs.StatusLines.{status_text}
+use Rattle.statuses.specs.Noted.{NotedAs, noted_text}
 
 -- the plan of `run`: the tasks and the machine of its files, whose demands are read too
 abbrev pub run_plan : RunOf → Files → Result Plan Status
-run_plan r files =
-    and_then (tasks_at r.tasks files) (λ tasks.
-    and_then (machine_at r.machine files) (λ machine.
-    and_then (demands_at tasks r.demands files) (λ demands.
-    Ok (plan_of tasks machine r.scheduler))))
+run_plan r files = do
+  tasks ← tasks_at r.tasks files
+  machine ← machine_at r.machine files
+  demands ← demands_at tasks r.demands files
+  Ok (plan_of tasks machine r.scheduler)
 
 -- the plan of `admit`: the tasks and the machine of its files
 abbrev pub admit_plan : AdmitOf → Files → Result Plan Status
-admit_plan a files =
-    and_then (tasks_at a.tasks files) (λ tasks.
-    and_then (machine_at a.machine files) (λ machine.
-    Ok (plan_of tasks machine a.scheduler)))
+admit_plan a files = do
+  tasks ← tasks_at a.tasks files
+  machine ← machine_at a.machine files
+  Ok (plan_of tasks machine a.scheduler)
 
 -- the plan of `replay` or `migrate`: the tasks and the machine of its files, and the scheduler that its trace names
 abbrev pub traced_plan : TracedOf → Files → Result Plan Status
-traced_plan r files =
-    and_then (tasks_at r.tasks files) (λ tasks.
-    and_then (machine_at r.machine files) (λ machine.
-    and_then (trace_at tasks r.trace files) (λ t.
-    Ok (plan_of tasks machine t.plan.scheduler))))
+traced_plan r files = do
+  tasks ← tasks_at r.tasks files
+  machine ← machine_at r.machine files
+  t ← trace_at tasks r.trace files
+  Ok (plan_of tasks machine t.plan.scheduler)
 
 -- the plan of `poll`: the tasks and the machine of its files, where a task has the server's name and the requests are
 -- read too
 abbrev pub poll_plan : PollOf → Files → Result Plan Status
-poll_plan q files =
-    and_then (tasks_at q.tasks files) (λ tasks.
-    and_then (server_at q.server tasks) (λ i.
-    and_then (machine_at q.machine files) (λ machine.
-    and_then (requests_at q.requests files) (λ requests.
-    Ok (plan_of tasks machine q.scheduler)))))
+poll_plan q files = do
+  tasks ← tasks_at q.tasks files
+  i ← server_at q.server tasks
+  machine ← machine_at q.machine files
+  requests ← requests_at q.requests files
+  Ok (plan_of tasks machine q.scheduler)
 
 -- there is a plan, and it passes its scheduler's test
 abbrev pub Passes : Result Plan Status → Type 0

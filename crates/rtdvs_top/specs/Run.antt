@@ -1,6 +1,6 @@
 -- The answer of `run`, and what a run that is done has met.
 use Rattle.std.specs.Prelude.{ℕ, List, nat_lt, Result, Ok, Err, if◌then◌else◌, ⊤, Option}
-use Rattle.dvs_base.specs.Checks.{and_then}
+use Rattle.dvs_base.specs.Checks.{◌>>=◌}
 use Rattle.dvs_base.specs.Outside.{Files, SinkView}
 use Rattle.dvs_base.specs.declared.kind.GovernorKind.{GovernorKind}
 use Rattle.dvs_base.specs.declared.kind.Version.{Version}
@@ -14,8 +14,8 @@ use Rattle.event_kernel.specs.Runs.{Run, demands_of}
 use Rattle.probes.specs.Tallies.{ProbeOf}
 use Rattle.dvs_base.specs.declared.limits.TheConstants.{MOST_JOBS}
 use Rattle.words.specs.Commands.{RunOf}
-use Rattle.rtdvs_top.specs.declared.status.Status.{Status}
-use Rattle.rtdvs_top.specs.declared.status.Status.TheVariants as status
+use Rattle.statuses.specs.declared.status.Status.{Status}
+use Rattle.statuses.specs.declared.status.Status.TheVariants as status
 use Rattle.sched_model.specs.Ticks.{Tick, IsMet}
 use Rattle.sched_model.specs.Admission.{PassesTest}
 use Rattle.sched_model.specs.Schedule.{schedule, AlwaysMeets, HasSchedule, HasNoOther, IsTheSchedule}
@@ -35,11 +35,11 @@ answer_of_plan v g demands ticks p =
 
 -- the admitted plan and the demands of `run`, after its tasks were read
 abbrev pub prepared_of : RunOf → List Task → Files → Result (Plan × DemandsOf) Status
-prepared_of r tasks files =
-    and_then (machine_at r.machine files) (λ machine.
-    and_then (demands_at tasks r.demands files) (λ demands.
-    and_then (admission (plan_of tasks machine r.scheduler)) (λ p.
-    Ok (p, demands))))
+prepared_of r tasks files = do
+  machine ← machine_at r.machine files
+  demands ← demands_at tasks r.demands files
+  p ← admission (plan_of tasks machine r.scheduler)
+  Ok (p, demands)
 
 -- the answer of `run` for the plan and the demands that were prepared
 abbrev pub answer_of_prepared : RunOf → Plan × DemandsOf → Result (List ℕ) Status
@@ -47,11 +47,15 @@ answer_of_prepared r x = answer_of_plan r.version r.governor x.1 r.ticks x.0
 
 -- the answer of `run`, after its tasks were read
 abbrev pub run_after_tasks : RunOf → List Task → Files → Result (List ℕ) Status
-run_after_tasks r tasks files = and_then (prepared_of r tasks files) (answer_of_prepared r)
+run_after_tasks r tasks files = do
+  x ← prepared_of r tasks files
+  answer_of_prepared r x
 
 -- the answer of `run`
 abbrev pub run_answer : RunOf → Files → Result (List ℕ) Status
-run_answer r files = and_then (tasks_at r.tasks files) (λ tasks. run_after_tasks r tasks files)
+run_answer r files = do
+  tasks ← tasks_at r.tasks files
+  run_after_tasks r tasks files
 
 -- the demand of each job of a run
 abbrev pub job_demands : Run → JobDemands

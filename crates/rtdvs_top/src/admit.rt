@@ -4,14 +4,14 @@ ghost use Rattle.sched_model.specs.Plan.{plan_of};
 ghost use Rattle.rtdvs_top.specs.Admit.{admission, admitted_text, admitted_of};
 ghost use Rattle.rtdvs_top.specs.Prepared.{IsPrepared, IsRefused};
 ghost use Rattle.rtdvs_top.specs.Failing.{EndsWith, IsNoLoad, Refuses, CountsStep, FailsLater};
-ghost use Rattle.rtdvs_top.specs.Status.{IsShown};
+ghost use Rattle.statuses.specs.Status.{IsShown};
 ghost use Rattle.words.specs.Commands.{admit as admit_of};
 ghost use Rattle.words.specs.Shown.{shown_admit};
 ghost use Rattle.rtdvs_top.specs.Meanings.{Gives};
 ghost use Rattle.rtdvs_top.specs.Files.{MakesLoads, loads_needed};
 
 use crate::files::{load_machine, load_tasks};
-use crate::put::Prepared;
+use crate::prepared::Prepared;
 use crate::{Denied, Status};
 use dvs_base::{Line, NoMemory, Part, Scheduler, Shelf, line_of};
 use edf_admit::{EdfFault, edf_admit};
@@ -88,8 +88,7 @@ fn load_admitted<S: Shelf>(
     ensures shown { IfErr result IsShown }
 {
     let machine = load_machine(alloc, words.machine, shelf)?;
-    let plan = admit(alloc, words.scheduler, tasks, &machine)?;
-    Ok(plan)
+    admit(alloc, words.scheduler, tasks, &machine)
 }
 
 /// What `admit` prepares, and the tasks where they were read.

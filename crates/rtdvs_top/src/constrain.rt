@@ -5,34 +5,22 @@ ghost use Rattle.sched_model.specs.Plan.{plan_of};
 ghost use Rattle.edf_demand.specs.Deadlines.{AreFor};
 ghost use Rattle.words.specs.Commands.{constrain as constrain_of};
 ghost use Rattle.words.specs.Shown.{shown_constrain};
-ghost use Rattle.rtdvs_top.specs.Constrain.{deadline_status, deadlines_at, constrained_text, constrain_with, constrain_after_tasks, KeepsDeadlines, IsKept};
+ghost use Rattle.rtdvs_top.specs.Constrain.{deadlines_at, constrained_text, constrain_with, constrain_after_tasks, KeepsDeadlines, IsKept};
 ghost use Rattle.rtdvs_top.specs.Prepared.{RefusesBy, IsPrepared, IsRefused};
-ghost use Rattle.rtdvs_top.specs.Failing.{EndsWith, Refuses, CountsStep, IsLoadOf, IsNoLoad, IsOfFile, FailsLater, loads_later};
+ghost use Rattle.rtdvs_top.specs.Failing.{EndsWith, Refuses, CountsStep, IsLoadOf, IsNoLoad, FailsLater, loads_later};
 ghost use Rattle.rtdvs_top.specs.Meanings.{Gives};
 ghost use Rattle.rtdvs_top.specs.Files.{MakesLoads, loads_needed};
-ghost use Rattle.rtdvs_top.specs.Status.{IsShown};
+ghost use Rattle.statuses.specs.Status.{IsOfFile, IsShown};
 
 use crate::files::{load_file, load_machine, load_tasks};
-use crate::put::Prepared;
-use crate::{Denied, FileKind, Status, TextFault};
+use crate::prepared::Prepared;
+use crate::{Denied, FileKind, Status};
 use dvs_base::{Line, Part, Shelf, line_of};
-use edf_demand::{ConstrainFault, Constrained, DeadlineFault, Deadlines, constrain};
+use edf_demand::{ConstrainFault, Constrained, Deadlines, constrain};
 use freq_table::Machine;
 use std::alloc::Global;
 use task_model::TaskSet;
 use words::command::ConstrainWords;
-
-// A refusal of a deadline file as a status.
-fn deadline_status(why: DeadlineFault) -> Status
-    ensures is { result ≡ deadline_status why }
-    ensures of_file { IsOfFile result }
-    ensures shown { IsShown result }
-{
-    match why {
-        DeadlineFault::NoMemory => Status::NoMemory,
-        why => Status::Text(TextFault::Deadlines(why)),
-    }
-}
 
 // The relative deadlines of a file.
 fn load_deadlines<S: Shelf>(
@@ -51,10 +39,7 @@ fn load_deadlines<S: Shelf>(
     ensures shown { IfErr result IsShown }
 {
     let bytes = load_file(alloc, FileKind::Deadlines, name, shelf)?;
-    match Deadlines::read(alloc, &bytes, tasks) {
-        Ok(deadlines) => Ok(deadlines),
-        Err(why) => Err(deadline_status(why)),
-    }
+    Ok(Deadlines::read(alloc, &bytes, tasks)?)
 }
 
 // The line of the speed that was found.
@@ -126,8 +111,7 @@ fn load_constrained<S: Shelf>(
 {
     let machine = load_machine(alloc, words.machine, shelf)?;
     let deadlines = load_deadlines(alloc, words.deadlines, tasks, shelf)?;
-    let line = lowest_line(alloc, tasks, &deadlines, &machine)?;
-    Ok(line)
+    lowest_line(alloc, tasks, &deadlines, &machine)
 }
 
 /// What `constrain` prepares, and the tasks where they were read.

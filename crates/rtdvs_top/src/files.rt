@@ -1,16 +1,16 @@
 // The files that the words name: loaded, and read.
 ghost use Rattle.std.specs.Prelude.{◌≡◌, ◌<◌, ◌^◌, Some, length, map, option_map, IfOk, IfErr};
-ghost use Rattle.rtdvs_top.specs.Meanings.{longest, bytes_at, tasks_at, machine_at, demands_at, task_status, machine_status, demand_status, Gives};
-ghost use Rattle.rtdvs_top.specs.Failing.{Refuses, CountsStep, IsLoadOf, IsOfFile};
-ghost use Rattle.rtdvs_top.specs.Files.{MakesLoads, OfLoad, FailsAt, if_named};
-ghost use Rattle.rtdvs_top.specs.Status.{IsShown};
+ghost use Rattle.rtdvs_top.specs.Meanings.{longest, bytes_at, tasks_at, machine_at, demands_at, Gives};
+ghost use Rattle.rtdvs_top.specs.Failing.{Refuses, CountsStep, IsLoadOf};
+ghost use Rattle.rtdvs_top.specs.Files.{MakesLoads, FailsAt, if_named};
+ghost use Rattle.statuses.specs.Status.{OfLoad, IsOfFile, IsShown};
 
 use crate::{FileKind, Status, TextFault};
-use demand_list::{DemandFault, Demands, worst_list};
+use demand_list::{Demands, worst_list};
 use dvs_base::{LONGEST_FILE, LONGEST_TRACE, LoadFault, Shelf};
-use freq_table::{Machine, MachineFault};
+use freq_table::Machine;
 use std::alloc::Global;
-use task_model::{TaskFault, TaskSet};
+use task_model::TaskSet;
 
 // The longest file of a kind that is read, in bytes.
 fn longest(file: FileKind) -> u64
@@ -55,51 +55,6 @@ pub(crate) fn load_file<S: Shelf>(
     Ok(bytes)
 }
 
-// A refusal of a task file as a status.
-fn task_status(why: TaskFault) -> Status
-    ensures is { result ≡ task_status why }
-    ensures of_file { IsOfFile result }
-    ensures shown { IsShown result }
-{
-    match why {
-        TaskFault::NoMemory => Status::NoMemory,
-        why => Status::Text(TextFault::Tasks(why)),
-    }
-}
-
-// A refusal of a machine file as a status.
-fn machine_status(why: MachineFault) -> Status
-    ensures is { result ≡ machine_status why }
-    ensures of_file { IsOfFile result }
-    ensures shown { IsShown result }
-{
-    match why {
-        MachineFault::NoMemory => Status::NoMemory,
-        why => Status::Text(TextFault::Machine(why)),
-    }
-}
-
-// A refusal of a demand file as a status.
-fn demand_status(why: DemandFault) -> Status
-    ensures { result ≡ demand_status why }
-{
-    match why {
-        DemandFault::NoMemory => Status::NoMemory,
-        DemandFault::OverWorst {
-            task,
-            job,
-            units,
-            worst,
-        } => Status::OverWorst {
-            task,
-            job,
-            units,
-            worst,
-        },
-        why => Status::Text(TextFault::Demands(why)),
-    }
-}
-
 /// The tasks of a file.
 pub(crate) fn load_tasks<S: Shelf>(
     alloc: Global,
@@ -115,10 +70,7 @@ pub(crate) fn load_tasks<S: Shelf>(
     ensures shown { IfErr result IsShown }
 {
     let bytes = load_file(alloc, FileKind::Tasks, name, shelf)?;
-    match TaskSet::read(alloc, &bytes) {
-        Ok(tasks) => Ok(tasks),
-        Err(why) => Err(task_status(why)),
-    }
+    Ok(TaskSet::read(alloc, &bytes)?)
 }
 
 /// The machine of a file.
@@ -136,10 +88,7 @@ pub(crate) fn load_machine<S: Shelf>(
     ensures shown { IfErr result IsShown }
 {
     let bytes = load_file(alloc, FileKind::Machine, name, shelf)?;
-    match Machine::read(alloc, &bytes) {
-        Ok(machine) => Ok(machine),
-        Err(why) => Err(machine_status(why)),
-    }
+    Ok(Machine::read(alloc, &bytes)?)
 }
 
 // The demands of a named file.
@@ -158,10 +107,7 @@ fn load_named_demands<S: Shelf>(
     ensures shown { IfErr result IsShown }
 {
     let bytes = load_file(alloc, FileKind::Demands, name, shelf)?;
-    match Demands::read(alloc, &bytes, tasks) {
-        Ok(demands) => Ok(demands),
-        Err(why) => Err(demand_status(why)),
-    }
+    Ok(Demands::read(alloc, &bytes, tasks)?)
 }
 
 /// The demands of a file, or every job's worst case where none is named.
@@ -185,9 +131,6 @@ pub(crate) fn load_demands<S: Shelf>(
 {
     match name {
         Some(name) => load_named_demands(alloc, name, tasks, shelf),
-        None => match worst_list(alloc, tasks) {
-            Ok(demands) => Ok(demands),
-            Err(_) => Err(Status::NoMemory),
-        },
+        None => worst_list(alloc, tasks).map_err(|_| Status::NoMemory),
     }
 }

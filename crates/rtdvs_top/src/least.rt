@@ -6,11 +6,11 @@ ghost use Rattle.rtdvs_top.specs.Least.{corners_text, sign_word, prices_text, le
 ghost use Rattle.rtdvs_top.specs.Failing.{EndsWith, CountsStep, IsNoLoad};
 ghost use Rattle.rtdvs_top.specs.Files.{MakesLoads, loads_needed};
 ghost use Rattle.rtdvs_top.specs.Prepared.{IsPrepared, IsRefused};
-ghost use Rattle.rtdvs_top.specs.Status.{IsShown};
+ghost use Rattle.statuses.specs.Status.{IsShown};
 ghost use Rattle.dvs_base.specs.WritesText.{WritesText};
 
 use crate::files::load_machine;
-use crate::put::Prepared;
+use crate::prepared::Prepared;
 use crate::{Denied, Status};
 use dvs_base::{Failed, Line, Part, Shelf, Sink, line_of, put_two};
 use energy_bound::{Least, Over, least_energy};

@@ -3,50 +3,31 @@ ghost use Rattle.std.specs.Prelude.{◌≡◌, ◌≤◌, Ok, IfOk, IfErr, ◌<�
 ghost use Rattle.dvs_base.specs.declared.limits.TheConstants.{MOST_JOBS};
 ghost use Rattle.sched_model.specs.Jobs.{released_jobs};
 ghost use Rattle.words.specs.Shown.{shown_poll};
-ghost use Rattle.rtdvs_top.specs.Poll.{server_at, request_status, requests_at, polling_of, polling_served, answer_of_polling, HasServed, outcome_text, request_lines, is_served, served_among, polled_line, polled_text};
+ghost use Rattle.rtdvs_top.specs.Poll.{server_at, requests_at, polling_of, polling_served, answer_of_polling, HasServed, outcome_text, request_lines, is_served, served_among, polled_line, polled_text};
 ghost use Rattle.rtdvs_top.specs.Failing.{FindsBefore, loads_served, FailsLater, EndsWith, Refuses, CountsStep, IsLoadOf, IsNoLoad};
 ghost use Rattle.rtdvs_top.specs.Prepared.{IsServer, IsPollable, IsPrepared, IsRefused};
 ghost use Rattle.words.specs.Commands.{poll as poll_of, IsReadyCommand};
 ghost use Rattle.rtdvs_top.specs.Meanings.{Gives};
 ghost use Rattle.rtdvs_top.specs.Files.{MakesLoads, loads_needed};
-ghost use Rattle.rtdvs_top.specs.Status.{IsShown};
+ghost use Rattle.statuses.specs.Status.{IsShown};
 ghost use Rattle.poll_server.specs.Serving.{request_count};
 ghost use Rattle.dvs_base.specs.WritesText.{WritesText};
 
 use crate::admit::admit;
 use crate::at_pair::at_pair;
 use crate::files::{load_file, load_machine, load_tasks};
-use crate::put::Prepared;
+use crate::prepared::{Polling, Prepared};
 use crate::{FileKind, Status, TextFault};
 use dvs_base::{
-    Failed, GovernorKind, Line, NoMemory, Part, Shelf, Short, Sink, Totals, line_of, put_line,
+    Failed, GovernorKind, Line, Part, Shelf, Short, Sink, Totals, line_of, put_line,
 };
 use governor::Publishing;
 use poll_server::{Outcome, PollFault, Served, poll};
-use request_list::{RequestFault, Requests};
+use request_list::Requests;
 use sched_model::Admitted;
 use std::alloc::Global;
-use std::marker::Model;
 use task_model::TaskSet;
 use words::command::PollWords;
-
-/// A polling server: a task of an admitted plan, and the requests that it serves.
-#[derive(Drop)]
-pub(crate) struct Polling {
-    pub(crate) plan: Admitted,
-    pub(crate) server: u32,
-    pub(crate) requests: Requests,
-}
-
-impl Model for Polling {
-    ghost use Rattle.poll_server.specs.Serving.{ServerOf, server_of};
-
-    ghost Value = { ServerOf };
-
-    ghost view = { λ p. server_of p.plan p.server p.requests };
-
-    ghost invariant = { λ p. Unit {0} };
-}
 
 // The place of the task of this name in the file, from 0.
 fn find_server(name: &str, tasks: &TaskSet) -> Result<u32, Status>
@@ -63,17 +44,6 @@ fn find_server(name: &str, tasks: &TaskSet) -> Result<u32, Status>
     }
 }
 
-// A refusal of a request file as a status.
-fn request_status(why: RequestFault) -> Status
-    ensures is { result ≡ request_status why }
-    ensures shown { IsShown result }
-{
-    match why {
-        RequestFault::NoMemory => Status::NoMemory,
-        why => Status::Text(TextFault::Requests(why)),
-    }
-}
-
 // The requests of a file.
 fn load_requests<S: Shelf>(alloc: Global, name: &str, shelf: &mut S) -> Result<Requests, Status>
     ensures read { IfOk result (Gives (S.shows shelf.old).held (requests_at name.now)) }
@@ -84,10 +54,7 @@ fn load_requests<S: Shelf>(alloc: Global, name: &str, shelf: &mut S) -> Result<R
     ensures shown { IfErr result IsShown }
 {
     let bytes = load_file(alloc, FileKind::Requests, name, shelf)?;
-    match Requests::read(alloc, &bytes) {
-        Ok(requests) => Ok(requests),
-        Err(why) => Err(request_status(why)),
-    }
+    Ok(Requests::read(alloc, &bytes)?)
 }
 
 /// The server of a `poll` run, after its tasks were read.
@@ -136,11 +103,8 @@ fn serve_governed<G: Publishing>(
     ensures loads { IfErr result IsNoLoad }
     ensures shown { IfErr result IsShown }
 {
-    let _scheduler = polling.plan.scheduler();
-    let governor = match G::made(alloc, &polling.plan) {
-        Ok(governor) => governor,
-        Err(NoMemory) => return Err(Status::NoMemory),
-    };
+    let _admitted = polling.plan.scheduler();
+    let governor = G::made(alloc, &polling.plan)?;
     match poll(
         alloc,
         &polling.plan,
@@ -254,10 +218,8 @@ fn put_requests<W: Sink>(polling: &Polling, served: &Served, out: &mut W) -> Res
     for m in 0..polling.requests.count() {
         let outcome = served.outcome(m);
         let line = outcome_line(polling, m, outcome);
-        match put_line(&line, out) {
-            Ok(()) => count += one_if_served(outcome),
-            Err(Failed) => return Err(Failed),
-        }
+        put_line(&line, out)?;
+        count += one_if_served(outcome);
     }
     Ok(count)
 }
@@ -271,16 +233,8 @@ pub(crate) fn put_polled<W: Sink>(
     requires { length served.now.outcomes ≡ request_count polling.now }
     ensures { WritesText (W.shows out.old) (W.shows out.new) (polled_text polling.now served.now) result }
 {
-    match put_requests(polling, served, out) {
-        Ok(count) => {
-            let line = last_line(count, served.totals());
-            match put_line(&line, out) {
-                Ok(()) => Ok(()),
-                Err(Failed) => Err(Failed),
-            }
-        }
-        Err(Failed) => Err(Failed),
-    }
+    let count = put_requests(polling, served, out)?;
+    put_line(&last_line(count, served.totals()), out)
 }
 
 /// What `poll` prepares, and the tasks where they were read.

@@ -12,7 +12,7 @@ use crate::constrain::prepare_constrain;
 use crate::generated::prepare_workload;
 use crate::least::prepare_least;
 use crate::poll::prepare_poll;
-use crate::put::Prepared;
+use crate::prepared::Prepared;
 use crate::response::prepare_response;
 use crate::run::prepare_run;
 use crate::trace::prepare_trace;

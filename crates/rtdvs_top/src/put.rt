@@ -1,40 +1,22 @@
-// What a command prepares before anything is put, and its put.
+// The put of what a command prepared.
 ghost use Rattle.std.specs.Prelude.{◌≡◌, map, IfOk, IfErr};
-ghost use Rattle.rtdvs_top.specs.Prepared.{Ends, PutEnds, put_status, IsPuttable, ToldOf, answer_of, tells_probes};
-ghost use Rattle.rtdvs_top.specs.Probing.{LeavesProbes};
-ghost use Rattle.rtdvs_top.specs.Status.{IsShown, Leaves};
+ghost use Rattle.rtdvs_top.specs.Prepared.{Ends, PutEnds, status_of_put, IsPuttable, ToldOf, answer_of, tells_probes};
+ghost use Rattle.statuses.specs.Status.{LeavesProbes, IsShown, Leaves};
 
 use crate::Status;
-use crate::generated::{EdfTotals, Workload, put_made};
+use crate::generated::put_made;
 use crate::least::put_least;
-use crate::poll::{Polling, put_polled};
+use crate::poll::put_polled;
+use crate::prepared::Prepared;
 use crate::response::put_responses;
-use crate::run::{ReadyRun, put_run};
-use dvs_base::{Failed, Line, Sink, put_line};
-use energy_bound::Least;
-use poll_server::Served;
+use crate::run::put_run;
+use dvs_base::{Failed, Sink, put_line};
 use probes::Probe;
-use rm_response::Response;
 use std::alloc::Global;
-use task_model::TaskSet;
-
-/// What a command prepares before anything is put.
-#[derive(Drop)]
-pub(crate) enum Prepared {
-    /// The run whose trace `run` or `migrate` writes.
-    Trace(ReadyRun),
-    /// The line of `admit`, `replay` or `constrain`.
-    Line(Line),
-    Responses(TaskSet, Response),
-    Polled(Polling, Served),
-    Least(Least),
-    /// A generated workload, and the totals of its runs.
-    Made(Workload, EdfTotals),
-}
 
 // The status of a put: `Done`, or `Write` where it failed.
-fn put_status(wrote: Result<(), Failed>) -> Status
-    ensures { result ≡ put_status wrote }
+fn status_of_put(wrote: Result<(), Failed>) -> Status
+    ensures { result ≡ status_of_put wrote }
 {
     match wrote {
         Ok(()) => Status::Done,
@@ -60,11 +42,11 @@ fn put<W: Sink, P: Probe>(
 {
     match prepared {
         Prepared::Trace(run) => put_run(alloc, run, out, probes),
-        Prepared::Line(line) => put_status(put_line(line, out)),
-        Prepared::Responses(tasks, response) => put_status(put_responses(tasks, response, out)),
-        Prepared::Polled(polling, served) => put_status(put_polled(polling, served, out)),
-        Prepared::Least(least) => put_status(put_least(least, out)),
-        Prepared::Made(made, totals) => put_status(put_made(*made, totals, out)),
+        Prepared::Line(line) => status_of_put(put_line(line, out)),
+        Prepared::Responses(tasks, response) => status_of_put(put_responses(tasks, response, out)),
+        Prepared::Polled(polling, served) => status_of_put(put_polled(polling, served, out)),
+        Prepared::Least(least) => status_of_put(put_least(least, out)),
+        Prepared::Made(made, totals) => status_of_put(put_made(*made, totals, out)),
     }
 }
 

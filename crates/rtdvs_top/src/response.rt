@@ -3,17 +3,16 @@ ghost use Rattle.std.specs.Prelude.{◌≡◌, ◌<◌, length, IfOk, OnOk, IfEr
 ghost use Rattle.sched_model.specs.Plan.{plan_of};
 ghost use Rattle.words.specs.Commands.{response as response_of};
 ghost use Rattle.words.specs.Shown.{shown_response};
-ghost use Rattle.rm_response.specs.Denials.{exact_answer};
-ghost use Rattle.rtdvs_top.specs.Response.{responses_or_status, responses_at, response_text, responses_text, Responds};
+ghost use Rattle.rtdvs_top.specs.Response.{responses_on, responses_at, response_text, responses_text, Responds};
 ghost use Rattle.rtdvs_top.specs.Prepared.{DeniesBy, IsPrepared, IsRefused, IsTested};
 ghost use Rattle.rtdvs_top.specs.Failing.{EndsWith, Refuses, CountsStep, IsNoLoad, FailsLater};
 ghost use Rattle.rtdvs_top.specs.Meanings.{Gives};
 ghost use Rattle.rtdvs_top.specs.Files.{MakesLoads, loads_needed};
-ghost use Rattle.rtdvs_top.specs.Status.{IsShown};
+ghost use Rattle.statuses.specs.Status.{IsShown};
 ghost use Rattle.dvs_base.specs.WritesText.{WritesText};
 
 use crate::files::{load_machine, load_tasks};
-use crate::put::Prepared;
+use crate::prepared::Prepared;
 use crate::{Denied, Status};
 use dvs_base::{Failed, Line, Part, Scheduler, Shelf, Sink, line_of, put_line};
 use freq_table::Machine;
@@ -25,11 +24,10 @@ use words::command::ResponseWords;
 // The responses of tasks on a machine.
 fn respond(alloc: Global, tasks: &TaskSet, machine: &Machine) -> Result<Response, Status>
     ensures responses { IfOk result (λ r.
-        responses_or_status (exact_answer (plan_of tasks.now machine.now Scheduler.Rm)) ≡ Ok r) }
+        responses_on tasks.now machine.now ≡ Ok r) }
     ensures one_each { IfOk result (λ r. length r ≡ length tasks.now) }
     ensures proves { OnOk result (Responds (plan_of tasks.now machine.now Scheduler.Rm)) }
-    ensures denied { IfErr result
-        (EndsWith (responses_or_status (exact_answer (plan_of tasks.now machine.now Scheduler.Rm)))) }
+    ensures denied { IfErr result (EndsWith (responses_on tasks.now machine.now)) }
     ensures fails { IfErr result (DeniesBy (plan_of tasks.now machine.now Scheduler.Rm)) }
     ensures loads { IfErr result IsNoLoad }
     ensures shown { IfErr result IsShown }
@@ -66,8 +64,7 @@ fn load_responses<S: Shelf>(
     ensures shown { IfErr result IsShown }
 {
     let machine = load_machine(alloc, words.machine, shelf)?;
-    let response = respond(alloc, tasks, &machine)?;
-    Ok(response)
+    respond(alloc, tasks, &machine)
 }
 
 // The line of a task: its name, and its response in ticks.
@@ -97,10 +94,7 @@ pub(crate) fn put_responses<W: Sink>(
 {
     for i in 0..tasks.count() {
         let line = response_line(tasks, response, i);
-        match put_line(&line, out) {
-            Ok(()) => {}
-            Err(Failed) => return Err(Failed),
-        }
+        put_line(&line, out)?;
     }
     Ok(())
 }

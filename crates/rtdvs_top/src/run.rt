@@ -7,15 +7,15 @@ ghost use Rattle.rtdvs_top.specs.Run.{prepared_of, run_with};
 ghost use Rattle.rtdvs_top.specs.Meanings.{Gives};
 ghost use Rattle.rtdvs_top.specs.Failing.{Refuses, CountsStep, FailsLater, loads_later};
 ghost use Rattle.rtdvs_top.specs.Files.{MakesLoads, loads_needed};
-ghost use Rattle.rtdvs_top.specs.Probing.{LeavesProbes, IfAsked, RunTold};
-ghost use Rattle.rtdvs_top.specs.Status.{IsShown, Leaves};
+ghost use Rattle.rtdvs_top.specs.Probing.{IfAsked, RunTold};
+ghost use Rattle.statuses.specs.Status.{LeavesProbes, IsShown, Leaves};
 ghost use Rattle.dvs_base.specs.PlanWords.{IsPair};
 
 use crate::Status;
 use crate::admit::admit;
 use crate::at_pair::at_pair;
 use crate::files::{load_demands, load_machine, load_tasks};
-use crate::put::Prepared;
+use crate::prepared::{Prepared, ReadyRun};
 use demand_list::Demands;
 use dvs_base::{GovernorKind, NoMemory, Shelf, Sink, Version};
 use event_kernel::{Kernel, KernelFault, WriteFault};
@@ -50,7 +50,7 @@ fn load_planned<S: Shelf>(
     let machine = load_machine(alloc, words.machine, shelf)?;
     let demands = load_demands(alloc, words.demands, tasks, shelf)?;
     let plan = admit(alloc, words.scheduler, tasks, &machine)?;
-    let _scheduler = plan.scheduler();
+    let _admitted = plan.scheduler();
     let _worsts = demands.worsts();
     Ok((plan, demands))
 }
@@ -90,18 +90,6 @@ pub(crate) fn prepare_run<S: Shelf>(
     }
 }
 
-/// A run that is to be written: an admitted plan, the demands of its jobs, the number of ticks, the governor, the version
-/// of the text, and whether the probes are told its notes.
-#[derive(Drop)]
-pub(crate) struct ReadyRun {
-    pub(crate) plan: Admitted,
-    pub(crate) demands: Demands,
-    pub(crate) ticks: u64,
-    pub(crate) governor: GovernorKind,
-    pub(crate) version: Version,
-    pub(crate) probes: bool,
-}
-
 // Writes the trace of a run under governor `G`.
 fn run_governed<G: Publishing, W: Sink, P: Probe>(
     alloc: Global,
@@ -121,7 +109,7 @@ fn run_governed<G: Publishing, W: Sink, P: Probe>(
     ensures shown { IsShown result }
 {
     let _worsts = run.demands.worsts();
-    let _scheduler = run.plan.scheduler();
+    let _admitted = run.plan.scheduler();
     let governor = match G::made(alloc, &run.plan) {
         Ok(governor) => governor,
         Err(NoMemory) => return Status::NoMemory,

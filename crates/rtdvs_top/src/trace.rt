@@ -4,20 +4,19 @@ ghost use Rattle.dvs_base.specs.Checks.{IsUnlessMemory};
 ghost use Rattle.trace_reader.specs.Traces.{IsTrace};
 ghost use Rattle.sched_model.specs.Admission.{IsAdmitted};
 ghost use Rattle.words.specs.Shown.{shown_trace};
-ghost use Rattle.rtdvs_top.specs.Trace.{task_names, task_line, lines_of_tasks, trace_status, trace_of, trace_at, traced_of, replay_status, totals_at, replayed_text, migrated_text, answer_of_traced};
+ghost use Rattle.rtdvs_top.specs.Trace.{task_names, task_line, lines_of_tasks, trace_of, trace_at, traced_of, replay_status, totals_at, replayed_text, migrated_text, answer_of_traced};
 ghost use Rattle.rtdvs_top.specs.Prepared.{IsComparable, IsCompared, IsPrepared, IsPuttable, IsRefused, answer_of, tells_probes};
 ghost use Rattle.words.specs.Commands.{traced as traced_command, traced};
 ghost use Rattle.rtdvs_top.specs.Failing.{FailsLater, loads_later, EndsWith, Refuses, CountsStep, IsLoadOf, IsNoLoad};
 ghost use Rattle.rtdvs_top.specs.Meanings.{Gives};
 ghost use Rattle.rtdvs_top.specs.Files.{MakesLoads, loads_needed};
-ghost use Rattle.rtdvs_top.specs.Status.{IsShown};
+ghost use Rattle.statuses.specs.Status.{IsShown};
 
 use crate::admit::admit;
 use crate::at_pair::at_pair;
 use crate::files::{load_file, load_machine, load_tasks};
-use crate::put::Prepared;
-use crate::run::ReadyRun;
-use crate::{FileKind, Status, TextFault};
+use crate::prepared::{Prepared, ReadyRun};
+use crate::{FileKind, Status};
 use dvs_base::{Line, Name, NoMemory, Part, Shelf, Totals, Version, line_of};
 use governor::Publishing;
 use replay::{ReplayFault, fixed_demands, replay};
@@ -59,17 +58,6 @@ pub(crate) fn task_lines(alloc: Global, tasks: &TaskSet) -> Result<Vec<TaskLine>
     Ok(lines)
 }
 
-// A refusal of a trace file as a status.
-fn trace_status(why: TraceFault) -> Status
-    ensures is { result ≡ trace_status why }
-    ensures shown { IsShown result }
-{
-    match why {
-        TraceFault::NoMemory => Status::NoMemory,
-        why => Status::Text(TextFault::Trace(why)),
-    }
-}
-
 // The trace of a text for these tasks.
 fn read_trace(alloc: Global, bytes: &[u8], tasks: &TaskSet) -> Result<Trace, TraceFault>
     ensures read { IsUnlessMemory TraceFault.NoMemory (λ t. t) result (trace_of tasks.now bytes.now) }
@@ -103,10 +91,7 @@ fn load_trace<S: Shelf>(
     ensures shown { IfErr result IsShown }
 {
     let bytes = load_file(alloc, FileKind::Trace, name, shelf)?;
-    match read_trace(alloc, &bytes, tasks) {
-        Ok(trace) => Ok(trace),
-        Err(why) => Err(trace_status(why)),
-    }
+    Ok(read_trace(alloc, &bytes, tasks)?)
 }
 
 /// The admitted plan and the trace of `replay` or `migrate`, after its tasks were read.

@@ -2,7 +2,7 @@ use Rattle.std.proofs.Common.{◌≡◌, ◌∙◌, ap, arith, refl}
 use Rattle.poll_server.specs.Serving.{request_count}
 use Rattle.poll_server.specs.Outcomes.{outcome_at}
 use Rattle.rtdvs_top.specs.Poll.{outcome_text, request_lines}
-use Rattle.rtdvs_top.proofs.NumberedPuts.{part-put}
+use Rattle.statuses.proofs.NumberedPuts.{part-put}
 use Rattle.rtdvs_top.proofs.poll.put_requests.Goals as goal
 
 pub returns-in-Err-clause-wrote : goal.returns-in-Err-clause-wrote

@@ -11,7 +11,7 @@ use Rattle.rtdvs_top.proofs.poll.serve_governed.Goals as goal
 pub returns-in-Ok-poll-clause-served : goal.returns-in-Ok-poll-clause-served
 returns-in-Ok-poll-clause-served g c =
     let s = c.args.polling.now in
-    let admitted = subst (λ (x : ServerOf). IsAdmitted x.plan) c.polling.view_is c.scheduler-scheduler.ensures.admitted in
+    let admitted = subst (λ (x : ServerOf). IsAdmitted x.plan) c.polling.view_is c.scheduler-admitted.ensures.admitted in
     let publishes = g.met.G.Publishing.publishing.publishes s.plan admitted c.requires.serves in
     let served =
     subst (λ (x : ServerOf). c.in-Ok-poll.served ≡ served_of g.G.Governor.demand x c.args.ticks) c.polling.view_is
@@ -22,7 +22,7 @@ pub returns-in-Ok-poll-clause-kept : goal.returns-in-Ok-poll-clause-kept
 returns-in-Ok-poll-clause-kept g c =
     let s = c.args.polling.now in
     let d = g.G.Governor.demand in
-    let admitted = subst (λ (x : ServerOf). IsAdmitted x.plan) c.polling.view_is c.scheduler-scheduler.ensures.admitted in
+    let admitted = subst (λ (x : ServerOf). IsAdmitted x.plan) c.polling.view_is c.scheduler-admitted.ensures.admitted in
     let publishes = g.met.G.Publishing.publishing.publishes s.plan admitted c.requires.serves in
     let r = c.in-Ok-poll.served in
     let served = subst (λ (x : ServerOf). r ≡ served_of d x c.args.ticks) c.polling.view_is c.in-Ok-poll.ensures.served in

@@ -2,7 +2,8 @@ use Rattle.std.proofs.Common.{length, arith}
 use Rattle.dvs_base.specs.Parts.{joined}
 use Rattle.grid_fraction.specs.Numbers.{list_below}
 use Rattle.rtdvs_top.specs.Response.{response_text}
-use Rattle.rtdvs_top.proofs.NumberedPuts.{joined-below, next-put, part-put}
+use Rattle.statuses.proofs.NumberedPuts.{next-put, part-put}
+use Rattle.rtdvs_top.proofs.JoinedLines.{joined-below}
 use Rattle.rtdvs_top.proofs.response.put_responses.Goals as goal
 
 pub loop-i-preserved : goal.loop-i-preserved

@@ -1,7 +1,7 @@
 use Rattle.std.proofs.Common.{List, map, refl, sym, subst, ap}
 use Rattle.probes.specs.Tallies.{ProbeOf}
 use Rattle.words.specs.Shown.{shown_command}
-use Rattle.rtdvs_top.specs.Files.{CountsPuts}
+use Rattle.statuses.specs.Status.{CountsPuts}
 use Rattle.rtdvs_top.specs.Prepared.{IsAnswered, seen}
 use Rattle.rtdvs_top.proofs.Meeting.{step-puttable, step-kept, step-answered, step-told}
 use Rattle.rtdvs_top.proofs.InOrder.{load-of, passes-before}

@@ -2,7 +2,7 @@
 use Rattle.std.proofs.Common.{inl, inr, ℕ, List, Result, Ok, Err}
 use Rattle.dvs_base.specs.Outside.{SinkView}
 use Rattle.dvs_base.specs.WritesText.{WritesText}
-use Rattle.rtdvs_top.specs.Status.{NotedAs}
+use Rattle.statuses.specs.Noted.{NotedAs}
 
 -- a text that was put is there whole or in part
 pub noted : {T E : Type 0} (a b : SinkView) (t : List ℕ) (r : Result T E) → WritesText a b t r → NotedAs a b t

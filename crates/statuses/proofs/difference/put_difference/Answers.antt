@@ -1,6 +1,6 @@
 use Rattle.dvs_base.proofs.TextPuts.{wrote-then}
 use Rattle.dvs_base.proofs.TextPuts.{wrote-then-some, wrote-some-more}
-use Rattle.rtdvs_top.proofs.difference.put_difference.Goals as goal
+use Rattle.statuses.proofs.difference.put_difference.Goals as goal
 
 pub returns-in-Ok-put_two : goal.returns-in-Ok-put_two
 returns-in-Ok-put_two g c =

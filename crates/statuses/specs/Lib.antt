@@ -1,0 +1,5 @@
+pub mod Status
+pub mod StatusLines
+pub mod ProbeLines
+pub mod Noted
+pub mod Refused
