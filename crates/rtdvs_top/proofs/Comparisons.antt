@@ -22,7 +22,7 @@ use Rattle.replay.specs.declared.fault.ReplayFault.{ReplayFault}
 use Rattle.replay.specs.declared.fault.ReplayFault.TheVariants as replay_fault
 use Rattle.replay.proofs.Fixing.{over-fit}
 use Rattle.rtdvs_top.specs.Trace.{replay_status, totals_at}
-use Rattle.rtdvs_top.specs.Failing.{EndsWith}
+use Rattle.statuses.specs.Steps.{EndsWith}
 use Rattle.statuses.specs.Refused.{or_status}
 
 -- a refusal of a replay ends the comparison

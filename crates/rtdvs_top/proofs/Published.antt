@@ -40,11 +40,6 @@ use Rattle.rtdvs_top.proofs.LineNotes.{trace-notes}
 use Rattle.rtdvs_top.proofs.Denying.{within-few}
 use Rattle.rtdvs_top.proofs.Comparisons as comparisons
 
--- a run of an equal kind of governor ends alike
-pub ends-as : {g k : GovernorKind} (old new : SinkView) (v : Version) (r : Run) (s : Status) → g ≡ k
-    → Ends old new (answer_of_run v k r) s → Ends old new (answer_of_run v g r) s
-ends-as old new v r s same h = subst (λ (x : GovernorKind). Ends old new (answer_of_run v x r) s) (sym same) h
-
 module _ (demand : OwnDemand) (kind : GovernorKind) (p : Plan) (d : DemandsOf) (list : IsListOf p d)
     (low : IsWithinWorsts d) (publishes : Publishes demand kind p) where
   abbrev dem : JobDemands

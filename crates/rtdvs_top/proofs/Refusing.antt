@@ -14,9 +14,9 @@ use Rattle.demand_list.specs.DemandFile.{demand_file}
 use Rattle.statuses.specs.declared.status.FileKind.TheVariants as file
 use Rattle.statuses.specs.declared.status.Status.{Status}
 use Rattle.statuses.specs.declared.status.Status.TheVariants as status
-use Rattle.rtdvs_top.specs.Meanings.{bytes_at, tasks_at, machine_at, demands_at, Gives}
+use Rattle.rtdvs_top.specs.Meanings.{bytes_at, tasks_at, machine_at, demands_at}
 use Rattle.statuses.specs.Refused.{task_status, machine_status, demand_status}
-use Rattle.rtdvs_top.specs.Failing.{Refuses, EndsWith, IsRefusal}
+use Rattle.statuses.specs.Steps.{Gives, Refuses, EndsWith, IsRefusal}
 
 -- a step that ended with a status
 abbrev failed : Status → Result (List Task) Status

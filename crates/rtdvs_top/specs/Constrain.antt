@@ -106,16 +106,13 @@ IsKept (Some files) r tasks (status.NotAdmitted why) =
 IsKept (Some files) r tasks (status.Limit jobs) = OfMeant files r tasks (λ p relative. IsTooLong p jobs)
 IsKept files r tasks s = ⊤
 
--- Holds is true of the tasks that the files mean
-abbrev pub OfMeantTasks : Files → ConstrainOf → (List Task → Type 0) → Type 0
-OfMeantTasks files r Holds = (tasks : List Task) × (tasks_at r.tasks files ≡ Ok tasks) × Holds tasks
-
 -- The test of `constrain`, where the files are known, without a premise. A test that is done, that denies the tasks or
 -- that has too many jobs is of the tasks, the machine and the relative deadlines that its files mean.
 abbrev pub OfConstrain : Option Files → ConstrainOf → Status → Type 0
-OfConstrain (Some files) r status.Done = OfMeantTasks files r (λ tasks. IsKept (Some files) r tasks status.Done)
+OfConstrain (Some files) r status.Done =
+    (tasks : List Task) × (tasks_at r.tasks files ≡ Ok tasks) × IsKept (Some files) r tasks status.Done
 OfConstrain (Some files) r (status.NotAdmitted why) =
-    OfMeantTasks files r (λ tasks. IsKept (Some files) r tasks (status.NotAdmitted why))
+    (tasks : List Task) × (tasks_at r.tasks files ≡ Ok tasks) × IsKept (Some files) r tasks (status.NotAdmitted why)
 OfConstrain (Some files) r (status.Limit jobs) =
-    OfMeantTasks files r (λ tasks. IsKept (Some files) r tasks (status.Limit jobs))
+    (tasks : List Task) × (tasks_at r.tasks files ≡ Ok tasks) × IsKept (Some files) r tasks (status.Limit jobs)
 OfConstrain files r s = ⊤

@@ -85,25 +85,13 @@ files_needed held (f ∷ fs) = held
 abbrev pub files_for : Option Files → CommandOf → Option Files
 files_for held c = files_needed held (files_of c)
 
--- the load of one of these files, which is of this kind, failed; the first of them is the `place`-th load
-abbrev pub FailsAt : ShelfView → ShelfView → ℕ → List NamedFile → FileKind → Type 0
-FailsAt old new place [] kind = ⊥
-FailsAt old new place (f ∷ fs) kind =
-    ((kind ≡ f.kind) × LoadFails old new place f.name) ⊎ FailsAt old new (place + 1) fs kind
-
--- one of these files is of this kind, and those before it are passed
-abbrev pub ReadBefore : (NamedFile → Bool) → List NamedFile → FileKind → Type 0
-ReadBefore passed [] kind = ⊥
-ReadBefore passed (f ∷ fs) kind = (kind ≡ f.kind) ⊎ (IsTrue (passed f) × ReadBefore passed fs kind)
-
--- why a load of a command failed, by the file's place among the command's
-abbrev pub LoadOf : ShelfView → ShelfView → CommandOf → Status → Type 0
-LoadOf old new c s = OfLoad (FailsAt old new 1 (files_of c)) s
-
--- a load fails only after the files before it that the command names were read, where the files are known; that of the
--- machine of `poll` only after its server was found
-abbrev pub PassesBefore : Option Files → CommandOf → Status → Type 0
-PassesBefore files c s = OfLoad (ReadBefore (passes files c) (files_of c)) s
+-- the load of one of these files, which is of this kind, failed, and those before it are passed; the first of them is
+-- the `place`-th load
+abbrev pub FailsFrom : (NamedFile → Bool) → ShelfView → ShelfView → ℕ → List NamedFile → FileKind → Type 0
+FailsFrom passed old new place [] kind = ⊥
+FailsFrom passed old new place (f ∷ fs) kind =
+    ((kind ≡ f.kind) × LoadFails old new place f.name)
+    ⊎ (IsTrue (passed f) × FailsFrom passed old new (place + 1) fs kind)
 
 -- the name of a file, where it is one of tasks
 abbrev pub name_if_tasks : FileKind → List ℕ → Option (List ℕ)

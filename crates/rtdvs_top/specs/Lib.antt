@@ -5,7 +5,7 @@ pub mod Probing
 pub mod Run
 pub mod Poll
 pub mod Files
-pub mod Failing
+pub mod Loads
 pub mod Least
 pub mod Trace
 pub mod Response

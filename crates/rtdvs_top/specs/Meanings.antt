@@ -58,8 +58,3 @@ demands_at tasks None files = Ok (worst_list tasks)
 demands_at tasks (Some name) files = do
   bytes ← bytes_at file.Demands name files
   or_status demand_status (demand_file tasks bytes)
-
--- where the files are known, the step gives this value
-abbrev pub Gives : {A : Type 0} → Option Files → (Files → Result A Status) → A → Type 0
-Gives None step a = ⊤
-Gives (Some files) step a = step files ≡ Ok a

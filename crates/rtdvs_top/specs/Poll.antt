@@ -50,14 +50,19 @@ requests_at name files = do
   bytes ← bytes_at file.Requests name files
   or_status request_status (request_file bytes)
 
--- the server of `poll` in its admitted plan, after its tasks: first its name, then the machine and the requests
-abbrev pub polling_of : PollOf → List Task → Files → Result ServerOf Status
-polling_of q tasks files = do
-  i ← server_at q.server tasks
+-- the server of `poll` at this place of the tasks, in its admitted plan: first the machine, then the requests
+abbrev pub polling_at : PollOf → ℕ → List Task → Files → Result ServerOf Status
+polling_at q i tasks files = do
   machine ← machine_at q.machine files
   requests ← requests_at q.requests files
   p ← admission (plan_of tasks machine q.scheduler)
   Ok (server_of p i requests)
+
+-- the server of `poll` in its admitted plan, after its tasks: first its name
+abbrev pub polling_of : PollOf → List Task → Files → Result ServerOf Status
+polling_of q tasks files = do
+  i ← server_at q.server tasks
+  polling_at q i tasks files
 
 -- the notes of the one schedule in which the server's jobs need what they take, by the governor's published demand
 abbrev pub polling_notes : GovernorKind → ServerOf → ℕ → List Note

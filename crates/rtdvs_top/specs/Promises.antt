@@ -37,7 +37,8 @@ use Rattle.rtdvs_top.specs.Generated.{workload_answer}
 use Rattle.rtdvs_top.specs.Response.{response_answer, MeansPlan, RespondsOrIsDenied, OfTest}
 use Rattle.rtdvs_top.specs.Constrain.{constrain_answer, OfConstrain}
 use Rattle.rtdvs_top.specs.Least.{least_answer, least_text, IsLeastOn, AreTooMany}
-use Rattle.rtdvs_top.specs.Files.{files_for, LoadOf, PassesBefore, loads_of, loads_needed, names_by}
+use Rattle.rtdvs_top.specs.Files.{files_for, files_of, passes, FailsFrom, loads_of, loads_needed, names_by}
+use Rattle.statuses.specs.Status.{OfLoad}
 use Rattle.statuses.specs.StatusLines.{status_text}
 use Rattle.statuses.specs.Noted.{NotedAs, noted_text}
 
@@ -166,15 +167,11 @@ abbrev pub IsSureOf : Option Files → Result CommandOf WordFault → SinkView �
 IsSureOf (Some files) (Ok c) sink = (text : List ℕ) → answer_of_command c files ≡ Ok text → length text ≤ sink.sure
 IsSureOf _ _ sink = ⊥
 
--- why a load of the command failed
+-- A load that failed is of one of the command's files, by its place among them. Where the files are known, those before
+-- it were read; the machine of `poll` is loaded only after its server was found.
 abbrev pub LoadFailed : ShelfView → ShelfView → Result CommandOf WordFault → Status → Type 0
-LoadFailed old new (Ok c) s = LoadOf old new c s
+LoadFailed old new (Ok c) s = OfLoad (FailsFrom (passes (files_for old.held c) c) old new 1 (files_of c)) s
 LoadFailed old new (Err why) s = ⊤
-
--- the files before a load that failed were read
-abbrev pub LoadsInOrder : Option Files → Result CommandOf WordFault → Status → Type 0
-LoadsInOrder files (Ok c) s = PassesBefore files c s
-LoadsInOrder files (Err why) s = ⊤
 
 -- the number of files that the words name
 abbrev pub loads_asked : Result CommandOf WordFault → ℕ
@@ -209,16 +206,11 @@ OfRun (Some files) (Ok (run r)) old new (status.NotAdmitted why) =
     × DeniedPlan (plan_of tasks machine r.scheduler) why
 OfRun files c old new s = ⊤
 
--- what the test of a command proves, where it is one
-abbrev pub TestedIn : Option Files → CommandOf → Status → Type 0
-TestedIn files (response r) s = OfTest files r s
-TestedIn files (constrain r) s = OfConstrain files r s
-TestedIn files c s = ⊤
-
 -- what an exact test proves, where the command is one
 abbrev pub OfTests : Option Files → Result CommandOf WordFault → Status → Type 0
-OfTests files (Ok c) s = TestedIn files c s
-OfTests files (Err why) s = ⊤
+OfTests files (Ok (response r)) s = OfTest files r s
+OfTests files (Ok (constrain r)) s = OfConstrain files r s
+OfTests files c s = ⊤
 
 -- A `poll` run that is done, where its files are known, has served its requests in the one schedule of its server's
 -- plan: each exactly where its job is done, a later one never by an earlier job, and each by the deadline that its
@@ -275,15 +267,9 @@ abbrev pub probes_asked : Result CommandOf WordFault → Bool
 probes_asked (Ok c) = asks_probes c
 probes_asked (Err why) = false
 
--- a `run` command that is done, or whose write failed, told probes its notes, if it asked for probes
-abbrev pub ToldIn : Option Files → CommandOf → SinkView → SinkView → List ProbeOf → List ProbeOf → Status → Type 0
-ToldIn files (run r) old new before after status.Done = FileTold files r old new before after status.Done
-ToldIn files (run r) old new before after status.Write = FileTold files r old new before after status.Write
-ToldIn files c old new before after s = ⊤
-
--- the probes that the words ask for were told the notes of a run that is done; of a run whose write failed they were
--- told the notes of the lines before that write
-abbrev pub Tells : Option Files → Result CommandOf WordFault → SinkView → SinkView
-    → List ProbeOf → List ProbeOf → Status → Type 0
-Tells files (Ok c) old new before after s = ToldIn files c old new before after s
-Tells files (Err why) old new before after s = ⊤
+-- The probes that the words ask for were told the notes of a run that is done. Of a run whose write failed they were told
+-- the notes of the lines before that write.
+abbrev pub Tells : Option Files → Result CommandOf WordFault → SinkView → SinkView → List ProbeOf → List ProbeOf → Status → Type 0
+Tells files (Ok (run r)) old new before after status.Done = FileTold files r old new before after status.Done
+Tells files (Ok (run r)) old new before after status.Write = FileTold files r old new before after status.Write
+Tells files c old new before after s = ⊤

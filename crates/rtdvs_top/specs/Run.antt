@@ -21,7 +21,8 @@ use Rattle.sched_model.specs.Admission.{PassesTest}
 use Rattle.sched_model.specs.Schedule.{schedule, AlwaysMeets, HasSchedule, HasNoOther, IsTheSchedule}
 use Rattle.note_laws.specs.DoneLines.{TellsDeadlines}
 use Rattle.rtdvs_top.specs.Admit.{admission}
-use Rattle.rtdvs_top.specs.Meanings.{Gives, demands_at, machine_at, tasks_at}
+use Rattle.statuses.specs.Steps.{Gives}
+use Rattle.rtdvs_top.specs.Meanings.{demands_at, machine_at, tasks_at}
 use Rattle.rtdvs_top.specs.Probing.{IfAsked, RunTold}
 
 -- the text, where the run doesn't release too many jobs
@@ -69,10 +70,6 @@ ticks_under kind r = schedule r.plan kind (job_demands r) r.ticks
 abbrev pub text_under : Version → GovernorKind → Run → List ℕ
 text_under v kind r = run_text_in v r.plan kind (job_demands r) r.ticks
 
--- some entry of the table meets each published demand of a run
-abbrev pub AlwaysMeetsIn : GovernorKind → Run → Type 0
-AlwaysMeetsIn kind r = AlwaysMeets r.plan kind (job_demands r) r.ticks
-
 -- what a run of an admitted plan, written in this version, has met
 pub record HasMet (v : Version) (kind : GovernorKind) (r : Run) : Type 0 where
   -- the scheduler's stated test passes at the highest speed
@@ -84,8 +81,8 @@ pub record HasMet (v : Version) (kind : GovernorKind) (r : Run) : Type 0 where
   pub deadlines : IsMet r.plan (job_demands r) (ticks_under kind r)
   -- exactly one line of the text says that the job is done, at a position not after its deadline
   pub told : TellsDeadlines r.plan r.ticks (text_under v kind r)
-  -- some entry meets each published demand, unless the governor looks ahead
-  pub speeds : IsAlwaysMet kind → AlwaysMeetsIn kind r
+  -- some entry of the table meets each published demand, unless the governor looks ahead
+  pub speeds : IsAlwaysMet kind → AlwaysMeets r.plan kind (job_demands r) r.ticks
   -- for any published demand, the plan has one schedule of each length
   pub exists : HasSchedule r.plan
   pub unique : HasNoOther r.plan
@@ -94,23 +91,10 @@ pub record HasMet (v : Version) (kind : GovernorKind) (r : Run) : Type 0 where
 abbrev pub run_with : RunOf → Plan → DemandsOf → Run
 run_with r p d = record { plan = p; demands = d; ticks = r.ticks }
 
--- a run of these tasks told probes its notes, by the plan and the demands that were prepared
-abbrev pub PreparedTold : Option Files → RunOf → List Task → SinkView → SinkView
-    → List ProbeOf → List ProbeOf → Status → Type 0
-PreparedTold files r tasks old new before after s =
-    (p : Plan) × (d : DemandsOf) × Gives files (prepared_of r tasks) (p, d)
-    × RunTold r.version r.governor (run_with r p d) old new before after s
-
--- a run of these tasks that is done, or whose write failed, told probes its notes, if the words ask for probes
-abbrev pub ToldBy : Option Files → RunOf → List Task → SinkView → SinkView
-    → List ProbeOf → List ProbeOf → Status → Type 0
-ToldBy files r tasks old new before after status.Done =
-    IfAsked r.probes (PreparedTold files r tasks old new before after status.Done)
-ToldBy files r tasks old new before after status.Write =
-    IfAsked r.probes (PreparedTold files r tasks old new before after status.Write)
-ToldBy files r tasks old new before after s = ⊤
-
--- a run of its file's tasks that is done, or whose write failed, told probes its notes, if the words ask for probes
+-- a run of its file's tasks told probes the notes of the plan and the demands that were prepared, if the words ask for
+-- probes
 abbrev pub FileTold : Option Files → RunOf → SinkView → SinkView → List ProbeOf → List ProbeOf → Status → Type 0
 FileTold files r old new before after s =
-    (tasks : List Task) × Gives files (tasks_at r.tasks) tasks × ToldBy files r tasks old new before after s
+    (tasks : List Task) × Gives files (tasks_at r.tasks) tasks
+    × IfAsked r.probes ((p : Plan) × (d : DemandsOf) × Gives files (prepared_of r tasks) (p, d)
+    × RunTold r.version r.governor (run_with r p d) old new before after s)

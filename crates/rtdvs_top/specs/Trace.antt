@@ -60,11 +60,6 @@ pub record AreFilesOf (r : TracedOf) (files : Files) (p : Plan) (bytes : List �
   pub machine_is : machine_at r.machine files ≡ Ok p.machine
   pub bytes_are : file_of files r.trace ≡ Some bytes
 
--- the trace file is the text of a schedule of the plan for the demand list of these rows
-abbrev pub TellsSchedule : TracedOf → Files → Version → Plan → GovernorKind → ℕ → List DemandRow → Type 0
-TellsSchedule r files v p g ticks rows =
-    (bytes : List ℕ) × AreFilesOf r files p bytes × IsScheduleText v p g ticks rows bytes
-
 -- the trace file is the text of this trace, and of the schedule for the demand list that the trace's notes fix: the
 -- first end of a job fixes its demand, and each other job has its worst case
 pub record TellsOwn (r : TracedOf) (files : Files) (p : Plan) (t : TraceOf) : Type 0 where
@@ -86,8 +81,8 @@ IsDoneUnless loads_rose puts_rose s = ⊥
 abbrev pub OfTrace : Option Files → Result CommandOf WordFault → Type 0 → Type 0 → Status → Type 0
 OfTrace (Some files) (Ok (traced r)) loads_rose puts_rose s =
     (s ≡ status.Done → (p : Plan) × (t : TraceOf) × TellsOwn r files p t)
-    × ((v : Version) (p : Plan) (g : GovernorKind) (ticks : ℕ) (rows : List DemandRow)
-    → TellsSchedule r files v p g ticks rows → IsDoneUnless loads_rose puts_rose s)
+    × ((v : Version) (p : Plan) (g : GovernorKind) (ticks : ℕ) (rows : List DemandRow) (bytes : List ℕ)
+    → AreFilesOf r files p bytes → IsScheduleText v p g ticks rows bytes → IsDoneUnless loads_rose puts_rose s)
 OfTrace files c loads_rose puts_rose s = ⊤
 
 -- the names of tasks

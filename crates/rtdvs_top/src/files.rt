@@ -1,9 +1,9 @@
 // The files that the words name: loaded, and read.
-ghost use Rattle.std.specs.Prelude.{◌≡◌, ◌<◌, ◌^◌, Some, length, map, option_map, IfOk, IfErr};
-ghost use Rattle.rtdvs_top.specs.Meanings.{longest, bytes_at, tasks_at, machine_at, demands_at, Gives};
-ghost use Rattle.rtdvs_top.specs.Failing.{Refuses, CountsStep, IsLoadOf};
-ghost use Rattle.rtdvs_top.specs.Files.{MakesLoads, FailsAt, if_named};
-ghost use Rattle.statuses.specs.Status.{OfLoad, IsOfFile, IsShown};
+ghost use Rattle.std.specs.Prelude.{◌≡◌, ◌<◌, ◌^◌, Some, map, option_map, IfOk, IfErr};
+ghost use Rattle.rtdvs_top.specs.Meanings.{longest, bytes_at, tasks_at, machine_at, demands_at};
+ghost use Rattle.rtdvs_top.specs.Files.{if_named};
+ghost use Rattle.rtdvs_top.specs.Loads.{LoadStep, one_file, each_of};
+ghost use Rattle.statuses.specs.Status.{IsOfFile};
 
 use crate::{FileKind, Status, TextFault};
 use demand_list::{Demands, worst_list};
@@ -34,13 +34,9 @@ pub(crate) fn load_file<S: Shelf>(
     name: &str,
     shelf: &mut S,
 ) -> Result<Vec<u8>, Status>
-    ensures read { IfOk result (λ v. Gives (S.shows shelf.old).held (bytes_at file name.now) v.items) }
-    ensures refused { IfErr result (Refuses (S.shows shelf.old).held (bytes_at file name.now)) }
-    ensures explained { IfErr result (IsLoadOf (S.shows shelf.old) (S.shows shelf.new) file name.now) }
+    ensures step { LoadStep (one_file file name.now (bytes_at file name.now)) (S.shows shelf.old) (S.shows shelf.new)
+        result (λ v. v.items) }
     ensures of_file { IfErr result IsOfFile }
-    ensures loads { MakesLoads 1 (S.shows shelf.old) (S.shows shelf.new) }
-    ensures counts { CountsStep (S.shows shelf.old).faults (S.shows shelf.new).faults result }
-    ensures shown { IfErr result IsShown }
 {
     let most = longest(file);
     let bytes = match shelf.load(alloc, name, most) {
@@ -61,13 +57,8 @@ pub(crate) fn load_tasks<S: Shelf>(
     name: &str,
     shelf: &mut S,
 ) -> Result<TaskSet, Status>
-    ensures read { IfOk result (Gives (S.shows shelf.old).held (tasks_at name.now)) }
-    ensures refused { IfErr result (Refuses (S.shows shelf.old).held (tasks_at name.now)) }
-    ensures explained { IfErr result (IsLoadOf (S.shows shelf.old) (S.shows shelf.new) FileKind.Tasks name.now) }
-    ensures of_file { IfErr result IsOfFile }
-    ensures loads { MakesLoads 1 (S.shows shelf.old) (S.shows shelf.new) }
-    ensures counts { CountsStep (S.shows shelf.old).faults (S.shows shelf.new).faults result }
-    ensures shown { IfErr result IsShown }
+    ensures { LoadStep (one_file FileKind.Tasks name.now (tasks_at name.now)) (S.shows shelf.old) (S.shows shelf.new)
+        result (λ v. v) }
 {
     let bytes = load_file(alloc, FileKind::Tasks, name, shelf)?;
     Ok(TaskSet::read(alloc, &bytes)?)
@@ -79,13 +70,9 @@ pub(crate) fn load_machine<S: Shelf>(
     name: &str,
     shelf: &mut S,
 ) -> Result<Machine, Status>
-    ensures read { IfOk result (Gives (S.shows shelf.old).held (machine_at name.now)) }
-    ensures refused { IfErr result (Refuses (S.shows shelf.old).held (machine_at name.now)) }
-    ensures explained { IfErr result (IsLoadOf (S.shows shelf.old) (S.shows shelf.new) FileKind.Machine name.now) }
+    ensures step { LoadStep (one_file FileKind.Machine name.now (machine_at name.now)) (S.shows shelf.old)
+        (S.shows shelf.new) result (λ v. v) }
     ensures of_file { IfErr result IsOfFile }
-    ensures loads { MakesLoads 1 (S.shows shelf.old) (S.shows shelf.new) }
-    ensures counts { CountsStep (S.shows shelf.old).faults (S.shows shelf.new).faults result }
-    ensures shown { IfErr result IsShown }
 {
     let bytes = load_file(alloc, FileKind::Machine, name, shelf)?;
     Ok(Machine::read(alloc, &bytes)?)
@@ -98,13 +85,9 @@ fn load_named_demands<S: Shelf>(
     tasks: &TaskSet,
     shelf: &mut S,
 ) -> Result<Demands, Status>
-    ensures read { IfOk result (Gives (S.shows shelf.old).held (demands_at tasks.now (Some name.now))) }
+    ensures step { LoadStep (one_file FileKind.Demands name.now (demands_at tasks.now (Some name.now)))
+        (S.shows shelf.old) (S.shows shelf.new) result (λ v. v) }
     ensures worsts { IfOk result (λ d. d.worsts ≡ map (λ t. t.worst) tasks.now) }
-    ensures refused { IfErr result (Refuses (S.shows shelf.old).held (demands_at tasks.now (Some name.now))) }
-    ensures explained { IfErr result (IsLoadOf (S.shows shelf.old) (S.shows shelf.new) FileKind.Demands name.now) }
-    ensures loads { MakesLoads 1 (S.shows shelf.old) (S.shows shelf.new) }
-    ensures counts { CountsStep (S.shows shelf.old).faults (S.shows shelf.new).faults result }
-    ensures shown { IfErr result IsShown }
 {
     let bytes = load_file(alloc, FileKind::Demands, name, shelf)?;
     Ok(Demands::read(alloc, &bytes, tasks)?)
@@ -117,17 +100,10 @@ pub(crate) fn load_demands<S: Shelf>(
     tasks: &TaskSet,
     shelf: &mut S,
 ) -> Result<Demands, Status>
-    ensures read { IfOk result
-        (Gives (S.shows shelf.old).held (demands_at tasks.now (option_map (λ s. s.now) name.entry))) }
+    ensures step { LoadStep (each_of (if_named FileKind.Demands (option_map (λ s. s.now) name.entry))
+        (demands_at tasks.now (option_map (λ s. s.now) name.entry)))
+        (S.shows shelf.old) (S.shows shelf.new) result (λ v. v) }
     ensures worsts { IfOk result (λ d. d.worsts ≡ map (λ t. t.worst) tasks.now) }
-    ensures refused { IfErr result
-        (Refuses (S.shows shelf.old).held (demands_at tasks.now (option_map (λ s. s.now) name.entry))) }
-    ensures explained { IfErr result (OfLoad (FailsAt (S.shows shelf.old) (S.shows shelf.new) 1
-        (if_named FileKind.Demands (option_map (λ s. s.now) name.entry)))) }
-    ensures loads { MakesLoads (length (if_named FileKind.Demands (option_map (λ s. s.now) name.entry)))
-        (S.shows shelf.old) (S.shows shelf.new) }
-    ensures counts { CountsStep (S.shows shelf.old).faults (S.shows shelf.new).faults result }
-    ensures shown { IfErr result IsShown }
 {
     match name {
         Some(name) => load_named_demands(alloc, name, tasks, shelf),

@@ -6,6 +6,7 @@
 #![tactic(auto)]
 
 mod admit;
+mod answer;
 mod at_pair;
 mod constrain;
 mod files;

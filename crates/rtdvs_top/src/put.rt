@@ -1,7 +1,6 @@
 // The put of what a command prepared.
-ghost use Rattle.std.specs.Prelude.{◌≡◌, map, IfOk, IfErr};
-ghost use Rattle.rtdvs_top.specs.Prepared.{Ends, PutEnds, status_of_put, IsPuttable, ToldOf, answer_of, tells_probes};
-ghost use Rattle.statuses.specs.Status.{LeavesProbes, IsShown, Leaves};
+ghost use Rattle.std.specs.Prelude.{◌≡◌, map};
+ghost use Rattle.rtdvs_top.specs.Prepared.{PutStep, IsPuttable, status_of_put};
 
 use crate::Status;
 use crate::generated::put_made;
@@ -24,21 +23,15 @@ fn status_of_put(wrote: Result<(), Failed>) -> Status
     }
 }
 
-// Puts what a command prepared. It reads no file, and takes memory only before the first put.
-fn put<W: Sink, P: Probe>(
+/// Puts what a command prepared. It reads no file, and takes memory only before the first put.
+pub(crate) fn put<W: Sink, P: Probe>(
     alloc: Global,
     prepared: &Prepared,
     out: &mut W,
     probes: &mut Vec<P>,
 ) -> Status
     requires { IsPuttable prepared.now }
-    ensures ended { Ends (W.shows out.old) (W.shows out.new) (answer_of prepared.now) result }
-    ensures ends { PutEnds (answer_of prepared.now) result }
-    ensures leaves { Leaves result out.old out.new }
-    ensures kept { LeavesProbes (tells_probes prepared.now) result probes.old probes.new }
-    ensures told { ToldOf prepared.now (W.shows out.old) (W.shows out.new)
-        (map P.seen probes.old.items) (map P.seen probes.new.items) result }
-    ensures shown { IsShown result }
+    ensures { PutStep (out.old, out.new) (probes.old, probes.new) W.shows (λ v. map P.seen v.items) prepared.now result }
 {
     match prepared {
         Prepared::Trace(run) => put_run(alloc, run, out, probes),
@@ -47,30 +40,5 @@ fn put<W: Sink, P: Probe>(
         Prepared::Polled(polling, served) => status_of_put(put_polled(polling, served, out)),
         Prepared::Least(least) => status_of_put(put_least(least, out)),
         Prepared::Made(made, totals) => status_of_put(put_made(*made, totals, out)),
-    }
-}
-
-/// Puts what a command prepared, or hands on the status of one that was refused: then nothing is put or told.
-pub(crate) fn finish<W: Sink, P: Probe>(
-    alloc: Global,
-    step: Result<Prepared, Status>,
-    out: &mut W,
-    probes: &mut Vec<P>,
-) -> Status
-    requires { IfOk step IsPuttable }
-    ensures ended { IfOk step (λ p. Ends (W.shows out.old) (W.shows out.new) (answer_of p) result) }
-    ensures ends { IfOk step (λ p. PutEnds (answer_of p) result) }
-    ensures shown { IfOk step (λ p. IsShown result) }
-    ensures kept { IfOk step (λ p. LeavesProbes (tells_probes p) result probes.old probes.new) }
-    ensures told { IfOk step (λ p. ToldOf p (W.shows out.old) (W.shows out.new)
-        (map P.seen probes.old.items) (map P.seen probes.new.items) result) }
-    ensures refused { IfErr step (λ s. result ≡ s) }
-    ensures unput { IfErr step (λ s. out.new ≡ out.old) }
-    ensures untold { IfErr step (λ s. probes.new ≡ probes.old) }
-    ensures leaves { Leaves result out.old out.new }
-{
-    match step {
-        Ok(prepared) => put(alloc, &prepared, out, probes),
-        Err(status) => status,
     }
 }

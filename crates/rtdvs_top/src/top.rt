@@ -2,7 +2,7 @@
 ghost use Rattle.std.specs.Prelude.{◌≡◌, ◌≤◌, ◌↔◌, map};
 ghost use Rattle.std.specs.Option.{option_copied};
 ghost use Rattle.dvs_base.specs.Outside.{Rose};
-ghost use Rattle.rtdvs_top.specs.Promises.{asked, known_files, Answers, Writes, WritesPart, IsSureOf, LoadFailed, LoadsInOrder, loads_asked, loads_wanted, OfRun, OfTests, OfPoll, Headline, OfLeast, Notes, Tells, probes_asked, OfAdmission};
+ghost use Rattle.rtdvs_top.specs.Promises.{asked, known_files, Answers, Writes, WritesPart, IsSureOf, LoadFailed, loads_asked, loads_wanted, OfRun, OfTests, OfPoll, Headline, OfLeast, Notes, Tells, probes_asked, OfAdmission};
 ghost use Rattle.rtdvs_top.specs.Files.{MakesLoads};
 ghost use Rattle.statuses.specs.Status.{CountsLoads, CountsPuts, IsShown, Leaves, LeavesProbes};
 ghost use Rattle.statuses.specs.StatusLines.{status_text};
@@ -12,8 +12,7 @@ ghost use Rattle.rtdvs_top.specs.Trace.{OfTrace};
 ghost use Rattle.words.specs.declared.command.WordFault.{WordFault};
 
 use crate::Status;
-use crate::prepare::prepare;
-use crate::put::finish;
+use crate::answer::answer;
 use dvs_base::{Shelf, Sink};
 use probes::Probe;
 use statuses::{note_end, note_status};
@@ -45,7 +44,6 @@ pub fn rtdvs<S: Shelf, W: Sink, E: Sink>(
         (Rose (W.shows out.old).faults (W.shows out.new).faults) result }
     ensures words { (why : WordFault) → (result ≡ Status.Words why) ↔ (asked words.now ≡ Err why) }
     ensures load { LoadFailed (S.shows shelf.old) (S.shows shelf.new) (asked words.now) result }
-    ensures in_order { LoadsInOrder (known_files (S.shows shelf.old).held (asked words.now)) (asked words.now) result }
     ensures write { result ≡ Status.Write → Rose (W.shows out.old).faults (W.shows out.new).faults }
 
     // what the status shows by itself
@@ -117,8 +115,7 @@ pub fn rtdvs<S: Shelf, W: Sink, E: Sink>(
             return status;
         }
     };
-    let (step, tasks) = prepare(alloc, &command, shelf);
-    let status = finish(alloc, step, out, probes);
+    let (status, tasks) = answer(alloc, &command, shelf, out, probes);
     note_end(
         command.asks_probes(),
         &status,

@@ -3,3 +3,4 @@ pub mod StatusLines
 pub mod ProbeLines
 pub mod Noted
 pub mod Refused
+pub mod Steps

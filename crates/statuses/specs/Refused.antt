@@ -1,5 +1,5 @@
 -- A refusal as a status.
-use Rattle.std.specs.Prelude.{Result, Ok, Err, ◌≡◌}
+use Rattle.std.specs.Prelude.{Result, Ok, Err, ◌≡◌, ⊤}
 use Rattle.task_model.specs.declared.fault.TaskFault.{TaskFault}
 use Rattle.task_model.specs.declared.fault.TaskFault.TheVariants as task_fault
 use Rattle.freq_table.specs.declared.fault.MachineFault.{MachineFault}
@@ -15,13 +15,18 @@ use Rattle.request_list.specs.declared.fault.RequestFault.TheVariants as request
 use Rattle.statuses.specs.declared.status.TextFault.TheVariants as text
 use Rattle.statuses.specs.declared.status.Status.{Status}
 use Rattle.statuses.specs.declared.status.Status.TheVariants as status
-use Rattle.statuses.specs.Status.{IsOfFile, IsShown}
+use Rattle.statuses.specs.Status.{IsShownText}
 
--- a status is the one of a refused file, says nothing of a test, and shows its cause
+-- the status refuses a file and shows its cause, or memory ran out
+abbrev pub RefusesFile : Status → Type 0
+RefusesFile (status.Text why) = IsShownText why
+RefusesFile status.NoMemory = ⊤
+RefusesFile s = ⊥
+
+-- the status is this one, and it refuses a file
 pub record IsRefusedAs (own s : Status) : Type 0 where
   pub is : s ≡ own
-  pub of_file : IsOfFile s
-  pub shown : IsShown s
+  pub of_file : RefusesFile s
 
 -- the value, or the refusal as a status
 abbrev pub or_status : {A F : Type 0} → (F → Status) → Result A F → Result A Status

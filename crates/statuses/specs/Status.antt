@@ -29,7 +29,7 @@ code_of (status.Differs line wanted found) = 7
 code_of status.Write = 8
 code_of status.NoMemory = 9
 
--- a status that says a load failed says so of a kind for which this holds
+-- if the status is `Load`, this holds of its kind
 abbrev pub OfLoad : (FileKind → Type 0) → Status → Type 0
 OfLoad Holds (status.Load kind) = Holds kind
 OfLoad Holds s = ⊤
