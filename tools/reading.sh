@@ -33,7 +33,7 @@ function read_sections() {
     section("headline", "The model", "sched_model")
     section("headline", "The text of a run", "trace_text trace_reader sched_model/RunNotes note_laws")
     section("headline", "The tests under RM", "rm_admit governor rm_response_laws rm_response")
-    section("headline", "The promise", "event_kernel rtdvs_top")
+    section("headline", "The promise", "event_kernel statuses rtdvs_top")
     section("others", "Writing and probes", "dvs_base sched_model energy probes event_kernel")
     section("others", "Replay and migration", "trace_reader replay_laws replay " \
         "rtdvs_top/Trace")
@@ -44,7 +44,7 @@ function read_sections() {
     section("others", "Generated workloads", "workload rtdvs_top/Generated")
     section("others", "The lines of faults", "dvs_base/FaultLines task_model/FaultLines freq_table/FaultLines " \
         "words/FaultLines trace_reader/FaultLines demand_list/FaultLines request_list/FaultLines edf_demand/FaultLines")
-    section("others", "Every answer and every refusal", "words rtdvs_top")
+    section("others", "Every answer and every refusal", "words statuses rtdvs_top")
 }
 
 function indent(line) { match(line, /[^ ]/); return RSTART - 1 }
@@ -331,7 +331,7 @@ function reach_clauses(    i, top, headlines, codes) {
         if (mode == "--unreached") reach(clause_class[i], "clause " i)
         top = clause_file[i] == "crates/rtdvs_top/src/top.rt" && clause_call[i] == "rtdvs"
         if (top && clause_label[i] == "headline") { headlines++; reach("headline", "clause " i) }
-        if (clause_file[i] == "crates/rtdvs_top/src/status.rt" && clause_call[i] == "code") { codes++; top = 1 }
+        if (clause_file[i] == "crates/statuses/src/status.rt" && clause_call[i] == "code") { codes++; top = 1 }
         if (top) reach("others", "clause " i)
     }
     if (headlines != 1) fault("no clause headline of rtdvs")

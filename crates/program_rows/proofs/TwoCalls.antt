@@ -5,9 +5,10 @@ use Rattle.dvs_base.specs.Outside.{Files, ShelfView, SinkView, Rose}
 use Rattle.words.specs.Commands.{CommandOf}
 use Rattle.words.specs.declared.command.WordFault.{WordFault}
 use Rattle.rtdvs_top.specs.Promises.{answer_of_command, Answers, IsAnswer, known_files, loads_asked, loads_wanted}
-use Rattle.rtdvs_top.specs.Files.{CountsPuts, MakesLoads, passes, loads_while, NamedFile, files_of}
-use Rattle.rtdvs_top.specs.declared.status.Status.{Status}
-use Rattle.rtdvs_top.specs.declared.status.Status.TheVariants as status
+use Rattle.rtdvs_top.specs.Files.{MakesLoads, passes, loads_while, NamedFile, files_of}
+use Rattle.statuses.specs.Status.{CountsPuts}
+use Rattle.statuses.specs.declared.status.Status.{Status}
+use Rattle.statuses.specs.declared.status.Status.TheVariants as status
 
 -- a sink's count of failed puts never falls
 pub puts-later : (before now : ℕ) (s : Status) → CountsPuts before now s → before ≤ now

@@ -14,9 +14,9 @@ use Rattle.rtdvs_top.specs.Trace.{trace_at, answer_of_traced, trace_answer}
 use Rattle.rtdvs_top.specs.Poll.{server_at, requests_at, polling_served, polled_text, answer_of_polling, poll_answer}
 use Rattle.rtdvs_top.specs.Promises.{answer_of_command, run_plan, admit_plan, traced_plan, poll_plan, Passes, Denies, AdmitsOrDenies, OfAdmission}
 use Rattle.rtdvs_top.specs.Prepared.{EndsAs}
-use Rattle.rtdvs_top.specs.declared.status.Denied.{Denied}
-use Rattle.rtdvs_top.specs.declared.status.Status.{Status}
-use Rattle.rtdvs_top.specs.declared.status.Status.TheVariants as status
+use Rattle.statuses.specs.declared.status.Denied.{Denied}
+use Rattle.statuses.specs.declared.status.Status.{Status}
+use Rattle.statuses.specs.declared.status.Status.TheVariants as status
 use Rattle.rtdvs_top.proofs.Denying.{DeniesNot, is_denial, status_of, is_given, tasks_at-denies-not, machine_at-denies-not, demands_at-denies-not, trace_at-denies-not, server_at-denies-not, requests_at-denies-not, within-denies-not, traced-denies-not, admission-gives, denied-plan}
 
 -- a step gives a value only where the plan passes its test, and denies only where it fails it

@@ -3,14 +3,13 @@ use Rattle.std.proofs.Common.{◌≡◌, ◌⊎◌, inl, inr, ℕ, ◌+◌, Bool
 use Rattle.dvs_base.specs.Outside.{Files, ShelfView, SinkView, Rose, Lacks, file_of}
 use Rattle.words.specs.declared.command.WordFault.{WordFault}
 use Rattle.words.specs.Commands.{CommandOf, run, admit, traced, workload, response, constrain, poll, least}
-use Rattle.rtdvs_top.specs.Promises.{answer_of_command, Answers, Writes, WritesPart, IsSureOf}
-use Rattle.rtdvs_top.specs.Files.{NamedFile, files_of, CountsPuts, files_needed, files_for, is_passed, passes}
-use Rattle.rtdvs_top.specs.Failing.{FailsFrom, FailsIn}
-use Rattle.rtdvs_top.specs.Prepared.{Ends, EndsSomehow, EndsAs}
-use Rattle.rtdvs_top.specs.Status.{Leaves}
-use Rattle.rtdvs_top.specs.declared.status.FileKind.{FileKind}
-use Rattle.rtdvs_top.specs.declared.status.Status.{Status}
-use Rattle.rtdvs_top.specs.declared.status.Status.TheVariants as status
+use Rattle.rtdvs_top.specs.Promises.{answer_of_command, Answers, Writes, WritesPart, IsSureOf, LoadFailed}
+use Rattle.rtdvs_top.specs.Files.{NamedFile, files_of, files_needed, files_for, is_passed, passes, FailsFrom}
+use Rattle.statuses.specs.Status.{CountsPuts, Leaves}
+use Rattle.rtdvs_top.specs.Prepared.{EndsAs}
+use Rattle.statuses.specs.declared.status.FileKind.{FileKind}
+use Rattle.statuses.specs.declared.status.Status.{Status}
+use Rattle.statuses.specs.declared.status.Status.TheVariants as status
 
 -- the answer ends with the load of the first of these files that is lacking, where those before it are passed
 abbrev StopsAt : Files → CommandOf → List NamedFile → Result (List ℕ) Status → Type 0
@@ -58,7 +57,7 @@ fails-in-answer files c old new kind known fails =
 
 pub answers-of : (files : Option Files) (c : CommandOf) (old new : ShelfView) (out_old out_new : SinkView) (s : Status)
     → files_for old.held c ≡ files
-    → EndsAs out_old out_new files (answer_of_command c) s → FailsIn old new c s
+    → EndsAs out_old out_new files (answer_of_command c) s → LoadFailed old new (Ok c) s
     → Answers files (Ok c) (Rose old.faults new.faults) (Rose out_old.faults out_new.faults) s
 answers-of None c old new out_old out_new s known ends failed = tt
 answers-of (Some files) c old new out_old out_new status.Done known ends failed = rw ends.1 refl
@@ -83,26 +82,24 @@ sure-of shows (Some files) c s old new ends leaves sure = ap (λ w. (shows w).fa
 -- words that were read are not refused
 pub not-words : (files : Option Files) (c : CommandOf) (s : Status) (old new : SinkView) (why : WordFault)
     → EndsAs old new files (answer_of_command c) s → s ≡ status.Words why → ⊥
-not-words None c s old new why ends refused = subst (EndsSomehow old new) refused ends
-not-words (Some files) c s old new why ends refused = subst (Ends old new (answer_of_command c files)) refused ends
+not-words None c s old new why ends refused = subst (EndsAs old new None (answer_of_command c)) refused ends
+not-words (Some files) c s old new why ends refused = subst (EndsAs old new (Some files) (answer_of_command c)) refused ends
 
 -- what was written where the answer is done, and where a put failed
 pub writes-of : (files : Option Files) (c : CommandOf) (s : Status) (old new : SinkView)
     → EndsAs old new files (answer_of_command c) s → s ≡ status.Done → Writes files (Ok c) old new
-writes-of None c s old new ends done = subst (EndsSomehow old new) done ends
-writes-of (Some files) c s old new ends done = subst (Ends old new (answer_of_command c files)) done ends
+writes-of None c s old new ends done = let e = subst (EndsAs old new None (answer_of_command c)) done ends in (e.0, e.2)
+writes-of (Some files) c s old new ends done = subst (EndsAs old new (Some files) (answer_of_command c)) done ends
 
 pub parts-of : (files : Option Files) (c : CommandOf) (s : Status) (old new : SinkView)
     → EndsAs old new files (answer_of_command c) s → s ≡ status.Write → WritesPart files (Ok c) old new
-parts-of None c s old new ends failed = subst (EndsSomehow old new) failed ends
-parts-of (Some files) c s old new ends failed = subst (Ends old new (answer_of_command c files)) failed ends
+parts-of None c s old new ends failed = let e = subst (EndsAs old new None (answer_of_command c)) failed ends in (e.0, e.2)
+parts-of (Some files) c s old new ends failed = subst (EndsAs old new (Some files) (answer_of_command c)) failed ends
 
 -- how the sink's count of failed puts goes with the status
 pub counts-puts : {W : Type 0} (shows : W → SinkView) (files : Option Files) (c : CommandOf) (s : Status) (old new : W)
     → EndsAs (shows old) (shows new) files (answer_of_command c) s → Leaves s old new
     → CountsPuts (shows old).faults (shows new).faults s
-counts-puts shows None c status.Done old new ends leaves = ends.1.steady
-counts-puts shows None c status.Write old new ends leaves = (ends.1.rose, ends.1.later)
-counts-puts shows (Some files) c status.Done old new ends leaves = ends.2.steady
-counts-puts shows (Some files) c status.Write old new ends leaves = (ends.2.rose, ends.2.later)
+counts-puts shows files c status.Done old new ends leaves = ends.2.steady
+counts-puts shows files c status.Write old new ends leaves = (ends.2.rose, ends.2.later)
 counts-puts shows files c s old new ends leaves = ap (λ w. (shows w).faults) leaves

@@ -13,9 +13,9 @@ use Rattle.rtdvs_top.specs.Meanings.{machine_at}
 use Rattle.rtdvs_top.specs.Least.{least_text, least_from, least_on, AreTooMany}
 use Rattle.rtdvs_top.specs.Promises.{answer_of_command, OfLeast}
 use Rattle.rtdvs_top.specs.Prepared.{EndsAs, MetIn}
-use Rattle.rtdvs_top.specs.declared.status.Denied.{Denied}
-use Rattle.rtdvs_top.specs.declared.status.Status.{Status}
-use Rattle.rtdvs_top.specs.declared.status.Status.TheVariants as status
+use Rattle.statuses.specs.declared.status.Denied.{Denied}
+use Rattle.statuses.specs.declared.status.Status.{Status}
+use Rattle.statuses.specs.declared.status.Status.TheVariants as status
 use Rattle.rtdvs_top.proofs.Denying.{is_given, given-once, denied-later, machine_at-denies-not}
 
 -- the text of the answer is that of the minimum

@@ -21,8 +21,9 @@ use Rattle.replay.specs.Replays.{first_over, too_many, unless, own_notes, replay
 use Rattle.replay.specs.declared.fault.ReplayFault.{ReplayFault}
 use Rattle.replay.specs.declared.fault.ReplayFault.TheVariants as replay_fault
 use Rattle.replay.proofs.Fixing.{over-fit}
-use Rattle.rtdvs_top.specs.Trace.{replay_status, totals_or_status, totals_at}
-use Rattle.rtdvs_top.specs.Failing.{EndsWith}
+use Rattle.rtdvs_top.specs.Trace.{replay_status, totals_at}
+use Rattle.statuses.specs.Steps.{EndsWith}
+use Rattle.statuses.specs.Refused.{or_status}
 
 -- a refusal of a replay ends the comparison
 pub replay-ends : (p : Plan) (t : TraceOf) (e : ReplayFault)
@@ -63,7 +64,7 @@ module _ (demand : OwnDemand) (kind : GovernorKind) (p : Plan) (publishes : Publ
 -- the answer of a replay under a governor's own demand is that of the comparison
 pub governed-totals : (demand : OwnDemand) (kind : GovernorKind) (p : Plan) → Publishes demand kind p
     → (t : TraceOf) → t.plan.governor ≡ kind → (r : Result Totals ReplayFault)
-    → replay_of p (ask_of demand p) t ≡ r → totals_at (p, t) ≡ totals_or_status r
+    → replay_of p (ask_of demand p) t ≡ r → totals_at (p, t) ≡ or_status replay_status r
 governed-totals demand kind p publishes t is r h =
-    ap (λ (g : GovernorKind). totals_or_status (replay_of p (published p g) t)) is
-    ∙ ap totals_or_status (sym (same-answer demand kind p publishes t) ∙ h)
+    ap (λ (g : GovernorKind). or_status replay_status (replay_of p (published p g) t)) is
+    ∙ ap (or_status replay_status) (sym (same-answer demand kind p publishes t) ∙ h)

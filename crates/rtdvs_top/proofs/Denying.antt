@@ -35,19 +35,20 @@ use Rattle.sched_model.specs.Plan.{Plan, hyper, top_speed}
 use Rattle.sched_model.specs.Tests.{total_rate}
 use Rattle.sched_model.specs.Admission.{PassesTest}
 use Rattle.dvs_base.specs.declared.limits.TheConstants.{MOST_JOBS}
-use Rattle.rtdvs_top.specs.Meanings.{bytes_from, bytes_at, tasks_or_status, machine_or_status, demands_or_status, tasks_at, machine_at, demands_at, longest}
+use Rattle.rtdvs_top.specs.Meanings.{bytes_from, bytes_at, tasks_at, machine_at, demands_at, longest}
+use Rattle.statuses.specs.Refused.{or_status, task_status, machine_status, demand_status, trace_status, request_status}
 use Rattle.rtdvs_top.specs.Admit.{admission, admission_by, admission_from, first_overloaded}
 use Rattle.rtdvs_top.specs.Run.{within_jobs}
-use Rattle.rtdvs_top.specs.Trace.{trace_or_status, trace_of, trace_at, totals_or_status, totals_at, printed, answer_of_traced}
-use Rattle.rtdvs_top.specs.Poll.{server_from, server_at, requests_or_status, requests_at}
+use Rattle.rtdvs_top.specs.Trace.{replay_status, trace_of, trace_at, totals_at, printed, answer_of_traced}
+use Rattle.rtdvs_top.specs.Poll.{server_from, server_at, requests_at}
 use Rattle.rtdvs_top.specs.Promises.{IsDenial, DeniedPlan}
-use Rattle.rtdvs_top.specs.declared.status.Denied.{Denied}
-use Rattle.rtdvs_top.specs.declared.status.Denied.TheVariants as denied
-use Rattle.rtdvs_top.specs.declared.status.FileKind.{FileKind}
-use Rattle.rtdvs_top.specs.declared.status.FileKind.TheVariants as file
-use Rattle.rtdvs_top.specs.declared.status.TextFault.TheVariants as text
-use Rattle.rtdvs_top.specs.declared.status.Status.{Status}
-use Rattle.rtdvs_top.specs.declared.status.Status.TheVariants as status
+use Rattle.statuses.specs.declared.status.Denied.{Denied}
+use Rattle.statuses.specs.declared.status.Denied.TheVariants as denied
+use Rattle.statuses.specs.declared.status.FileKind.{FileKind}
+use Rattle.statuses.specs.declared.status.FileKind.TheVariants as file
+use Rattle.statuses.specs.declared.status.TextFault.TheVariants as text
+use Rattle.statuses.specs.declared.status.Status.{Status}
+use Rattle.statuses.specs.declared.status.Status.TheVariants as status
 use Rattle.rtdvs_top.proofs.Overloads.{overloaded-none, none-overloaded, first-overloaded}
 
 -- whether a status is a denial
@@ -114,47 +115,58 @@ file-denies-not : {A : Type 0} (kind : FileKind) (name : List ℕ) (files : File
     → ((bytes : List ℕ) → DeniesNot (read bytes)) → DeniesNot (and_then (bytes_at kind name files) read)
 file-denies-not kind name files read = then-denies-not (bytes_at kind name files) read (bytes-deny-not kind (file_of files name))
 
-tasks-deny-not : (r : Result (List Task) TaskFault) → DeniesNot (tasks_or_status r)
-tasks-deny-not (Err task_fault.NoMemory) = refl
-tasks-deny-not r = refl
+-- a refusal of a file denies nothing
+refusal-denies-not : {A F : Type 0} (as_status : F → Status) → ((e : F) → is_denial (as_status e) ≡ false) → (r : Result A F)
+    → DeniesNot (or_status as_status r)
+refusal-denies-not as_status each (Ok a) = refl
+refusal-denies-not as_status each (Err e) = each e
 
-machine-denies-not : (r : Result Table MachineFault) → DeniesNot (machine_or_status r)
-machine-denies-not (Err machine_fault.NoMemory) = refl
-machine-denies-not r = refl
+task-denies-not : (e : TaskFault) → is_denial (task_status e) ≡ false
+task-denies-not task_fault.NoMemory = refl
+task-denies-not e = refl
 
-demands-deny-not : (r : Result DemandsOf DemandFault) → DeniesNot (demands_or_status r)
-demands-deny-not (Err demand_fault.NoMemory) = refl
-demands-deny-not r = refl
+machine-denies-not : (e : MachineFault) → is_denial (machine_status e) ≡ false
+machine-denies-not machine_fault.NoMemory = refl
+machine-denies-not e = refl
+
+demand-denies-not : (e : DemandFault) → is_denial (demand_status e) ≡ false
+demand-denies-not demand_fault.NoMemory = refl
+demand-denies-not e = refl
+
+trace-denies-not : (e : TraceFault) → is_denial (trace_status e) ≡ false
+trace-denies-not trace_fault.NoMemory = refl
+trace-denies-not e = refl
+
+request-denies-not : (e : RequestFault) → is_denial (request_status e) ≡ false
+request-denies-not request_fault.NoMemory = refl
+request-denies-not e = refl
 
 pub tasks_at-denies-not : (name : List ℕ) (files : Files) → DeniesNot (tasks_at name files)
 tasks_at-denies-not name files =
-    file-denies-not file.Tasks name files (λ bytes. tasks_or_status (task_file bytes)) (λ bytes. tasks-deny-not (task_file bytes))
+    file-denies-not file.Tasks name files (λ bytes. or_status task_status (task_file bytes))
+    (λ bytes. refusal-denies-not task_status task-denies-not (task_file bytes))
 
 pub machine_at-denies-not : (name : List ℕ) (files : Files) → DeniesNot (machine_at name files)
 machine_at-denies-not name files =
-    file-denies-not file.Machine name files (λ bytes. machine_or_status (machine_file bytes)) (λ bytes. machine-denies-not (machine_file bytes))
+    file-denies-not file.Machine name files (λ bytes. or_status machine_status (machine_file bytes))
+    (λ bytes. refusal-denies-not machine_status machine-denies-not (machine_file bytes))
 
 pub demands_at-denies-not : (tasks : List Task) (name : Option (List ℕ)) (files : Files)
     → DeniesNot (demands_at tasks name files)
 demands_at-denies-not tasks None files = refl
 demands_at-denies-not tasks (Some name) files =
-    file-denies-not file.Demands name files (λ bytes. demands_or_status (demand_file tasks bytes)) (λ bytes. demands-deny-not (demand_file tasks bytes))
-
-trace-denies-not : (r : Result TraceOf TraceFault) → DeniesNot (trace_or_status r)
-trace-denies-not (Err trace_fault.NoMemory) = refl
-trace-denies-not r = refl
-
-requests-deny-not : (r : Result (List Request) RequestFault) → DeniesNot (requests_or_status r)
-requests-deny-not (Err request_fault.NoMemory) = refl
-requests-deny-not r = refl
+    file-denies-not file.Demands name files (λ bytes. or_status demand_status (demand_file tasks bytes))
+    (λ bytes. refusal-denies-not demand_status demand-denies-not (demand_file tasks bytes))
 
 pub trace_at-denies-not : (tasks : List Task) (name : List ℕ) (files : Files) → DeniesNot (trace_at tasks name files)
 trace_at-denies-not tasks name files =
-    file-denies-not file.Trace name files (λ bytes. trace_or_status (trace_of tasks bytes)) (λ bytes. trace-denies-not (trace_of tasks bytes))
+    file-denies-not file.Trace name files (λ bytes. or_status trace_status (trace_of tasks bytes))
+    (λ bytes. refusal-denies-not trace_status trace-denies-not (trace_of tasks bytes))
 
 pub requests_at-denies-not : (name : List ℕ) (files : Files) → DeniesNot (requests_at name files)
 requests_at-denies-not name files =
-    file-denies-not file.Requests name files (λ bytes. requests_or_status (request_file bytes)) (λ bytes. requests-deny-not (request_file bytes))
+    file-denies-not file.Requests name files (λ bytes. or_status request_status (request_file bytes))
+    (λ bytes. refusal-denies-not request_status request-denies-not (request_file bytes))
 
 pub server_at-denies-not : (name : List ℕ) (tasks : List Task) → DeniesNot (server_at name tasks)
 server_at-denies-not name tasks = go (place_of tasks name)
@@ -163,17 +175,16 @@ server_at-denies-not name tasks = go (place_of tasks name)
     go None = refl
     go (Some i) = refl
 
-totals-deny-not : (r : Result Totals ReplayFault) → DeniesNot (totals_or_status r)
-totals-deny-not (Ok totals) = refl
-totals-deny-not (Err (replay_fault.OverWorst task job used worst)) = refl
-totals-deny-not (Err (replay_fault.TooManyJobs jobs)) = refl
-totals-deny-not (Err (replay_fault.Differs line wanted found)) = refl
-totals-deny-not (Err replay_fault.NoMemory) = refl
+replay-denies-not : (e : ReplayFault) → is_denial (replay_status e) ≡ false
+replay-denies-not (replay_fault.OverWorst task job used worst) = refl
+replay-denies-not (replay_fault.TooManyJobs jobs) = refl
+replay-denies-not (replay_fault.Differs line wanted found) = refl
+replay-denies-not replay_fault.NoMemory = refl
 
 pub traced-denies-not : (asked : TraceUse) (x : Plan × TraceOf) → DeniesNot (answer_of_traced asked x)
 traced-denies-not asked x =
     then-denies-not (totals_at x) (λ totals. Ok (printed asked x totals))
-    (totals-deny-not (replay_of x.0 (published x.0 x.1.plan.governor) x.1)) (λ totals. refl)
+    (refusal-denies-not replay_status replay-denies-not (replay_of x.0 (published x.0 x.1.plan.governor) x.1)) (λ totals. refl)
 
 pub within-denies-not : (jobs : ℕ) (bytes : List ℕ) → DeniesNot (within_jobs jobs bytes)
 within-denies-not jobs bytes = go (nat_lt MOST_JOBS jobs)

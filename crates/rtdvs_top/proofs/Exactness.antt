@@ -21,7 +21,7 @@ use Rattle.replay.specs.declared.fault.ReplayFault.{ReplayFault}
 use Rattle.replay.specs.declared.fault.ReplayFault.TheVariants as replay_fault
 use Rattle.replay.proofs.Exact.{Passes, replayed-passes, some-replayed, is-replayed}
 use Rattle.rtdvs_top.specs.Run.{answer_of_plan}
-use Rattle.rtdvs_top.specs.Trace.{totals_or_status, totals_at, migrated_text, task_line, lines_of_tasks, trace_or_status, trace_of, trace_at, traced_of, printed, answer_of_traced, trace_answer, IsScheduleText, AreFilesOf, TellsOwn, IsDoneUnless, OfTrace}
+use Rattle.rtdvs_top.specs.Trace.{replay_status, totals_at, migrated_text, task_line, lines_of_tasks, trace_of, trace_at, traced_of, printed, answer_of_traced, trace_answer, IsScheduleText, AreFilesOf, TellsOwn, IsDoneUnless, OfTrace}
 use Rattle.rtdvs_top.proofs.Denying.{within-few, is_given, given-once, given-both, passes-admission, admission-gives}
 use Rattle.dvs_base.specs.Outside.{Files, file_of}
 use Rattle.dvs_base.specs.Checks.{and_then}
@@ -46,17 +46,18 @@ use Rattle.words.specs.Commands.{TracedOf, CommandOf, traced}
 use Rattle.rtdvs_top.specs.Meanings.{longest, bytes_from, bytes_at, tasks_at, machine_at}
 use Rattle.rtdvs_top.specs.Admit.{admission}
 use Rattle.rtdvs_top.specs.Promises.{IsAnswer, Answers}
-use Rattle.rtdvs_top.specs.declared.status.FileKind.{FileKind}
-use Rattle.rtdvs_top.specs.declared.status.FileKind.TheVariants as file
-use Rattle.rtdvs_top.specs.declared.status.Status.{Status}
-use Rattle.rtdvs_top.specs.declared.status.Status.TheVariants as status
-use Rattle.rtdvs_top.specs.declared.status.TextFault.TheVariants as text_fault
+use Rattle.statuses.specs.declared.status.FileKind.{FileKind}
+use Rattle.statuses.specs.declared.status.FileKind.TheVariants as file
+use Rattle.statuses.specs.declared.status.Status.{Status}
+use Rattle.statuses.specs.declared.status.Status.TheVariants as status
+use Rattle.statuses.specs.declared.status.TextFault.TheVariants as text_fault
+use Rattle.statuses.specs.Refused.{or_status, trace_status}
 use Rattle.rtdvs_top.proofs.Loading.{short_file}
 use Rattle.event_kernel.proofs.Wholes.{below-first}
 use Rattle.rtdvs_top.specs.Prepared.{MetIn}
 
 -- a replay that has totals is done
-pub replayed-some : (r : Result Totals ReplayFault) → IsOk (totals_or_status r) → (totals : Totals) × (r ≡ Ok totals)
+pub replayed-some : (r : Result Totals ReplayFault) → IsOk (or_status replay_status r) → (totals : Totals) × (r ≡ Ok totals)
 replayed-some (Ok totals) h = (totals, refl)
 replayed-some (Err why) h = absurd (true≢false (sym h))
 
@@ -169,7 +170,7 @@ held-file kind (Some b) bytes e = fits (nat_lt (longest kind) (length b)) e
     fits false e = ap Some (given-once {A = List ℕ} refl e)
 
 -- what a trace file means, where it has a meaning
-trace-given : (t : TraceOf) (r : Result TraceOf TraceFault) → trace_or_status r ≡ Ok t → r ≡ Ok t
+trace-given : (t : TraceOf) (r : Result TraceOf TraceFault) → or_status trace_status r ≡ Ok t → r ≡ Ok t
 trace-given t (Ok u) h = ap (λ (r : Result TraceOf Status). ok_or_it r) h
   where
     ok_or_it : Result TraceOf Status → Result TraceOf TraceFault
@@ -228,7 +229,7 @@ done-own r files tasks p t ts e adm ok =
     let machine : Table = m.0 in
     let x = given-both (trace_at tasks r.trace files) (λ u. and_then (admission (plan_of tasks machine u.plan.scheduler)) (λ q. Ok (q, u))) (p, t) m.2 in
     let a = given-both (admission (plan_of tasks machine x.0.plan.scheduler)) (λ q. Ok (q, x.0)) (p, t) x.2 in
-    let b = given-both (bytes_at file.Trace r.trace files) (λ bytes. trace_or_status (trace_of tasks bytes)) x.0 x.1 in
+    let b = given-both (bytes_at file.Trace r.trace files) (λ bytes. or_status trace_status (trace_of tasks bytes)) x.0 x.1 in
     let pair : (p, t) ≡ (a.0, x.0) = given-once a.2 refl in
     let plan_is : p ≡ plan_of tasks machine x.0.plan.scheduler =
     ap (λ y. y.0) pair ∙ (admission-gives (plan_of tasks machine x.0.plan.scheduler) a.0 a.1).0 in
@@ -262,8 +263,8 @@ of-trace (Some files) (traced r) loads_rose puts_rose s met answers = (
       let m = subst (MetIn (Some files) (traced r)) e met in
       let ok = subst (IsAnswer loads_rose puts_rose (trace_answer r files)) e answers in
       done-own r files m.0 m.2.0 m.2.1 m.1 m.2.2 m.2.3 ok,
-  λ v p g ticks rows tells.
-      let ok = subst IsOk (sym (printed-done r files v p g ticks rows tells.0 tells.1 tells.2)) refl in
+  λ v p g ticks rows bytes of tells.
+      let ok = subst IsOk (sym (printed-done r files v p g ticks rows bytes of tells)) refl in
       done-unless loads_rose puts_rose (trace_answer r files) s answers ok,
 )
 of-trace files c loads_rose puts_rose s met answers = tt

@@ -1,6 +1,6 @@
 -- Which of two refusals comes first, the lines of a difference, how many loads a command needs, and what a status says
 -- of loads, puts and things that it leaves, by evaluation.
-use Rattle.std.proofs.Common.{◌≡◌, ◌⊎◌, inl, inr, ℕ, List, [], ◌∷◌, ◌++◌, map, Option, Some, None, true, false, Ok, Err, codes, refl, arith}
+use Rattle.std.proofs.Common.{IsTrue, is_ok, ◌≡◌, ◌⊎◌, inl, inr, ℕ, List, [], ◌∷◌, ◌++◌, map, Option, Some, None, true, false, Ok, Err, codes, refl, arith}
 use Rattle.std.specs.Fmt.{digits}
 use Rattle.dvs_base.specs.Outside.{Files, ShelfView}
 use Rattle.dvs_base.specs.declared.kind.Scheduler.TheVariants.{Edf}
@@ -16,14 +16,15 @@ use Rattle.words.specs.declared.command.TraceUse.{TraceUse}
 use Rattle.words.specs.declared.command.TraceUse.TheVariants.{Replay, Migrate}
 use Rattle.rtdvs_top.specs.Meanings.{tasks_at, machine_at}
 use Rattle.rtdvs_top.specs.Constrain.{deadlines_at, constrain_answer}
-use Rattle.rtdvs_top.specs.Files.{CountsLoads, CountsPuts, LoadOf, loads_needed}
-use Rattle.rtdvs_top.specs.Probing.{LeavesProbes}
-use Rattle.rtdvs_top.specs.Status.{status_text, Leaves}
-use Rattle.rtdvs_top.specs.declared.status.FileKind.{FileKind}
-use Rattle.rtdvs_top.specs.declared.status.FileKind.TheVariants.{Machine, Demands}
-use Rattle.rtdvs_top.specs.declared.status.Status.{Status}
-use Rattle.rtdvs_top.specs.declared.status.Status.TheVariants.{Done, NotAdmitted, Words, Load, Text, Limit, OverWorst, Differs, Write, NoMemory}
-use Rattle.rtdvs_top.specs.declared.status.Denied.TheVariants.{Offset}
+use Rattle.rtdvs_top.specs.Files.{loads_needed}
+use Rattle.rtdvs_top.specs.Promises.{LoadFailed}
+use Rattle.statuses.specs.Status.{CountsLoads, CountsPuts, LeavesProbes, Leaves}
+use Rattle.statuses.specs.StatusLines.{status_text}
+use Rattle.statuses.specs.declared.status.FileKind.{FileKind}
+use Rattle.statuses.specs.declared.status.FileKind.TheVariants.{Machine, Demands}
+use Rattle.statuses.specs.declared.status.Status.{Status}
+use Rattle.statuses.specs.declared.status.Status.TheVariants.{Done, NotAdmitted, Words, Load, Text, Limit, OverWorst, Differs, Write, NoMemory}
+use Rattle.statuses.specs.declared.status.Denied.TheVariants.{Offset}
 
 -- words that name the files t, m and d
 abbrev words : ConstrainOf
@@ -128,28 +129,34 @@ least_alone files why machine = rw machine refl
 files_unknown : (loads_needed None (workload 1) ≡ 0) × (map (loads_needed None) with_tasks ≡ (3 ∷ 2 ∷ 2 ∷ 3 ∷ 3 ∷ 2 ∷ 3 ∷ 3 ∷ []))
 files_unknown = (refl, refl)
 
--- a shelf without a file, after `faults` failed loads, and sure of `sure` more
+-- a shelf whose files are not known, after `faults` failed loads, and sure of `sure` more
 abbrev shelf : ℕ → ℕ → ShelfView
-shelf faults sure = record { held = Some []; faults = faults; sure = sure }
+shelf faults sure = record { held = None; faults = faults; sure = sure }
 
 -- the machine's load is the second: it may fail where the shelf was sure of one load
-second_load : LoadOf (shelf 0 1) (shelf 1 0) admit_words (Load Machine)
-second_load = inr (inl (refl, inr (omega arith, omega arith)))
+second_load : LoadFailed (shelf 0 1) (shelf 1 0) (Ok admit_words) (Load Machine)
+second_load = inr (refl, inl (refl, inr (omega arith, omega arith)))
 
 -- but not where it was sure of two
-sure_of_two : LoadOf (shelf 0 2) (shelf 1 1) admit_words (Load Machine) → ⊥
+sure_of_two : LoadFailed (shelf 0 2) (shelf 1 1) (Ok admit_words) (Load Machine) → ⊥
 sure_of_two (inl tasks) = absurd (let same = tasks.0 in cc)
-sure_of_two (inr (inl (same, inl lacks))) = omega (arith, lacks.1)
-sure_of_two (inr (inl (same, inr failed))) = omega (arith, failed.1)
-sure_of_two (inr (inr none)) = none
+sure_of_two (inr (passed, inl (same, inl lacks))) = omega (arith, lacks.1)
+sure_of_two (inr (passed, inl (same, inr failed))) = omega (arith, failed.1)
+sure_of_two (inr (passed, inr none)) = none.1
 
 -- the demands' load is the third
-sure_of_three : LoadOf (shelf 0 3) (shelf 1 2) (run_with (Some (codes "f"))) (Load Demands) → ⊥
+sure_of_three : LoadFailed (shelf 0 3) (shelf 1 2) (Ok (run_with (Some (codes "f")))) (Load Demands) → ⊥
 sure_of_three (inl tasks) = absurd (let same = tasks.0 in cc)
-sure_of_three (inr (inl machine)) = absurd (let same = machine.0 in cc)
-sure_of_three (inr (inr (inl (same, inl lacks)))) = omega (arith, lacks.1)
-sure_of_three (inr (inr (inl (same, inr failed)))) = omega (arith, failed.1)
-sure_of_three (inr (inr (inr none))) = none
+sure_of_three (inr (passed, inl machine)) = absurd (let same = machine.0 in cc)
+sure_of_three (inr (passed, inr (read, inl (same, inl lacks)))) = omega (arith, lacks.1)
+sure_of_three (inr (passed, inr (read, inl (same, inr failed)))) = omega (arith, failed.1)
+sure_of_three (inr (passed, inr (read, inr none))) = none.1
+
+-- a load of the machine shows that the tasks were read, where the files are known
+read_first : (files : Files) (new : ShelfView) → LoadFailed (record { held = Some files; faults = 0; sure = 0 }) new (Ok admit_words) (Load Machine)
+    → IsTrue (is_ok (tasks_at (codes "t") files))
+read_first files new (inl tasks) = absurd (let same = tasks.0 in cc)
+read_first files new (inr later) = later.0
 
 -- a count of failed loads that rose shows in the status
 loads_counted : (s : Status) → CountsLoads 3 4 s → (kind : FileKind) × (s ≡ Load kind)

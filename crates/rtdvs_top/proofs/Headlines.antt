@@ -17,9 +17,9 @@ use Rattle.rtdvs_top.specs.Admit.{admission}
 use Rattle.rtdvs_top.specs.Run.{within_jobs, prepared_of, answer_of_prepared, run_after_tasks, run_with}
 use Rattle.rtdvs_top.specs.Promises.{answer_of_command, MeansRun, DoneRun, DeniedPlan, OfRun, OfTests, RunsOrIsDenied, Answers, Headline}
 use Rattle.rtdvs_top.specs.Prepared.{EndsAs, IsReadyRun, MetIn}
-use Rattle.rtdvs_top.specs.declared.status.Denied.{Denied}
-use Rattle.rtdvs_top.specs.declared.status.Status.{Status}
-use Rattle.rtdvs_top.specs.declared.status.Status.TheVariants as status
+use Rattle.statuses.specs.declared.status.Denied.{Denied}
+use Rattle.statuses.specs.declared.status.Status.{Status}
+use Rattle.statuses.specs.declared.status.Status.TheVariants as status
 use Rattle.rtdvs_top.proofs.EachPair.{has-met}
 use Rattle.rtdvs_top.proofs.Responses.{responds-or-is-denied}
 use Rattle.rtdvs_top.proofs.Denying.{status_of, is_given, given-once, within-few, denied-later, denied-first, given-both, tasks_at-denies-not, machine_at-denies-not, demands_at-denies-not, within-denies-not, Decides, decides, admission-gives, denied-plan}

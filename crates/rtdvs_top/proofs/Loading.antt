@@ -4,11 +4,11 @@ use Rattle.std.proofs.lemmas.List.{take_all}
 use Rattle.std.proofs.lemmas.Bool.Decides.{nat_tests}
 use Rattle.std.proofs.lemmas.Option.{same_Some}
 use Rattle.dvs_base.specs.Outside.{Files, LoadsFrom, file_of}
-use Rattle.rtdvs_top.specs.declared.status.FileKind.{FileKind}
-use Rattle.rtdvs_top.specs.declared.status.TextFault.TheVariants as text
-use Rattle.rtdvs_top.specs.declared.status.Status.TheVariants as status
-use Rattle.rtdvs_top.specs.Meanings.{longest, bytes_from, bytes_at, Gives}
-use Rattle.rtdvs_top.specs.Failing.{Refuses}
+use Rattle.statuses.specs.declared.status.FileKind.{FileKind}
+use Rattle.statuses.specs.declared.status.TextFault.TheVariants as text
+use Rattle.statuses.specs.declared.status.Status.TheVariants as status
+use Rattle.rtdvs_top.specs.Meanings.{longest, bytes_from, bytes_at}
+use Rattle.statuses.specs.Steps.{Gives, Refuses}
 
 whole_file : (f : Option (List ℕ)) (m : ℕ) (v : List ℕ) → option_map (take (m + 1)) f ≡ Some v → length v ≤ m
     → f ≡ Some v

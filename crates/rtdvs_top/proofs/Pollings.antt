@@ -14,8 +14,8 @@ use Rattle.poll_server.specs.EachOutcome.{served_by, served_of}
 use Rattle.words.specs.Commands.{CommandOf, poll}
 use Rattle.rtdvs_top.specs.Poll.{polling_notes, polling_served, HasServed}
 use Rattle.rtdvs_top.specs.Promises.{OfPoll}
-use Rattle.rtdvs_top.specs.declared.status.Status.{Status}
-use Rattle.rtdvs_top.specs.declared.status.Status.TheVariants as status
+use Rattle.statuses.specs.declared.status.Status.{Status}
+use Rattle.statuses.specs.declared.status.Status.TheVariants as status
 use Rattle.rtdvs_top.proofs.Comparisons.{same-run}
 use Rattle.rtdvs_top.specs.Prepared.{MetIn}
 

@@ -34,16 +34,11 @@ use Rattle.rtdvs_top.specs.Generated.{run_totals}
 use Rattle.rtdvs_top.specs.Prepared.{answer_of_run, Ends}
 use Rattle.rtdvs_top.specs.Run.{HasMet, text_under}
 use Rattle.probes.specs.Tallies.{ProbeOf, told_notes}
-use Rattle.rtdvs_top.specs.declared.status.Status.{Status}
-use Rattle.rtdvs_top.specs.declared.status.Status.TheVariants as status
+use Rattle.statuses.specs.declared.status.Status.{Status}
+use Rattle.statuses.specs.declared.status.Status.TheVariants as status
 use Rattle.rtdvs_top.proofs.LineNotes.{trace-notes}
 use Rattle.rtdvs_top.proofs.Denying.{within-few}
 use Rattle.rtdvs_top.proofs.Comparisons as comparisons
-
--- a run of an equal kind of governor ends alike
-pub ends-as : {g k : GovernorKind} (old new : SinkView) (v : Version) (r : Run) (s : Status) → g ≡ k
-    → Ends old new (answer_of_run v k r) s → Ends old new (answer_of_run v g r) s
-ends-as old new v r s same h = subst (λ (x : GovernorKind). Ends old new (answer_of_run v x r) s) (sym same) h
 
 module _ (demand : OwnDemand) (kind : GovernorKind) (p : Plan) (d : DemandsOf) (list : IsListOf p d)
     (low : IsWithinWorsts d) (publishes : Publishes demand kind p) where

@@ -11,11 +11,12 @@ use Rattle.freq_table.specs.MachineFile.{machine_file}
 use Rattle.demand_list.specs.declared.fault.DemandFault.{DemandFault}
 use Rattle.demand_list.specs.declared.fault.DemandFault.TheVariants as demand_fault
 use Rattle.demand_list.specs.DemandFile.{demand_file}
-use Rattle.rtdvs_top.specs.declared.status.FileKind.TheVariants as file
-use Rattle.rtdvs_top.specs.declared.status.Status.{Status}
-use Rattle.rtdvs_top.specs.declared.status.Status.TheVariants as status
-use Rattle.rtdvs_top.specs.Meanings.{bytes_at, tasks_at, machine_at, demands_at, task_status, machine_status, demand_status, Gives}
-use Rattle.rtdvs_top.specs.Failing.{Refuses, EndsWith, IsRefusal}
+use Rattle.statuses.specs.declared.status.FileKind.TheVariants as file
+use Rattle.statuses.specs.declared.status.Status.{Status}
+use Rattle.statuses.specs.declared.status.Status.TheVariants as status
+use Rattle.rtdvs_top.specs.Meanings.{bytes_at, tasks_at, machine_at, demands_at}
+use Rattle.statuses.specs.Refused.{task_status, machine_status, demand_status}
+use Rattle.statuses.specs.Steps.{Gives, Refuses, EndsWith, IsRefusal}
 
 -- a step that ended with a status
 abbrev failed : Status → Result (List Task) Status

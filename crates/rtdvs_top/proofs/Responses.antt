@@ -11,10 +11,11 @@ use Rattle.rm_response_laws.specs.Responses.{response as response_of}
 use Rattle.rm_response.specs.Denials.{first_late, exact_answer_from, exact_answer}
 use Rattle.words.specs.Commands.{ResponseOf, response}
 use Rattle.rtdvs_top.specs.Promises.{answer_of_command, Answers}
-use Rattle.rtdvs_top.specs.Response.{responses_or_status, responses_text, Responds, FailsToRespond, MeansPlan, OfTest, RespondsOrIsDenied}
-use Rattle.rtdvs_top.specs.declared.status.Denied.{Denied}
-use Rattle.rtdvs_top.specs.declared.status.Status.{Status}
-use Rattle.rtdvs_top.specs.declared.status.Status.TheVariants as status
+use Rattle.rtdvs_top.specs.Response.{response_status, responses_on, responses_text, Responds, FailsToRespond, MeansPlan, OfTest, RespondsOrIsDenied}
+use Rattle.statuses.specs.declared.status.Denied.{Denied}
+use Rattle.statuses.specs.declared.status.Status.{Status}
+use Rattle.statuses.specs.declared.status.Status.TheVariants as status
+use Rattle.statuses.specs.Refused.{or_status}
 use Rattle.rtdvs_top.proofs.Denying.{status_of, is_given, given-once}
 
 -- the answer of a test whose files mean these tasks and this machine
@@ -25,15 +26,15 @@ module _ (r : ResponseOf) (files : Files) (tasks : List Task) (machine : Table) 
   abbrev after : Result (List ℕ) Status → Result (List ℕ) Status
   after step = and_then step (λ ticks. Ok (responses_text tasks ticks))
 
-  answer-is : answer_of_command (response r) files ≡ after (responses_or_status (exact_answer plan))
+  answer-is : answer_of_command (response r) files ≡ after (responses_on tasks machine)
   answer-is = rw (means.tasks_are, means.machine_is) refl
 
   -- the test refuses by a denial alone
-  refusal-denies : (s : Status) → after (responses_or_status (exact_answer plan)) ≡ Err s
+  refusal-denies : (s : Status) → after (responses_on tasks machine) ≡ Err s
       → (why : Denied) × (s ≡ status.NotAdmitted why)
   refusal-denies s e = go (first_offset (offset plan) (count plan)) (first_late (period plan) (response_of plan) (count plan)) e
     where
-      go : (first late : Option ℕ) → after (responses_or_status (exact_answer_from plan first late)) ≡ Err s
+      go : (first late : Option ℕ) → after (or_status response_status (exact_answer_from plan first late)) ≡ Err s
           → (why : Denied) × (s ≡ status.NotAdmitted why)
       go (Some i) late e = (_, ap status_of (sym e))
       go None (Some i) e = (_, ap status_of (sym e))

@@ -12,8 +12,8 @@ use Rattle.demand_list.specs.DemandFile.{demand_of_row, no_earlier_demand, with_
 use Rattle.demand_list.specs.declared.fault.Column.TheVariants as column
 use Rattle.demand_list.specs.declared.fault.DemandFault.{DemandFault}
 use Rattle.demand_list.specs.declared.fault.DemandFault.TheVariants as fault
-use Rattle.rtdvs_top.specs.Meanings.{demand_status}
-use Rattle.rtdvs_top.specs.Status.{IsShown}
+use Rattle.statuses.specs.Refused.{demand_status}
+use Rattle.statuses.specs.Status.{IsShown}
 
 -- the numbers of a refusal over the worst case show that the units are over it
 abbrev IsShownFault : DemandFault → Type 0

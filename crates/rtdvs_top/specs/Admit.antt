@@ -1,6 +1,6 @@
 -- The test of admission, and the answer of `admit`.
 use Rattle.std.specs.Prelude.{ℕ, ◌*◌, nat_lt, find, Option, Some, None, Result, Ok, Err, if◌then◌else◌, List, [], ◌∷◌, codes, decimal}
-use Rattle.dvs_base.specs.Checks.{and_then}
+use Rattle.dvs_base.specs.Checks.{◌>>=◌}
 use Rattle.dvs_base.specs.Outside.{Files}
 use Rattle.trace_text.specs.TraceLines.{scheduler_word, line}
 use Rattle.dvs_base.specs.Parts.{fraction_text}
@@ -13,9 +13,9 @@ use Rattle.sched_model.specs.Priority.{in_order}
 use Rattle.sched_model.specs.Tests.{level_work, total_rate}
 use Rattle.sched_model.specs.StaticDemand.{static_demand}
 use Rattle.words.specs.Commands.{AdmitOf}
-use Rattle.rtdvs_top.specs.declared.status.Denied.TheVariants as denied
-use Rattle.rtdvs_top.specs.declared.status.Status.{Status}
-use Rattle.rtdvs_top.specs.declared.status.Status.TheVariants as status
+use Rattle.statuses.specs.declared.status.Denied.TheVariants as denied
+use Rattle.statuses.specs.declared.status.Status.{Status}
+use Rattle.statuses.specs.declared.status.Status.TheVariants as status
 use Rattle.rtdvs_top.specs.Meanings.{machine_at, tasks_at}
 
 -- the first task in RM order whose level asks for more in its period than the highest speed does in it
@@ -48,13 +48,18 @@ admitted_text p =
 
 -- the admitted plan of `admit`, after its tasks were read
 abbrev pub admitted_of : AdmitOf → List Task → Files → Result Plan Status
-admitted_of a tasks files =
-    and_then (machine_at a.machine files) (λ machine. admission (plan_of tasks machine a.scheduler))
+admitted_of a tasks files = do
+  machine ← machine_at a.machine files
+  admission (plan_of tasks machine a.scheduler)
 
 -- the answer of `admit`, after its tasks were read
 abbrev pub admit_after_tasks : AdmitOf → List Task → Files → Result (List ℕ) Status
-admit_after_tasks a tasks files = and_then (admitted_of a tasks files) (λ p. Ok (admitted_text p))
+admit_after_tasks a tasks files = do
+  p ← admitted_of a tasks files
+  Ok (admitted_text p)
 
 -- the answer of `admit`
 abbrev pub admit_answer : AdmitOf → Files → Result (List ℕ) Status
-admit_answer a files = and_then (tasks_at a.tasks files) (λ tasks. admit_after_tasks a tasks files)
+admit_answer a files = do
+  tasks ← tasks_at a.tasks files
+  admit_after_tasks a tasks files

@@ -1,6 +1,6 @@
 -- The answer of `constrain`, and what it proves (Baruah, Rosier and Howell 1990).
 use Rattle.std.specs.Prelude.{ℕ, List, Result, Ok, Err, [], ◌∷◌, codes, decimal, slice_index, ◌≡◌, ⊤, Option, Some}
-use Rattle.dvs_base.specs.Checks.{and_then}
+use Rattle.dvs_base.specs.Checks.{◌>>=◌}
 use Rattle.dvs_base.specs.Outside.{Files}
 use Rattle.dvs_base.specs.Parts.{fraction_text}
 use Rattle.dvs_base.specs.declared.kind.Scheduler.TheVariants.{Edf}
@@ -16,30 +16,22 @@ use Rattle.edf_demand.specs.declared.lowest_speed.Constrained.{Constrained}
 use Rattle.edf_demand.specs.declared.lowest_speed.ConstrainFault.{ConstrainFault}
 use Rattle.edf_demand.specs.declared.lowest_speed.ConstrainFault.TheVariants as constrain_fault
 use Rattle.words.specs.Commands.{ConstrainOf}
-use Rattle.rtdvs_top.specs.declared.status.Denied.TheVariants as denied
-use Rattle.rtdvs_top.specs.declared.status.FileKind.TheVariants as file
-use Rattle.rtdvs_top.specs.declared.status.TextFault.TheVariants as text
-use Rattle.rtdvs_top.specs.declared.status.Status.{Status}
-use Rattle.rtdvs_top.specs.declared.status.Status.TheVariants as status
+use Rattle.statuses.specs.declared.status.Denied.TheVariants as denied
+use Rattle.statuses.specs.declared.status.FileKind.TheVariants as file
+use Rattle.statuses.specs.declared.status.TextFault.TheVariants as text
+use Rattle.statuses.specs.declared.status.Status.{Status}
+use Rattle.statuses.specs.declared.status.Status.TheVariants as status
 use Rattle.task_model.specs.Tasks.{IsFirstOffset}
 use Rattle.edf_demand_laws.specs.ProcessorDemand.{IsConstrainedDemand}
-use Rattle.rtdvs_top.specs.declared.status.Denied.{Denied}
+use Rattle.statuses.specs.declared.status.Denied.{Denied}
 use Rattle.rtdvs_top.specs.Meanings.{bytes_at, machine_at, tasks_at}
-
--- a refusal of a deadline file as a status; `NoMemory` is a status of its own
-abbrev pub deadline_status : DeadlineFault → Status
-deadline_status deadline_fault.NoMemory = status.NoMemory
-deadline_status e = status.Text (text.Deadlines e)
-
--- what a deadline file means, with its refusal as a status
-abbrev pub deadlines_or_status : Result (List ℕ) DeadlineFault → Result (List ℕ) Status
-deadlines_or_status (Ok deadlines) = Ok deadlines
-deadlines_or_status (Err e) = Err (deadline_status e)
+use Rattle.statuses.specs.Refused.{or_status, deadline_status}
 
 -- the relative deadlines that a named file gives these tasks
 abbrev pub deadlines_at : List Task → List ℕ → Files → Result (List ℕ) Status
-deadlines_at tasks name files =
-    and_then (bytes_at file.Deadlines name files) (λ bytes. deadlines_or_status (deadline_file tasks bytes))
+deadlines_at tasks name files = do
+  bytes ← bytes_at file.Deadlines name files
+  or_status deadline_status (deadline_file tasks bytes)
 
 -- a refusal of the test of deadlines below the periods as a status
 abbrev pub constrain_status : ConstrainFault → Status
@@ -47,11 +39,6 @@ constrain_status (constrain_fault.Offset task) = status.NotAdmitted (denied.Offs
 constrain_status (constrain_fault.TooManyJobs jobs) = status.Limit jobs
 constrain_status (constrain_fault.Denied at num cap) = status.NotAdmitted (denied.Demand at num cap)
 constrain_status constrain_fault.NoMemory = status.NoMemory
-
--- what the test of deadlines below the periods answers, with its refusal as a status
-abbrev pub constrained_or_status : Result Constrained ConstrainFault → Result Constrained Status
-constrained_or_status (Ok found) = Ok found
-constrained_or_status (Err e) = Err (constrain_status e)
 
 -- the line of the answer: the constrained demand, and the lowest speed that meets it
 abbrev pub constrained_text : Table → Constrained → List ℕ
@@ -64,19 +51,22 @@ constrained_text machine found =
 
 -- the answer of `constrain` for these tasks, this machine and these relative deadlines
 abbrev pub constrain_with : List Task → Table → List ℕ → Result (List ℕ) Status
-constrain_with tasks machine deadlines =
-    and_then (constrained_or_status (tested_answer (plan_of tasks machine Edf) (slice_index deadlines))) (λ found.
-    Ok (constrained_text machine found))
+constrain_with tasks machine deadlines = do
+  found ← or_status constrain_status (tested_answer (plan_of tasks machine Edf) (slice_index deadlines))
+  Ok (constrained_text machine found)
 
 -- the answer of `constrain`, after its tasks were read
 abbrev pub constrain_after_tasks : ConstrainOf → List Task → Files → Result (List ℕ) Status
-constrain_after_tasks r tasks files =
-    and_then (machine_at r.machine files) (λ machine.
-    and_then (deadlines_at tasks r.deadlines files) (constrain_with tasks machine))
+constrain_after_tasks r tasks files = do
+  machine ← machine_at r.machine files
+  deadlines ← deadlines_at tasks r.deadlines files
+  constrain_with tasks machine deadlines
 
 -- the answer of `constrain`
 abbrev pub constrain_answer : ConstrainOf → Files → Result (List ℕ) Status
-constrain_answer r files = and_then (tasks_at r.tasks files) (λ tasks. constrain_after_tasks r tasks files)
+constrain_answer r files = do
+  tasks ← tasks_at r.tasks files
+  constrain_after_tasks r tasks files
 
 -- what holds of a plan and relative deadlines for which a speed was found
 pub record KeepsDeadlines (p : Plan) (relative : ℕ → ℕ) : Type 0 where
@@ -116,16 +106,13 @@ IsKept (Some files) r tasks (status.NotAdmitted why) =
 IsKept (Some files) r tasks (status.Limit jobs) = OfMeant files r tasks (λ p relative. IsTooLong p jobs)
 IsKept files r tasks s = ⊤
 
--- Holds is true of the tasks that the files mean
-abbrev pub OfMeantTasks : Files → ConstrainOf → (List Task → Type 0) → Type 0
-OfMeantTasks files r Holds = (tasks : List Task) × (tasks_at r.tasks files ≡ Ok tasks) × Holds tasks
-
 -- The test of `constrain`, where the files are known, without a premise. A test that is done, that denies the tasks or
 -- that has too many jobs is of the tasks, the machine and the relative deadlines that its files mean.
 abbrev pub OfConstrain : Option Files → ConstrainOf → Status → Type 0
-OfConstrain (Some files) r status.Done = OfMeantTasks files r (λ tasks. IsKept (Some files) r tasks status.Done)
+OfConstrain (Some files) r status.Done =
+    (tasks : List Task) × (tasks_at r.tasks files ≡ Ok tasks) × IsKept (Some files) r tasks status.Done
 OfConstrain (Some files) r (status.NotAdmitted why) =
-    OfMeantTasks files r (λ tasks. IsKept (Some files) r tasks (status.NotAdmitted why))
+    (tasks : List Task) × (tasks_at r.tasks files ≡ Ok tasks) × IsKept (Some files) r tasks (status.NotAdmitted why)
 OfConstrain (Some files) r (status.Limit jobs) =
-    OfMeantTasks files r (λ tasks. IsKept (Some files) r tasks (status.Limit jobs))
+    (tasks : List Task) × (tasks_at r.tasks files ≡ Ok tasks) × IsKept (Some files) r tasks (status.Limit jobs)
 OfConstrain files r s = ⊤

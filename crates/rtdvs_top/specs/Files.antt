@@ -1,31 +1,16 @@
 -- The files that a command names, and which of their loads fail.
 use Rattle.std.specs.Prelude.{⊤, ◌≡◌, ℕ, ◌≤◌, ◌⊎◌, ◌<◌, List, ◌+◌, Bool, true, is_ok, Option, Some, None, [], ◌∷◌, if◌then◌else◌, length, IsTrue, Result, Ok, Err}
 use Rattle.dvs_base.specs.Outside.{Rose, ShelfView, Lacks, Files}
-use Rattle.dvs_base.specs.Checks.{and_then}
+use Rattle.dvs_base.specs.Checks.{◌>>=◌}
 use Rattle.words.specs.Commands.{CommandOf, poll, run, admit, traced, workload, response, constrain, least}
-use Rattle.rtdvs_top.specs.declared.status.FileKind.{FileKind}
-use Rattle.rtdvs_top.specs.declared.status.FileKind.TheVariants as file
-use Rattle.rtdvs_top.specs.declared.status.Status.{Status}
-use Rattle.rtdvs_top.specs.declared.status.Status.TheVariants as status
+use Rattle.statuses.specs.declared.status.FileKind.{FileKind}
+use Rattle.statuses.specs.declared.status.FileKind.TheVariants as file
+use Rattle.statuses.specs.declared.status.Status.{Status}
+use Rattle.statuses.specs.declared.status.Status.TheVariants as status
 use Rattle.task_model.specs.declared.task.Task.{Task}
 use Rattle.task_model.specs.Tasks.{names_of}
 use Rattle.rtdvs_top.specs.Meanings.{tasks_at, machine_at}
 use Rattle.rtdvs_top.specs.Poll.{server_at}
-
--- a status that says a load failed says so of a kind for which this holds
-abbrev pub OfLoad : (FileKind → Type 0) → Status → Type 0
-OfLoad Holds (status.Load kind) = Holds kind
-OfLoad Holds s = ⊤
-
--- a shelf's count of failed loads stays, unless the status says that a load failed
-abbrev pub CountsLoads : ℕ → ℕ → Status → Type 0
-CountsLoads before now (status.Load kind) = ⊤
-CountsLoads before now s = now ≡ before
-
--- a sink's count of failed puts never falls, rises where the status is `Write`, and else stays
-abbrev pub CountsPuts : ℕ → ℕ → Status → Type 0
-CountsPuts before now status.Write = Rose before now × (before ≤ now)
-CountsPuts before now s = now ≡ before
 
 -- A load failed, the `place`-th since the old shelf. The files are known and lack the name, and the count of failed
 -- loads stayed; or the count rose, and the shelf was sure of fewer than `place` loads.
@@ -43,7 +28,7 @@ pub record MakesLoads (most : ℕ) (old new : ShelfView) : Type 0 where
 -- whether the loads of a command go on after a file: its tasks and its machine have to be read, and one of the tasks of
 -- `poll` has to have the server's name too
 abbrev pub is_passed : CommandOf → FileKind → List ℕ → Files → Bool
-is_passed (poll q) file.Tasks name files = is_ok (and_then (tasks_at name files) (server_at q.server))
+is_passed (poll q) file.Tasks name files = is_ok (tasks_at name files >>= server_at q.server)
 is_passed c file.Tasks name files = is_ok (tasks_at name files)
 is_passed c file.Machine name files = is_ok (machine_at name files)
 is_passed c kind name files = true
@@ -100,25 +85,13 @@ files_needed held (f ∷ fs) = held
 abbrev pub files_for : Option Files → CommandOf → Option Files
 files_for held c = files_needed held (files_of c)
 
--- the load of one of these files, which is of this kind, failed; the first of them is the `place`-th load
-abbrev pub FailsAt : ShelfView → ShelfView → ℕ → List NamedFile → FileKind → Type 0
-FailsAt old new place [] kind = ⊥
-FailsAt old new place (f ∷ fs) kind =
-    ((kind ≡ f.kind) × LoadFails old new place f.name) ⊎ FailsAt old new (place + 1) fs kind
-
--- one of these files is of this kind, and those before it are passed
-abbrev pub ReadBefore : (NamedFile → Bool) → List NamedFile → FileKind → Type 0
-ReadBefore passed [] kind = ⊥
-ReadBefore passed (f ∷ fs) kind = (kind ≡ f.kind) ⊎ (IsTrue (passed f) × ReadBefore passed fs kind)
-
--- why a load of a command failed, by the file's place among the command's
-abbrev pub LoadOf : ShelfView → ShelfView → CommandOf → Status → Type 0
-LoadOf old new c s = OfLoad (FailsAt old new 1 (files_of c)) s
-
--- a load fails only after the files before it that the command names were read, where the files are known; that of the
--- machine of `poll` only after its server was found
-abbrev pub PassesBefore : Option Files → CommandOf → Status → Type 0
-PassesBefore files c s = OfLoad (ReadBefore (passes files c) (files_of c)) s
+-- the load of one of these files, which is of this kind, failed, and those before it are passed; the first of them is
+-- the `place`-th load
+abbrev pub FailsFrom : (NamedFile → Bool) → ShelfView → ShelfView → ℕ → List NamedFile → FileKind → Type 0
+FailsFrom passed old new place [] kind = ⊥
+FailsFrom passed old new place (f ∷ fs) kind =
+    ((kind ≡ f.kind) × LoadFails old new place f.name)
+    ⊎ (IsTrue (passed f) × FailsFrom passed old new (place + 1) fs kind)
 
 -- the name of a file, where it is one of tasks
 abbrev pub name_if_tasks : FileKind → List ℕ → Option (List ℕ)

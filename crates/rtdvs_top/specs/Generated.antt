@@ -6,10 +6,10 @@ use Rattle.dvs_base.specs.declared.kind.GovernorKind.{GovernorKind}
 use Rattle.demand_list.specs.Demands.{DemandsOf}
 use Rattle.sched_model.specs.Plan.{Plan, plan_of}
 use Rattle.sched_model.specs.Jobs.{demand_of}
-use Rattle.rtdvs_top.specs.declared.status.Status.{Status}
+use Rattle.statuses.specs.declared.status.Status.{Status}
 use Rattle.dvs_base.specs.declared.kind.GovernorKind.TheVariants.{Plain, Fixed, Cycle, Ahead}
 use Rattle.dvs_base.specs.declared.note.Totals.{Totals}
-use Rattle.rtdvs_top.specs.declared.generated.EdfTotals.{EdfTotals}
+use Rattle.rtdvs_top.specs.declared.prepared.EdfTotals.{EdfTotals}
 use Rattle.sched_model.specs.RunNotes.{run_notes}
 use Rattle.sched_model.specs.Totals.{totals_of}
 use Rattle.workload.specs.Draws.{first_state, state_after}

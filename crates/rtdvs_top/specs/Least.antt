@@ -1,6 +1,6 @@
 -- The answer of `least`, and what its bound says.
 use Rattle.std.specs.Prelude.{ℕ, List, [], ◌∷◌, codes, decimal, Bool, if◌then◌else◌, ◌++◌, Result, Ok, Err, ◌≡◌, ◌<◌, ◌*◌}
-use Rattle.dvs_base.specs.Checks.{and_then}
+use Rattle.dvs_base.specs.Checks.{◌>>=◌}
 use Rattle.dvs_base.specs.Outside.{Files}
 use Rattle.trace_text.specs.TraceLines.{line}
 use Rattle.freq_table.specs.Tables.{Table, highest_speed}
@@ -10,10 +10,10 @@ use Rattle.energy_bound.specs.Schedules.{IsLeast}
 use Rattle.energy_bound.specs.declared.least.Least.{Least}
 use Rattle.energy_bound.specs.declared.least.Over.{Over}
 use Rattle.words.specs.Commands.{LeastOf}
-use Rattle.rtdvs_top.specs.declared.status.Denied.{Denied}
-use Rattle.rtdvs_top.specs.declared.status.Denied.TheVariants as denied
-use Rattle.rtdvs_top.specs.declared.status.Status.{Status}
-use Rattle.rtdvs_top.specs.declared.status.Status.TheVariants as status
+use Rattle.statuses.specs.declared.status.Denied.{Denied}
+use Rattle.statuses.specs.declared.status.Denied.TheVariants as denied
+use Rattle.statuses.specs.declared.status.Status.{Status}
+use Rattle.statuses.specs.declared.status.Status.TheVariants as status
 use Rattle.rtdvs_top.specs.Meanings.{machine_at}
 
 -- the first line: the repetitions, the two corners by their speeds, each with its ticks, and what these cost
@@ -48,7 +48,9 @@ least_on l m = least_from (least_energy_of m l.units l.ticks)
 
 -- the answer of `least`
 abbrev pub least_answer : LeastOf → Files → Result (List ℕ) Status
-least_answer l files = and_then (machine_at l.machine files) (least_on l)
+least_answer l files = do
+  machine ← machine_at l.machine files
+  least_on l machine
 
 -- The answer is the machine's, and its certificate is one of two corners, so it passes the check. No choice and no
 -- schedule of `l.ticks` ticks that runs `l.units` units costs less, and over the answer's repetitions this is reached.

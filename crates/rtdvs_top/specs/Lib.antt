@@ -1,12 +1,11 @@
 pub mod Meanings
 pub mod Admit
 pub mod Generated
-pub mod Status
 pub mod Probing
 pub mod Run
 pub mod Poll
 pub mod Files
-pub mod Failing
+pub mod Loads
 pub mod Least
 pub mod Trace
 pub mod Response

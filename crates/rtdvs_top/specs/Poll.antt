@@ -1,6 +1,6 @@
 -- The answer of `poll`, and what a run of its server has kept.
 use Rattle.std.specs.Prelude.{ℕ, List, Option, Some, None, Result, Ok, Err, ◌+◌, [], ◌∷◌, codes, decimal, zero, suc, ◌++◌, Bool, true, false}
-use Rattle.dvs_base.specs.Checks.{and_then}
+use Rattle.dvs_base.specs.Checks.{◌>>=◌}
 use Rattle.dvs_base.specs.Outside.{Files}
 use Rattle.dvs_base.specs.Parts.{position_text}
 use Rattle.dvs_base.specs.Text.{short_of}
@@ -24,15 +24,16 @@ use Rattle.poll_server.specs.EachOutcome.{served_by}
 use Rattle.poll_server.specs.declared.served.Outcome.{Outcome}
 use Rattle.poll_server.specs.declared.served.Outcome.TheVariants.{Served, Pending}
 use Rattle.words.specs.Commands.{PollOf}
-use Rattle.rtdvs_top.specs.declared.status.FileKind.TheVariants as file
-use Rattle.rtdvs_top.specs.declared.status.TextFault.TheVariants as text
-use Rattle.rtdvs_top.specs.declared.status.Status.{Status}
-use Rattle.rtdvs_top.specs.declared.status.Status.TheVariants as status
+use Rattle.statuses.specs.declared.status.FileKind.TheVariants as file
+use Rattle.statuses.specs.declared.status.TextFault.TheVariants as text
+use Rattle.statuses.specs.declared.status.Status.{Status}
+use Rattle.statuses.specs.declared.status.Status.TheVariants as status
 use Rattle.poll_server.specs.Bound.{HaveJobs, KeepsBound}
 use Rattle.poll_server.specs.Polled.{IsPolled}
 use Rattle.rtdvs_top.specs.Meanings.{bytes_at, machine_at, tasks_at}
 use Rattle.rtdvs_top.specs.Admit.{admission}
 use Rattle.rtdvs_top.specs.Run.{within_jobs}
+use Rattle.statuses.specs.Refused.{or_status, request_status}
 
 -- the place of the server, where a task has its name
 abbrev pub server_from : List ℕ → Option ℕ → Result ℕ Status
@@ -43,28 +44,25 @@ server_from name (Some i) = Ok i
 abbrev pub server_at : List ℕ → List Task → Result ℕ Status
 server_at name tasks = server_from name (place_of tasks name)
 
--- a refusal of a request file as a status; `NoMemory` is a status of its own
-abbrev pub request_status : RequestFault → Status
-request_status request_fault.NoMemory = status.NoMemory
-request_status e = status.Text (text.Requests e)
-
--- what a request file means, with its refusal as a status
-abbrev pub requests_or_status : Result (List Request) RequestFault → Result (List Request) Status
-requests_or_status (Ok requests) = Ok requests
-requests_or_status (Err e) = Err (request_status e)
-
 -- the requests of a named file
 abbrev pub requests_at : List ℕ → Files → Result (List Request) Status
-requests_at name files = and_then (bytes_at file.Requests name files) (λ bytes. requests_or_status (request_file bytes))
+requests_at name files = do
+  bytes ← bytes_at file.Requests name files
+  or_status request_status (request_file bytes)
 
--- the server of `poll` in its admitted plan, after its tasks: first its name, then the machine and the requests
+-- the server of `poll` at this place of the tasks, in its admitted plan: first the machine, then the requests
+abbrev pub polling_at : PollOf → ℕ → List Task → Files → Result ServerOf Status
+polling_at q i tasks files = do
+  machine ← machine_at q.machine files
+  requests ← requests_at q.requests files
+  p ← admission (plan_of tasks machine q.scheduler)
+  Ok (server_of p i requests)
+
+-- the server of `poll` in its admitted plan, after its tasks: first its name
 abbrev pub polling_of : PollOf → List Task → Files → Result ServerOf Status
-polling_of q tasks files =
-    and_then (server_at q.server tasks) (λ i.
-    and_then (machine_at q.machine files) (λ machine.
-    and_then (requests_at q.requests files) (λ requests.
-    and_then (admission (plan_of tasks machine q.scheduler)) (λ p.
-    Ok (server_of p i requests)))))
+polling_of q tasks files = do
+  i ← server_at q.server tasks
+  polling_at q i tasks files
 
 -- the notes of the one schedule in which the server's jobs need what they take, by the governor's published demand
 abbrev pub polling_notes : GovernorKind → ServerOf → ℕ → List Note
@@ -116,11 +114,15 @@ answer_of_polling g ticks s = within_jobs (released_jobs s.plan ticks) (polled_t
 
 -- the answer of `poll`, after its tasks were read
 abbrev pub poll_after_tasks : PollOf → List Task → Files → Result (List ℕ) Status
-poll_after_tasks q tasks files = and_then (polling_of q tasks files) (answer_of_polling q.governor q.ticks)
+poll_after_tasks q tasks files = do
+  s ← polling_of q tasks files
+  answer_of_polling q.governor q.ticks s
 
 -- the answer of `poll`
 abbrev pub poll_answer : PollOf → Files → Result (List ℕ) Status
-poll_answer q files = and_then (tasks_at q.tasks files) (λ tasks. poll_after_tasks q tasks files)
+poll_answer q files = do
+  tasks ← tasks_at q.tasks files
+  poll_after_tasks q tasks files
 
 -- What a `poll` run has kept: each request is served exactly where its job is done in the one schedule, at that
 -- position; a later request never has an earlier job; and a request with backlog B is served by the deadline of the

@@ -1,5 +1,5 @@
 -- What a command prepares, how its put ends, and what is then known; for proofs alone.
-use Rattle.std.specs.Prelude.{ℕ, List, Result, Option, ⊤, ◌≤◌, ◌≡◌, Ok, Some, None, Err, ◌<◌, length, Bool, false}
+use Rattle.std.specs.Prelude.{ℕ, List, Result, Option, ⊤, ◌≤◌, ◌≡◌, Ok, Some, None, Err, ◌<◌, length, Bool, false, true, IfOk, IfErr}
 use Rattle.dvs_base.specs.Outside.{ShelfView, SinkView, Files}
 use Rattle.dvs_base.specs.declared.kind.GovernorKind.{GovernorKind}
 use Rattle.dvs_base.specs.declared.kind.Version.{Version}
@@ -8,30 +8,31 @@ use Rattle.sched_model.specs.Plan.{Plan, count, plan_of}
 use Rattle.event_kernel.specs.Runs.{Run, IsListOf}
 use Rattle.dvs_base.specs.declared.limits.TheConstants.{MOST_TICKS}
 use Rattle.words.specs.Commands.{CommandOf, asks_probes, RunOf, TracedOf, LeastOf, PollOf, run, traced, poll, least, ResponseOf}
-use Rattle.rtdvs_top.specs.declared.status.Status.{Status}
-use Rattle.rtdvs_top.specs.declared.status.Status.TheVariants as status
+use Rattle.statuses.specs.declared.status.Status.{Status}
+use Rattle.statuses.specs.declared.status.Status.TheVariants as status
 use Rattle.task_model.specs.Tasks.{names_of}
 use Rattle.edf_demand.specs.Answers.{IsTooLong}
-use Rattle.rtdvs_top.specs.declared.generated.Workload.{Workload}
+use Rattle.rtdvs_top.specs.declared.prepared.Workload.{Workload}
 use Rattle.trace_reader.specs.Traces.{TraceOf, IsEnded}
 use Rattle.dvs_base.specs.WritesText.{Wrote, WroteSome}
 use Rattle.energy_bound.specs.declared.least.Least.{Least}
 use Rattle.dvs_base.specs.PlanWords.{IsPair}
 use Rattle.poll_server.specs.Serving.{ServerOf, request_count}
 use Rattle.probes.specs.Tallies.{ProbeOf}
-use Rattle.rtdvs_top.specs.declared.put.Prepared.{Prepared}
-use Rattle.rtdvs_top.specs.declared.put.Prepared.TheVariants as prepared
+use Rattle.rtdvs_top.specs.declared.prepared.Prepared.{Prepared}
+use Rattle.rtdvs_top.specs.declared.prepared.Prepared.TheVariants as prepared
 use Rattle.std.specs.List.{AllByRecursion}
 use Rattle.dvs_base.specs.declared.note.Totals.{Totals}
 use Rattle.replay.specs.Replays.{NamesTask}
 use Rattle.rtdvs_top.specs.declared.generated.PlannedRun.{PlannedRun}
-use Rattle.rtdvs_top.specs.declared.run.ReadyRun.{ReadyRun}
-use Rattle.rtdvs_top.specs.Failing.{FailsIn, EndsWith, IsRefusal, Refuses}
-use Rattle.rtdvs_top.specs.Files.{CountsLoads, files_for, names_by}
+use Rattle.rtdvs_top.specs.declared.prepared.ReadyRun.{ReadyRun}
+use Rattle.statuses.specs.Steps.{EndsWith, Gives, Refuses, CountsStep}
+use Rattle.rtdvs_top.specs.Files.{files_for, names_by, loads_needed, MakesLoads}
+use Rattle.statuses.specs.Status.{CountsLoads, Leaves, LeavesProbes, IsShown}
+use Rattle.statuses.specs.StatusLines.{status_text}
 use Rattle.rtdvs_top.specs.Probing.{IfAsked, RunTold}
 use Rattle.rtdvs_top.specs.Run.{answer_of_plan, run_with, prepared_of}
-use Rattle.rtdvs_top.specs.Promises.{TestedIn, ToldIn, answer_of_command}
-use Rattle.rtdvs_top.specs.Status.{IsShown, status_text}
+use Rattle.rtdvs_top.specs.Promises.{OfTests, Tells, LoadFailed, answer_of_command}
 use Rattle.rtdvs_top.specs.Constrain.{FailsToKeep}
 use Rattle.rtdvs_top.specs.Generated.{workload_tasks, workload_ticks, workload_totals, workload_text}
 use Rattle.rtdvs_top.specs.Trace.{totals_at, traced_of}
@@ -40,7 +41,7 @@ use Rattle.rtdvs_top.specs.Poll.{polled_text, polling_of, HasServed}
 use Rattle.rtdvs_top.specs.Response.{responses_text, FailsToRespond, Responds}
 use Rattle.demand_list.specs.Demands.{IsWithinWorsts, DemandsOf}
 use Rattle.sched_model.specs.Admission.{IsAdmitted}
-use Rattle.rtdvs_top.specs.Meanings.{Gives, machine_at, tasks_at}
+use Rattle.rtdvs_top.specs.Meanings.{machine_at, tasks_at}
 use Rattle.freq_table.specs.Tables.{Table}
 use Rattle.dvs_base.specs.declared.kind.Scheduler.TheVariants.{Rm}
 
@@ -48,14 +49,15 @@ use Rattle.dvs_base.specs.declared.kind.Scheduler.TheVariants.{Rm}
 abbrev pub answer_of_run : Version → GovernorKind → Run → Result (List ℕ) Status
 answer_of_run v g r = answer_of_plan v g r.demands r.ticks r.plan
 
--- what a call sees: the shelf, and the sink of the answer
+-- what a call sees: the shelf, the sink of the answer, and the probes
 pub record Seen : Type 0 where
   pub shelf : ShelfView
   pub out : SinkView
+  pub probes : List ProbeOf
 
--- what a call sees of this shelf and this sink
-abbrev pub seen : ShelfView → SinkView → Seen
-seen shelf out = record { shelf = shelf; out = out }
+-- what a call sees of this shelf, this sink and these probes
+abbrev pub seen : ShelfView → SinkView → List ProbeOf → Seen
+seen shelf out probes = record { shelf = shelf; out = out; probes = probes }
 
 -- the answer's text was written, or a first part of it, or the answer is refused
 abbrev pub Ends : SinkView → SinkView → Result (List ℕ) Status → Status → Type 0
@@ -63,16 +65,11 @@ Ends old new answer status.Done = (text : List ℕ) × (answer ≡ Ok text) × W
 Ends old new answer status.Write = (text : List ℕ) × (answer ≡ Ok text) × WroteSome old new text
 Ends old new answer s = EndsWith answer s
 
--- how the writing of an answer ends where the files are not known: a text was written, whole or in part, or none was
-abbrev pub EndsSomehow : SinkView → SinkView → Status → Type 0
-EndsSomehow old new status.Done = (text : List ℕ) × Wrote old new text
-EndsSomehow old new status.Write = (text : List ℕ) × WroteSome old new text
-EndsSomehow old new s = IsRefusal s
-
 -- how the writing of an answer ends, where the files are known, and where they aren't
 abbrev pub EndsAs : SinkView → SinkView → Option Files → (Files → Result (List ℕ) Status) → Status → Type 0
-EndsAs old new None answer s = EndsSomehow old new s
-EndsAs old new (Some files) answer s = Ends old new (answer files) s
+EndsAs old new files answer status.Done = (text : List ℕ) × Gives files answer text × Wrote old new text
+EndsAs old new files answer status.Write = (text : List ℕ) × Gives files answer text × WroteSome old new text
+EndsAs old new files answer s = Refuses files answer s
 
 -- the demands of a run are those of its plan's tasks, and its number of ticks is within the limits
 pub record IsRunnable (r : Run) : Type 0 where
@@ -88,36 +85,20 @@ pub record IsReadyRun (kind : GovernorKind) (r : Run) : Type 0 where
   pub worsts : IsWithinWorsts r.demands
   pub runnable : IsRunnable r
 
--- a run of these tasks that is done is of the plan and the demands that were prepared
-abbrev pub RanBy : Option Files → RunOf → List Task → Status → Type 0
-RanBy files r tasks status.Done =
-    (p : Plan) × (d : DemandsOf) × Gives files (prepared_of r tasks) (p, d) × IsReadyRun r.governor (run_with r p d)
-RanBy files r tasks s = ⊤
-
--- a replay or a migration of these tasks that is done compared a trace with the schedule of an admitted plan
-abbrev pub MetTraced : Option Files → TracedOf → List Task → Status → Type 0
-MetTraced files r tasks status.Done = (p : Plan) × (t : TraceOf) × Gives files (traced_of r tasks) (p, t) × IsAdmitted p
-MetTraced files r tasks s = ⊤
-
--- a `least` that is done is of the machine that its file means
-abbrev pub LeastMet : Option Files → LeastOf → Type 0
-LeastMet files l = (m : Table) × (a : Least) × Gives files (machine_at l.machine) m × IsLeastOn m l a
-
--- a `poll` of these tasks that is done has kept the outcomes, their order and the bound, for the server of its files
-abbrev pub ServedIn : Option Files → PollOf → List Task → Status → Type 0
-ServedIn files q tasks status.Done =
-    (s : ServerOf) × Gives files (polling_of q tasks) s × HasServed s q.governor q.ticks
-ServedIn files q tasks s = ⊤
-
--- what is known of a command that is done, with the tasks of its file; of `least`, what it has met
+-- What is known of a command that is done, with the tasks of its file. A run is of the plan and the demands that were
+-- prepared; a replay or a migration has compared a trace with the schedule of an admitted plan; a `poll` run has kept the
+-- outcomes, their order and the bound, for the server of its files; `least` has its bound, for the machine of its file.
 abbrev pub MetIn : Option Files → CommandOf → Status → Type 0
 MetIn files (run r) status.Done =
-    (tasks : List Task) × Gives files (tasks_at r.tasks) tasks × RanBy files r tasks status.Done
+    (tasks : List Task) × Gives files (tasks_at r.tasks) tasks
+    × (p : Plan) × (d : DemandsOf) × Gives files (prepared_of r tasks) (p, d) × IsReadyRun r.governor (run_with r p d)
 MetIn files (traced r) status.Done =
-    (tasks : List Task) × Gives files (tasks_at r.tasks) tasks × MetTraced files r tasks status.Done
+    (tasks : List Task) × Gives files (tasks_at r.tasks) tasks
+    × (p : Plan) × (t : TraceOf) × Gives files (traced_of r tasks) (p, t) × IsAdmitted p
 MetIn files (poll q) status.Done =
-    (tasks : List Task) × Gives files (tasks_at q.tasks) tasks × ServedIn files q tasks status.Done
-MetIn files (least l) status.Done = LeastMet files l
+    (tasks : List Task) × Gives files (tasks_at q.tasks) tasks
+    × (s : ServerOf) × Gives files (polling_of q tasks) s × HasServed s q.governor q.ticks
+MetIn files (least l) status.Done = (m : Table) × (a : Least) × Gives files (machine_at l.machine) m × IsLeastOn m l a
 MetIn files c s = ⊤
 
 -- a test that is done or denies the tasks is of the machine that its file means, where the files are known
@@ -128,15 +109,12 @@ IsTested (Some files) r tasks (status.NotAdmitted why) =
     (machine : Table) × (machine_at r.machine files ≡ Ok machine) × FailsToRespond (plan_of tasks machine Rm) why
 IsTested files r tasks s = ⊤
 
--- where the files are known, the lines of a status have the names of the command's tasks
-abbrev pub NamedBy : Option Files → CommandOf → Option (List Task) → Status → Type 0
-NamedBy None c tasks s = ⊤
-NamedBy (Some files) c tasks s = status_text (names_of tasks) s ≡ status_text (names_by c files) s
-
--- where a command that asks for probes is done, the names are those of its tasks
-abbrev pub NamedIfDone : Option Files → CommandOf → Option (List Task) → Status → Type 0
-NamedIfDone (Some files) c tasks status.Done = IfAsked (asks_probes c) (names_of tasks ≡ names_by c files)
-NamedIfDone files c tasks s = ⊤
+-- Where the files are known, the lines of a status have the names of the command's tasks. Where a command that asks for
+-- probes is done, these are the names that the probes' lines have.
+abbrev pub Named : Option Files → CommandOf → Option (List Task) → Status → Type 0
+Named None c tasks s = ⊤
+Named (Some files) c tasks status.Done = IfAsked (asks_probes c) (names_of tasks ≡ names_by c files)
+Named (Some files) c tasks s = status_text (names_of tasks) s ≡ status_text (names_by c files) s
 
 -- a command was answered with this status, and its tasks where they were read
 pub record IsAnswered (c : CommandOf) (old new : Seen) (s : Status) (tasks : Option (List Task)) : Type 0 where
@@ -145,14 +123,17 @@ pub record IsAnswered (c : CommandOf) (old new : Seen) (s : Status) (tasks : Opt
   -- what is known of a run, a replay, a `poll` run or a `least` that is done
   pub met : MetIn (files_for old.shelf.held c) c s
   -- what an exact test proves
-  pub tested : TestedIn (files_for old.shelf.held c) c s
-  -- the names of a refusal are those of the command's tasks
-  pub named : NamedBy (files_for old.shelf.held c) c tasks s
-  pub named_done : NamedIfDone (files_for old.shelf.held c) c tasks s
+  pub tested : OfTests (files_for old.shelf.held c) (Ok c) s
+  -- the names in the lines are those of the command's tasks
+  pub named : Named (files_for old.shelf.held c) c tasks s
   -- which load failed, and that the files before it were read
-  pub failed : FailsIn old.shelf new.shelf c s
+  pub failed : LoadFailed old.shelf new.shelf (Ok c) s
+  -- no more loads were made than the answer needs
+  pub loads : MakesLoads (loads_needed old.shelf.held c) old.shelf new.shelf
   -- the shelf's count of failed loads shows in the status
   pub counts : CountsLoads old.shelf.faults new.shelf.faults s
+  -- what the probes were told
+  pub told : Tells (files_for old.shelf.held c) (Ok c) old.out new.out old.probes new.probes s
   -- what the status shows by itself
   pub shown : IsShown s
 
@@ -170,11 +151,11 @@ pub record IsSmall (made : Workload) : Type 0 where
   pub few_ticks : made.ticks ≤ workload_ticks
 
 -- the status of a put: `Done`, or `Write` where it failed
-abbrev pub put_status : {T E : Type 0} → Result T E → Status
-put_status (Ok v) = status.Done
-put_status (Err e) = status.Write
+abbrev pub status_of_put : {T E : Type 0} → Result T E → Status
+status_of_put (Ok v) = status.Done
+status_of_put (Err e) = status.Write
 
--- a status that the put of an answer can end with; too many jobs are those of the answer
+-- a status that the put of an answer can end with; `Limit` only where the answer is that refusal
 abbrev pub PutEnds : Result (List ℕ) Status → Status → Type 0
 PutEnds answer status.Done = ⊤
 PutEnds answer status.Write = ⊤
@@ -182,16 +163,16 @@ PutEnds answer status.NoMemory = ⊤
 PutEnds answer (status.Limit jobs) = answer ≡ Err (status.Limit jobs)
 PutEnds answer s = ⊥
 
--- the server is a task of the plan
-abbrev pub IsServer : ServerOf → Type 0
-IsServer s = s.task < count s.plan
-
 -- a `poll` run can be made: its server is a task of the plan, and its pair and its ticks are within the limits of a run
 pub record IsPollable (s : ServerOf) (governor : GovernorKind) (ticks : ℕ) : Type 0 where
-  pub server : IsServer s
+  pub server : s.task < count s.plan
   pub pair : IsPair s.plan.scheduler governor
   pub some_ticks : 1 ≤ ticks
   pub few_ticks : ticks ≤ MOST_TICKS
+
+-- the run under a governor of this kind, which tells its probes
+abbrev pub told_run : GovernorKind → ReadyRun → ReadyRun
+told_run kind w = record w { governor = kind; probes = true }
 
 -- the run that is ready to be written
 abbrev pub ready_run : ReadyRun → Run
@@ -226,30 +207,58 @@ ToldOf (prepared.Trace w) old new before after s =
     IfAsked w.probes (RunTold w.version w.governor (ready_run w) old new before after s)
 ToldOf p old new before after s = ⊤
 
--- where the files are known, the step has this answer
-abbrev pub HasAnswer : Option Files → (Files → Result (List ℕ) Status) → Result (List ℕ) Status → Type 0
-HasAnswer None step answer = ⊤
-HasAnswer (Some files) step answer = step files ≡ answer
+-- What a put of what was prepared does to the sink and to the probes, each before and after it. They are seen through
+-- `shows` and `counts`.
+pub record PutStep {W V : Type 0} (out : W × W) (probes : V × V) (shows : W → SinkView) (counts : V → List ProbeOf) (p : Prepared)
+    (s : Status) : Type 0 where
+  -- the answer's text was written, or a first part of it, or the answer is refused
+  pub ended : Ends (shows out.0) (shows out.1) (answer_of p) s
+  -- no other status is possible
+  pub ends : PutEnds (answer_of p) s
+  -- where nothing was put the sink is as before
+  pub leaves : Leaves s out.0 out.1
+  -- probes that are not told are as before
+  pub kept : LeavesProbes (tells_probes p) s probes.0 probes.1
+  -- the others were told the notes
+  pub told : ToldOf p (shows out.0) (shows out.1) (counts probes.0) (counts probes.1) s
+  -- what the status shows by itself
+  pub shown : IsShown s
+
+-- where the files are known, the command has this answer
+abbrev pub HasAnswer : Option Files → CommandOf → Result (List ℕ) Status → Type 0
+HasAnswer None c answer = ⊤
+HasAnswer (Some files) c answer = answer_of_command c files ≡ answer
 
 -- What was prepared for a command: its put gives the command's answer. With each status that the put can end with, all
 -- holds that is known of the command.
 pub record IsPrepared (files : Option Files) (c : CommandOf) (tasks : Option (List Task)) (p : Prepared) : Type 0 where
-  pub answer : HasAnswer files (answer_of_command c) (answer_of p)
+  pub answer : HasAnswer files c (answer_of p)
   pub puttable : IsPuttable p
   pub tells : tells_probes p ≡ asks_probes c
-  pub named : NamedIfDone files c tasks status.Done
+  pub named : Named files c tasks status.Done
   pub met : (s : Status) → PutEnds (answer_of p) s → MetIn files c s
-  pub tested : (s : Status) → PutEnds (answer_of p) s → TestedIn files c s
+  pub tested : (s : Status) → PutEnds (answer_of p) s → OfTests files (Ok c) s
   pub told : (old new : SinkView) (before after : List ProbeOf) (s : Status) → ToldOf p old new before after s
-      → ToldIn files c old new before after s
+      → Tells files (Ok c) old new before after s
 
 -- a command ended with this status before anything was put
 pub record IsRefused (old new : ShelfView) (c : CommandOf) (tasks : Option (List Task)) (s : Status) : Type 0 where
   pub ended : Refuses (files_for old.held c) (answer_of_command c) s
-  pub tested : TestedIn (files_for old.held c) c s
-  pub named : NamedBy (files_for old.held c) c tasks s
-  pub failed : FailsIn old new c s
+  pub tested : OfTests (files_for old.held c) (Ok c) s
+  pub named : Named (files_for old.held c) c tasks s
+  pub failed : LoadFailed old new (Ok c) s
   pub shown : IsShown s
+
+-- What a command prepares before anything is put, and its tasks where they were read.
+pub record PrepareStep (old new : ShelfView) (c : CommandOf) (tasks : Option (List Task)) (r : Result Prepared Status) : Type 0 where
+  -- its put gives the command's answer
+  pub prepared : IfOk r (IsPrepared (files_for old.held c) c tasks)
+  -- or the answer is refused
+  pub refused : IfErr r (IsRefused old new c tasks)
+  -- no more loads were made than the answer needs
+  pub loads : MakesLoads (loads_needed old.held c) old new
+  -- the count of failed loads changes only with the status `Load`
+  pub counts : CountsStep old.faults new.faults r
 
 -- the plan is of the trace's scheduler, which makes a pair with its governor; its number of ticks is within the limits;
 -- each task that a note names is one of the plan; and the last note, and no other, ends the run
@@ -260,15 +269,6 @@ pub record IsComparable (p : Plan) (t : TraceOf) : Type 0 where
   pub low_ticks : t.plan.ticks ≤ MOST_TICKS
   pub tasks : AllByRecursion (NamesTask (count p)) t.notes
   pub ended : IsEnded t.notes
-
--- the trace was compared with its schedule, and has these totals
-abbrev pub IsCompared : Plan → TraceOf → Totals → Type 0
-IsCompared p t totals = totals_at (p, t) ≡ Ok totals
-
--- a status that denies a plan gives the cause
-abbrev pub DeniesBy : Plan → Status → Type 0
-DeniesBy p (status.NotAdmitted why) = FailsToRespond p why
-DeniesBy p s = ⊤
 
 -- the run that was planned
 abbrev pub planned : PlannedRun → Run

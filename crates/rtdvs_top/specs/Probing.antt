@@ -10,30 +10,23 @@ use Rattle.event_kernel.specs.Runs.{Run, demands_of}
 use Rattle.note_laws.specs.RunText.{run_lines}
 use Rattle.event_kernel.specs.Lines.{StoppedIn}
 use Rattle.probes.specs.Tallies.{ProbeOf, told_notes}
-use Rattle.rtdvs_top.specs.declared.status.Status.{Status}
-use Rattle.rtdvs_top.specs.declared.status.Status.TheVariants as status
-use Rattle.rtdvs_top.specs.Status.{Leaves}
+use Rattle.statuses.specs.declared.status.Status.{Status}
+use Rattle.statuses.specs.declared.status.Status.TheVariants as status
+use Rattle.statuses.specs.Status.{Leaves}
 
--- Probes under a run of these notes. Where it is done they were told the notes, one by one. Where a write failed they
--- were told those of the lines before the one that was put.
-abbrev pub NotesTold : Version → GovernorKind → Plan → ℕ → List Note → SinkView → SinkView
-    → List ProbeOf → List ProbeOf → Status → Type 0
-NotesTold v kind p ticks notes old new before after status.Done = after ≡ told_notes notes before
-NotesTold v kind p ticks notes old new before after status.Write =
-    StoppedIn old new before after (run_lines v p kind ticks notes)
-NotesTold v kind p ticks notes old new before after s = ⊤
+-- the notes of a run's schedule, by the published demand of the governor's kind
+abbrev pub notes_under : GovernorKind → Run → List Note
+notes_under kind r = run_notes r.plan kind (demands_of r.plan r.demands) r.ticks
 
--- a run told probes the notes of its schedule by the published demand of the governor's kind
+-- A run told probes the notes of its schedule. Where it is done they were told the notes, one by one. Where a write
+-- failed they were told those of the lines before the one that was put.
 abbrev pub RunTold : Version → GovernorKind → Run → SinkView → SinkView → List ProbeOf → List ProbeOf → Status → Type 0
-RunTold v kind r old new before after s =
-    NotesTold v kind r.plan r.ticks (run_notes r.plan kind (demands_of r.plan r.demands) r.ticks) old new before after s
+RunTold v kind r old new before after status.Done = after ≡ told_notes (notes_under kind r) before
+RunTold v kind r old new before after status.Write =
+    StoppedIn old new before after (run_lines v r.plan kind r.ticks (notes_under kind r))
+RunTold v kind r old new before after s = ⊤
 
 -- X holds, where it is asked for
 abbrev pub IfAsked : Bool → Type 0 → Type 0
 IfAsked true X = X
 IfAsked false X = ⊤
-
--- where no probes are asked for their list is as before; else every status but `Done` and `Write` leaves it as it was
-abbrev pub LeavesProbes : {V : Type 0} → Bool → Status → V → V → Type 0
-LeavesProbes true s old new = Leaves s old new
-LeavesProbes false s old new = new ≡ old

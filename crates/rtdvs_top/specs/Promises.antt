@@ -1,14 +1,14 @@
 -- What the top call promises, clause by clause.
 use Rattle.std.specs.Prelude.{Result, Ok, ◌≡◌, ⊤, Option, Some, ℕ, List, map, string_bytes, String, [], Err, ◌⊎◌, IsOk, None, ◌≤◌, length, ◌*◌, ◌<◌, ◌≢◌, Bool, false}
-use Rattle.dvs_base.specs.Checks.{and_then}
+use Rattle.dvs_base.specs.Checks.{◌>>=◌}
 use Rattle.dvs_base.specs.Outside.{Files, SinkView, ShelfView, Rose}
 use Rattle.sched_model.specs.Plan.{Plan, plan_of, period, hyper, top_speed}
 use Rattle.sched_model.specs.Admission.{PassesTest}
 use Rattle.words.specs.Commands.{RunOf, AdmitOf, TracedOf, PollOf, CommandOf, run, admit, traced, poll, workload, response, constrain, least, asks_probes}
 use Rattle.words.specs.declared.command.WordFault.{WordFault}
-use Rattle.rtdvs_top.specs.declared.status.Denied.{Denied}
-use Rattle.rtdvs_top.specs.declared.status.Status.{Status}
-use Rattle.rtdvs_top.specs.declared.status.Status.TheVariants as status
+use Rattle.statuses.specs.declared.status.Denied.{Denied}
+use Rattle.statuses.specs.declared.status.Status.{Status}
+use Rattle.statuses.specs.declared.status.Status.TheVariants as status
 use Rattle.std.specs.Io.KnownBytes.{Appends}
 use Rattle.std.specs.declared.alloc.Global.{Global}
 use Rattle.dvs_base.specs.WritesText.{Wrote, WroteSome}
@@ -27,7 +27,7 @@ use Rattle.words.specs.Reading.{command_of}
 use Rattle.energy_bound.specs.declared.least.Least.{Least}
 use Rattle.probes.specs.Tallies.{ProbeOf}
 use Rattle.poll_server.specs.Serving.{ServerOf}
-use Rattle.rtdvs_top.specs.declared.status.Denied.TheVariants as denied
+use Rattle.statuses.specs.declared.status.Denied.TheVariants as denied
 use Rattle.rtdvs_top.specs.Meanings.{tasks_at, machine_at, demands_at}
 use Rattle.rtdvs_top.specs.Trace.{trace_at, trace_answer}
 use Rattle.rtdvs_top.specs.Poll.{server_at, requests_at, poll_answer, polling_of, HasServed}
@@ -37,41 +37,43 @@ use Rattle.rtdvs_top.specs.Generated.{workload_answer}
 use Rattle.rtdvs_top.specs.Response.{response_answer, MeansPlan, RespondsOrIsDenied, OfTest}
 use Rattle.rtdvs_top.specs.Constrain.{constrain_answer, OfConstrain}
 use Rattle.rtdvs_top.specs.Least.{least_answer, least_text, IsLeastOn, AreTooMany}
-use Rattle.rtdvs_top.specs.Files.{files_for, LoadOf, PassesBefore, loads_of, loads_needed, names_by}
-use Rattle.rtdvs_top.specs.Status.{status_text, NotedAs, noted_text}
+use Rattle.rtdvs_top.specs.Files.{files_for, files_of, passes, FailsFrom, loads_of, loads_needed, names_by}
+use Rattle.statuses.specs.Status.{OfLoad}
+use Rattle.statuses.specs.StatusLines.{status_text}
+use Rattle.statuses.specs.Noted.{NotedAs, noted_text}
 
 -- the plan of `run`: the tasks and the machine of its files, whose demands are read too
 abbrev pub run_plan : RunOf → Files → Result Plan Status
-run_plan r files =
-    and_then (tasks_at r.tasks files) (λ tasks.
-    and_then (machine_at r.machine files) (λ machine.
-    and_then (demands_at tasks r.demands files) (λ demands.
-    Ok (plan_of tasks machine r.scheduler))))
+run_plan r files = do
+  tasks ← tasks_at r.tasks files
+  machine ← machine_at r.machine files
+  demands ← demands_at tasks r.demands files
+  Ok (plan_of tasks machine r.scheduler)
 
 -- the plan of `admit`: the tasks and the machine of its files
 abbrev pub admit_plan : AdmitOf → Files → Result Plan Status
-admit_plan a files =
-    and_then (tasks_at a.tasks files) (λ tasks.
-    and_then (machine_at a.machine files) (λ machine.
-    Ok (plan_of tasks machine a.scheduler)))
+admit_plan a files = do
+  tasks ← tasks_at a.tasks files
+  machine ← machine_at a.machine files
+  Ok (plan_of tasks machine a.scheduler)
 
 -- the plan of `replay` or `migrate`: the tasks and the machine of its files, and the scheduler that its trace names
 abbrev pub traced_plan : TracedOf → Files → Result Plan Status
-traced_plan r files =
-    and_then (tasks_at r.tasks files) (λ tasks.
-    and_then (machine_at r.machine files) (λ machine.
-    and_then (trace_at tasks r.trace files) (λ t.
-    Ok (plan_of tasks machine t.plan.scheduler))))
+traced_plan r files = do
+  tasks ← tasks_at r.tasks files
+  machine ← machine_at r.machine files
+  t ← trace_at tasks r.trace files
+  Ok (plan_of tasks machine t.plan.scheduler)
 
 -- the plan of `poll`: the tasks and the machine of its files, where a task has the server's name and the requests are
 -- read too
 abbrev pub poll_plan : PollOf → Files → Result Plan Status
-poll_plan q files =
-    and_then (tasks_at q.tasks files) (λ tasks.
-    and_then (server_at q.server tasks) (λ i.
-    and_then (machine_at q.machine files) (λ machine.
-    and_then (requests_at q.requests files) (λ requests.
-    Ok (plan_of tasks machine q.scheduler)))))
+poll_plan q files = do
+  tasks ← tasks_at q.tasks files
+  i ← server_at q.server tasks
+  machine ← machine_at q.machine files
+  requests ← requests_at q.requests files
+  Ok (plan_of tasks machine q.scheduler)
 
 -- there is a plan, and it passes its scheduler's test
 abbrev pub Passes : Result Plan Status → Type 0
@@ -165,15 +167,11 @@ abbrev pub IsSureOf : Option Files → Result CommandOf WordFault → SinkView �
 IsSureOf (Some files) (Ok c) sink = (text : List ℕ) → answer_of_command c files ≡ Ok text → length text ≤ sink.sure
 IsSureOf _ _ sink = ⊥
 
--- why a load of the command failed
+-- A load that failed is of one of the command's files, by its place among them. Where the files are known, those before
+-- it were read; the machine of `poll` is loaded only after its server was found.
 abbrev pub LoadFailed : ShelfView → ShelfView → Result CommandOf WordFault → Status → Type 0
-LoadFailed old new (Ok c) s = LoadOf old new c s
+LoadFailed old new (Ok c) s = OfLoad (FailsFrom (passes (files_for old.held c) c) old new 1 (files_of c)) s
 LoadFailed old new (Err why) s = ⊤
-
--- the files before a load that failed were read
-abbrev pub LoadsInOrder : Option Files → Result CommandOf WordFault → Status → Type 0
-LoadsInOrder files (Ok c) s = PassesBefore files c s
-LoadsInOrder files (Err why) s = ⊤
 
 -- the number of files that the words name
 abbrev pub loads_asked : Result CommandOf WordFault → ℕ
@@ -208,16 +206,11 @@ OfRun (Some files) (Ok (run r)) old new (status.NotAdmitted why) =
     × DeniedPlan (plan_of tasks machine r.scheduler) why
 OfRun files c old new s = ⊤
 
--- what the test of a command proves, where it is one
-abbrev pub TestedIn : Option Files → CommandOf → Status → Type 0
-TestedIn files (response r) s = OfTest files r s
-TestedIn files (constrain r) s = OfConstrain files r s
-TestedIn files c s = ⊤
-
 -- what an exact test proves, where the command is one
 abbrev pub OfTests : Option Files → Result CommandOf WordFault → Status → Type 0
-OfTests files (Ok c) s = TestedIn files c s
-OfTests files (Err why) s = ⊤
+OfTests files (Ok (response r)) s = OfTest files r s
+OfTests files (Ok (constrain r)) s = OfConstrain files r s
+OfTests files c s = ⊤
 
 -- A `poll` run that is done, where its files are known, has served its requests in the one schedule of its server's
 -- plan: each exactly where its job is done, a later one never by an earlier job, and each by the deadline that its
@@ -274,15 +267,9 @@ abbrev pub probes_asked : Result CommandOf WordFault → Bool
 probes_asked (Ok c) = asks_probes c
 probes_asked (Err why) = false
 
--- a `run` command that is done, or whose write failed, told probes its notes, if it asked for probes
-abbrev pub ToldIn : Option Files → CommandOf → SinkView → SinkView → List ProbeOf → List ProbeOf → Status → Type 0
-ToldIn files (run r) old new before after status.Done = FileTold files r old new before after status.Done
-ToldIn files (run r) old new before after status.Write = FileTold files r old new before after status.Write
-ToldIn files c old new before after s = ⊤
-
--- the probes that the words ask for were told the notes of a run that is done; of a run whose write failed they were
--- told the notes of the lines before that write
-abbrev pub Tells : Option Files → Result CommandOf WordFault → SinkView → SinkView
-    → List ProbeOf → List ProbeOf → Status → Type 0
-Tells files (Ok c) old new before after s = ToldIn files c old new before after s
-Tells files (Err why) old new before after s = ⊤
+-- The probes that the words ask for were told the notes of a run that is done. Of a run whose write failed they were told
+-- the notes of the lines before that write.
+abbrev pub Tells : Option Files → Result CommandOf WordFault → SinkView → SinkView → List ProbeOf → List ProbeOf → Status → Type 0
+Tells files (Ok (run r)) old new before after status.Done = FileTold files r old new before after status.Done
+Tells files (Ok (run r)) old new before after status.Write = FileTold files r old new before after status.Write
+Tells files c old new before after s = ⊤

@@ -9,17 +9,18 @@ use Rattle.task_model.specs.Tasks.{NoneOffset, IsFirstOffset, task_at}
 use Rattle.rm_response_laws.specs.Responses.{AllRespond, MeetsAllDeadlines, is_first_done}
 use Rattle.rm_response.specs.Denials.{responses, AreLeast, IsFirstMiss, exact_answer}
 use Rattle.words.specs.Commands.{ResponseOf}
-use Rattle.rtdvs_top.specs.declared.status.Denied.{Denied}
-use Rattle.rtdvs_top.specs.declared.status.Denied.TheVariants as denied
-use Rattle.rtdvs_top.specs.declared.status.Status.{Status}
-use Rattle.rtdvs_top.specs.declared.status.Status.TheVariants as status
+use Rattle.statuses.specs.declared.status.Denied.{Denied}
+use Rattle.statuses.specs.declared.status.Denied.TheVariants as denied
+use Rattle.statuses.specs.declared.status.Status.{Status}
+use Rattle.statuses.specs.declared.status.Status.TheVariants as status
 use Rattle.grid_fraction.specs.Numbers.{list_below}
-use Rattle.dvs_base.specs.Checks.{and_then}
+use Rattle.dvs_base.specs.Checks.{◌>>=◌}
 use Rattle.dvs_base.specs.Parts.{joined}
 use Rattle.trace_text.specs.TraceLines.{line}
 use Rattle.rm_response.specs.declared.response.ResponseFault.{ResponseFault}
 use Rattle.rm_response.specs.declared.response.ResponseFault.TheVariants as response_fault
 use Rattle.rtdvs_top.specs.Meanings.{tasks_at, machine_at}
+use Rattle.statuses.specs.Refused.{or_status}
 
 -- what holds of a plan whose tasks all have responses
 pub record Responds (p : Plan) : Type 0 where
@@ -64,15 +65,15 @@ response_status (response_fault.Offset task) = status.NotAdmitted (denied.Offset
 response_status (response_fault.Misses task num cap) = status.NotAdmitted (denied.Response task num cap)
 response_status response_fault.NoMemory = status.NoMemory
 
--- what the exact test under RM answers, with its refusal as a status
-abbrev pub responses_or_status : Result (List ℕ) ResponseFault → Result (List ℕ) Status
-responses_or_status (Ok ticks) = Ok ticks
-responses_or_status (Err e) = Err (response_status e)
+-- the responses of these tasks under RM on a machine
+abbrev pub responses_on : List Task → Table → Result (List ℕ) Status
+responses_on tasks machine = or_status response_status (exact_answer (plan_of tasks machine Rm))
 
 -- the responses of these tasks under RM on the machine of a named file
 abbrev pub responses_at : ResponseOf → List Task → Files → Result (List ℕ) Status
-responses_at r tasks files =
-    and_then (machine_at r.machine files) (λ machine. responses_or_status (exact_answer (plan_of tasks machine Rm)))
+responses_at r tasks files = do
+  machine ← machine_at r.machine files
+  responses_on tasks machine
 
 -- the line of a task: its name, and its response in ticks
 abbrev pub response_text : List Task → List ℕ → ℕ → List ℕ
@@ -84,9 +85,12 @@ responses_text tasks ticks = joined (list_below (length tasks) (response_text ta
 
 -- the answer of `response`, after its tasks were read
 abbrev pub response_after_tasks : ResponseOf → List Task → Files → Result (List ℕ) Status
-response_after_tasks r tasks files =
-    and_then (responses_at r tasks files) (λ ticks. Ok (responses_text tasks ticks))
+response_after_tasks r tasks files = do
+  ticks ← responses_at r tasks files
+  Ok (responses_text tasks ticks)
 
 -- the answer of `response`
 abbrev pub response_answer : ResponseOf → Files → Result (List ℕ) Status
-response_answer r files = and_then (tasks_at r.tasks files) (λ tasks. response_after_tasks r tasks files)
+response_answer r files = do
+  tasks ← tasks_at r.tasks files
+  response_after_tasks r tasks files

@@ -1,6 +1,6 @@
 -- The answer of `run`, and what a run that is done has met.
 use Rattle.std.specs.Prelude.{ℕ, List, nat_lt, Result, Ok, Err, if◌then◌else◌, ⊤, Option}
-use Rattle.dvs_base.specs.Checks.{and_then}
+use Rattle.dvs_base.specs.Checks.{◌>>=◌}
 use Rattle.dvs_base.specs.Outside.{Files, SinkView}
 use Rattle.dvs_base.specs.declared.kind.GovernorKind.{GovernorKind}
 use Rattle.dvs_base.specs.declared.kind.Version.{Version}
@@ -14,14 +14,15 @@ use Rattle.event_kernel.specs.Runs.{Run, demands_of}
 use Rattle.probes.specs.Tallies.{ProbeOf}
 use Rattle.dvs_base.specs.declared.limits.TheConstants.{MOST_JOBS}
 use Rattle.words.specs.Commands.{RunOf}
-use Rattle.rtdvs_top.specs.declared.status.Status.{Status}
-use Rattle.rtdvs_top.specs.declared.status.Status.TheVariants as status
+use Rattle.statuses.specs.declared.status.Status.{Status}
+use Rattle.statuses.specs.declared.status.Status.TheVariants as status
 use Rattle.sched_model.specs.Ticks.{Tick, IsMet}
 use Rattle.sched_model.specs.Admission.{PassesTest}
 use Rattle.sched_model.specs.Schedule.{schedule, AlwaysMeets, HasSchedule, HasNoOther, IsTheSchedule}
 use Rattle.note_laws.specs.DoneLines.{TellsDeadlines}
 use Rattle.rtdvs_top.specs.Admit.{admission}
-use Rattle.rtdvs_top.specs.Meanings.{Gives, demands_at, machine_at, tasks_at}
+use Rattle.statuses.specs.Steps.{Gives}
+use Rattle.rtdvs_top.specs.Meanings.{demands_at, machine_at, tasks_at}
 use Rattle.rtdvs_top.specs.Probing.{IfAsked, RunTold}
 
 -- the text, where the run doesn't release too many jobs
@@ -35,11 +36,11 @@ answer_of_plan v g demands ticks p =
 
 -- the admitted plan and the demands of `run`, after its tasks were read
 abbrev pub prepared_of : RunOf → List Task → Files → Result (Plan × DemandsOf) Status
-prepared_of r tasks files =
-    and_then (machine_at r.machine files) (λ machine.
-    and_then (demands_at tasks r.demands files) (λ demands.
-    and_then (admission (plan_of tasks machine r.scheduler)) (λ p.
-    Ok (p, demands))))
+prepared_of r tasks files = do
+  machine ← machine_at r.machine files
+  demands ← demands_at tasks r.demands files
+  p ← admission (plan_of tasks machine r.scheduler)
+  Ok (p, demands)
 
 -- the answer of `run` for the plan and the demands that were prepared
 abbrev pub answer_of_prepared : RunOf → Plan × DemandsOf → Result (List ℕ) Status
@@ -47,11 +48,15 @@ answer_of_prepared r x = answer_of_plan r.version r.governor x.1 r.ticks x.0
 
 -- the answer of `run`, after its tasks were read
 abbrev pub run_after_tasks : RunOf → List Task → Files → Result (List ℕ) Status
-run_after_tasks r tasks files = and_then (prepared_of r tasks files) (answer_of_prepared r)
+run_after_tasks r tasks files = do
+  x ← prepared_of r tasks files
+  answer_of_prepared r x
 
 -- the answer of `run`
 abbrev pub run_answer : RunOf → Files → Result (List ℕ) Status
-run_answer r files = and_then (tasks_at r.tasks files) (λ tasks. run_after_tasks r tasks files)
+run_answer r files = do
+  tasks ← tasks_at r.tasks files
+  run_after_tasks r tasks files
 
 -- the demand of each job of a run
 abbrev pub job_demands : Run → JobDemands
@@ -65,10 +70,6 @@ ticks_under kind r = schedule r.plan kind (job_demands r) r.ticks
 abbrev pub text_under : Version → GovernorKind → Run → List ℕ
 text_under v kind r = run_text_in v r.plan kind (job_demands r) r.ticks
 
--- some entry of the table meets each published demand of a run
-abbrev pub AlwaysMeetsIn : GovernorKind → Run → Type 0
-AlwaysMeetsIn kind r = AlwaysMeets r.plan kind (job_demands r) r.ticks
-
 -- what a run of an admitted plan, written in this version, has met
 pub record HasMet (v : Version) (kind : GovernorKind) (r : Run) : Type 0 where
   -- the scheduler's stated test passes at the highest speed
@@ -80,8 +81,8 @@ pub record HasMet (v : Version) (kind : GovernorKind) (r : Run) : Type 0 where
   pub deadlines : IsMet r.plan (job_demands r) (ticks_under kind r)
   -- exactly one line of the text says that the job is done, at a position not after its deadline
   pub told : TellsDeadlines r.plan r.ticks (text_under v kind r)
-  -- some entry meets each published demand, unless the governor looks ahead
-  pub speeds : IsAlwaysMet kind → AlwaysMeetsIn kind r
+  -- some entry of the table meets each published demand, unless the governor looks ahead
+  pub speeds : IsAlwaysMet kind → AlwaysMeets r.plan kind (job_demands r) r.ticks
   -- for any published demand, the plan has one schedule of each length
   pub exists : HasSchedule r.plan
   pub unique : HasNoOther r.plan
@@ -90,23 +91,10 @@ pub record HasMet (v : Version) (kind : GovernorKind) (r : Run) : Type 0 where
 abbrev pub run_with : RunOf → Plan → DemandsOf → Run
 run_with r p d = record { plan = p; demands = d; ticks = r.ticks }
 
--- a run of these tasks told probes its notes, by the plan and the demands that were prepared
-abbrev pub PreparedTold : Option Files → RunOf → List Task → SinkView → SinkView
-    → List ProbeOf → List ProbeOf → Status → Type 0
-PreparedTold files r tasks old new before after s =
-    (p : Plan) × (d : DemandsOf) × Gives files (prepared_of r tasks) (p, d)
-    × RunTold r.version r.governor (run_with r p d) old new before after s
-
--- a run of these tasks that is done, or whose write failed, told probes its notes, if the words ask for probes
-abbrev pub ToldBy : Option Files → RunOf → List Task → SinkView → SinkView
-    → List ProbeOf → List ProbeOf → Status → Type 0
-ToldBy files r tasks old new before after status.Done =
-    IfAsked r.probes (PreparedTold files r tasks old new before after status.Done)
-ToldBy files r tasks old new before after status.Write =
-    IfAsked r.probes (PreparedTold files r tasks old new before after status.Write)
-ToldBy files r tasks old new before after s = ⊤
-
--- a run of its file's tasks that is done, or whose write failed, told probes its notes, if the words ask for probes
+-- a run of its file's tasks told probes the notes of the plan and the demands that were prepared, if the words ask for
+-- probes
 abbrev pub FileTold : Option Files → RunOf → SinkView → SinkView → List ProbeOf → List ProbeOf → Status → Type 0
 FileTold files r old new before after s =
-    (tasks : List Task) × Gives files (tasks_at r.tasks) tasks × ToldBy files r tasks old new before after s
+    (tasks : List Task) × Gives files (tasks_at r.tasks) tasks
+    × IfAsked r.probes ((p : Plan) × (d : DemandsOf) × Gives files (prepared_of r tasks) (p, d)
+    × RunTold r.version r.governor (run_with r p d) old new before after s)

@@ -15,9 +15,9 @@ use Rattle.trace_reader.specs.Traces.{TraceOf, text_of, task_lines}
 use Rattle.replay_laws.specs.FixedDemands.{fixed_of, fixed_list}
 use Rattle.words.specs.declared.command.WordFault.{WordFault}
 use Rattle.words.specs.Commands.{TracedOf, CommandOf, traced}
-use Rattle.rtdvs_top.specs.declared.status.Status.{Status}
-use Rattle.rtdvs_top.specs.declared.status.Status.TheVariants as status
-use Rattle.dvs_base.specs.Checks.{and_then}
+use Rattle.statuses.specs.declared.status.Status.{Status}
+use Rattle.statuses.specs.declared.status.Status.TheVariants as status
+use Rattle.dvs_base.specs.Checks.{◌>>=◌}
 use Rattle.dvs_base.specs.declared.kind.Version.TheVariants.{Two}
 use Rattle.dvs_base.specs.declared.note.Totals.{Totals}
 use Rattle.trace_text.specs.TraceLines.{line}
@@ -32,10 +32,11 @@ use Rattle.replay.specs.declared.fault.ReplayFault.{ReplayFault}
 use Rattle.replay.specs.declared.fault.ReplayFault.TheVariants as replay_fault
 use Rattle.words.specs.declared.command.TraceUse.{TraceUse}
 use Rattle.words.specs.declared.command.TraceUse.TheVariants.{Replay, Migrate}
-use Rattle.rtdvs_top.specs.declared.status.FileKind.TheVariants as file
-use Rattle.rtdvs_top.specs.declared.status.TextFault.TheVariants as text
+use Rattle.statuses.specs.declared.status.FileKind.TheVariants as file
+use Rattle.statuses.specs.declared.status.TextFault.TheVariants as text
 use Rattle.rtdvs_top.specs.Meanings.{tasks_at, machine_at, bytes_at}
 use Rattle.rtdvs_top.specs.Admit.{admission}
+use Rattle.statuses.specs.Refused.{or_status, trace_status}
 
 -- the bytes are the text, in a version, of the schedule of an admitted plan for the demand list of these rows, by the
 -- published demand of this governor, in `ticks` ticks
@@ -59,11 +60,6 @@ pub record AreFilesOf (r : TracedOf) (files : Files) (p : Plan) (bytes : List �
   pub machine_is : machine_at r.machine files ≡ Ok p.machine
   pub bytes_are : file_of files r.trace ≡ Some bytes
 
--- the trace file is the text of a schedule of the plan for the demand list of these rows
-abbrev pub TellsSchedule : TracedOf → Files → Version → Plan → GovernorKind → ℕ → List DemandRow → Type 0
-TellsSchedule r files v p g ticks rows =
-    (bytes : List ℕ) × AreFilesOf r files p bytes × IsScheduleText v p g ticks rows bytes
-
 -- the trace file is the text of this trace, and of the schedule for the demand list that the trace's notes fix: the
 -- first end of a job fixes its demand, and each other job has its worst case
 pub record TellsOwn (r : TracedOf) (files : Files) (p : Plan) (t : TraceOf) : Type 0 where
@@ -85,8 +81,8 @@ IsDoneUnless loads_rose puts_rose s = ⊥
 abbrev pub OfTrace : Option Files → Result CommandOf WordFault → Type 0 → Type 0 → Status → Type 0
 OfTrace (Some files) (Ok (traced r)) loads_rose puts_rose s =
     (s ≡ status.Done → (p : Plan) × (t : TraceOf) × TellsOwn r files p t)
-    × ((v : Version) (p : Plan) (g : GovernorKind) (ticks : ℕ) (rows : List DemandRow)
-    → TellsSchedule r files v p g ticks rows → IsDoneUnless loads_rose puts_rose s)
+    × ((v : Version) (p : Plan) (g : GovernorKind) (ticks : ℕ) (rows : List DemandRow) (bytes : List ℕ)
+    → AreFilesOf r files p bytes → IsScheduleText v p g ticks rows bytes → IsDoneUnless loads_rose puts_rose s)
 OfTrace files c loads_rose puts_rose s = ⊤
 
 -- the names of tasks
@@ -101,32 +97,24 @@ task_line t = record { period = t.period; offset = t.offset; worst = t.worst }
 abbrev pub lines_of_tasks : List Task → List (List ℕ)
 lines_of_tasks tasks = task_lines (task_names tasks) (map task_line tasks)
 
--- a refusal of a trace file as a status; `NoMemory` is a status of its own
-abbrev pub trace_status : TraceFault → Status
-trace_status trace_fault.NoMemory = status.NoMemory
-trace_status e = status.Text (text.Trace e)
-
--- what a trace file means, with its refusal as a status
-abbrev pub trace_or_status : Result TraceOf TraceFault → Result TraceOf Status
-trace_or_status (Ok t) = Ok t
-trace_or_status (Err e) = Err (trace_status e)
-
 -- the trace of a text of either version, for these tasks
 abbrev pub trace_of : List Task → List ℕ → Result TraceOf TraceFault
 trace_of tasks bytes = trace_file Two (task_names tasks) (lines_of_tasks tasks) bytes
 
 -- the trace of a named file
 abbrev pub trace_at : List Task → List ℕ → Files → Result TraceOf Status
-trace_at tasks name files = and_then (bytes_at file.Trace name files) (λ bytes. trace_or_status (trace_of tasks bytes))
+trace_at tasks name files = do
+  bytes ← bytes_at file.Trace name files
+  or_status trace_status (trace_of tasks bytes)
 
 -- the admitted plan and the trace, after the tasks were read: the machine, the trace, and the test of the scheduler
 -- that the trace names
 abbrev pub traced_of : TracedOf → List Task → Files → Result (Plan × TraceOf) Status
-traced_of r tasks files =
-    and_then (machine_at r.machine files) (λ machine.
-    and_then (trace_at tasks r.trace files) (λ t.
-    and_then (admission (plan_of tasks machine t.plan.scheduler)) (λ p.
-    Ok (p, t))))
+traced_of r tasks files = do
+  machine ← machine_at r.machine files
+  t ← trace_at tasks r.trace files
+  p ← admission (plan_of tasks machine t.plan.scheduler)
+  Ok (p, t)
 
 -- a refusal of a replay as a status
 abbrev pub replay_status : ReplayFault → Status
@@ -135,14 +123,9 @@ replay_status (replay_fault.TooManyJobs jobs) = status.Limit jobs
 replay_status (replay_fault.Differs line wanted found) = status.Differs line wanted found
 replay_status replay_fault.NoMemory = status.NoMemory
 
--- what a replay answers, with its refusal as a status
-abbrev pub totals_or_status : Result Totals ReplayFault → Result Totals Status
-totals_or_status (Ok totals) = Ok totals
-totals_or_status (Err e) = Err (replay_status e)
-
 -- the totals of a trace of a plan, where its notes are those of the schedule for the demands that they fix
 abbrev pub totals_at : Plan × TraceOf → Result Totals Status
-totals_at x = totals_or_status (replay_of x.0 (published x.0 x.1.plan.governor) x.1)
+totals_at x = or_status replay_status (replay_of x.0 (published x.0 x.1.plan.governor) x.1)
 
 -- the line of a replay: the releases, the completions, and the energies of running and of idling
 abbrev pub replayed_text : Totals → List ℕ
@@ -160,12 +143,18 @@ printed Migrate x totals = migrated_text x.0 x.1
 
 -- the answer for a trace of a plan, which is compared first
 abbrev pub answer_of_traced : TraceUse → Plan × TraceOf → Result (List ℕ) Status
-answer_of_traced asked x = and_then (totals_at x) (λ totals. Ok (printed asked x totals))
+answer_of_traced asked x = do
+  totals ← totals_at x
+  Ok (printed asked x totals)
 
 -- the answer of `replay` or `migrate`, after its tasks were read
 abbrev pub trace_after_tasks : TracedOf → List Task → Files → Result (List ℕ) Status
-trace_after_tasks r tasks files = and_then (traced_of r tasks files) (answer_of_traced r.asked)
+trace_after_tasks r tasks files = do
+  x ← traced_of r tasks files
+  answer_of_traced r.asked x
 
 -- the answer of `replay` or `migrate`
 abbrev pub trace_answer : TracedOf → Files → Result (List ℕ) Status
-trace_answer r files = and_then (tasks_at r.tasks files) (λ tasks. trace_after_tasks r tasks files)
+trace_answer r files = do
+  tasks ← tasks_at r.tasks files
+  trace_after_tasks r tasks files

@@ -1,17 +1,15 @@
 // Admission, and what `admit` prepares.
-ghost use Rattle.std.specs.Prelude.{◌≡◌, ◌<◌, length, Ok, IfOk, IfErr, None};
+ghost use Rattle.std.specs.Prelude.{◌≡◌, ◌<◌, length, IfOk};
 ghost use Rattle.sched_model.specs.Plan.{plan_of};
-ghost use Rattle.rtdvs_top.specs.Admit.{admission, admitted_text, admitted_of};
-ghost use Rattle.rtdvs_top.specs.Prepared.{IsPrepared, IsRefused};
-ghost use Rattle.rtdvs_top.specs.Failing.{EndsWith, IsNoLoad, Refuses, CountsStep, FailsLater};
-ghost use Rattle.rtdvs_top.specs.Status.{IsShown};
 ghost use Rattle.words.specs.Commands.{admit as admit_of};
 ghost use Rattle.words.specs.Shown.{shown_admit};
-ghost use Rattle.rtdvs_top.specs.Meanings.{Gives};
-ghost use Rattle.rtdvs_top.specs.Files.{MakesLoads, loads_needed};
+ghost use Rattle.statuses.specs.Steps.{TestStep};
+ghost use Rattle.rtdvs_top.specs.Admit.{admission, admitted_text, admitted_of};
+ghost use Rattle.rtdvs_top.specs.Loads.{LoadStep, later_files};
+ghost use Rattle.rtdvs_top.specs.Prepared.{PrepareStep};
 
 use crate::files::{load_machine, load_tasks};
-use crate::put::Prepared;
+use crate::prepared::Prepared;
 use crate::{Denied, Status};
 use dvs_base::{Line, NoMemory, Part, Scheduler, Shelf, line_of};
 use edf_admit::{EdfFault, edf_admit};
@@ -24,10 +22,7 @@ use trace_text::scheduler_word;
 use words::command::AdmitWords;
 
 fn admit_edf(alloc: Global, tasks: &TaskSet, machine: &Machine) -> Result<Admitted, Status>
-    ensures plan { IfOk result (λ p. admission (plan_of tasks.now machine.now Scheduler.Edf) ≡ Ok p) }
-    ensures denied { IfErr result (EndsWith (admission (plan_of tasks.now machine.now Scheduler.Edf))) }
-    ensures loads { IfErr result IsNoLoad }
-    ensures shown { IfErr result IsShown }
+    ensures { TestStep (admission (plan_of tasks.now machine.now Scheduler.Edf)) result (λ p. p) }
 {
     match edf_admit(alloc, tasks, machine) {
         Ok(plan) => Ok(plan),
@@ -37,10 +32,7 @@ fn admit_edf(alloc: Global, tasks: &TaskSet, machine: &Machine) -> Result<Admitt
 }
 
 fn admit_rm(alloc: Global, tasks: &TaskSet, machine: &Machine) -> Result<Admitted, Status>
-    ensures plan { IfOk result (λ p. admission (plan_of tasks.now machine.now Scheduler.Rm) ≡ Ok p) }
-    ensures denied { IfErr result (EndsWith (admission (plan_of tasks.now machine.now Scheduler.Rm))) }
-    ensures loads { IfErr result IsNoLoad }
-    ensures shown { IfErr result IsShown }
+    ensures { TestStep (admission (plan_of tasks.now machine.now Scheduler.Rm)) result (λ p. p) }
 {
     match rm_admit(alloc, tasks, machine) {
         Ok(plan) => Ok(plan),
@@ -60,11 +52,8 @@ pub(crate) fn admit(
     tasks: &TaskSet,
     machine: &Machine,
 ) -> Result<Admitted, Status>
-    ensures plan { IfOk result (λ p. admission (plan_of tasks.now machine.now scheduler) ≡ Ok p) }
+    ensures step { TestStep (admission (plan_of tasks.now machine.now scheduler)) result (λ p. p) }
     ensures same { IfOk result (λ p. p ≡ plan_of tasks.now machine.now scheduler) }
-    ensures denied { IfErr result (EndsWith (admission (plan_of tasks.now machine.now scheduler))) }
-    ensures loads { IfErr result IsNoLoad }
-    ensures shown { IfErr result IsShown }
 {
     match scheduler {
         Scheduler::Edf => admit_edf(alloc, tasks, machine),
@@ -79,17 +68,11 @@ fn load_admitted<S: Shelf>(
     tasks: &TaskSet,
     shelf: &mut S,
 ) -> Result<Admitted, Status>
-    ensures read { IfOk result (Gives (S.shows shelf.old).held (admitted_of (shown_admit words.now) tasks.now)) }
-    ensures refused { IfErr result (Refuses (S.shows shelf.old).held (admitted_of (shown_admit words.now) tasks.now)) }
-    ensures failed { IfErr result
-        (FailsLater (S.shows shelf.old) (S.shows shelf.new) (admit_of (shown_admit words.now))) }
-    ensures loads { MakesLoads 1 (S.shows shelf.old) (S.shows shelf.new) }
-    ensures counts { CountsStep (S.shows shelf.old).faults (S.shows shelf.new).faults result }
-    ensures shown { IfErr result IsShown }
+    ensures { LoadStep (later_files (S.shows shelf.old).held (admit_of (shown_admit words.now))
+        (admitted_of (shown_admit words.now) tasks.now)) (S.shows shelf.old) (S.shows shelf.new) result (λ p. p) }
 {
     let machine = load_machine(alloc, words.machine, shelf)?;
-    let plan = admit(alloc, words.scheduler, tasks, &machine)?;
-    Ok(plan)
+    admit(alloc, words.scheduler, tasks, &machine)
 }
 
 /// What `admit` prepares, and the tasks where they were read.
@@ -98,13 +81,7 @@ pub(crate) fn prepare_admit<S: Shelf>(
     words: &AdmitWords<'_>,
     shelf: &mut S,
 ) -> (Result<Prepared, Status>, Option<TaskSet>)
-    ensures prepared { IfOk result.0
-        (IsPrepared (S.shows shelf.old).held (admit_of (shown_admit words.now)) result.1) }
-    ensures refused { IfErr result.0
-        (IsRefused (S.shows shelf.old) (S.shows shelf.new) (admit_of (shown_admit words.now)) result.1) }
-    ensures loads { MakesLoads (loads_needed (S.shows shelf.old).held (admit_of (shown_admit words.now)))
-        (S.shows shelf.old) (S.shows shelf.new) }
-    ensures counts { CountsStep (S.shows shelf.old).faults (S.shows shelf.new).faults result.0 }
+    ensures { PrepareStep (S.shows shelf.old) (S.shows shelf.new) (admit_of (shown_admit words.now)) result.1 result.0 }
 {
     let tasks = match load_tasks(alloc, words.tasks, shelf) {
         Ok(tasks) => tasks,

@@ -1,38 +1,25 @@
 // The answer of `constrain`, the test of deadlines below the periods.
-ghost use Rattle.std.specs.Prelude.{◌≡◌, ◌<◌, length, slice_index, IfOk, OnOk, IfErr, Ok};
+ghost use Rattle.std.specs.Prelude.{◌≡◌, ◌<◌, length, slice_index, IfOk, OnOk, IfErr};
 ghost use Rattle.dvs_base.specs.declared.kind.Scheduler.TheVariants.{Edf};
 ghost use Rattle.sched_model.specs.Plan.{plan_of};
 ghost use Rattle.edf_demand.specs.Deadlines.{AreFor};
 ghost use Rattle.words.specs.Commands.{constrain as constrain_of};
 ghost use Rattle.words.specs.Shown.{shown_constrain};
-ghost use Rattle.rtdvs_top.specs.Constrain.{deadline_status, deadlines_at, constrained_text, constrain_with, constrain_after_tasks, KeepsDeadlines, IsKept};
-ghost use Rattle.rtdvs_top.specs.Prepared.{RefusesBy, IsPrepared, IsRefused};
-ghost use Rattle.rtdvs_top.specs.Failing.{EndsWith, Refuses, CountsStep, IsLoadOf, IsNoLoad, IsOfFile, FailsLater, loads_later};
-ghost use Rattle.rtdvs_top.specs.Meanings.{Gives};
-ghost use Rattle.rtdvs_top.specs.Files.{MakesLoads, loads_needed};
-ghost use Rattle.rtdvs_top.specs.Status.{IsShown};
+ghost use Rattle.statuses.specs.Status.{IsOfFile};
+ghost use Rattle.statuses.specs.Steps.{TestStep};
+ghost use Rattle.rtdvs_top.specs.Constrain.{deadlines_at, constrained_text, constrain_with, constrain_after_tasks, KeepsDeadlines, IsKept};
+ghost use Rattle.rtdvs_top.specs.Loads.{LoadStep, one_file, later_files};
+ghost use Rattle.rtdvs_top.specs.Prepared.{RefusesBy, PrepareStep};
 
 use crate::files::{load_file, load_machine, load_tasks};
-use crate::put::Prepared;
-use crate::{Denied, FileKind, Status, TextFault};
+use crate::prepared::Prepared;
+use crate::{Denied, FileKind, Status};
 use dvs_base::{Line, Part, Shelf, line_of};
-use edf_demand::{ConstrainFault, Constrained, DeadlineFault, Deadlines, constrain};
+use edf_demand::{ConstrainFault, Constrained, Deadlines, constrain};
 use freq_table::Machine;
 use std::alloc::Global;
 use task_model::TaskSet;
 use words::command::ConstrainWords;
-
-// A refusal of a deadline file as a status.
-fn deadline_status(why: DeadlineFault) -> Status
-    ensures is { result ≡ deadline_status why }
-    ensures of_file { IsOfFile result }
-    ensures shown { IsShown result }
-{
-    match why {
-        DeadlineFault::NoMemory => Status::NoMemory,
-        why => Status::Text(TextFault::Deadlines(why)),
-    }
-}
 
 // The relative deadlines of a file.
 fn load_deadlines<S: Shelf>(
@@ -41,20 +28,13 @@ fn load_deadlines<S: Shelf>(
     tasks: &TaskSet,
     shelf: &mut S,
 ) -> Result<Deadlines, Status>
-    ensures read { IfOk result (Gives (S.shows shelf.old).held (deadlines_at tasks.now name.now)) }
+    ensures step { LoadStep (one_file FileKind.Deadlines name.now (deadlines_at tasks.now name.now))
+        (S.shows shelf.old) (S.shows shelf.new) result (λ v. v) }
     ensures for_tasks { IfOk result (AreFor tasks.now) }
-    ensures refused { IfErr result (Refuses (S.shows shelf.old).held (deadlines_at tasks.now name.now)) }
-    ensures explained { IfErr result (IsLoadOf (S.shows shelf.old) (S.shows shelf.new) FileKind.Deadlines name.now) }
     ensures of_file { IfErr result IsOfFile }
-    ensures loads { MakesLoads 1 (S.shows shelf.old) (S.shows shelf.new) }
-    ensures counts { CountsStep (S.shows shelf.old).faults (S.shows shelf.new).faults result }
-    ensures shown { IfErr result IsShown }
 {
     let bytes = load_file(alloc, FileKind::Deadlines, name, shelf)?;
-    match Deadlines::read(alloc, &bytes, tasks) {
-        Ok(deadlines) => Ok(deadlines),
-        Err(why) => Err(deadline_status(why)),
-    }
+    Ok(Deadlines::read(alloc, &bytes, tasks)?)
 }
 
 // The line of the speed that was found.
@@ -81,13 +61,10 @@ fn lowest_line(
     machine: &Machine,
 ) -> Result<Line, Status>
     requires { AreFor tasks.now deadlines.now }
-    ensures line { IfOk result (λ l. constrain_with tasks.now machine.now deadlines.now ≡ Ok l) }
+    ensures step { TestStep (constrain_with tasks.now machine.now deadlines.now) result (λ l. l) }
     ensures some { IfOk result (λ l. 0 < length l) }
     ensures proves { OnOk result (KeepsDeadlines (plan_of tasks.now machine.now Edf) (slice_index deadlines.now)) }
-    ensures refused { IfErr result (EndsWith (constrain_with tasks.now machine.now deadlines.now)) }
     ensures fails { IfErr result (RefusesBy (plan_of tasks.now machine.now Edf) (slice_index deadlines.now)) }
-    ensures loads { IfErr result IsNoLoad }
-    ensures shown { IfErr result IsShown }
 {
     let _entries = machine.as_slice();
     match constrain(alloc, tasks, deadlines, machine) {
@@ -110,24 +87,16 @@ fn load_constrained<S: Shelf>(
     tasks: &TaskSet,
     shelf: &mut S,
 ) -> Result<Line, Status>
-    ensures read { IfOk result
-        (Gives (S.shows shelf.old).held (constrain_after_tasks (shown_constrain words.now) tasks.now)) }
+    ensures step { LoadStep (later_files (S.shows shelf.old).held (constrain_of (shown_constrain words.now))
+        (constrain_after_tasks (shown_constrain words.now) tasks.now))
+        (S.shows shelf.old) (S.shows shelf.new) result (λ l. l) }
     ensures some { IfOk result (λ l. 0 < length l) }
     ensures proves { OnOk result (IsKept (S.shows shelf.old).held (shown_constrain words.now) tasks.now Status.Done) }
-    ensures refused { IfErr result
-        (Refuses (S.shows shelf.old).held (constrain_after_tasks (shown_constrain words.now) tasks.now)) }
     ensures fails { IfErr result (IsKept (S.shows shelf.old).held (shown_constrain words.now) tasks.now) }
-    ensures failed { IfErr result
-        (FailsLater (S.shows shelf.old) (S.shows shelf.new) (constrain_of (shown_constrain words.now))) }
-    ensures loads { MakesLoads (loads_later (S.shows shelf.old).held (constrain_of (shown_constrain words.now)))
-        (S.shows shelf.old) (S.shows shelf.new) }
-    ensures counts { CountsStep (S.shows shelf.old).faults (S.shows shelf.new).faults result }
-    ensures shown { IfErr result IsShown }
 {
     let machine = load_machine(alloc, words.machine, shelf)?;
     let deadlines = load_deadlines(alloc, words.deadlines, tasks, shelf)?;
-    let line = lowest_line(alloc, tasks, &deadlines, &machine)?;
-    Ok(line)
+    lowest_line(alloc, tasks, &deadlines, &machine)
 }
 
 /// What `constrain` prepares, and the tasks where they were read.
@@ -136,13 +105,8 @@ pub(crate) fn prepare_constrain<S: Shelf>(
     words: &ConstrainWords<'_>,
     shelf: &mut S,
 ) -> (Result<Prepared, Status>, Option<TaskSet>)
-    ensures prepared { IfOk result.0
-        (IsPrepared (S.shows shelf.old).held (constrain_of (shown_constrain words.now)) result.1) }
-    ensures refused { IfErr result.0
-        (IsRefused (S.shows shelf.old) (S.shows shelf.new) (constrain_of (shown_constrain words.now)) result.1) }
-    ensures loads { MakesLoads (loads_needed (S.shows shelf.old).held (constrain_of (shown_constrain words.now)))
-        (S.shows shelf.old) (S.shows shelf.new) }
-    ensures counts { CountsStep (S.shows shelf.old).faults (S.shows shelf.new).faults result.0 }
+    ensures { PrepareStep (S.shows shelf.old) (S.shows shelf.new) (constrain_of (shown_constrain words.now))
+        result.1 result.0 }
 {
     let tasks = match load_tasks(alloc, words.tasks, shelf) {
         Ok(tasks) => tasks,

@@ -1,16 +1,16 @@
 // The files that the words name: loaded, and read.
-ghost use Rattle.std.specs.Prelude.{◌≡◌, ◌<◌, ◌^◌, Some, length, map, option_map, IfOk, IfErr};
-ghost use Rattle.rtdvs_top.specs.Meanings.{longest, bytes_at, tasks_at, machine_at, demands_at, task_status, machine_status, demand_status, Gives};
-ghost use Rattle.rtdvs_top.specs.Failing.{Refuses, CountsStep, IsLoadOf, IsOfFile};
-ghost use Rattle.rtdvs_top.specs.Files.{MakesLoads, OfLoad, FailsAt, if_named};
-ghost use Rattle.rtdvs_top.specs.Status.{IsShown};
+ghost use Rattle.std.specs.Prelude.{◌≡◌, ◌<◌, ◌^◌, Some, map, option_map, IfOk, IfErr};
+ghost use Rattle.rtdvs_top.specs.Meanings.{longest, bytes_at, tasks_at, machine_at, demands_at};
+ghost use Rattle.rtdvs_top.specs.Files.{if_named};
+ghost use Rattle.rtdvs_top.specs.Loads.{LoadStep, one_file, each_of};
+ghost use Rattle.statuses.specs.Status.{IsOfFile};
 
 use crate::{FileKind, Status, TextFault};
-use demand_list::{DemandFault, Demands, worst_list};
+use demand_list::{Demands, worst_list};
 use dvs_base::{LONGEST_FILE, LONGEST_TRACE, LoadFault, Shelf};
-use freq_table::{Machine, MachineFault};
+use freq_table::Machine;
 use std::alloc::Global;
-use task_model::{TaskFault, TaskSet};
+use task_model::TaskSet;
 
 // The longest file of a kind that is read, in bytes.
 fn longest(file: FileKind) -> u64
@@ -34,13 +34,9 @@ pub(crate) fn load_file<S: Shelf>(
     name: &str,
     shelf: &mut S,
 ) -> Result<Vec<u8>, Status>
-    ensures read { IfOk result (λ v. Gives (S.shows shelf.old).held (bytes_at file name.now) v.items) }
-    ensures refused { IfErr result (Refuses (S.shows shelf.old).held (bytes_at file name.now)) }
-    ensures explained { IfErr result (IsLoadOf (S.shows shelf.old) (S.shows shelf.new) file name.now) }
+    ensures step { LoadStep (one_file file name.now (bytes_at file name.now)) (S.shows shelf.old) (S.shows shelf.new)
+        result (λ v. v.items) }
     ensures of_file { IfErr result IsOfFile }
-    ensures loads { MakesLoads 1 (S.shows shelf.old) (S.shows shelf.new) }
-    ensures counts { CountsStep (S.shows shelf.old).faults (S.shows shelf.new).faults result }
-    ensures shown { IfErr result IsShown }
 {
     let most = longest(file);
     let bytes = match shelf.load(alloc, name, most) {
@@ -55,70 +51,17 @@ pub(crate) fn load_file<S: Shelf>(
     Ok(bytes)
 }
 
-// A refusal of a task file as a status.
-fn task_status(why: TaskFault) -> Status
-    ensures is { result ≡ task_status why }
-    ensures of_file { IsOfFile result }
-    ensures shown { IsShown result }
-{
-    match why {
-        TaskFault::NoMemory => Status::NoMemory,
-        why => Status::Text(TextFault::Tasks(why)),
-    }
-}
-
-// A refusal of a machine file as a status.
-fn machine_status(why: MachineFault) -> Status
-    ensures is { result ≡ machine_status why }
-    ensures of_file { IsOfFile result }
-    ensures shown { IsShown result }
-{
-    match why {
-        MachineFault::NoMemory => Status::NoMemory,
-        why => Status::Text(TextFault::Machine(why)),
-    }
-}
-
-// A refusal of a demand file as a status.
-fn demand_status(why: DemandFault) -> Status
-    ensures { result ≡ demand_status why }
-{
-    match why {
-        DemandFault::NoMemory => Status::NoMemory,
-        DemandFault::OverWorst {
-            task,
-            job,
-            units,
-            worst,
-        } => Status::OverWorst {
-            task,
-            job,
-            units,
-            worst,
-        },
-        why => Status::Text(TextFault::Demands(why)),
-    }
-}
-
 /// The tasks of a file.
 pub(crate) fn load_tasks<S: Shelf>(
     alloc: Global,
     name: &str,
     shelf: &mut S,
 ) -> Result<TaskSet, Status>
-    ensures read { IfOk result (Gives (S.shows shelf.old).held (tasks_at name.now)) }
-    ensures refused { IfErr result (Refuses (S.shows shelf.old).held (tasks_at name.now)) }
-    ensures explained { IfErr result (IsLoadOf (S.shows shelf.old) (S.shows shelf.new) FileKind.Tasks name.now) }
-    ensures of_file { IfErr result IsOfFile }
-    ensures loads { MakesLoads 1 (S.shows shelf.old) (S.shows shelf.new) }
-    ensures counts { CountsStep (S.shows shelf.old).faults (S.shows shelf.new).faults result }
-    ensures shown { IfErr result IsShown }
+    ensures { LoadStep (one_file FileKind.Tasks name.now (tasks_at name.now)) (S.shows shelf.old) (S.shows shelf.new)
+        result (λ v. v) }
 {
     let bytes = load_file(alloc, FileKind::Tasks, name, shelf)?;
-    match TaskSet::read(alloc, &bytes) {
-        Ok(tasks) => Ok(tasks),
-        Err(why) => Err(task_status(why)),
-    }
+    Ok(TaskSet::read(alloc, &bytes)?)
 }
 
 /// The machine of a file.
@@ -127,19 +70,12 @@ pub(crate) fn load_machine<S: Shelf>(
     name: &str,
     shelf: &mut S,
 ) -> Result<Machine, Status>
-    ensures read { IfOk result (Gives (S.shows shelf.old).held (machine_at name.now)) }
-    ensures refused { IfErr result (Refuses (S.shows shelf.old).held (machine_at name.now)) }
-    ensures explained { IfErr result (IsLoadOf (S.shows shelf.old) (S.shows shelf.new) FileKind.Machine name.now) }
+    ensures step { LoadStep (one_file FileKind.Machine name.now (machine_at name.now)) (S.shows shelf.old)
+        (S.shows shelf.new) result (λ v. v) }
     ensures of_file { IfErr result IsOfFile }
-    ensures loads { MakesLoads 1 (S.shows shelf.old) (S.shows shelf.new) }
-    ensures counts { CountsStep (S.shows shelf.old).faults (S.shows shelf.new).faults result }
-    ensures shown { IfErr result IsShown }
 {
     let bytes = load_file(alloc, FileKind::Machine, name, shelf)?;
-    match Machine::read(alloc, &bytes) {
-        Ok(machine) => Ok(machine),
-        Err(why) => Err(machine_status(why)),
-    }
+    Ok(Machine::read(alloc, &bytes)?)
 }
 
 // The demands of a named file.
@@ -149,19 +85,12 @@ fn load_named_demands<S: Shelf>(
     tasks: &TaskSet,
     shelf: &mut S,
 ) -> Result<Demands, Status>
-    ensures read { IfOk result (Gives (S.shows shelf.old).held (demands_at tasks.now (Some name.now))) }
+    ensures step { LoadStep (one_file FileKind.Demands name.now (demands_at tasks.now (Some name.now)))
+        (S.shows shelf.old) (S.shows shelf.new) result (λ v. v) }
     ensures worsts { IfOk result (λ d. d.worsts ≡ map (λ t. t.worst) tasks.now) }
-    ensures refused { IfErr result (Refuses (S.shows shelf.old).held (demands_at tasks.now (Some name.now))) }
-    ensures explained { IfErr result (IsLoadOf (S.shows shelf.old) (S.shows shelf.new) FileKind.Demands name.now) }
-    ensures loads { MakesLoads 1 (S.shows shelf.old) (S.shows shelf.new) }
-    ensures counts { CountsStep (S.shows shelf.old).faults (S.shows shelf.new).faults result }
-    ensures shown { IfErr result IsShown }
 {
     let bytes = load_file(alloc, FileKind::Demands, name, shelf)?;
-    match Demands::read(alloc, &bytes, tasks) {
-        Ok(demands) => Ok(demands),
-        Err(why) => Err(demand_status(why)),
-    }
+    Ok(Demands::read(alloc, &bytes, tasks)?)
 }
 
 /// The demands of a file, or every job's worst case where none is named.
@@ -171,23 +100,13 @@ pub(crate) fn load_demands<S: Shelf>(
     tasks: &TaskSet,
     shelf: &mut S,
 ) -> Result<Demands, Status>
-    ensures read { IfOk result
-        (Gives (S.shows shelf.old).held (demands_at tasks.now (option_map (λ s. s.now) name.entry))) }
+    ensures step { LoadStep (each_of (if_named FileKind.Demands (option_map (λ s. s.now) name.entry))
+        (demands_at tasks.now (option_map (λ s. s.now) name.entry)))
+        (S.shows shelf.old) (S.shows shelf.new) result (λ v. v) }
     ensures worsts { IfOk result (λ d. d.worsts ≡ map (λ t. t.worst) tasks.now) }
-    ensures refused { IfErr result
-        (Refuses (S.shows shelf.old).held (demands_at tasks.now (option_map (λ s. s.now) name.entry))) }
-    ensures explained { IfErr result (OfLoad (FailsAt (S.shows shelf.old) (S.shows shelf.new) 1
-        (if_named FileKind.Demands (option_map (λ s. s.now) name.entry)))) }
-    ensures loads { MakesLoads (length (if_named FileKind.Demands (option_map (λ s. s.now) name.entry)))
-        (S.shows shelf.old) (S.shows shelf.new) }
-    ensures counts { CountsStep (S.shows shelf.old).faults (S.shows shelf.new).faults result }
-    ensures shown { IfErr result IsShown }
 {
     match name {
         Some(name) => load_named_demands(alloc, name, tasks, shelf),
-        None => match worst_list(alloc, tasks) {
-            Ok(demands) => Ok(demands),
-            Err(_) => Err(Status::NoMemory),
-        },
+        None => worst_list(alloc, tasks).map_err(|_| Status::NoMemory),
     }
 }

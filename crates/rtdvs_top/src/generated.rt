@@ -12,7 +12,7 @@ ghost use Rattle.dvs_base.specs.WritesText.{WritesText};
 
 use crate::Status;
 use crate::at_pair::{CcEdf, Full, LookAhead, Static};
-use crate::put::Prepared;
+use crate::prepared::{EdfTotals, Prepared, Workload};
 use demand_list::Demands;
 use dvs_base::{
     Failed, GovernorKind, Line, Name, NoMemory, Note, Part, Scheduler, Sink, Totals, VoidSink,
@@ -25,14 +25,6 @@ use sched_model::Admitted;
 use std::alloc::Global;
 use trace_text::{governor_word, write_note};
 use workload::make;
-
-/// A workload: the seed that it is generated from, its number of tasks, and the ticks of each run.
-#[derive(Clone, Copy)]
-pub(crate) struct Workload {
-    pub(crate) seed: u64,
-    pub(crate) tasks: u32,
-    pub(crate) ticks: u64,
-}
 
 // The admitted plan of the generated tasks, and the demands of their jobs. It fails only where memory runs out.
 fn made_plan(alloc: Global, made: Workload) -> Result<(Admitted, Demands), NoMemory>
@@ -121,20 +113,9 @@ fn governed_totals<G: Publishing>(alloc: Global, run: &PlannedRun<'_>) -> Result
     ensures { IfOk result (λ t. t ≡ run_totals run.now.plan.now run.now.demands.now run.now.ticks G.the_kind) }
 {
     let _worsts = run.demands.worsts();
-    let _scheduler = run.plan.scheduler();
-    match G::made(alloc, run.plan) {
-        Ok(governor) => totals_from_opening(alloc, run, governor),
-        Err(NoMemory) => Err(NoMemory),
-    }
-}
-
-/// The totals of the runs under each governor that serves EDF.
-#[derive(Clone, Copy)]
-pub(crate) struct EdfTotals {
-    pub(crate) full: Totals,
-    pub(crate) fixed: Totals,
-    pub(crate) cycle: Totals,
-    pub(crate) ahead: Totals,
+    let _admitted = run.plan.scheduler();
+    let governor = G::made(alloc, run.plan)?;
+    totals_from_opening(alloc, run, governor)
 }
 
 // The totals of a plan's runs under EDF. It fails only where memory runs out.
@@ -233,17 +214,10 @@ fn put_totals<W: Sink>(totals: &EdfTotals, out: &mut W) -> Result<(), Failed>
 {
     let plain = (GovernorKind::Plain, totals.full);
     let fixed = (GovernorKind::Fixed, totals.fixed);
-    match put_governors(plain, fixed, out) {
-        Ok(()) => {
-            let cycle = (GovernorKind::Cycle, totals.cycle);
-            let ahead = (GovernorKind::Ahead, totals.ahead);
-            match put_governors(cycle, ahead, out) {
-                Ok(()) => Ok(()),
-                Err(Failed) => Err(Failed),
-            }
-        }
-        Err(Failed) => Err(Failed),
-    }
+    put_governors(plain, fixed, out)?;
+    let cycle = (GovernorKind::Cycle, totals.cycle);
+    let ahead = (GovernorKind::Ahead, totals.ahead);
+    put_governors(cycle, ahead, out)
 }
 
 // Puts the first line, and then the lines of all governors.
@@ -251,13 +225,8 @@ fn put_all<W: Sink>(head: &Line, totals: &EdfTotals, out: &mut W) -> Result<(), 
     requires { 0 < length head.now }
     ensures { WritesText (W.shows out.old) (W.shows out.new) (head.now ++ edf_text totals.now) result }
 {
-    match put_line(head, out) {
-        Ok(()) => match put_totals(totals, out) {
-            Ok(()) => Ok(()),
-            Err(Failed) => Err(Failed),
-        },
-        Err(Failed) => Err(Failed),
-    }
+    put_line(head, out)?;
+    put_totals(totals, out)
 }
 
 /// Puts the lines of a workload whose runs have these totals.
@@ -283,8 +252,6 @@ pub(crate) fn prepare_workload(alloc: Global, seed: u64) -> Result<Prepared, Sta
         tasks: TASKS,
         ticks: TICKS,
     };
-    match made_totals(alloc, made) {
-        Ok(totals) => Ok(Prepared::Made(made, totals)),
-        Err(NoMemory) => Err(Status::NoMemory),
-    }
+    let totals = made_totals(alloc, made)?;
+    Ok(Prepared::Made(made, totals))
 }

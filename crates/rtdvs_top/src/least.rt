@@ -1,16 +1,14 @@
 // The answer of `least`.
-ghost use Rattle.std.specs.Prelude.{◌≡◌, ◌<◌, ◌≤◌, length, IfOk, IfErr, None, Ok};
+ghost use Rattle.std.specs.Prelude.{◌≡◌, ◌<◌, ◌≤◌, length, IfOk, None};
+ghost use Rattle.dvs_base.specs.WritesText.{WritesText};
 ghost use Rattle.words.specs.Commands.{HasReadyTicks, least as least_of};
 ghost use Rattle.words.specs.Shown.{shown_least};
+ghost use Rattle.statuses.specs.Steps.{TestStep};
 ghost use Rattle.rtdvs_top.specs.Least.{corners_text, sign_word, prices_text, least_text, least_on, IsLeastOn};
-ghost use Rattle.rtdvs_top.specs.Failing.{EndsWith, CountsStep, IsNoLoad};
-ghost use Rattle.rtdvs_top.specs.Files.{MakesLoads, loads_needed};
-ghost use Rattle.rtdvs_top.specs.Prepared.{IsPrepared, IsRefused};
-ghost use Rattle.rtdvs_top.specs.Status.{IsShown};
-ghost use Rattle.dvs_base.specs.WritesText.{WritesText};
+ghost use Rattle.rtdvs_top.specs.Prepared.{PrepareStep};
 
 use crate::files::load_machine;
-use crate::put::Prepared;
+use crate::prepared::Prepared;
 use crate::{Denied, Status};
 use dvs_base::{Failed, Line, Part, Shelf, Sink, line_of, put_two};
 use energy_bound::{Least, Over, least_energy};
@@ -76,11 +74,8 @@ pub(crate) fn put_least<W: Sink>(least: &Least, out: &mut W) -> Result<(), Faile
 // The answer of `least` on a machine.
 fn bound_energy(words: &LeastWords<'_>, machine: &Machine) -> Result<Least, Status>
     requires { HasReadyTicks (shown_least words.now) }
-    ensures answer { IfOk result (λ a. least_on (shown_least words.now) machine.now ≡ Ok (least_text a)) }
+    ensures step { TestStep (least_on (shown_least words.now) machine.now) result (λ a. least_text a) }
     ensures least { IfOk result (IsLeastOn machine.now (shown_least words.now)) }
-    ensures refused { IfErr result (EndsWith (least_on (shown_least words.now) machine.now)) }
-    ensures loads { IfErr result IsNoLoad }
-    ensures shown { IfErr result IsShown }
 {
     match least_energy(machine, words.units, words.ticks) {
         Ok(least) => Ok(least),
@@ -95,13 +90,7 @@ pub(crate) fn prepare_least<S: Shelf>(
     shelf: &mut S,
 ) -> Result<Prepared, Status>
     requires { HasReadyTicks (shown_least words.now) }
-    ensures prepared { IfOk result
-        (IsPrepared (S.shows shelf.old).held (least_of (shown_least words.now)) None) }
-    ensures refused { IfErr result
-        (IsRefused (S.shows shelf.old) (S.shows shelf.new) (least_of (shown_least words.now)) None) }
-    ensures loads { MakesLoads (loads_needed (S.shows shelf.old).held (least_of (shown_least words.now)))
-        (S.shows shelf.old) (S.shows shelf.new) }
-    ensures counts { CountsStep (S.shows shelf.old).faults (S.shows shelf.new).faults result }
+    ensures { PrepareStep (S.shows shelf.old) (S.shows shelf.new) (least_of (shown_least words.now)) None result }
 {
     let machine = load_machine(alloc, words.machine, shelf)?;
     let least = bound_energy(words, &machine)?;

@@ -6,22 +6,20 @@
 #![tactic(auto)]
 
 mod admit;
+mod answer;
 mod at_pair;
 mod constrain;
-mod difference;
 mod files;
 mod generated;
 mod least;
 mod poll;
 mod prepare;
-mod probe_line;
+mod prepared;
 mod put;
-mod refusal;
 mod response;
 mod run;
-mod status;
 mod top;
 mod trace;
 
-pub use status::{Denied, FileKind, Status, TextFault};
+pub use statuses::{Denied, FileKind, Status, TextFault};
 pub use top::rtdvs;

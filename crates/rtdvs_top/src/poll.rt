@@ -1,59 +1,34 @@
 // The server of a `poll` run: its files loaded, its run, and its lines.
-ghost use Rattle.std.specs.Prelude.{◌≡◌, ◌≤◌, Ok, IfOk, IfErr, ◌<◌, length, None, if◌then◌else◌};
-ghost use Rattle.dvs_base.specs.declared.limits.TheConstants.{MOST_JOBS};
-ghost use Rattle.sched_model.specs.Jobs.{released_jobs};
-ghost use Rattle.words.specs.Shown.{shown_poll};
-ghost use Rattle.rtdvs_top.specs.Poll.{server_at, request_status, requests_at, polling_of, polling_served, answer_of_polling, HasServed, outcome_text, request_lines, is_served, served_among, polled_line, polled_text};
-ghost use Rattle.rtdvs_top.specs.Failing.{FindsBefore, loads_served, FailsLater, EndsWith, Refuses, CountsStep, IsLoadOf, IsNoLoad};
-ghost use Rattle.rtdvs_top.specs.Prepared.{IsServer, IsPollable, IsPrepared, IsRefused};
-ghost use Rattle.words.specs.Commands.{poll as poll_of, IsReadyCommand};
-ghost use Rattle.rtdvs_top.specs.Meanings.{Gives};
-ghost use Rattle.rtdvs_top.specs.Files.{MakesLoads, loads_needed};
-ghost use Rattle.rtdvs_top.specs.Status.{IsShown};
-ghost use Rattle.poll_server.specs.Serving.{request_count};
+ghost use Rattle.std.specs.Prelude.{◌≡◌, ◌<◌, Ok, IfOk, length, if◌then◌else◌};
 ghost use Rattle.dvs_base.specs.WritesText.{WritesText};
+ghost use Rattle.sched_model.specs.Plan.{count};
+ghost use Rattle.poll_server.specs.Serving.{request_count};
+ghost use Rattle.words.specs.Commands.{poll as poll_of, IsReadyCommand};
+ghost use Rattle.words.specs.Shown.{shown_poll};
+ghost use Rattle.statuses.specs.Steps.{TestStep};
+ghost use Rattle.rtdvs_top.specs.Loads.{LoadStep, one_file, later_files};
+ghost use Rattle.rtdvs_top.specs.Poll.{server_at, requests_at, polling_at, polling_served, answer_of_polling, HasServed, outcome_text, request_lines, is_served, served_among, polled_line, polled_text};
+ghost use Rattle.rtdvs_top.specs.Prepared.{IsPollable, PrepareStep};
 
 use crate::admit::admit;
 use crate::at_pair::at_pair;
 use crate::files::{load_file, load_machine, load_tasks};
-use crate::put::Prepared;
+use crate::prepared::{Polling, Prepared};
 use crate::{FileKind, Status, TextFault};
 use dvs_base::{
-    Failed, GovernorKind, Line, NoMemory, Part, Shelf, Short, Sink, Totals, line_of, put_line,
+    Failed, GovernorKind, Line, Part, Shelf, Short, Sink, Totals, line_of, put_line,
 };
 use governor::Publishing;
 use poll_server::{Outcome, PollFault, Served, poll};
-use request_list::{RequestFault, Requests};
+use request_list::Requests;
 use sched_model::Admitted;
 use std::alloc::Global;
-use std::marker::Model;
 use task_model::TaskSet;
 use words::command::PollWords;
 
-/// A polling server: a task of an admitted plan, and the requests that it serves.
-#[derive(Drop)]
-pub(crate) struct Polling {
-    pub(crate) plan: Admitted,
-    pub(crate) server: u32,
-    pub(crate) requests: Requests,
-}
-
-impl Model for Polling {
-    ghost use Rattle.poll_server.specs.Serving.{ServerOf, server_of};
-
-    ghost Value = { ServerOf };
-
-    ghost view = { λ p. server_of p.plan p.server p.requests };
-
-    ghost invariant = { λ p. Unit {0} };
-}
-
 // The place of the task of this name in the file, from 0.
 fn find_server(name: &str, tasks: &TaskSet) -> Result<u32, Status>
-    ensures server { IfOk result (λ i. server_at name.now tasks.now ≡ Ok i) }
-    ensures refused { IfErr result (EndsWith (server_at name.now tasks.now)) }
-    ensures loads { IfErr result IsNoLoad }
-    ensures shown { IfErr result IsShown }
+    ensures { TestStep (server_at name.now tasks.now) result (λ i. i) }
 {
     match tasks.find(name.as_bytes()) {
         Some(server) => Ok(server),
@@ -63,54 +38,29 @@ fn find_server(name: &str, tasks: &TaskSet) -> Result<u32, Status>
     }
 }
 
-// A refusal of a request file as a status.
-fn request_status(why: RequestFault) -> Status
-    ensures is { result ≡ request_status why }
-    ensures shown { IsShown result }
-{
-    match why {
-        RequestFault::NoMemory => Status::NoMemory,
-        why => Status::Text(TextFault::Requests(why)),
-    }
-}
-
 // The requests of a file.
 fn load_requests<S: Shelf>(alloc: Global, name: &str, shelf: &mut S) -> Result<Requests, Status>
-    ensures read { IfOk result (Gives (S.shows shelf.old).held (requests_at name.now)) }
-    ensures refused { IfErr result (Refuses (S.shows shelf.old).held (requests_at name.now)) }
-    ensures explained { IfErr result (IsLoadOf (S.shows shelf.old) (S.shows shelf.new) FileKind.Requests name.now) }
-    ensures loads { MakesLoads 1 (S.shows shelf.old) (S.shows shelf.new) }
-    ensures counts { CountsStep (S.shows shelf.old).faults (S.shows shelf.new).faults result }
-    ensures shown { IfErr result IsShown }
+    ensures { LoadStep (one_file FileKind.Requests name.now (requests_at name.now))
+        (S.shows shelf.old) (S.shows shelf.new) result (λ v. v) }
 {
     let bytes = load_file(alloc, FileKind::Requests, name, shelf)?;
-    match Requests::read(alloc, &bytes) {
-        Ok(requests) => Ok(requests),
-        Err(why) => Err(request_status(why)),
-    }
+    Ok(Requests::read(alloc, &bytes)?)
 }
 
-/// The server of a `poll` run, after its tasks were read.
-pub(crate) fn load_polling<S: Shelf>(
+// The server at a place of the tasks of a `poll` run, after these were read.
+fn load_polling<S: Shelf>(
     alloc: Global,
     words: &PollWords<'_>,
+    server: u32,
     tasks: &TaskSet,
     shelf: &mut S,
 ) -> Result<Polling, Status>
-    ensures read { IfOk result (Gives (S.shows shelf.old).held (polling_of (shown_poll words.now) tasks.now)) }
-    ensures server { IfOk result IsServer }
+    requires { server_at words.now.server.now tasks.now ≡ Ok server }
+    ensures step { LoadStep (later_files (S.shows shelf.old).held (poll_of (shown_poll words.now))
+        (polling_at (shown_poll words.now) server tasks.now)) (S.shows shelf.old) (S.shows shelf.new) result (λ s. s) }
+    ensures server { IfOk result (λ s. s.task < count s.plan) }
     ensures scheduler { IfOk result (λ s. s.plan.scheduler ≡ words.now.scheduler) }
-    ensures refused { IfErr result (Refuses (S.shows shelf.old).held (polling_of (shown_poll words.now) tasks.now)) }
-    ensures found { IfErr result (FindsBefore words.now.server.now tasks.now) }
-    ensures failed { IfErr result
-        (FailsLater (S.shows shelf.old) (S.shows shelf.new) (poll_of (shown_poll words.now))) }
-    ensures loads { MakesLoads
-        (loads_served (S.shows shelf.old).held (poll_of (shown_poll words.now)) words.now.server.now tasks.now)
-        (S.shows shelf.old) (S.shows shelf.new) }
-    ensures counts { CountsStep (S.shows shelf.old).faults (S.shows shelf.new).faults result }
-    ensures shown { IfErr result IsShown }
 {
-    let server = find_server(words.server, tasks)?;
     let machine = load_machine(alloc, words.machine, shelf)?;
     let requests = load_requests(alloc, words.requests, shelf)?;
     let plan = admit(alloc, words.scheduler, tasks, &machine)?;
@@ -129,18 +79,12 @@ fn serve_governed<G: Publishing>(
 ) -> Result<Served, Status>
     requires polling { IsPollable polling.now G.the_kind ticks }
     requires serves { G.serves polling.now.plan.scheduler }
+    ensures step { TestStep (answer_of_polling G.the_kind ticks polling.now) result (polled_text polling.now) }
     ensures served { IfOk result (λ r. r ≡ polling_served G.the_kind polling.now ticks) }
     ensures kept { IfOk result (λ r. HasServed polling.now G.the_kind ticks) }
-    ensures refused { IfErr result (EndsWith (answer_of_polling G.the_kind ticks polling.now)) }
-    ensures few { IfOk result (λ r. released_jobs polling.now.plan ticks ≤ MOST_JOBS) }
-    ensures loads { IfErr result IsNoLoad }
-    ensures shown { IfErr result IsShown }
 {
-    let _scheduler = polling.plan.scheduler();
-    let governor = match G::made(alloc, &polling.plan) {
-        Ok(governor) => governor,
-        Err(NoMemory) => return Err(Status::NoMemory),
-    };
+    let _admitted = polling.plan.scheduler();
+    let governor = G::made(alloc, &polling.plan)?;
     match poll(
         alloc,
         &polling.plan,
@@ -163,12 +107,9 @@ pub(crate) fn serve_pair(
     ticks: u64,
 ) -> Result<Served, Status>
     requires { IsPollable polling.now governor ticks }
+    ensures step { TestStep (answer_of_polling governor ticks polling.now) result (polled_text polling.now) }
     ensures served { IfOk result (λ r. r ≡ polling_served governor polling.now ticks) }
     ensures kept { IfOk result (λ r. HasServed polling.now governor ticks) }
-    ensures refused { IfErr result (EndsWith (answer_of_polling governor ticks polling.now)) }
-    ensures few { IfOk result (λ r. released_jobs polling.now.plan ticks ≤ MOST_JOBS) }
-    ensures loads { IfErr result IsNoLoad }
-    ensures shown { IfErr result IsShown }
 {
     at_pair!(
         polling.plan.scheduler(),
@@ -254,10 +195,8 @@ fn put_requests<W: Sink>(polling: &Polling, served: &Served, out: &mut W) -> Res
     for m in 0..polling.requests.count() {
         let outcome = served.outcome(m);
         let line = outcome_line(polling, m, outcome);
-        match put_line(&line, out) {
-            Ok(()) => count += one_if_served(outcome),
-            Err(Failed) => return Err(Failed),
-        }
+        put_line(&line, out)?;
+        count += one_if_served(outcome);
     }
     Ok(count)
 }
@@ -271,16 +210,8 @@ pub(crate) fn put_polled<W: Sink>(
     requires { length served.now.outcomes ≡ request_count polling.now }
     ensures { WritesText (W.shows out.old) (W.shows out.new) (polled_text polling.now served.now) result }
 {
-    match put_requests(polling, served, out) {
-        Ok(count) => {
-            let line = last_line(count, served.totals());
-            match put_line(&line, out) {
-                Ok(()) => Ok(()),
-                Err(Failed) => Err(Failed),
-            }
-        }
-        Err(Failed) => Err(Failed),
-    }
+    let count = put_requests(polling, served, out)?;
+    put_line(&last_line(count, served.totals()), out)
 }
 
 /// What `poll` prepares, and the tasks where they were read.
@@ -290,19 +221,17 @@ pub(crate) fn prepare_poll<S: Shelf>(
     shelf: &mut S,
 ) -> (Result<Prepared, Status>, Option<TaskSet>)
     requires { IsReadyCommand (poll_of (shown_poll words.now)) }
-    ensures prepared { IfOk result.0
-        (IsPrepared (S.shows shelf.old).held (poll_of (shown_poll words.now)) result.1) }
-    ensures refused { IfErr result.0
-        (IsRefused (S.shows shelf.old) (S.shows shelf.new) (poll_of (shown_poll words.now)) result.1) }
-    ensures loads { MakesLoads (loads_needed (S.shows shelf.old).held (poll_of (shown_poll words.now)))
-        (S.shows shelf.old) (S.shows shelf.new) }
-    ensures counts { CountsStep (S.shows shelf.old).faults (S.shows shelf.new).faults result.0 }
+    ensures { PrepareStep (S.shows shelf.old) (S.shows shelf.new) (poll_of (shown_poll words.now)) result.1 result.0 }
 {
     let tasks = match load_tasks(alloc, words.tasks, shelf) {
         Ok(tasks) => tasks,
         Err(status) => return (Err(status), None),
     };
-    let polling = match load_polling(alloc, words, &tasks, shelf) {
+    let server = match find_server(words.server, &tasks) {
+        Ok(server) => server,
+        Err(status) => return (Err(status), Some(tasks)),
+    };
+    let polling = match load_polling(alloc, words, server, &tasks, shelf) {
         Ok(polling) => polling,
         Err(status) => return (Err(status), Some(tasks)),
     };

@@ -1,10 +1,7 @@
 // What a command prepares: its files loaded and read, its tests made.
-ghost use Rattle.std.specs.Prelude.{IfOk, IfErr};
-ghost use Rattle.rtdvs_top.specs.Files.{MakesLoads, files_for, loads_needed};
-ghost use Rattle.rtdvs_top.specs.Failing.{CountsStep};
-ghost use Rattle.rtdvs_top.specs.Prepared.{IsPrepared, IsRefused};
 ghost use Rattle.words.specs.Commands.{IsReadyCommand};
 ghost use Rattle.words.specs.Shown.{shown_command};
+ghost use Rattle.rtdvs_top.specs.Prepared.{PrepareStep};
 
 use crate::Status;
 use crate::admit::prepare_admit;
@@ -12,7 +9,7 @@ use crate::constrain::prepare_constrain;
 use crate::generated::prepare_workload;
 use crate::least::prepare_least;
 use crate::poll::prepare_poll;
-use crate::put::Prepared;
+use crate::prepared::Prepared;
 use crate::response::prepare_response;
 use crate::run::prepare_run;
 use crate::trace::prepare_trace;
@@ -28,13 +25,7 @@ pub(crate) fn prepare<S: Shelf>(
     shelf: &mut S,
 ) -> (Result<Prepared, Status>, Option<TaskSet>)
     requires { IsReadyCommand (shown_command command.now) }
-    ensures prepared { IfOk result.0
-        (IsPrepared (files_for (S.shows shelf.old).held (shown_command command.now)) (shown_command command.now) result.1) }
-    ensures refused { IfErr result.0
-        (IsRefused (S.shows shelf.old) (S.shows shelf.new) (shown_command command.now) result.1) }
-    ensures loads { MakesLoads (loads_needed (S.shows shelf.old).held (shown_command command.now))
-        (S.shows shelf.old) (S.shows shelf.new) }
-    ensures counts { CountsStep (S.shows shelf.old).faults (S.shows shelf.new).faults result.0 }
+    ensures { PrepareStep (S.shows shelf.old) (S.shows shelf.new) (shown_command command.now) result.1 result.0 }
 {
     match command.words() {
         CommandWords::Run(words) => prepare_run(alloc, &words, shelf),

@@ -1,40 +1,21 @@
-// What a command prepares before anything is put, and its put.
-ghost use Rattle.std.specs.Prelude.{◌≡◌, map, IfOk, IfErr};
-ghost use Rattle.rtdvs_top.specs.Prepared.{Ends, PutEnds, put_status, IsPuttable, ToldOf, answer_of, tells_probes};
-ghost use Rattle.rtdvs_top.specs.Probing.{LeavesProbes};
-ghost use Rattle.rtdvs_top.specs.Status.{IsShown, Leaves};
+// The put of what a command prepared.
+ghost use Rattle.std.specs.Prelude.{◌≡◌, map};
+ghost use Rattle.rtdvs_top.specs.Prepared.{PutStep, IsPuttable, status_of_put};
 
 use crate::Status;
-use crate::generated::{EdfTotals, Workload, put_made};
+use crate::generated::put_made;
 use crate::least::put_least;
-use crate::poll::{Polling, put_polled};
+use crate::poll::put_polled;
+use crate::prepared::Prepared;
 use crate::response::put_responses;
-use crate::run::{ReadyRun, put_run};
-use dvs_base::{Failed, Line, Sink, put_line};
-use energy_bound::Least;
-use poll_server::Served;
+use crate::run::put_run;
+use dvs_base::{Failed, Sink, put_line};
 use probes::Probe;
-use rm_response::Response;
 use std::alloc::Global;
-use task_model::TaskSet;
-
-/// What a command prepares before anything is put.
-#[derive(Drop)]
-pub(crate) enum Prepared {
-    /// The run whose trace `run` or `migrate` writes.
-    Trace(ReadyRun),
-    /// The line of `admit`, `replay` or `constrain`.
-    Line(Line),
-    Responses(TaskSet, Response),
-    Polled(Polling, Served),
-    Least(Least),
-    /// A generated workload, and the totals of its runs.
-    Made(Workload, EdfTotals),
-}
 
 // The status of a put: `Done`, or `Write` where it failed.
-fn put_status(wrote: Result<(), Failed>) -> Status
-    ensures { result ≡ put_status wrote }
+fn status_of_put(wrote: Result<(), Failed>) -> Status
+    ensures { result ≡ status_of_put wrote }
 {
     match wrote {
         Ok(()) => Status::Done,
@@ -42,53 +23,22 @@ fn put_status(wrote: Result<(), Failed>) -> Status
     }
 }
 
-// Puts what a command prepared. It reads no file, and takes memory only before the first put.
-fn put<W: Sink, P: Probe>(
+/// Puts what a command prepared. It reads no file, and takes memory only before the first put.
+pub(crate) fn put<W: Sink, P: Probe>(
     alloc: Global,
     prepared: &Prepared,
     out: &mut W,
     probes: &mut Vec<P>,
 ) -> Status
     requires { IsPuttable prepared.now }
-    ensures ended { Ends (W.shows out.old) (W.shows out.new) (answer_of prepared.now) result }
-    ensures ends { PutEnds (answer_of prepared.now) result }
-    ensures leaves { Leaves result out.old out.new }
-    ensures kept { LeavesProbes (tells_probes prepared.now) result probes.old probes.new }
-    ensures told { ToldOf prepared.now (W.shows out.old) (W.shows out.new)
-        (map P.seen probes.old.items) (map P.seen probes.new.items) result }
-    ensures shown { IsShown result }
+    ensures { PutStep (out.old, out.new) (probes.old, probes.new) W.shows (λ v. map P.seen v.items) prepared.now result }
 {
     match prepared {
         Prepared::Trace(run) => put_run(alloc, run, out, probes),
-        Prepared::Line(line) => put_status(put_line(line, out)),
-        Prepared::Responses(tasks, response) => put_status(put_responses(tasks, response, out)),
-        Prepared::Polled(polling, served) => put_status(put_polled(polling, served, out)),
-        Prepared::Least(least) => put_status(put_least(least, out)),
-        Prepared::Made(made, totals) => put_status(put_made(*made, totals, out)),
-    }
-}
-
-/// Puts what a command prepared, or hands on the status of one that was refused: then nothing is put or told.
-pub(crate) fn finish<W: Sink, P: Probe>(
-    alloc: Global,
-    step: Result<Prepared, Status>,
-    out: &mut W,
-    probes: &mut Vec<P>,
-) -> Status
-    requires { IfOk step IsPuttable }
-    ensures ended { IfOk step (λ p. Ends (W.shows out.old) (W.shows out.new) (answer_of p) result) }
-    ensures ends { IfOk step (λ p. PutEnds (answer_of p) result) }
-    ensures shown { IfOk step (λ p. IsShown result) }
-    ensures kept { IfOk step (λ p. LeavesProbes (tells_probes p) result probes.old probes.new) }
-    ensures told { IfOk step (λ p. ToldOf p (W.shows out.old) (W.shows out.new)
-        (map P.seen probes.old.items) (map P.seen probes.new.items) result) }
-    ensures refused { IfErr step (λ s. result ≡ s) }
-    ensures unput { IfErr step (λ s. out.new ≡ out.old) }
-    ensures untold { IfErr step (λ s. probes.new ≡ probes.old) }
-    ensures leaves { Leaves result out.old out.new }
-{
-    match step {
-        Ok(prepared) => put(alloc, &prepared, out, probes),
-        Err(status) => status,
+        Prepared::Line(line) => status_of_put(put_line(line, out)),
+        Prepared::Responses(tasks, response) => status_of_put(put_responses(tasks, response, out)),
+        Prepared::Polled(polling, served) => status_of_put(put_polled(polling, served, out)),
+        Prepared::Least(least) => status_of_put(put_least(least, out)),
+        Prepared::Made(made, totals) => status_of_put(put_made(*made, totals, out)),
     }
 }

@@ -1,19 +1,18 @@
 // The answer of `response`, the exact test under RM.
-ghost use Rattle.std.specs.Prelude.{◌≡◌, ◌<◌, length, IfOk, OnOk, IfErr, Ok};
+ghost use Rattle.std.specs.Prelude.{◌≡◌, ◌<◌, length, IfOk, OnOk, IfErr};
+ghost use Rattle.std.specs.Result.{IsErrOf};
+ghost use Rattle.dvs_base.specs.WritesText.{WritesText};
 ghost use Rattle.sched_model.specs.Plan.{plan_of};
 ghost use Rattle.words.specs.Commands.{response as response_of};
 ghost use Rattle.words.specs.Shown.{shown_response};
-ghost use Rattle.rm_response.specs.Denials.{exact_answer};
-ghost use Rattle.rtdvs_top.specs.Response.{responses_or_status, responses_at, response_text, responses_text, Responds};
-ghost use Rattle.rtdvs_top.specs.Prepared.{DeniesBy, IsPrepared, IsRefused, IsTested};
-ghost use Rattle.rtdvs_top.specs.Failing.{EndsWith, Refuses, CountsStep, IsNoLoad, FailsLater};
-ghost use Rattle.rtdvs_top.specs.Meanings.{Gives};
-ghost use Rattle.rtdvs_top.specs.Files.{MakesLoads, loads_needed};
-ghost use Rattle.rtdvs_top.specs.Status.{IsShown};
-ghost use Rattle.dvs_base.specs.WritesText.{WritesText};
+ghost use Rattle.statuses.specs.Steps.{TestStep};
+ghost use Rattle.statuses.specs.declared.status.Denied.{Denied};
+ghost use Rattle.rtdvs_top.specs.Loads.{LoadStep, later_files};
+ghost use Rattle.rtdvs_top.specs.Prepared.{IsTested, PrepareStep};
+ghost use Rattle.rtdvs_top.specs.Response.{responses_on, responses_at, response_text, responses_text, Responds, FailsToRespond};
 
 use crate::files::{load_machine, load_tasks};
-use crate::put::Prepared;
+use crate::prepared::Prepared;
 use crate::{Denied, Status};
 use dvs_base::{Failed, Line, Part, Scheduler, Shelf, Sink, line_of, put_line};
 use freq_table::Machine;
@@ -24,15 +23,11 @@ use words::command::ResponseWords;
 
 // The responses of tasks on a machine.
 fn respond(alloc: Global, tasks: &TaskSet, machine: &Machine) -> Result<Response, Status>
-    ensures responses { IfOk result (λ r.
-        responses_or_status (exact_answer (plan_of tasks.now machine.now Scheduler.Rm)) ≡ Ok r) }
+    ensures step { TestStep (responses_on tasks.now machine.now) result (λ r. r) }
     ensures one_each { IfOk result (λ r. length r ≡ length tasks.now) }
     ensures proves { OnOk result (Responds (plan_of tasks.now machine.now Scheduler.Rm)) }
-    ensures denied { IfErr result
-        (EndsWith (responses_or_status (exact_answer (plan_of tasks.now machine.now Scheduler.Rm)))) }
-    ensures fails { IfErr result (DeniesBy (plan_of tasks.now machine.now Scheduler.Rm)) }
-    ensures loads { IfErr result IsNoLoad }
-    ensures shown { IfErr result IsShown }
+    ensures fails { (why : Denied) → IsErrOf result (Status.NotAdmitted why)
+        → FailsToRespond (plan_of tasks.now machine.now Scheduler.Rm) why }
 {
     match rm_response(alloc, tasks, machine) {
         Ok(response) => Ok(response),
@@ -53,21 +48,14 @@ fn load_responses<S: Shelf>(
     tasks: &TaskSet,
     shelf: &mut S,
 ) -> Result<Response, Status>
-    ensures read { IfOk result (Gives (S.shows shelf.old).held (responses_at (shown_response words.now) tasks.now)) }
+    ensures step { LoadStep (later_files (S.shows shelf.old).held (response_of (shown_response words.now))
+        (responses_at (shown_response words.now) tasks.now)) (S.shows shelf.old) (S.shows shelf.new) result (λ r. r) }
     ensures one_each { IfOk result (λ r. length r ≡ length tasks.now) }
     ensures proves { OnOk result (IsTested (S.shows shelf.old).held (shown_response words.now) tasks.now Status.Done) }
-    ensures refused { IfErr result
-        (Refuses (S.shows shelf.old).held (responses_at (shown_response words.now) tasks.now)) }
     ensures fails { IfErr result (IsTested (S.shows shelf.old).held (shown_response words.now) tasks.now) }
-    ensures failed { IfErr result
-        (FailsLater (S.shows shelf.old) (S.shows shelf.new) (response_of (shown_response words.now))) }
-    ensures loads { MakesLoads 1 (S.shows shelf.old) (S.shows shelf.new) }
-    ensures counts { CountsStep (S.shows shelf.old).faults (S.shows shelf.new).faults result }
-    ensures shown { IfErr result IsShown }
 {
     let machine = load_machine(alloc, words.machine, shelf)?;
-    let response = respond(alloc, tasks, &machine)?;
-    Ok(response)
+    respond(alloc, tasks, &machine)
 }
 
 // The line of a task: its name, and its response in ticks.
@@ -97,10 +85,7 @@ pub(crate) fn put_responses<W: Sink>(
 {
     for i in 0..tasks.count() {
         let line = response_line(tasks, response, i);
-        match put_line(&line, out) {
-            Ok(()) => {}
-            Err(Failed) => return Err(Failed),
-        }
+        put_line(&line, out)?;
     }
     Ok(())
 }
@@ -111,13 +96,8 @@ pub(crate) fn prepare_response<S: Shelf>(
     words: &ResponseWords<'_>,
     shelf: &mut S,
 ) -> (Result<Prepared, Status>, Option<TaskSet>)
-    ensures prepared { IfOk result.0
-        (IsPrepared (S.shows shelf.old).held (response_of (shown_response words.now)) result.1) }
-    ensures refused { IfErr result.0
-        (IsRefused (S.shows shelf.old) (S.shows shelf.new) (response_of (shown_response words.now)) result.1) }
-    ensures loads { MakesLoads (loads_needed (S.shows shelf.old).held (response_of (shown_response words.now)))
-        (S.shows shelf.old) (S.shows shelf.new) }
-    ensures counts { CountsStep (S.shows shelf.old).faults (S.shows shelf.new).faults result.0 }
+    ensures { PrepareStep (S.shows shelf.old) (S.shows shelf.new) (response_of (shown_response words.now))
+        result.1 result.0 }
 {
     let tasks = match load_tasks(alloc, words.tasks, shelf) {
         Ok(tasks) => tasks,

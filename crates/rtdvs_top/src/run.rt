@@ -1,21 +1,18 @@
 // The run of an admitted plan, and what `run` prepares.
-ghost use Rattle.std.specs.Prelude.{map, IfOk, IfErr, ◌<◌, Ok};
+ghost use Rattle.std.specs.Prelude.{map, IfOk};
+ghost use Rattle.dvs_base.specs.PlanWords.{IsPair};
 ghost use Rattle.words.specs.Commands.{IsReady, run as run_of};
 ghost use Rattle.words.specs.Shown.{shown_run};
-ghost use Rattle.rtdvs_top.specs.Prepared.{IsPrepared, IsRefused, answer_of_run, ready_run, Ends, PutEnds, IsRunnable, IsReadyRun};
+ghost use Rattle.rtdvs_top.specs.Loads.{LoadStep, later_files};
+ghost use Rattle.rtdvs_top.specs.Prepared.{PrepareStep, PutStep, ready_run, told_run, IsRunnable, IsReadyRun};
 ghost use Rattle.rtdvs_top.specs.Run.{prepared_of, run_with};
-ghost use Rattle.rtdvs_top.specs.Meanings.{Gives};
-ghost use Rattle.rtdvs_top.specs.Failing.{Refuses, CountsStep, FailsLater, loads_later};
-ghost use Rattle.rtdvs_top.specs.Files.{MakesLoads, loads_needed};
-ghost use Rattle.rtdvs_top.specs.Probing.{LeavesProbes, IfAsked, RunTold};
-ghost use Rattle.rtdvs_top.specs.Status.{IsShown, Leaves};
-ghost use Rattle.dvs_base.specs.PlanWords.{IsPair};
+ghost use Rattle.rtdvs_top.specs.declared.prepared.Prepared.TheVariants as prepared;
 
 use crate::Status;
 use crate::admit::admit;
 use crate::at_pair::at_pair;
 use crate::files::{load_demands, load_machine, load_tasks};
-use crate::put::Prepared;
+use crate::prepared::{Prepared, ReadyRun};
 use demand_list::Demands;
 use dvs_base::{GovernorKind, NoMemory, Shelf, Sink, Version};
 use event_kernel::{Kernel, KernelFault, WriteFault};
@@ -34,23 +31,14 @@ fn load_planned<S: Shelf>(
     shelf: &mut S,
 ) -> Result<(Admitted, Demands), Status>
     requires { IsReady (shown_run words.now) }
-    ensures read { IfOk result
-        (λ x. Gives (S.shows shelf.old).held (prepared_of (shown_run words.now) tasks.now) (x.0, x.1)) }
-    ensures ready { IfOk result (λ x. IsReadyRun words.now.governor
-        (run_with (shown_run words.now) x.0 x.1)) }
-    ensures refused { IfErr result
-        (Refuses (S.shows shelf.old).held (prepared_of (shown_run words.now) tasks.now)) }
-    ensures failed { IfErr result
-        (FailsLater (S.shows shelf.old) (S.shows shelf.new) (run_of (shown_run words.now))) }
-    ensures loads { MakesLoads (loads_later (S.shows shelf.old).held (run_of (shown_run words.now)))
-        (S.shows shelf.old) (S.shows shelf.new) }
-    ensures counts { CountsStep (S.shows shelf.old).faults (S.shows shelf.new).faults result }
-    ensures shown { IfErr result IsShown }
+    ensures step { LoadStep (later_files (S.shows shelf.old).held (run_of (shown_run words.now))
+        (prepared_of (shown_run words.now) tasks.now)) (S.shows shelf.old) (S.shows shelf.new) result (λ x. (x.0, x.1)) }
+    ensures ready { IfOk result (λ x. IsReadyRun words.now.governor (run_with (shown_run words.now) x.0 x.1)) }
 {
     let machine = load_machine(alloc, words.machine, shelf)?;
     let demands = load_demands(alloc, words.demands, tasks, shelf)?;
     let plan = admit(alloc, words.scheduler, tasks, &machine)?;
-    let _scheduler = plan.scheduler();
+    let _admitted = plan.scheduler();
     let _worsts = demands.worsts();
     Ok((plan, demands))
 }
@@ -62,13 +50,7 @@ pub(crate) fn prepare_run<S: Shelf>(
     shelf: &mut S,
 ) -> (Result<Prepared, Status>, Option<TaskSet>)
     requires { IsReady (shown_run words.now) }
-    ensures prepared { IfOk result.0
-        (IsPrepared (S.shows shelf.old).held (run_of (shown_run words.now)) result.1) }
-    ensures refused { IfErr result.0
-        (IsRefused (S.shows shelf.old) (S.shows shelf.new) (run_of (shown_run words.now)) result.1) }
-    ensures loads { MakesLoads (loads_needed (S.shows shelf.old).held (run_of (shown_run words.now)))
-        (S.shows shelf.old) (S.shows shelf.new) }
-    ensures counts { CountsStep (S.shows shelf.old).faults (S.shows shelf.new).faults result.0 }
+    ensures { PrepareStep (S.shows shelf.old) (S.shows shelf.new) (run_of (shown_run words.now)) result.1 result.0 }
 {
     let tasks = match load_tasks(alloc, words.tasks, shelf) {
         Ok(tasks) => tasks,
@@ -90,18 +72,6 @@ pub(crate) fn prepare_run<S: Shelf>(
     }
 }
 
-/// A run that is to be written: an admitted plan, the demands of its jobs, the number of ticks, the governor, the version
-/// of the text, and whether the probes are told its notes.
-#[derive(Drop)]
-pub(crate) struct ReadyRun {
-    pub(crate) plan: Admitted,
-    pub(crate) demands: Demands,
-    pub(crate) ticks: u64,
-    pub(crate) governor: GovernorKind,
-    pub(crate) version: Version,
-    pub(crate) probes: bool,
-}
-
 // Writes the trace of a run under governor `G`.
 fn run_governed<G: Publishing, W: Sink, P: Probe>(
     alloc: Global,
@@ -111,17 +81,11 @@ fn run_governed<G: Publishing, W: Sink, P: Probe>(
 ) -> Status
     requires run { IsRunnable (ready_run run.now) }
     requires serves { G.serves run.now.plan.scheduler }
-    ensures ended { Ends (W.shows out.old) (W.shows out.new)
-        (answer_of_run run.now.version G.the_kind (ready_run run.now)) result }
-    ensures ends { PutEnds (answer_of_run run.now.version G.the_kind (ready_run run.now)) result }
-    ensures told { RunTold run.now.version G.the_kind (ready_run run.now) (W.shows out.old) (W.shows out.new)
-        (map P.seen probes.old.items) (map P.seen probes.new.items) result }
-    ensures leaves { Leaves result out.old out.new }
-    ensures kept { Leaves result probes.old probes.new }
-    ensures shown { IsShown result }
+    ensures { PutStep (out.old, out.new) (probes.old, probes.new) W.shows (λ v. map P.seen v.items)
+        (prepared.Trace (told_run G.the_kind run.now)) result }
 {
     let _worsts = run.demands.worsts();
-    let _scheduler = run.plan.scheduler();
+    let _admitted = run.plan.scheduler();
     let governor = match G::made(alloc, &run.plan) {
         Ok(governor) => governor,
         Err(NoMemory) => return Status::NoMemory,
@@ -146,14 +110,8 @@ fn run_pair<W: Sink, P: Probe>(
 ) -> Status
     requires run { IsRunnable (ready_run run.now) }
     requires pair { IsPair run.now.plan.scheduler run.now.governor }
-    ensures ended { Ends (W.shows out.old) (W.shows out.new)
-        (answer_of_run run.now.version run.now.governor (ready_run run.now)) result }
-    ensures ends { PutEnds (answer_of_run run.now.version run.now.governor (ready_run run.now)) result }
-    ensures told { RunTold run.now.version run.now.governor (ready_run run.now) (W.shows out.old) (W.shows out.new)
-        (map P.seen probes.old.items) (map P.seen probes.new.items) result }
-    ensures leaves { Leaves result out.old out.new }
-    ensures kept { Leaves result probes.old probes.new }
-    ensures shown { IsShown result }
+    ensures { PutStep (out.old, out.new) (probes.old, probes.new) W.shows (λ v. map P.seen v.items)
+        (prepared.Trace (told_run run.now.governor run.now)) result }
 {
     at_pair!(
         run.plan.scheduler(),
@@ -177,15 +135,8 @@ pub(crate) fn put_run<W: Sink, P: Probe>(
 ) -> Status
     requires run { IsRunnable (ready_run run.now) }
     requires pair { IsPair run.now.plan.scheduler run.now.governor }
-    ensures ended { Ends (W.shows out.old) (W.shows out.new)
-        (answer_of_run run.now.version run.now.governor (ready_run run.now)) result }
-    ensures ends { PutEnds (answer_of_run run.now.version run.now.governor (ready_run run.now)) result }
-    ensures told { IfAsked run.now.probes
-        (RunTold run.now.version run.now.governor (ready_run run.now) (W.shows out.old) (W.shows out.new)
-        (map P.seen probes.old.items) (map P.seen probes.new.items) result) }
-    ensures leaves { Leaves result out.old out.new }
-    ensures kept { LeavesProbes run.now.probes result probes.old probes.new }
-    ensures shown { IsShown result }
+    ensures { PutStep (out.old, out.new) (probes.old, probes.new) W.shows (λ v. map P.seen v.items)
+        (prepared.Trace run.now) result }
 {
     if run.probes {
         return run_pair(alloc, run, out, probes);

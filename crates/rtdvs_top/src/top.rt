@@ -2,69 +2,22 @@
 ghost use Rattle.std.specs.Prelude.{◌≡◌, ◌≤◌, ◌↔◌, map};
 ghost use Rattle.std.specs.Option.{option_copied};
 ghost use Rattle.dvs_base.specs.Outside.{Rose};
-ghost use Rattle.rtdvs_top.specs.Promises.{asked, known_files, Answers, Writes, WritesPart, IsSureOf, LoadFailed, LoadsInOrder, loads_asked, loads_wanted, OfRun, OfTests, OfPoll, Headline, OfLeast, Notes, Tells, probes_asked, OfAdmission};
-ghost use Rattle.rtdvs_top.specs.Files.{MakesLoads, CountsLoads, CountsPuts};
+ghost use Rattle.rtdvs_top.specs.Promises.{asked, known_files, Answers, Writes, WritesPart, IsSureOf, LoadFailed, loads_asked, loads_wanted, OfRun, OfTests, OfPoll, Headline, OfLeast, Notes, Tells, probes_asked, OfAdmission};
+ghost use Rattle.rtdvs_top.specs.Files.{MakesLoads};
+ghost use Rattle.statuses.specs.Status.{CountsLoads, CountsPuts, IsShown, Leaves, LeavesProbes};
+ghost use Rattle.statuses.specs.StatusLines.{status_text};
+ghost use Rattle.statuses.specs.Noted.{NotedAs, noted_text};
 ghost use Rattle.task_model.specs.Tasks.{names_of};
-ghost use Rattle.rtdvs_top.specs.Status.{status_text, NotedAs, noted_text, IsShown, Leaves};
-ghost use Rattle.rtdvs_top.specs.Probing.{LeavesProbes};
 ghost use Rattle.rtdvs_top.specs.Trace.{OfTrace};
 ghost use Rattle.words.specs.declared.command.WordFault.{WordFault};
 
 use crate::Status;
-use crate::difference::{Difference, put_difference};
-use crate::prepare::prepare;
-use crate::probe_line::put_probes;
-use crate::put::finish;
-use crate::refusal::status_line;
-use dvs_base::{Shelf, Sink, put_line};
+use crate::answer::answer;
+use dvs_base::{Shelf, Sink};
 use probes::Probe;
+use statuses::{note_end, note_status};
 use std::alloc::Global;
-use task_model::TaskSet;
 use words::read_words;
-
-// Puts the lines of a status to `notes`. A fault of `notes` changes nothing else.
-fn note_status<E: Sink>(status: &Status, tasks: Option<&TaskSet>, notes: &mut E)
-    ensures { NotedAs (E.shows notes.old) (E.shows notes.new)
-        (status_text (names_of (option_copied tasks.entry)) status.now) }
-{
-    match *status {
-        Status::Done => {}
-        Status::Differs {
-            line,
-            wanted,
-            found,
-        } => {
-            let at = Difference {
-                line,
-                wanted,
-                found,
-            };
-            let _ = put_difference(at, tasks, notes);
-        }
-        _ => {
-            let line = status_line(status, tasks);
-            let _ = put_line(&line, notes);
-        }
-    }
-}
-
-// Puts to `notes` how a command ended: the probes' lines if they were told and it is done, else those of its status.
-fn note_end<E: Sink, P: Probe>(
-    told: bool,
-    status: &Status,
-    tasks: Option<&TaskSet>,
-    probes: &[P],
-    notes: &mut E,
-)
-    ensures { NotedAs (E.shows notes.old) (E.shows notes.new)
-        (noted_text told (names_of (option_copied tasks.entry)) (map P.seen probes.now)
-        status.now) }
-{
-    match status {
-        Status::Done if told => put_probes(probes, tasks, notes),
-        status => note_status(status, tasks, notes),
-    }
-}
 
 /// Does what the words ask for: writes the trace of a run, decides whether a task set is admitted, writes the totals of
 /// a generated workload's runs, decides whether a trace is that of the run that it describes, or writes it in version
@@ -91,7 +44,6 @@ pub fn rtdvs<S: Shelf, W: Sink, E: Sink>(
         (Rose (W.shows out.old).faults (W.shows out.new).faults) result }
     ensures words { (why : WordFault) → (result ≡ Status.Words why) ↔ (asked words.now ≡ Err why) }
     ensures load { LoadFailed (S.shows shelf.old) (S.shows shelf.new) (asked words.now) result }
-    ensures in_order { LoadsInOrder (known_files (S.shows shelf.old).held (asked words.now)) (asked words.now) result }
     ensures write { result ≡ Status.Write → Rose (W.shows out.old).faults (W.shows out.new).faults }
 
     // what the status shows by itself
@@ -163,8 +115,7 @@ pub fn rtdvs<S: Shelf, W: Sink, E: Sink>(
             return status;
         }
     };
-    let (step, tasks) = prepare(alloc, &command, shelf);
-    let status = finish(alloc, step, out, probes);
+    let (status, tasks) = answer(alloc, &command, shelf, out, probes);
     note_end(
         command.asks_probes(),
         &status,

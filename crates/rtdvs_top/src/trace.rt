@@ -3,21 +3,19 @@ ghost use Rattle.std.specs.Prelude.{◌≡◌, map, IfOk, IfErr, ◌<◌, false,
 ghost use Rattle.dvs_base.specs.Checks.{IsUnlessMemory};
 ghost use Rattle.trace_reader.specs.Traces.{IsTrace};
 ghost use Rattle.sched_model.specs.Admission.{IsAdmitted};
-ghost use Rattle.words.specs.Shown.{shown_trace};
-ghost use Rattle.rtdvs_top.specs.Trace.{task_names, task_line, lines_of_tasks, trace_status, trace_of, trace_at, traced_of, replay_status, totals_at, replayed_text, migrated_text, answer_of_traced};
-ghost use Rattle.rtdvs_top.specs.Prepared.{IsComparable, IsCompared, IsPrepared, IsPuttable, IsRefused, answer_of, tells_probes};
 ghost use Rattle.words.specs.Commands.{traced as traced_command, traced};
-ghost use Rattle.rtdvs_top.specs.Failing.{FailsLater, loads_later, EndsWith, Refuses, CountsStep, IsLoadOf, IsNoLoad};
-ghost use Rattle.rtdvs_top.specs.Meanings.{Gives};
-ghost use Rattle.rtdvs_top.specs.Files.{MakesLoads, loads_needed};
-ghost use Rattle.rtdvs_top.specs.Status.{IsShown};
+ghost use Rattle.words.specs.Shown.{shown_trace};
+ghost use Rattle.statuses.specs.Status.{OfLoad, IsShown};
+ghost use Rattle.statuses.specs.Steps.{TestStep, EndsWith};
+ghost use Rattle.rtdvs_top.specs.Loads.{LoadStep, one_file, later_files};
+ghost use Rattle.rtdvs_top.specs.Trace.{task_names, task_line, lines_of_tasks, trace_of, trace_at, traced_of, replay_status, totals_at, replayed_text, migrated_text, answer_of_traced};
+ghost use Rattle.rtdvs_top.specs.Prepared.{IsComparable, IsPuttable, PrepareStep, answer_of, tells_probes};
 
 use crate::admit::admit;
 use crate::at_pair::at_pair;
 use crate::files::{load_file, load_machine, load_tasks};
-use crate::put::Prepared;
-use crate::run::ReadyRun;
-use crate::{FileKind, Status, TextFault};
+use crate::prepared::{Prepared, ReadyRun};
+use crate::{FileKind, Status};
 use dvs_base::{Line, Name, NoMemory, Part, Shelf, Totals, Version, line_of};
 use governor::Publishing;
 use replay::{ReplayFault, fixed_demands, replay};
@@ -59,17 +57,6 @@ pub(crate) fn task_lines(alloc: Global, tasks: &TaskSet) -> Result<Vec<TaskLine>
     Ok(lines)
 }
 
-// A refusal of a trace file as a status.
-fn trace_status(why: TraceFault) -> Status
-    ensures is { result ≡ trace_status why }
-    ensures shown { IsShown result }
-{
-    match why {
-        TraceFault::NoMemory => Status::NoMemory,
-        why => Status::Text(TextFault::Trace(why)),
-    }
-}
-
 // The trace of a text for these tasks.
 fn read_trace(alloc: Global, bytes: &[u8], tasks: &TaskSet) -> Result<Trace, TraceFault>
     ensures read { IsUnlessMemory TraceFault.NoMemory (λ t. t) result (trace_of tasks.now bytes.now) }
@@ -94,19 +81,12 @@ fn load_trace<S: Shelf>(
     tasks: &TaskSet,
     shelf: &mut S,
 ) -> Result<Trace, Status>
-    ensures read { IfOk result (Gives (S.shows shelf.old).held (trace_at tasks.now name.now)) }
+    ensures step { LoadStep (one_file FileKind.Trace name.now (trace_at tasks.now name.now))
+        (S.shows shelf.old) (S.shows shelf.new) result (λ t. t) }
     ensures trace { IfOk result (IsTrace (task_names tasks.now) (lines_of_tasks tasks.now)) }
-    ensures refused { IfErr result (Refuses (S.shows shelf.old).held (trace_at tasks.now name.now)) }
-    ensures explained { IfErr result (IsLoadOf (S.shows shelf.old) (S.shows shelf.new) FileKind.Trace name.now) }
-    ensures loads { MakesLoads 1 (S.shows shelf.old) (S.shows shelf.new) }
-    ensures counts { CountsStep (S.shows shelf.old).faults (S.shows shelf.new).faults result }
-    ensures shown { IfErr result IsShown }
 {
     let bytes = load_file(alloc, FileKind::Trace, name, shelf)?;
-    match read_trace(alloc, &bytes, tasks) {
-        Ok(trace) => Ok(trace),
-        Err(why) => Err(trace_status(why)),
-    }
+    Ok(read_trace(alloc, &bytes, tasks)?)
 }
 
 /// The admitted plan and the trace of `replay` or `migrate`, after its tasks were read.
@@ -116,17 +96,10 @@ pub(crate) fn load_traced<S: Shelf>(
     tasks: &TaskSet,
     shelf: &mut S,
 ) -> Result<(Admitted, Trace), Status>
-    ensures read { IfOk result
-        (λ x. Gives (S.shows shelf.old).held (traced_of (shown_trace words.now) tasks.now) (x.0, x.1)) }
+    ensures step { LoadStep (later_files (S.shows shelf.old).held (traced_command (shown_trace words.now))
+        (traced_of (shown_trace words.now) tasks.now)) (S.shows shelf.old) (S.shows shelf.new) result (λ x. (x.0, x.1)) }
     ensures compared { IfOk result (λ x. IsComparable x.0 x.1) }
     ensures admitted { IfOk result (λ x. IsAdmitted x.0) }
-    ensures refused { IfErr result (Refuses (S.shows shelf.old).held (traced_of (shown_trace words.now) tasks.now)) }
-    ensures failed { IfErr result
-        (FailsLater (S.shows shelf.old) (S.shows shelf.new) (traced_command (shown_trace words.now))) }
-    ensures loads { MakesLoads (loads_later (S.shows shelf.old).held (traced_command (shown_trace words.now)))
-        (S.shows shelf.old) (S.shows shelf.new) }
-    ensures counts { CountsStep (S.shows shelf.old).faults (S.shows shelf.new).faults result }
-    ensures shown { IfErr result IsShown }
 {
     let machine = load_machine(alloc, words.machine, shelf)?;
     let trace = load_trace(alloc, words.trace, tasks, shelf)?;
@@ -174,10 +147,7 @@ fn compare_governed<G: Publishing>(
     requires trace { IsComparable plan.now trace.now }
     requires kind { trace.now.plan.governor ≡ G.the_kind }
     requires serves { G.serves plan.now.scheduler }
-    ensures totals { IfOk result (IsCompared plan.now trace.now) }
-    ensures refused { IfErr result (EndsWith (totals_at (plan.now, trace.now))) }
-    ensures loads { IfErr result IsNoLoad }
-    ensures shown { IfErr result IsShown }
+    ensures { TestStep (totals_at (plan.now, trace.now)) result (λ totals. totals) }
 {
     let _scheduler = plan.scheduler();
     match G::made(alloc, plan) {
@@ -192,10 +162,7 @@ fn compare_governed<G: Publishing>(
 /// The totals of a trace, compared with the schedule under the governor of its pair.
 pub(crate) fn compare_pair(alloc: Global, plan: &Admitted, trace: &Trace) -> Result<Totals, Status>
     requires trace { IsComparable plan.now trace.now }
-    ensures totals { IfOk result (IsCompared plan.now trace.now) }
-    ensures refused { IfErr result (EndsWith (totals_at (plan.now, trace.now))) }
-    ensures loads { IfErr result IsNoLoad }
-    ensures shown { IfErr result IsShown }
+    ensures { TestStep (totals_at (plan.now, trace.now)) result (λ totals. totals) }
 {
     at_pair!(
         plan.scheduler(),
@@ -261,7 +228,7 @@ fn prepare_compared(
     ensures puttable { IfOk result IsPuttable }
     ensures silent { IfOk result (λ p. tells_probes p ≡ false) }
     ensures refused { IfErr result (EndsWith (answer_of_traced asked (plan, trace.now))) }
-    ensures loads { IfErr result IsNoLoad }
+    ensures loads { IfErr result (OfLoad (λ kind. ⊥)) }
     ensures shown { IfErr result IsShown }
 {
     let totals = compare_pair(alloc, &plan, trace)?;
@@ -280,13 +247,7 @@ pub(crate) fn prepare_trace<S: Shelf>(
     words: &TraceWords<'_>,
     shelf: &mut S,
 ) -> (Result<Prepared, Status>, Option<TaskSet>)
-    ensures prepared { IfOk result.0
-        (IsPrepared (S.shows shelf.old).held (traced (shown_trace words.now)) result.1) }
-    ensures refused { IfErr result.0
-        (IsRefused (S.shows shelf.old) (S.shows shelf.new) (traced (shown_trace words.now)) result.1) }
-    ensures loads { MakesLoads (loads_needed (S.shows shelf.old).held (traced (shown_trace words.now)))
-        (S.shows shelf.old) (S.shows shelf.new) }
-    ensures counts { CountsStep (S.shows shelf.old).faults (S.shows shelf.new).faults result.0 }
+    ensures { PrepareStep (S.shows shelf.old) (S.shows shelf.new) (traced (shown_trace words.now)) result.1 result.0 }
 {
     let tasks = match load_tasks(alloc, words.tasks, shelf) {
         Ok(tasks) => tasks,

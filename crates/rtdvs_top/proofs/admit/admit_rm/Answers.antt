@@ -1,14 +1,23 @@
-use Rattle.std.proofs.Common.{Ok, ap, sym, refl}
+use Rattle.std.proofs.Common.{Ok, ap, sym, refl, rules}
 use Rattle.dvs_base.specs.declared.kind.Scheduler.TheVariants.{Rm}
 use Rattle.sched_model.specs.Plan.{plan_of}
 use Rattle.rtdvs_top.proofs.Overloads.{overloaded-first, overloaded-none}
 use Rattle.rtdvs_top.proofs.admit.admit_rm.Goals as goal
 
-pub returns-in-Ok-clause-plan : goal.returns-in-Ok-clause-plan
-returns-in-Ok-clause-plan c =
-    rw (overloaded-none (plan_of c.args.tasks.now c.args.machine.now Rm) c.in-Ok.ensures.test) (ap Ok (sym c.in-Ok.ensures.plan))
+pub returns-in-Ok : goal.returns-in-Ok
+returns-in-Ok c = record {
+  gives = rw (overloaded-none (plan_of c.args.tasks.now c.args.machine.now Rm) c.in-Ok.ensures.test) (ap Ok (sym c.in-Ok.ensures.plan));
+  refused = tt;
+  loads = tt;
+  shown = tt;
+}
 
-pub returns-in-Err-Denied-clause-denied : goal.returns-in-Err-Denied-clause-denied
-returns-in-Err-Denied-clause-denied c =
+pub returns-in-Err-Denied : goal.returns-in-Err-Denied
+returns-in-Err-Denied c =
     let why = rw c.in-Err-Denied.field-0-is at c.in-Err-Denied.ensures.denial in
-    rw (overloaded-first (plan_of c.args.tasks.now c.args.machine.now Rm) c.in-Err-Denied.task why.0) (rw (why.1, why.2) refl)
+    record {
+      gives = tt;
+      refused = rw (overloaded-first (plan_of c.args.tasks.now c.args.machine.now Rm) c.in-Err-Denied.task why.0) (rw (why.1, why.2) refl);
+      loads = tt;
+      shown = search rules;
+    }

@@ -5,7 +5,7 @@ use Rattle.rtdvs_top.proofs.generated.governed_totals.Goals as goal
 pub returns-in-Ok : goal.returns-in-Ok
 returns-in-Ok g c =
     let r = c.args.run.now in
-    let publishes = g.met.G.Publishing.publishing.publishes r.plan.now c.scheduler-scheduler.ensures.admitted c.requires.serves in
+    let publishes = g.met.G.Publishing.publishing.publishes r.plan.now c.scheduler-admitted.ensures.admitted c.requires.serves in
     subst (λ totals. IfOk c.totals_from_opening.result (λ t. t ≡ totals))
     (totals-published g.G.Governor.demand _ r.plan.now r.demands.now c.requires.run.list c.worsts-worsts.ensures.within publishes r.ticks)
     c.totals_from_opening.ensures

@@ -1,7 +1,7 @@
 use Rattle.std.proofs.Common.{◌≡◌, ◌++◌, ℕ, List, ap, subst}
 use Rattle.dvs_base.specs.WritesText.{WritesText}
 use Rattle.rtdvs_top.specs.Generated.{head_text, edf_text, workload_totals, workload_text}
-use Rattle.rtdvs_top.specs.declared.generated.EdfTotals.{EdfTotals}
+use Rattle.rtdvs_top.specs.declared.prepared.EdfTotals.{EdfTotals}
 use Rattle.rtdvs_top.proofs.generated.put_made.Goals as goal
 
 -- the first line and the lines of the totals are the text of the workload

@@ -1,15 +1,17 @@
 use Rattle.std.proofs.Common.{List, ℕ, ◌∙◌, ap₂, subst}
-use Rattle.dvs_base.specs.WritesText.{WroteSome}
+use Rattle.dvs_base.specs.WritesText.{WritesText}
+use Rattle.dvs_base.proofs.TextPuts.{wrote-some-more}
+use Rattle.statuses.proofs.Texts.{writes-then, writes-part}
 use Rattle.rtdvs_top.specs.Poll.{polled_line}
-use Rattle.dvs_base.proofs.TextPuts.{wrote-then-some, wrote-some-more}
 use Rattle.rtdvs_top.proofs.poll.put_polled.Goals as goal
 
-pub returns-in-Err-put_line : goal.returns-in-Err-put_line
-returns-in-Err-put_line g c =
-    let text = c.last_line-line.ensures.text ∙ ap₂ polled_line c.in-Ok.ensures.served c.totals.ensures in
-    wrote-then-some _ _ _ _ _ c.in-Ok.ensures.wrote
-    (subst (λ (t : List ℕ). WroteSome (g.W.Sink.shows c.put_requests.new.out) (g.W.Sink.shows c.put_line.new.out) t) text
-    c.in-Err-put_line.ensures)
+pub returns-in_err-count : goal.returns-in_err-count
+returns-in_err-count g c =
+    writes-part _ _ _ c.from_residual.result c.from_residual.ensures.0 (wrote-some-more _ _ _ _ c.in_err-count.ensures.wrote)
 
-pub returns-in-Err : goal.returns-in-Err
-returns-in-Err g c = wrote-some-more _ _ _ _ c.in-Err.ensures.wrote
+pub returns : goal.returns
+returns g c =
+    let text = c.last_line.ensures.text ∙ ap₂ polled_line c.in_ok-count.ensures.served c.totals.ensures in
+    writes-then _ _ _ _ _ c.put_line.result c.in_ok-count.ensures.wrote
+    (subst (λ (t : List ℕ). WritesText (g.W.Sink.shows c.put_requests-count.new.out) (g.W.Sink.shows c.put_line.new.out) t c.put_line.result) text
+    c.put_line.ensures)

@@ -1,17 +1,20 @@
-use Rattle.std.proofs.Common.{◌≡◌, ◌∙◌, subst}
+use Rattle.std.proofs.Common.{◌≡◌, ◌≤◌, ◌∙◌, subst}
+use Rattle.dvs_base.specs.declared.limits.TheConstants.{MOST_JOBS}
+use Rattle.sched_model.specs.Jobs.{released_jobs}
 use Rattle.sched_model.specs.Admission.{IsAdmitted}
 use Rattle.poll_server.specs.Serving.{ServerOf}
 use Rattle.poll_server.specs.Bound.{HaveJobs, KeepsBound}
 use Rattle.poll_server.specs.Polled.{IsPolled, polled_notes}
 use Rattle.poll_server.specs.EachOutcome.{served_of}
 use Rattle.poll_server.proofs.Running.{polled-within}
+use Rattle.rtdvs_top.proofs.ServedAnswers.{served-answer}
 use Rattle.rtdvs_top.proofs.Pollings.{same-served, has-served}
 use Rattle.rtdvs_top.proofs.poll.serve_governed.Goals as goal
 
 pub returns-in-Ok-poll-clause-served : goal.returns-in-Ok-poll-clause-served
 returns-in-Ok-poll-clause-served g c =
     let s = c.args.polling.now in
-    let admitted = subst (λ (x : ServerOf). IsAdmitted x.plan) c.polling.view_is c.scheduler-scheduler.ensures.admitted in
+    let admitted = subst (λ (x : ServerOf). IsAdmitted x.plan) c.polling.view_is c.scheduler-admitted.ensures.admitted in
     let publishes = g.met.G.Publishing.publishing.publishes s.plan admitted c.requires.serves in
     let served =
     subst (λ (x : ServerOf). c.in-Ok-poll.served ≡ served_of g.G.Governor.demand x c.args.ticks) c.polling.view_is
@@ -22,7 +25,7 @@ pub returns-in-Ok-poll-clause-kept : goal.returns-in-Ok-poll-clause-kept
 returns-in-Ok-poll-clause-kept g c =
     let s = c.args.polling.now in
     let d = g.G.Governor.demand in
-    let admitted = subst (λ (x : ServerOf). IsAdmitted x.plan) c.polling.view_is c.scheduler-scheduler.ensures.admitted in
+    let admitted = subst (λ (x : ServerOf). IsAdmitted x.plan) c.polling.view_is c.scheduler-admitted.ensures.admitted in
     let publishes = g.met.G.Publishing.publishing.publishes s.plan admitted c.requires.serves in
     let r = c.in-Ok-poll.served in
     let served = subst (λ (x : ServerOf). r ≡ served_of d x c.args.ticks) c.polling.view_is c.in-Ok-poll.ensures.served in
@@ -31,3 +34,13 @@ returns-in-Ok-poll-clause-kept g c =
     let jobs = subst HaveJobs c.polling.view_is c.poll.ensures.in_order in
     let bound = subst (λ (x : ServerOf). KeepsBound x c.args.ticks r) c.polling.view_is c.in-Ok-poll.ensures.bound in
     has-served d g.G.Governor.the_kind s publishes (polled-within s) c.args.ticks r served polled jobs bound
+
+pub returns-in-Ok-poll-clause-step : goal.returns-in-Ok-poll-clause-step
+returns-in-Ok-poll-clause-step g c =
+    let few = subst (λ (x : ServerOf). released_jobs x.plan c.args.ticks ≤ MOST_JOBS) c.polling.view_is c.in-Ok-poll.ensures.few in
+    record {
+      gives = served-answer g.G.Governor.the_kind c.args.ticks c.args.polling.now c.in-Ok-poll.served few (returns-in-Ok-poll-clause-served g c);
+      refused = tt;
+      loads = tt;
+      shown = tt;
+    }

@@ -1,10 +1,8 @@
 use Rattle.std.proofs.Common.{List, map, refl, sym, subst, ap}
 use Rattle.probes.specs.Tallies.{ProbeOf}
 use Rattle.words.specs.Shown.{shown_command}
-use Rattle.rtdvs_top.specs.Files.{CountsPuts}
+use Rattle.statuses.specs.Status.{CountsPuts}
 use Rattle.rtdvs_top.specs.Prepared.{IsAnswered, seen}
-use Rattle.rtdvs_top.proofs.Meeting.{step-puttable, step-kept, step-answered, step-told}
-use Rattle.rtdvs_top.proofs.InOrder.{load-of, passes-before}
 use Rattle.rtdvs_top.proofs.Answering.{answers-of, not-words, sure-of, writes-of, parts-of, counts-puts}
 use Rattle.rtdvs_top.proofs.Noting.{notes-of}
 use Rattle.rtdvs_top.proofs.Headlines.{of-run, headline-of}
@@ -18,29 +16,20 @@ use Rattle.rtdvs_top.proofs.top.rtdvs.Goals.{Joined-tasks}
 
 -- the command is answered
 answered : (g : Over) (c : Joined-tasks g) → IsAnswered (shown_command c.in-Ok.command)
-    (seen (g.S.Shelf.shows c.args.shelf.now) (g.W.Sink.shows c.args.out.now))
-    (seen (g.S.Shelf.shows c.prepare-step.new.shelf) (g.W.Sink.shows c.finish-status.new.out))
-    c.finish-status.result c.prepare-step.result.1
-answered g c =
-    let p = c.prepare-step.ensures in
-    let f = c.finish-status.ensures in
-    step-answered _ _ _ _ _ _ p.prepared p.refused p.counts f.ended f.ends f.shown f.refused
-
-pub finish-status-requires : goal.finish-status-requires
-finish-status-requires g c = step-puttable _ _ _ _ c.prepare-step.ensures.prepared
+    (seen (g.S.Shelf.shows c.args.shelf.now) (g.W.Sink.shows c.args.out.now)
+    (map (λ b. (goal.Probe-dyn g (b.vtable, b.value)).seen b.value) c.args.probes.now.items))
+    (seen (g.S.Shelf.shows c.answer-status.new.shelf) (g.W.Sink.shows c.answer-status.new.out)
+    (map (λ b. (goal.Probe-dyn g (b.vtable, b.value)).seen b.value) c.answer-status.new.probes.items))
+    c.answer-status.result.0 c.answer-status.result.1
+answered g c = c.answer-status.ensures.answered
 
 pub returns-clause-answers : goal.returns-clause-answers
 returns-clause-answers g c =
     rw (sym c.in-Ok.ensures.read)
-    (answers-of _ _ (g.S.Shelf.shows c.args.shelf.now) (g.S.Shelf.shows c.prepare-step.new.shelf) _ _ _ refl (answered g c).ended (answered g c).failed)
+    (answers-of _ _ (g.S.Shelf.shows c.args.shelf.now) (g.S.Shelf.shows c.answer-status.new.shelf) _ _ _ refl (answered g c).ended (answered g c).failed)
 
 pub returns-clause-load : goal.returns-clause-load
-returns-clause-load g c =
-    rw (sym c.in-Ok.ensures.read) (load-of (g.S.Shelf.shows c.args.shelf.now) (g.S.Shelf.shows c.prepare-step.new.shelf) _ _ (answered g c).failed)
-
-pub returns-clause-in_order : goal.returns-clause-in_order
-returns-clause-in_order g c =
-    rw (sym c.in-Ok.ensures.read) (passes-before (g.S.Shelf.shows c.args.shelf.now) (g.S.Shelf.shows c.prepare-step.new.shelf) _ _ (answered g c).failed)
+returns-clause-load g c = rw (sym c.in-Ok.ensures.read) (answered g c).failed
 
 pub returns-clause-run : goal.returns-clause-run
 returns-clause-run g c = rw (sym c.in-Ok.ensures.read) (of-run _ _ _ _ _ (answered g c).ended (answered g c).met)
@@ -57,7 +46,7 @@ returns-clause-least g c = rw (sym c.in-Ok.ensures.read) (of-least _ _ _ _ _ (an
 pub returns-clause-headline : goal.returns-clause-headline
 returns-clause-headline g c =
     rw (sym c.in-Ok.ensures.read) (headline-of _ _ _ _ _ _ (of-run _ _ _ _ _ (answered g c).ended (answered g c).met) (answered g c).tested
-    (answers-of _ _ (g.S.Shelf.shows c.args.shelf.now) (g.S.Shelf.shows c.prepare-step.new.shelf) _ _ _ refl (answered g c).ended (answered g c).failed))
+    (answers-of _ _ (g.S.Shelf.shows c.args.shelf.now) (g.S.Shelf.shows c.answer-status.new.shelf) _ _ _ refl (answered g c).ended (answered g c).failed))
 
 pub returns-clause-admitted : goal.returns-clause-admitted
 returns-clause-admitted g c = rw (sym c.in-Ok.ensures.read) (of-admission _ _ _ _ _ (answered g c).ended)
@@ -65,7 +54,7 @@ returns-clause-admitted g c = rw (sym c.in-Ok.ensures.read) (of-admission _ _ _ 
 pub returns-clause-exact : goal.returns-clause-exact
 returns-clause-exact g c =
     rw (sym c.in-Ok.ensures.read) (of-trace _ _ _ _ _ (answered g c).met
-    (answers-of _ _ (g.S.Shelf.shows c.args.shelf.now) (g.S.Shelf.shows c.prepare-step.new.shelf) _ _ _ refl (answered g c).ended (answered g c).failed))
+    (answers-of _ _ (g.S.Shelf.shows c.args.shelf.now) (g.S.Shelf.shows c.answer-status.new.shelf) _ _ _ refl (answered g c).ended (answered g c).failed))
 
 pub returns-clause-done : goal.returns-clause-done
 returns-clause-done g c = λ done. rw (sym c.in-Ok.ensures.read) (writes-of _ _ _ _ _ (answered g c).ended done)
@@ -75,29 +64,28 @@ returns-clause-part g c = λ failed. rw (sym c.in-Ok.ensures.read) (parts-of _ _
 
 pub returns-clause-puts : goal.returns-clause-puts
 returns-clause-puts g c =
-    counts-puts g.W.Sink.shows _ _ c.finish-status.result c.args.out.now _ (answered g c).ended c.finish-status.ensures.leaves
+    counts-puts g.W.Sink.shows _ _ c.answer-status.result.0 c.args.out.now _ (answered g c).ended c.answer-status.ensures.leaves
 
 pub returns-clause-sure : goal.returns-clause-sure
 returns-clause-sure g c =
-    rw (sym c.in-Ok.ensures.read) (sure-of g.W.Sink.shows _ _ c.finish-status.result c.args.out.now _ (answered g c).ended c.finish-status.ensures.leaves)
+    rw (sym c.in-Ok.ensures.read) (sure-of g.W.Sink.shows _ _ c.answer-status.result.0 c.args.out.now _ (answered g c).ended c.answer-status.ensures.leaves)
 
 pub returns-clause-notes : goal.returns-clause-notes
 returns-clause-notes g c =
     let e = answered g c in
-    let ps : List ProbeOf = map (λ b. (goal.Probe-dyn g (b.vtable, b.value)).seen b.value) c.finish-status.new.probes.items in
+    let ps : List ProbeOf = map (λ b. (goal.Probe-dyn g (b.vtable, b.value)).seen b.value) c.answer-status.new.probes.items in
     rw (sym c.in-Ok.ensures.read)
     (notes-of _ _ _ _ ps _ _ _ _ _ c.asks_probes.ensures c.as_ref.ensures.value
-    (ap (map (λ b. (goal.Probe-dyn g (b.vtable, b.value)).seen b.value)) c.deref.ensures.value) e.named e.named_done c.note_end.ensures)
+    (ap (map (λ b. (goal.Probe-dyn g (b.vtable, b.value)).seen b.value)) c.deref.ensures.value) e.named c.note_end.ensures)
 
 pub returns-clause-kept : goal.returns-clause-kept
-returns-clause-kept g c =
-    rw (sym c.in-Ok.ensures.read)
-    (step-kept _ _ _ _ _ _ _ c.prepare-step.ensures.prepared c.finish-status.ensures.kept c.finish-status.ensures.untold)
+returns-clause-kept g c = rw (sym c.in-Ok.ensures.read) c.answer-status.ensures.kept
 
 pub returns-clause-told : goal.returns-clause-told
-returns-clause-told g c =
-    let p = c.prepare-step.ensures in
-    rw (sym c.in-Ok.ensures.read) (step-told _ _ _ _ _ _ _ _ p.prepared p.refused c.finish-status.ensures.told c.finish-status.ensures.refused)
+returns-clause-told g c = rw (sym c.in-Ok.ensures.read) (answered g c).told
+
+pub returns-clause-shelf : goal.returns-clause-shelf
+returns-clause-shelf g c = rw (sym c.in-Ok.ensures.read) (answered g c).loads
 
 pub returns-clause-words : goal.returns-clause-words
 returns-clause-words g c =
@@ -105,7 +93,7 @@ returns-clause-words g c =
 
 pub returns-clause-write : goal.returns-clause-write
 returns-clause-write g c =
-    λ e. (subst (CountsPuts (g.W.Sink.shows c.args.out.now).faults (g.W.Sink.shows c.finish-status.new.out).faults) e (returns-clause-puts g c)).0
+    λ e. (subst (CountsPuts (g.W.Sink.shows c.args.out.now).faults (g.W.Sink.shows c.answer-status.new.out).faults) e (returns-clause-puts g c)).0
 
 pub returns-clause-shown : goal.returns-clause-shown
 returns-clause-shown g c = (answered g c).shown

@@ -3,7 +3,7 @@ ghost use Rattle.std.specs.Prelude.{◌≡◌, ◌≤◌, [], ◌∷◌, codes, 
 ghost use Rattle.std.specs.Option.{option_copied};
 ghost use Rattle.dvs_base.specs.Parts.{joined, name_text};
 ghost use Rattle.task_model.specs.Tasks.{names_of};
-ghost use Rattle.rtdvs_top.specs.Status.{file_word, text_fault_text, numbers_text, demand_text, denied_text, HasOneLine, status_text};
+ghost use Rattle.statuses.specs.StatusLines.{file_word, text_fault_text, numbers_text, demand_text, denied_text, HasOneLine, status_text};
 
 use crate::{Denied, FileKind, Status, TextFault};
 use demand_list::{demand_fault_line, over_worst_line};
@@ -122,7 +122,7 @@ fn denied_line(why: &Denied, tasks: Option<&TaskSet>) -> Line
 }
 
 /// The line of a status that has at most one, with the names of the tasks where they were read. It takes no memory.
-pub(crate) fn status_line(status: &Status, tasks: Option<&TaskSet>) -> Line
+pub fn status_line(status: &Status, tasks: Option<&TaskSet>) -> Line
     requires { HasOneLine status.now }
     ensures { result ≡ status_text (names_of (option_copied tasks.entry)) status.now }
 {

@@ -1,9 +1,9 @@
 use Rattle.std.proofs.Common.{ap₂, ◌∙◌, arith}
 use Rattle.std.specs.Option.{option_copied}
 use Rattle.task_model.specs.Tasks.{names_of}
-use Rattle.rtdvs_top.specs.Status.{probe_text}
-use Rattle.rtdvs_top.proofs.ProbePuts.{next-put, part-put}
-use Rattle.rtdvs_top.proofs.probe_line.put_probes.Goals as goal
+use Rattle.statuses.specs.ProbeLines.{probe_text}
+use Rattle.statuses.proofs.ProbePuts.{next-put, part-put}
+use Rattle.statuses.proofs.probe_line.put_probes.Goals as goal
 
 pub returns-in-Err : goal.returns-in-Err
 returns-in-Err g c =

@@ -4,8 +4,9 @@ use Rattle.std.proofs.lemmas.List.{take_all, length-map}
 use Rattle.dvs_base.specs.Outside.{SinkView}
 use Rattle.probes.specs.Tallies.{ProbeOf}
 use Rattle.dvs_base.specs.WritesText.{Wrote, WroteSome}
-use Rattle.rtdvs_top.specs.Status.{NotedAs, probe_text, probe_lines}
-use Rattle.rtdvs_top.proofs.NumberedPuts as puts
+use Rattle.statuses.specs.ProbeLines.{probe_text, probe_lines}
+use Rattle.statuses.specs.Noted.{NotedAs}
+use Rattle.statuses.proofs.NumberedPuts as puts
 
 module _ {X : Type 0} (names : List (List ℕ)) (f : X → ProbeOf) (d : X) where
   -- the lines of the first n probes, and of one more probe after them

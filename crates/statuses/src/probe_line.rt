@@ -3,7 +3,8 @@ ghost use Rattle.std.specs.Prelude.{◌≡◌, ◌≤◌, ◌<◌, ◌+◌, leng
 ghost use Rattle.std.specs.Option.{option_copied};
 ghost use Rattle.dvs_base.specs.Parts.{part_text, most_bytes};
 ghost use Rattle.task_model.specs.Tasks.{names_of};
-ghost use Rattle.rtdvs_top.specs.Status.{NotedAs, what_word, probe_of, counted_text, probe_text, probe_lines};
+ghost use Rattle.statuses.specs.ProbeLines.{what_word, probe_of, counted_text, probe_text, probe_lines};
+ghost use Rattle.statuses.specs.Noted.{NotedAs};
 
 use dvs_base::{Failed, Line, Part, Sink, line_of, put_line};
 use probes::{Probe, Rule, What};

@@ -1,6 +1,6 @@
 // How a call ends.
 ghost use Rattle.std.specs.Prelude.{◌≡◌};
-ghost use Rattle.rtdvs_top.specs.Status.{code_of};
+ghost use Rattle.statuses.specs.Status.{code_of};
 
 use demand_list::DemandFault;
 use dvs_base::{Note, Short};

@@ -6,7 +6,7 @@ ghost use Rattle.dvs_base.specs.Parts.{joined};
 ghost use Rattle.dvs_base.specs.WritesText.{WritesText};
 ghost use Rattle.task_model.specs.Tasks.{names_of};
 ghost use Rattle.trace_text.specs.TraceLines.{note_text};
-ghost use Rattle.rtdvs_top.specs.Status.{difference_text};
+ghost use Rattle.statuses.specs.StatusLines.{difference_text};
 
 use dvs_base::{Failed, Line, Note, Part, Sink, line_of, push_word, put_line, put_two};
 use task_model::{TaskSet, task_name};
@@ -59,11 +59,6 @@ pub(crate) fn put_difference<E: Sink>(
     let first = differs_line(at.line);
     let wanted = prefixed_note(b"wanted: ", at.wanted, tasks);
     let found = prefixed_note(b"found: ", at.found, tasks);
-    match put_line(&first, notes) {
-        Ok(()) => match put_two(&wanted, &found, notes) {
-            Ok(()) => Ok(()),
-            Err(Failed) => Err(Failed),
-        },
-        Err(Failed) => Err(Failed),
-    }
+    put_line(&first, notes)?;
+    put_two(&wanted, &found, notes)
 }

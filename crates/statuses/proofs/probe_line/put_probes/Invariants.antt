@@ -2,8 +2,8 @@ use Rattle.std.proofs.Common.{map, take}
 use Rattle.std.specs.Option.{option_copied}
 use Rattle.dvs_base.specs.WritesText.{Wrote}
 use Rattle.task_model.specs.Tasks.{names_of}
-use Rattle.rtdvs_top.specs.Status.{probe_lines}
-use Rattle.rtdvs_top.proofs.probe_line.put_probes.Given as goal
+use Rattle.statuses.specs.ProbeLines.{probe_lines}
+use Rattle.statuses.proofs.probe_line.put_probes.Given as goal
 
 abbrev pub invariant-loop-at : goal.invariant-loop-at
 invariant-loop-at g l =

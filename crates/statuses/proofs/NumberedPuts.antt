@@ -1,16 +1,8 @@
 -- Lines of a numbered list that were put one after another.
 use Rattle.std.proofs.Common.{◌≡◌, ℕ, zero, suc, ◌+◌, ◌-◌, ◌<◌, List, [], ◌∷◌, ◌++◌, ap, ◌∙◌, sym, subst, arith, append-nil, append_assoc}
 use Rattle.dvs_base.specs.Outside.{SinkView}
-use Rattle.dvs_base.specs.Parts.{joined}
-use Rattle.dvs_base.proofs.Parting.{joined-append}
-use Rattle.grid_fraction.specs.Numbers.{list_below}
 use Rattle.dvs_base.specs.WritesText.{Wrote, WroteSome}
-use Rattle.dvs_base.proofs.TextPuts.{wrote-then}
-use Rattle.dvs_base.proofs.TextPuts.{wrote-then-some, wrote-some-more}
-
--- the lines of the first n numbers, and of number n after them
-pub joined-below : (f : ℕ → List ℕ) (n : ℕ) → joined (list_below (suc n) f) ≡ joined (list_below n f) ++ f n
-joined-below f n = joined-append (list_below n f) (f n ∷ []) ∙ ap (λ (t : List ℕ). joined (list_below n f) ++ t) (append-nil (f n))
+use Rattle.dvs_base.proofs.TextPuts.{wrote-then, wrote-then-some, wrote-some-more}
 
 -- the text of each of `most` lines, and of the first n of them
 module _ (line_at lines : ℕ → List ℕ) (most : ℕ) (more : (n : ℕ) → n < most → lines (suc n) ≡ lines n ++ line_at n) where

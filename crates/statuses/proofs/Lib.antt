@@ -1,0 +1,3 @@
+pub mod NumberedPuts
+pub mod ProbePuts
+pub mod Texts
