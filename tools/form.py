@@ -3,7 +3,8 @@
 
     python3 tools/form.py [WORD]
 
-WORD is one of the counts, and then its places are printed too:
+It ends with 1 where a count is above its limit: 70 for relations, 0 for the others. WORD is one of the counts, and then
+its places are printed too:
 relations   definitions of rtdvs_top's specs that are relations: their type ends in `Type 0`, or a record has parameters
 positions   citations of an invariant's part by its place (`invariant.0`), and invariants of three or more parts
             that are no records
@@ -123,12 +124,15 @@ def limits():
 
 def main():
     asked = sys.argv[1] if len(sys.argv) > 1 else None
-    for count in (relations, positions, mutual, idle, limits):
+    above = 0
+    for count, most in ((relations, 70), (positions, 0), (mutual, 0), (idle, 0), (limits, 0)):
         rows = count()
-        print(f"{count.__name__}: {len(rows)}")
+        above += len(rows) > most
+        print(f"{count.__name__}: {len(rows)}, at most {most}")
         if asked == count.__name__:
             for row in rows:
                 print("   " + row)
+    return 1 if above else 0
 
 
-main()
+sys.exit(main())

@@ -1,6 +1,7 @@
 -- The next deadlines of the tasks in a queue: with one more entry, with the first entry put later, and with those of a tick
 -- taken one after the other.
 use Rattle.std.proofs.Common.{◌≡◌, inl, inr, ℕ, zero, suc, ◌+◌, ◌*◌, ◌<◌, ◌≤◌, arith, ◌≢◌, Bool, true, false, nat_eq, refl, sym, ap, subst, ◌∙◌, if◌then◌else◌, List, [], ◌∷◌, Some, None, slice_get, ◌⊎◌, ◌^◌}
+use Rattle.dvs_base.specs.declared.limits.TheConstants.{MOST_TASKS}
 use Rattle.std.proofs.Math.Nat.{mul-le-mul_right}
 use Rattle.std.proofs.lemmas.Bool.{cases_lt, eq-eqb, eqb-true, eqb-false}
 use Rattle.std.specs.List.{AllByRecursion}
@@ -228,7 +229,7 @@ not-due a now later = grind (arith, nat_tests)
 
 module _ (p : Plan) (lim : IsWithinLimits p) where
   -- the work that is due at one tick is at most 64 * 2^61
-  pub low-due : (next : ℕ → ℕ) (now : ℕ) → due_at p next now ≤ 64 * 2 ^ 61
+  pub low-due : (next : ℕ → ℕ) (now : ℕ) → due_at p next now ≤ MOST_TASKS * 2 ^ 61
   low-due next now =
       omega (
         arith,

@@ -25,7 +25,7 @@ use Rattle.edf_demand.proofs.Calendars.{products, next-later, due-now, due-later
 pub record IsBusiest (p : Plan) (relative : ℕ → ℕ) (t : ℕ) (best : Frac) : Type 0 where
   pub some : 1 ≤ best.den
   pub low : best.den ≤ 2 ^ 48
-  pub low_num : best.num ≤ 100000 * 2 ^ 61
+  pub low_num : best.num ≤ MOST_JOBS * 2 ^ 61
   pub found : 1 ≤ best.num
       → (best.num ≡ processor_demand p relative best.den) × IsDeadline p relative best.den × (best.den ≤ hyper p)
   pub greatest : (d : ℕ) → IsDeadline p relative d → d ≤ t
@@ -56,7 +56,7 @@ module _ (p : Plan) (lim : IsWithinLimits p) (relative : ℕ → ℕ) (con : IsC
 
   -- the demand within a hyperperiod is at most 100000 * 2^61
   pub low-demand : hyper_jobs p.tasks ≤ MOST_JOBS → (d : ℕ) → d ≤ hyper p
-      → processor_demand p relative d ≤ 100000 * 2 ^ 61
+      → processor_demand p relative d ≤ MOST_JOBS * 2 ^ 61
   low-demand few d le =
       let most : ℕ → ℕ = λ i. 2 ^ 61 * (hyper p / period p i) in
       let task : (i : ℕ) → i < count p → work_due p relative d i ≤ most i =

@@ -1,4 +1,5 @@
 use Rattle.std.proofs.Common.{◌≡◌, ℕ, ◌+◌, ◌*◌, ◌<◌, ◌≤◌, ◌^◌, slice_index, sym, ◌∙◌, ap, subst, arith}
+use Rattle.dvs_base.specs.declared.limits.TheConstants.{MOST_JOBS}
 use Rattle.std.proofs.Math.Nat.{mul-le-mul_left, mul-le-mul_right}
 use Rattle.dvs_base.specs.declared.kind.Scheduler.TheVariants.{Edf}
 use Rattle.grid_fraction.specs.declared.Frac.{Frac}
@@ -58,7 +59,7 @@ greater-requires-clause-left_fits c =
     let within : l.now ≤ hyper p = omega (arith, c.loop-now-test.true, c.hyper.ensures.hyper) in
     let work = work-next p lim relative con (due_of l.next.entries) l.now l.work l.busiest l.invariant.walking in
     let low = low-demand p lim relative con c.requires.few l.now within in
-    let most : ℕ = 100000 * 2 ^ 61 in
+    let most : ℕ = MOST_JOBS * 2 ^ 61 in
     let sum : l.work + c.take_due-work.result ≤ most = omega (arith, work, low, c.take_due-work.ensures.work) in
     omega (arith, mul-le-mul_right l.busiest.den sum, mul-le-mul_left most l.invariant.walking.busiest.low)
 
