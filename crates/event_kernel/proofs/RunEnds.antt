@@ -21,6 +21,7 @@ use Rattle.event_kernel.specs.declared.span_trace.SpanTrace.{SpanTrace}
 use Rattle.event_kernel.specs.SpanNotes.{all_booked, CanBook, HasBooked, notes_before_end_of}
 use Rattle.event_kernel.specs.Runs.{Run, demands_of, notes_of_run}
 use Rattle.event_kernel.specs.Segment.{ended_trace}
+use Rattle.event_kernel.specs.Start.{run_of}
 use Rattle.event_kernel.specs.Heard.{HasHeard, HasBalked}
 use Rattle.event_kernel.proofs.HeardLists.{heard-append, balked-append, balked_after}
 use Rattle.event_kernel.specs.Tickwork.{notes_before}
@@ -54,35 +55,42 @@ module _ {demand : OwnDemand} {set : Setting} (ok : IsSetting set) {force : InFo
       ap (notes_before demand p dem) (sym next)
       ∙ closing-notes ok h (course-fits demand p dem ok.admitted ok.within.none (s.now - 1)).span
 
--- the opening state is before the first span, at tick 0, and has no notes
-pub first-between : {demand : OwnDemand} {set : Setting} {s : StateOf}
-    → s ≡ prior_state set.plan.now (demands_of set.plan.now set.demands.now) []
-    → IsBetween set demand s × (notes_before demand set.plan.now (demands_of set.plan.now set.demands.now) s.now ≡ []) × (s.now ≡ 0)
-unfolding schedule_by notes_before_end
-first-between {demand} {set} {s} e =
-    let now : s.now ≡ 0 = ap (λ (v : StateOf). v.now) e in
-    let past : ℕ → List Tick = course demand set.plan.now (demands_of set.plan.now set.demands.now) in (
-      record {
-        state = subst (λ n. s ≡ prior_state set.plan.now (demands_of set.plan.now set.demands.now) (past n)) (sym now) e;
-        decision = subst (λ n. n < set.ticks → is_decision set.plan.now (demands_of set.plan.now set.demands.now) (past n) ≡ true) (sym now) (λ lt. refl);
-      },
-      ap (notes_before demand set.plan.now (demands_of set.plan.now set.demands.now)) now,
-      now,
-    )
+-- the notes of a run up to a tick
+module _ (demand : OwnDemand) (set : Setting) where
+  abbrev jobs : JobDemands
+  jobs = demands_of set.plan.now set.demands.now
 
--- the notes of a span can be added to the account, and it has them then
-pub span-booked : (demand : OwnDemand) {set : Setting} → IsSetting set → (t : ℕ) {t' : ℕ} (ns : List Note) {b : Books} {e : ℕ} → t' ≤ set.ticks
-    → notes_before demand set.plan.now (demands_of set.plan.now set.demands.now) t'
-    ≡ notes_before demand set.plan.now (demands_of set.plan.now set.demands.now) t ++ ns
-    → HasBooked set.plan.now b (notes_before demand set.plan.now (demands_of set.plan.now set.demands.now) t)
-    → e < length set.plan.now.machine.points
-    → CanBook b ns e
-    × HasBooked set.plan.now (all_booked b ns e) (notes_before demand set.plan.now (demands_of set.plan.now set.demands.now) t')
-span-booked demand {set} ok t {t'} ns {b} {e} early is h lt =
-    let p = set.plan.now in
-    let fits = (course-fits demand p (demands_of p set.demands.now) ok.admitted ok.within.none t').all (omega (arith, early, ok.low_ticks)) in
-    let all = book-all p ns b (notes_before demand p (demands_of p set.demands.now) t) e h (subst (AreBooked p) is fits) lt in
-    (all.0, subst (HasBooked p (all_booked b ns e)) (sym is) all.1)
+  abbrev up_to : ℕ → List Note
+  up_to = notes_before demand set.plan.now jobs
+
+  -- the opening state is before the first span, at tick 0, and has no notes
+  pub first-between : {s : StateOf} → s ≡ prior_state set.plan.now jobs [] → IsBetween set demand s × (up_to s.now ≡ []) × (s.now ≡ 0)
+  unfolding schedule_by notes_before_end
+  first-between {s} e =
+      let now : s.now ≡ 0 = ap (λ (v : StateOf). v.now) e in
+      let past : ℕ → List Tick = course demand set.plan.now jobs in (
+        record {
+          state = subst (λ n. s ≡ prior_state set.plan.now jobs (past n)) (sym now) e;
+          decision = subst (λ n. n < set.ticks → is_decision set.plan.now jobs (past n) ≡ true) (sym now) (λ lt. refl);
+        },
+        ap up_to now,
+        now,
+      )
+
+  -- the notes of a span can be added to the account, and it has them then
+  pub span-booked : IsSetting set → (t t' : ℕ) (ns : List Note) (b : Books) (e : ℕ) → t' ≤ set.ticks → up_to t' ≡ up_to t ++ ns
+      → HasBooked set.plan.now b (up_to t) → e < length set.plan.now.machine.points
+      → CanBook b ns e × HasBooked set.plan.now (all_booked b ns e) (up_to t')
+  span-booked ok t t' ns b e early is h lt =
+      let fits = (course-fits demand set.plan.now jobs ok.admitted ok.within.none t').all (omega (arith, early, ok.low_ticks)) in
+      let all = book-all set.plan.now ns b (up_to t) e h (subst (AreBooked set.plan.now) is fits) lt in
+      (all.0, subst (HasBooked set.plan.now (all_booked b ns e)) (sym is) all.1)
+
+  -- what holds of the notes up to the last tick holds of all notes before the `End`
+  pub at-end : {r : Run} → run_of set ≡ r → {n : ℕ} → n ≡ set.ticks → (P : Plan → List Note → Type 0) → P set.plan.now (up_to n)
+      → P r.plan (notes_before_end_of demand r)
+  at-end is all P here =
+      subst (λ (r : Run). P r.plan (notes_before_end_of demand r)) is (subst (λ n. P set.plan.now (up_to n)) all here)
 
 -- all notes of a run, and their totals
 module _ (demand : OwnDemand) (r : Run) where

@@ -1,5 +1,5 @@
 -- What a kernel is before its run.
-use Rattle.std.specs.Prelude.{◌≡◌, []}
+use Rattle.std.specs.Prelude.{ℕ, ◌≡◌, []}
 use Rattle.dvs_base.specs.declared.kind.GovernorKind.{GovernorKind}
 use Rattle.sched_model.specs.Plan.{Plan}
 use Rattle.sched_model.specs.States.{opening, StateOf}
@@ -28,5 +28,5 @@ pub record IsAtStart {G : Type 0} (stands : G → Plan → StateOf → Type 0) (
   pub current : IsCurrent stands set.plan.now progress
   -- the account has no note yet
   pub booked : HasBooked set.plan.now account []
-  -- every deadline of the run will be met, and so will its demands where the kind's always are
-  pub met : IsMetRun kind demand (run_of set)
+  -- for any number of ticks, every deadline will be met, and so will the demands where the kind's always are
+  pub met : (t : ℕ) → IsMetRun kind demand (record { plan = set.plan.now; demands = set.demands.now; ticks = t })

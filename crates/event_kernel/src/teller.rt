@@ -3,11 +3,11 @@ ghost use Rattle.std.specs.Prelude.{◌≡◌, ◌≤◌, [], ◌∷◌, ◌++�
 ghost use Rattle.dvs_base.specs.Outside.{Rose};
 ghost use Rattle.dvs_base.specs.declared.note.Note.TheVariants.{End};
 ghost use Rattle.note_laws.specs.LineCounts.{AreFew};
-ghost use Rattle.note_laws.specs.RunText.{run_lines};
+ghost use Rattle.note_laws.specs.RunText.{run_lines, task_texts};
 ghost use Rattle.sched_model.specs.Demand.{IsAlwaysMet};
 ghost use Rattle.sched_model.specs.Plan.{count, names};
 ghost use Rattle.sched_model.specs.Totals.{totals_of};
-ghost use Rattle.trace_reader.specs.TraceText.{noted, note_lines, text_of_lines};
+ghost use Rattle.trace_reader.specs.TraceText.{noted, head_lines, note_lines, text_of_lines};
 ghost use Rattle.event_kernel.specs.Lines.{WritesLines, WroteLines, StoppedIn, most_lines};
 ghost use Rattle.event_kernel.specs.PlainLines.{sum_lines};
 ghost use Rattle.event_kernel.specs.Runs.{notes_of_run, MeetsDeadlines, MeetsDemands};
@@ -145,8 +145,8 @@ fn notes_into<G: Governor, W: Sink, P: Probe>(
     tell_tail(head, &account, &mut teller.line, teller.out, teller.probes)
 }
 
-// Writes the lines of a run after its head, and tells the probes its notes; the totals.
-fn tell_notes<G: Governor, W: Sink, P: Probe>(
+// Writes all lines of a run, and tells the probes its notes; the totals.
+fn tell_run<G: Governor, W: Sink, P: Probe>(
     kernel: Kernel<'_, G>,
     head: Head<'_>,
     out: &mut W,
@@ -158,8 +158,11 @@ fn tell_notes<G: Governor, W: Sink, P: Probe>(
     ensures few { IfOk result AreFew }
     ensures writes { WritesLines (W.shows out.old) (W.shows out.new)
         (map P.seen probes.old.items) (map P.seen probes.new.items)
-        (note_lines head.entry.version (names kernel.entry.plan) (notes_of_run G.demand kernel.entry)) result }
+        (head_lines head.entry.version head.entry.plan.now.scheduler head.entry.governor head.entry.ticks
+        (task_texts head.entry.plan.now)
+        ++ note_lines head.entry.version (names kernel.entry.plan) (notes_of_run G.demand kernel.entry)) result }
 {
+    put_head(head, out)?;
     let mut teller = Teller {
         out,
         probes,
@@ -203,7 +206,6 @@ impl<'a, G: Governor> Kernel<'a, G> {
             plan: self.set.plan,
             ticks: self.set.ticks,
         };
-        put_head(head, out)?;
-        tell_notes(self, head, out, probes)
+        tell_run(self, head, out, probes)
     }
 }

@@ -15,7 +15,7 @@ invariant_of-result g c =
       state = search rules;
       current = search rules;
       booked = search rules;
-      met = run-met m.the_kind m.serves m.demand m.calm m.safe g.met.G.Governor.laws
-          (record { plan = p; demands = d; ticks = c.args.ticks }) admitted c.requires.list worsts
+      met = λ t. run-met m.the_kind m.serves m.demand m.calm m.safe g.met.G.Governor.laws
+          (record { plan = p; demands = d; ticks = t }) admitted c.requires.list worsts
           (g.met.G.Governor.serves_plan c.args.governor p (opening p) c.requires.stands);
     }

@@ -1,16 +1,15 @@
-use Rattle.std.proofs.Common.{◌≡◌, List, arith, sym, subst, refl}
+use Rattle.std.proofs.Common.{List, arith, sym, subst, refl}
 use Rattle.std.proofs.lemmas.Result.{err_from_is_err_and}
 use Rattle.dvs_base.specs.declared.note.Note.{Note}
 use Rattle.sched_model.specs.Admission.{IsAdmitted}
 use Rattle.energy.specs.Books.{Books}
 use Rattle.note_laws.specs.LineCounts.{AreFew}
-use Rattle.governor.proofs.Course.{course-met}
 use Rattle.event_kernel.specs.SpanNotes.{HasBooked, notes_before_end_of}
 use Rattle.event_kernel.specs.Heard.{HasHeard, HasBalked}
 use Rattle.event_kernel.specs.Runs.{Run, demands_of}
 use Rattle.event_kernel.specs.Tickwork.{notes_before}
 use Rattle.event_kernel.proofs.RunAccount.{booked-points}
-use Rattle.event_kernel.proofs.RunEnds.{first-between, span-booked, run-totals}
+use Rattle.event_kernel.proofs.RunEnds.{first-between, span-booked, at-end, run-totals}
 use Rattle.event_kernel.proofs.HeardLists.{heard-append, balked-append, balked_after}
 use Rattle.event_kernel.proofs.MetRuns.{run-few, met-as}
 use Rattle.event_kernel.proofs.SpanSteps.{all-keeps}
@@ -20,7 +19,7 @@ pub loop-set-init : goal.loop-set-init
 loop-set-init g c =
     let k = c.self.inside in
     let start = c.self.invariant in
-    let first = first-between {demand = g.G.Governor.demand} {set = k.set} start.state in record {
+    let first = first-between g.G.Governor.demand k.set start.state in record {
       between = first.0;
       current = start.current;
       limit = omega (arith, first.2);
@@ -30,14 +29,7 @@ loop-set-init g c =
     }
 
 pub span-point-requires-clause-met : goal.span-point-requires-clause-met
-span-point-requires-clause-met g c =
-    let m = g.G.Governor in
-    let set = c.self.inside.set in
-    let progress = c.self.inside.progress in
-    let start = c.self.invariant in
-    course-met m.the_kind m.serves m.demand m.calm m.safe g.met.G.Governor.laws set.plan.now (demands_of set.plan.now set.demands.now)
-    start.setting.admitted start.setting.within
-    (g.met.G.Governor.serves_plan progress.governor set.plan.now progress.state start.current.counters) c.loop-set.progress.state.now
+span-point-requires-clause-met g c = (c.self.invariant.met c.loop-set.progress.state.now).deadlines
 
 pub tell-requires-clause-point : goal.tell-requires-clause-point
 tell-requires-clause-point g c =
@@ -46,7 +38,7 @@ tell-requires-clause-point g c =
 pub tell-requires-clause-room : goal.tell-requires-clause-room
 tell-requires-clause-room g c =
     let span = c.span-point.ensures in
-    (span-booked g.G.Governor.demand c.self.invariant.setting c.loop-set.progress.state.now _
+    (span-booked g.G.Governor.demand c.self.inside.set c.self.invariant.setting c.loop-set.progress.state.now _ _ _ _
     span.limit span.notes c.loop-set.invariant.booked span.entry).0
 
 pub loop-set-smaller : goal.loop-set-smaller
@@ -68,7 +60,8 @@ loop-set-preserved g c =
           (heard-append m.heard m.balked (before c.loop-set.progress.state.now) c.span-point.new.self.trace.notes
           c.args.to.now c.loop-set.to c.tell.new.to i.heard told.0);
       booked = subst (λ (b : Books). HasBooked set.plan.now b (before c.span-point.new.self.state.now)) (sym c.in_ok-tell.ensures.booked)
-          (span-booked g.G.Governor.demand c.self.invariant.setting c.loop-set.progress.state.now _ span.limit span.notes i.booked span.entry).1;
+          (span-booked g.G.Governor.demand set c.self.invariant.setting c.loop-set.progress.state.now _ _ _ _
+          span.limit span.notes i.booked span.entry).1;
     }
 
 pub returns-in_err-tell-clause-told : goal.returns-in_err-tell-clause-told
@@ -93,24 +86,17 @@ returns-in_err-tell-clause-told g c =
 
 pub returns-clause-told : goal.returns-clause-told
 returns-clause-told g c =
-    let d = g.G.Governor.demand in
-    let set = c.self.inside.set in
-    let i = c.loop-set.invariant in
-    let Heard : List Note → Type 0 = λ ns. HasHeard g.L.Listener.heard c.args.to.now ns c.loop-set.to in
-    let all : c.loop-set.progress.state.now ≡ set.ticks = omega (arith, c.now.ensures, c.loop-set-test.false, i.limit) in (
-      subst (λ (r : Run). Heard (notes_before_end_of d r)) c.self.view_is
-          (subst (λ n. Heard (notes_before d set.plan.now (demands_of set.plan.now set.demands.now) n)) all i.heard),
+    let i = c.loop-set.invariant in (
+      at-end g.G.Governor.demand c.self.inside.set c.self.view_is (omega (arith, c.now.ensures, c.loop-set-test.false, i.limit))
+          (λ p ns. HasHeard g.L.Listener.heard c.args.to.now ns c.loop-set.to) i.heard,
       i.stops,
     )
 
 pub returns-clause-booked : goal.returns-clause-booked
 returns-clause-booked g c =
-    let d = g.G.Governor.demand in
-    let set = c.self.inside.set in
     let i = c.loop-set.invariant in
-    let all : c.loop-set.progress.state.now ≡ set.ticks = omega (arith, c.now.ensures, c.loop-set-test.false, i.limit) in
-    subst (λ (r : Run). HasBooked r.plan c.loop-set.account (notes_before_end_of d r)) c.self.view_is
-    (subst (λ n. HasBooked set.plan.now c.loop-set.account (notes_before d set.plan.now (demands_of set.plan.now set.demands.now) n)) all i.booked)
+    at-end g.G.Governor.demand c.self.inside.set c.self.view_is (omega (arith, c.now.ensures, c.loop-set-test.false, i.limit))
+    (λ p ns. HasBooked p c.loop-set.account ns) i.booked
 
 pub returns-clause-totals : goal.returns-clause-totals
 returns-clause-totals g c = run-totals g.G.Governor.demand c.args.self c.loop-set.account (returns-clause-booked g c)
@@ -121,7 +107,7 @@ returns-clause-few g c =
     (run-few g.G.Governor.demand c.args.self (subst (λ (r : Run). IsAdmitted r.plan) c.self.view_is c.self.invariant.setting.admitted))
 
 pub returns-clause-met : goal.returns-clause-met
-returns-clause-met g c = met-as c.self.view_is c.self.invariant.met
+returns-clause-met g c = met-as c.self.view_is (c.self.invariant.met c.self.inside.set.ticks)
 
 pub returns-in_err-tell-clause-met : goal.returns-in_err-tell-clause-met
-returns-in_err-tell-clause-met g c = met-as c.self.view_is c.self.invariant.met
+returns-in_err-tell-clause-met g c = met-as c.self.view_is (c.self.invariant.met c.self.inside.set.ticks)
