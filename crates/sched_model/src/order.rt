@@ -55,6 +55,7 @@ fn numbers_of(alloc: Global, keys: &[(u128, u32)]) -> Result<Vec<u32>, NoMemory>
 }
 
 /// The numbers that the keys are of, in the order of the keys, and among equal keys by number.
+#[tactic(auto, using(crate::proofs::SortedKeys::sorted_keys))]
 pub fn numbers_in_order(alloc: Global, keys: Vec<(u128, u32)>) -> Result<Vec<u32>, NoMemory>
     ensures { IfOk result (λ v. AreInOrder keys.items v.items) }
 {

@@ -173,6 +173,7 @@ impl Admitted {
     }
 
     /// The static demand in units per tick, not reduced (Pillai and Shin 2001).
+    #[tactic(auto, using(crate::proofs::StaticShare::static_den))]
     pub fn static_demand(&self) -> Frac
         ensures static_demand { result ≡ static_demand self.now }
         ensures some_den { 1 ≤ result.den }

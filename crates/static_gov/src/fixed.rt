@@ -71,6 +71,7 @@ impl Governor for Static {
     fn settled(&mut self, _plan: &Admitted, _view: &State) {}
 
     /// The published demand and the lowest entry that meets it. Some entry always meets it: the plan is admitted.
+    #[tactic(auto, using(governor::proofs::Fits::static_met, sched_model::proofs::StaticShare::static_den))]
     fn choose(&self, plan: &Admitted, _view: &State) -> Choice
         requires of { IsOfPlan plan.now _view.now }
         requires counters { self.now.demand ≡ static_demand plan.now }
