@@ -1,11 +1,12 @@
 -- Texts written one after another.
-use Rattle.std.proofs.Common.{ℕ, ◌+◌, List, [], ◌++◌, length, length-append, take, Option, Some, None, refl, sym, ◌∙◌, subst, arith, append-nil}
+use Rattle.std.proofs.Common.{ℕ, ◌+◌, List, [], ◌++◌, length, length-append, take, Option, Some, None, Result, Ok, Err, refl, sym, ◌∙◌, subst, arith, append-nil, true≢false}
+use Rattle.std.specs.Prelude.{IsErr}
 use Rattle.std.specs.Io.KnownBytes.{Appends}
 use Rattle.std.proofs.KnownBytes.{Appends-trans}
 use Rattle.std.proofs.lemmas.List.{take-append-le}
 use Rattle.std.proofs.Math.Seq.{take-append-add}
 use Rattle.dvs_base.specs.Outside.{SinkView, Rose}
-use Rattle.dvs_base.specs.WritesText.{Wrote, WroteSome}
+use Rattle.dvs_base.specs.WritesText.{Wrote, WroteSome, WritesText}
 
 appends-none : (a : Option (List ℕ)) → Appends a a []
 appends-none None = tt
@@ -48,3 +49,13 @@ wrote-some-more a b t u w = record {
   later = w.later;
   unsure = omega (arith, length-append t u, w.unsure);
 }
+
+-- a text that was written whole and then another as the result says: so were both together
+pub writes-then : {T E : Type 0} (a b c : SinkView) (t u : List ℕ) (r : Result T E) → Wrote a b t → WritesText b c u r → WritesText a c (t ++ u) r
+writes-then a b c t u (Ok v) w x = wrote-then a b c t u w x
+writes-then a b c t u (Err e) w x = wrote-then-some a b c t u w x
+
+-- a text that was written in part is written as an error says
+pub writes-part : {T E : Type 0} (a b : SinkView) (t : List ℕ) (r : Result T E) → IsErr r → WroteSome a b t → WritesText a b t r
+writes-part a b t (Ok v) is w = absurd (true≢false (sym is))
+writes-part a b t (Err e) is w = w

@@ -8,6 +8,7 @@ pub mod Courses
 pub mod Handing
 pub mod Hearing
 pub mod Wholes
+pub mod TracePuts
 pub mod Working
 pub mod Ofplan
 pub mod Releasing

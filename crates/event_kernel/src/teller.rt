@@ -11,13 +11,12 @@ ghost use Rattle.event_kernel.specs.Runs.{notes_of_run};
 
 use crate::kernel::ending;
 use crate::span::Walk;
-use crate::write::{Head, put_sums};
+use crate::write::{Head, put_note, put_sums};
 use crate::{Kernel, Listener, Stopped};
-use dvs_base::{Failed, Line, Name, Note, Sink, Totals, put_line};
+use dvs_base::{Failed, Line, Name, Note, Sink, Totals};
 use energy::Account;
 use governor::Governor;
 use probes::{Probe, tell_all};
-use trace_text::write_note;
 
 /// The sink failed before the whole trace was written.
 #[derive(Clone, Copy, Debug, PartialEq, Eq)]
@@ -35,9 +34,7 @@ fn tell_note<W: Sink, P: Probe>(
         (map P.seen probes.old.items) (map P.seen probes.new.items)
         (noted names.now note.now ∷ []) result }
 {
-    line.clear();
-    write_note(line, note, names);
-    match put_line(line, out) {
+    match put_note(note, names, line, out) {
         Ok(()) => {
             tell_all(probes, note);
             Ok(())
@@ -112,7 +109,7 @@ fn tell_tail<W: Sink, P: Probe>(
         (sum_lines head.entry.version head.entry.plan.now account.now.by_task ++ noted (names head.entry.plan.now)
         (End head.entry.ticks account.now.totals.run account.now.totals.idle) ∷ []) result }
 {
-    match put_sums(head, account, out) {
+    match put_sums(head, account.by_task(), out) {
         Ok(()) => tell_end(head, account, line, out, probes),
         Err(Failed) => Err(WriteFault),
     }

@@ -10,19 +10,24 @@ use crate::least::put_least;
 use crate::poll::{Polling, put_polled};
 use crate::response::put_responses;
 use crate::run::{ReadyRun, put_run};
-use dvs_base::{Failed, Line, Sink, put_line};
+use dvs_base::{Failed, Line, Sink, Version, put_line};
 use energy_bound::Least;
+use event_kernel::put_trace;
 use poll_server::Served;
 use probes::Probe;
 use rm_response::Response;
+use sched_model::Admitted;
 use std::alloc::Global;
 use task_model::TaskSet;
+use trace_reader::Trace;
 
 /// What a command prepares before anything is put.
 #[derive(Drop)]
 pub(crate) enum Prepared {
-    /// The run whose trace `run` or `migrate` writes.
+    /// The run whose trace `run` writes.
     Trace(ReadyRun),
+    /// The plan and the trace that `migrate` writes in version 2.
+    Migrated(Admitted, Trace),
     /// The line of `admit`, `replay` or `constrain`.
     Line(Line),
     Responses(TaskSet, Response),
@@ -60,6 +65,7 @@ fn put<W: Sink, P: Probe>(
 {
     match prepared {
         Prepared::Trace(run) => put_run(alloc, run, out, probes),
+        Prepared::Migrated(plan, trace) => put_status(put_trace(plan, trace, Version::Two, out)),
         Prepared::Line(line) => put_status(put_line(line, out)),
         Prepared::Responses(tasks, response) => put_status(put_responses(tasks, response, out)),
         Prepared::Polled(polling, served) => put_status(put_polled(polling, served, out)),
