@@ -86,6 +86,13 @@ impl Account {
         self.sums
     }
 
+    /// The energy of each task's segments.
+    pub fn by_task(&self) -> &[u128]
+        ensures { result.now ≡ self.now.by_task }
+    {
+        &self.tasks
+    }
+
     /// The energy of a task's segments.
     pub fn of_task(&self, task: u32) -> u128
         requires { task < length self.now.by_task }

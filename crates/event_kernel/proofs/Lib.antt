@@ -8,6 +8,7 @@ pub mod Courses
 pub mod GivenUnits
 pub mod HeardLists
 pub mod Wholes
+pub mod TracePuts
 pub mod UnitLoop
 pub mod Ofplan
 pub mod BoundaryReleases

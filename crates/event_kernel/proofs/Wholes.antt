@@ -60,7 +60,7 @@ below-first zero f = refl
 below-first {A} (suc n) f = ap (λ (xs : List A). xs ++ f (suc n) ∷ []) (below-first n f)
 
 -- the lines of energies, which are those of the tasks from i on
-shares-below : (notes : List Note) (ns : List (List ℕ)) (i : ℕ) (energy : ℕ → ℕ)
+pub shares-below : (notes : List Note) (ns : List (List ℕ)) (i : ℕ) (energy : ℕ → ℕ)
     → ((k m : ℕ) → m ≡ i + k → k < length ns → energy k ≡ task_energy notes m)
     → list_below (length ns) (λ k. share_text (name_of ns k) (energy k)) ≡ shares_from notes i ns
 shares-below notes [] i energy same = refl

@@ -18,9 +18,11 @@ mod span;
 mod span_trace;
 mod teller;
 mod tick;
+mod trace;
 mod write;
 
 pub use jobs::{count_jobs, jobs_below, worst_demands};
 pub use kernel::{Kernel, KernelFault};
 pub use listener::{Listener, Stopped};
 pub use teller::WriteFault;
+pub use trace::put_trace;

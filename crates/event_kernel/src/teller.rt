@@ -14,13 +14,12 @@ ghost use Rattle.event_kernel.specs.Runs.{notes_of_run, MeetsDeadlines, MeetsDem
 
 use crate::ending::ending;
 use crate::span::Walk;
-use crate::write::{Head, put_head, put_sums};
+use crate::write::{Head, put_head, put_note, put_sums};
 use crate::{Kernel, Listener, Stopped};
-use dvs_base::{Failed, Line, Name, Note, Sink, Totals, Version, put_line};
+use dvs_base::{Failed, Line, Name, Note, Sink, Totals, Version};
 use energy::Account;
 use governor::Governor;
 use probes::{Probe, tell_all};
-use trace_text::write_note;
 
 /// The sink failed before the whole trace was written.
 #[derive(Clone, Copy, Debug, PartialEq, Eq)]
@@ -50,9 +49,7 @@ fn tell_note<W: Sink, P: Probe>(
         (map P.seen probes.old.items) (map P.seen probes.new.items)
         (noted names.now note.now ∷ []) result }
 {
-    line.clear();
-    write_note(line, note, names);
-    put_line(line, out)?;
+    put_note(note, names, line, out)?;
     tell_all(probes, note);
     Ok(())
 }
@@ -119,7 +116,7 @@ fn tell_tail<W: Sink, P: Probe>(
         (sum_lines head.entry.version head.entry.plan.now account.now.by_task ++ noted (names head.entry.plan.now)
         (End head.entry.ticks account.now.totals.run account.now.totals.idle) ∷ []) result }
 {
-    put_sums(head, account, out)?;
+    put_sums(head, account.by_task(), out)?;
     tell_end(head, account, line, out, probes)
 }
 

@@ -1,17 +1,17 @@
-// The lines of a trace that are not a note's: its head, and the energies of the tasks.
-ghost use Rattle.std.specs.Prelude.{◌≡◌, ◌<◌, length, map};
+// The lines of a trace: its head, the energies of the tasks, and a note's.
+ghost use Rattle.std.specs.Prelude.{◌≡◌, ◌<◌, ◌≤◌, length, map};
 ghost use Rattle.dvs_base.specs.Parts.{name_of};
+ghost use Rattle.dvs_base.specs.WritesText.{WritesText};
 ghost use Rattle.sched_model.specs.Plan.{count, names, task, period, offset};
-ghost use Rattle.trace_text.specs.TraceLines.{plan_text};
+ghost use Rattle.trace_text.specs.TraceLines.{note_text, plan_text};
 ghost use Rattle.trace_reader.specs.TraceText.{version_line, task_text, share_text, plain, for_tasks, head_lines};
 ghost use Rattle.note_laws.specs.RunText.{task_texts};
 ghost use Rattle.event_kernel.specs.PlainLines.{WritesPlain, sum_texts, sum_lines};
 
-use dvs_base::{Failed, GovernorKind, Line, Sink, Version, put_line};
-use energy::Account;
+use dvs_base::{Failed, GovernorKind, Line, Name, Note, Sink, Version, put_line};
 use sched_model::Admitted;
 use trace_reader::{TaskLine, has_task_lines, write_share, write_task, write_version};
-use trace_text::{PlanLine, write_head};
+use trace_text::{PlanLine, write_head, write_note};
 
 /// What the head of a trace says.
 #[derive(Clone, Copy)]
@@ -102,13 +102,12 @@ fn put_tasks<W: Sink>(plan: &Admitted, out: &mut W) -> Result<(), Failed>
 }
 
 // Puts a line for each task: its name and its energy.
-fn put_shares<W: Sink>(plan: &Admitted, account: &Account, out: &mut W) -> Result<(), Failed>
-    requires { length account.now.by_task ≡ count plan.now }
-    ensures { WritesPlain (W.shows out.old) (W.shows out.new)
-        (map plain (sum_texts plan.now account.now.by_task)) result }
+fn put_shares<W: Sink>(plan: &Admitted, energies: &[u128], out: &mut W) -> Result<(), Failed>
+    requires { count plan.now ≤ length energies.now }
+    ensures { WritesPlain (W.shows out.old) (W.shows out.new) (map plain (sum_texts plan.now energies.now)) result }
 {
     for i in 0..plan.count() {
-        put_line(&line_of_share(plan, i, account.of_task(i)), out)?;
+        put_line(&line_of_share(plan, i, energies[i as usize]), out)?;
     }
     Ok(())
 }
@@ -116,16 +115,31 @@ fn put_shares<W: Sink>(plan: &Admitted, account: &Account, out: &mut W) -> Resul
 /// Puts a line with each task's energy in a version that has such lines, and nothing in another.
 pub(crate) fn put_sums<W: Sink>(
     head: Head<'_>,
-    account: &Account,
+    energies: &[u128],
     out: &mut W,
 ) -> Result<(), Failed>
-    requires { length account.now.by_task ≡ count head.plan.now }
+    requires { count head.plan.now ≤ length energies.now }
     ensures { WritesPlain (W.shows out.old) (W.shows out.new)
-        (sum_lines head.entry.version head.entry.plan.now account.now.by_task) result }
+        (sum_lines head.entry.version head.entry.plan.now energies.now) result }
 {
     if has_task_lines(head.version) {
-        put_shares(head.plan, account, out)
+        put_shares(head.plan, energies, out)
     } else {
         Ok(())
     }
+}
+
+/// Puts the line of a note, which is written into `line`.
+#[inline]
+pub(crate) fn put_note<W: Sink>(
+    note: &Note,
+    names: &[Name],
+    line: &mut Line,
+    out: &mut W,
+) -> Result<(), Failed>
+    ensures { WritesText (W.shows out.old) (W.shows out.new) (note_text names.now note.now) result }
+{
+    line.clear();
+    write_note(line, note, names);
+    put_line(line, out)
 }

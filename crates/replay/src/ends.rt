@@ -80,7 +80,11 @@ fn fix(plan: &Admitted, note: &Note, demands: &mut Demands) -> Result<(), NoMemo
 }
 
 /// The demand list that notes fix; no `Done` exceeds the worst case of its task. It fails only where memory runs out.
-pub fn fixed_demands(alloc: Global, plan: &Admitted, notes: &[Note]) -> Result<Demands, NoMemory>
+pub(crate) fn fixed_demands(
+    alloc: Global,
+    plan: &Admitted,
+    notes: &[Note],
+) -> Result<Demands, NoMemory>
     requires tasks { AllByRecursion (NamesTask (count plan.now)) notes.now }
     requires fit { first_over plan.now notes.now ≡ None }
     ensures list { IfOk result (IsListOf plan.now) }

@@ -12,5 +12,4 @@ mod ends;
 mod fault;
 
 pub use check::replay;
-pub use ends::fixed_demands;
 pub use fault::ReplayFault;

@@ -1,28 +1,25 @@
--- A replay or a migration is done exactly where the trace file is the text of a run, and a migration writes that run in version 2.
+-- A replay or a migration is done exactly where the trace file is the text of a run, which then has a text in version 2.
 use Rattle.std.proofs.Common.{◌≡◌, ℕ, ◌≤◌, Bool, true, false, List, Some, None, Result, Ok, Err, IsOk, refl, sym, ap, ◌∙◌, true≢false, nat_lt, if◌then◌else◌, arith, inl, inr, [], ◌∷◌, length, map, Option, subst}
 use Rattle.std.proofs.lemmas.Bool.Decides.{nat_tests}
-use Rattle.dvs_base.specs.declared.kind.Scheduler.{Scheduler}
 use Rattle.dvs_base.specs.declared.kind.Version.TheVariants.{Two}
 use Rattle.dvs_base.specs.declared.note.Note.{Note}
 use Rattle.dvs_base.specs.declared.note.Totals.{Totals}
 use Rattle.dvs_base.specs.declared.limits.TheConstants.{MOST_JOBS, LONGEST_TRACE}
-use Rattle.demand_list.specs.Demands.{DemandsOf}
 use Rattle.sched_model.specs.Plan.{Plan, names, plan_of}
-use Rattle.sched_model.specs.Jobs.{JobDemands, released_jobs, demand_of}
+use Rattle.sched_model.specs.Jobs.{released_jobs, demand_of}
 use Rattle.sched_model.specs.Demand.{published}
 use Rattle.sched_model.specs.Admission.{IsWithinLimits, IsAdmitted}
 use Rattle.sched_model.specs.RunNotes.{run_notes}
-use Rattle.note_laws.specs.RunText.{task_texts, run_text_in}
+use Rattle.note_laws.specs.RunText.{task_texts}
 use Rattle.trace_reader.specs.Traces.{TraceOf, IsEnded, IsTrace, IsTextOf, text_of}
-use Rattle.trace_reader.specs.TraceText.{whole_text, task_text}
+use Rattle.trace_reader.specs.TraceText.{task_text}
 use Rattle.replay_laws.specs.FixedDemands.{fixed_of}
 use Rattle.replay.specs.Replays.{too_many, replay_of}
 use Rattle.replay.specs.declared.fault.ReplayFault.{ReplayFault}
 use Rattle.replay.specs.declared.fault.ReplayFault.TheVariants as replay_fault
 use Rattle.replay.proofs.Exact.{Passes, replayed-passes, some-replayed, is-replayed}
-use Rattle.rtdvs_top.specs.Run.{answer_of_plan}
-use Rattle.rtdvs_top.specs.Trace.{replay_status, totals_at, migrated_text, task_line, lines_of_tasks, trace_of, trace_at, traced_of, printed, answer_of_traced, trace_answer, IsScheduleText, AreFilesOf, TellsOwn, IsDoneUnless, OfTrace}
-use Rattle.rtdvs_top.proofs.Denying.{within-few, is_given, given-once, given-both, passes-admission, admission-gives}
+use Rattle.rtdvs_top.specs.Trace.{replay_status, totals_at, task_line, lines_of_tasks, trace_of, trace_at, traced_of, printed, answer_of_traced, trace_answer, IsScheduleText, AreFilesOf, TellsOwn, IsMigratable, IsDoneUnless, OfTrace}
+use Rattle.rtdvs_top.proofs.Denying.{is_given, given-once, given-both, passes-admission, admission-gives}
 use Rattle.dvs_base.specs.Outside.{Files, file_of}
 use Rattle.dvs_base.specs.Checks.{and_then}
 use Rattle.dvs_base.specs.declared.kind.GovernorKind.{GovernorKind}
@@ -39,7 +36,7 @@ use Rattle.trace_reader.proofs.HeadTexts.{task_lines-lines}
 use Rattle.trace_reader.proofs.ShortTexts.{text-short}
 use Rattle.trace_reader.proofs.TraceTexts.{reads-found, reads-only, version-lines}
 use Rattle.replay_laws.proofs.SameLists.{own-lists}
-use Rattle.note_laws.specs.RunTraces.{trace_of_run}
+use Rattle.note_laws.specs.RunTraces.{trace_of_run, IsLimitedRun}
 use Rattle.note_laws.proofs.TraceLimits.{keeps-limits}
 use Rattle.replay.proofs.Texts.{names-distinct, names-named}
 use Rattle.words.specs.Commands.{TracedOf, CommandOf, traced}
@@ -54,7 +51,7 @@ use Rattle.statuses.specs.declared.status.TextFault.TheVariants as text_fault
 use Rattle.statuses.specs.Refused.{or_status, trace_status}
 use Rattle.rtdvs_top.proofs.Loading.{short_file}
 use Rattle.event_kernel.proofs.Wholes.{below-first}
-use Rattle.rtdvs_top.specs.Prepared.{MetIn}
+use Rattle.rtdvs_top.specs.Prepared.{MetIn, IsComparable}
 
 -- a replay that has totals is done
 pub replayed-some : (r : Result Totals ReplayFault) → IsOk (or_status replay_status r) → (totals : Totals) × (r ≡ Ok totals)
@@ -84,19 +81,32 @@ module _ (p : Plan) (lim : IsWithinLimits p) (t : TraceOf) (ended : IsEnded t.no
       → run_notes p t.plan.governor (demand_of p (fixed_of p t.notes)) t.plan.ticks ≡ t.notes
   own-notes ok = sym (passes ok).same
 
-  -- the run for the demands that a trace with totals fixes is answered by the text of the trace in version 2
-  pub migrated : IsOk (totals_at (p, t)) → (d : DemandsOf) → demand_of p d.rows ≡ demand_of p (fixed_of p t.notes)
-      → t.plan.scheduler ≡ p.scheduler → answer_of_plan Two t.plan.governor d t.plan.ticks p ≡ Ok (migrated_text p t)
-  migrated ok d demands scheduler =
-      let g = t.plan.governor in
-      let ticks = t.plan.ticks in
-      let notes : run_notes p g (demand_of p d.rows) ticks ≡ t.notes =
-      ap (λ (dem : JobDemands). run_notes p g dem ticks) demands ∙ own-notes ok in
-      let text : run_text_in Two p g (demand_of p d.rows) ticks ≡ migrated_text p t =
-      ap (λ (l : List Note). whole_text Two p.scheduler g ticks (names p) (task_texts p) l) notes
-      ∙ ap (λ (s : Scheduler). whole_text Two s g ticks (names p) (task_texts p) t.notes) (sym scheduler) in
-      within-few (released_jobs p ticks) (run_text_in Two p g (demand_of p d.rows) ticks) (few-of-none p ticks (passes ok).few)
-      ∙ ap (λ (text : List ℕ). Ok text) text
+-- a trace that was compared with the schedule of an admitted plan has a text in version 2
+pub migratable : (p : Plan) (t : TraceOf) → IsAdmitted p → IsComparable p t → IsOk (totals_at (p, t)) → IsMigratable p t
+migratable p t adm c ok =
+    let lim = adm.limits in
+    let g = t.plan.governor in
+    let ticks = t.plan.ticks in
+    let dem = demand_of p (fixed_of p t.notes) in
+    let some = replayed-some (replay_of p (published p g) t) ok in
+    let own = is-replayed p lim (published p g) t c.ended ((own-lists p lim).published_own g) some.0 some.1 in
+    let limited : IsLimitedRun p g dem ticks = record {
+      pair = c.pair;
+      some_ticks = c.some_ticks;
+      low_ticks = c.low_ticks;
+      within = own.notes.within;
+      few = few-of-none p ticks (passes p lim t c.ended ok).few;
+    } in
+    let same : trace_of_run Two p g dem ticks ≡ record t { version = Two } =
+    λ i. record {
+      version = Two;
+      plan = record { scheduler = sym c.scheduler i; governor = g; ticks = ticks };
+      notes = own-notes p lim t c.ended ok i;
+    } in
+    record {
+      scheduler = c.scheduler;
+      trace = subst (λ (u : TraceOf). IsTrace (names p) (task_texts p) u) same (keeps-limits p adm Two g dem ticks limited);
+    }
 
 -- the line of a task of a list
 abbrev line_of_task : List Task → ℕ → List ℕ

@@ -35,7 +35,7 @@ use Rattle.rtdvs_top.specs.Run.{answer_of_plan, run_with, prepared_of}
 use Rattle.rtdvs_top.specs.Promises.{OfTests, Tells, LoadFailed, answer_of_command}
 use Rattle.rtdvs_top.specs.Constrain.{FailsToKeep}
 use Rattle.rtdvs_top.specs.Generated.{workload_tasks, workload_ticks, workload_totals, workload_text}
-use Rattle.rtdvs_top.specs.Trace.{totals_at, traced_of}
+use Rattle.rtdvs_top.specs.Trace.{totals_at, traced_of, migrated_text, IsMigratable}
 use Rattle.rtdvs_top.specs.Least.{least_text, IsLeastOn}
 use Rattle.rtdvs_top.specs.Poll.{polled_text, polling_of, HasServed}
 use Rattle.rtdvs_top.specs.Response.{responses_text, FailsToRespond, Responds}
@@ -181,6 +181,7 @@ ready_run w = record { plan = w.plan; demands = w.demands; ticks = w.ticks }
 -- the answer of what was prepared
 abbrev pub answer_of : Prepared → Result (List ℕ) Status
 answer_of (prepared.Trace w) = answer_of_run w.version w.governor (ready_run w)
+answer_of (prepared.Migrated p t) = Ok (migrated_text p t)
 answer_of (prepared.Line text) = Ok text
 answer_of (prepared.Responses tasks ticks) = Ok (responses_text tasks ticks)
 answer_of (prepared.Polled s r) = Ok (polled_text s r)
@@ -190,6 +191,7 @@ answer_of (prepared.Made made totals) = Ok (workload_text made.seed made.tasks m
 -- what a put asks of what was prepared
 abbrev pub IsPuttable : Prepared → Type 0
 IsPuttable (prepared.Trace w) = IsRunnable (ready_run w) × IsPair w.plan.scheduler w.governor
+IsPuttable (prepared.Migrated p t) = IsMigratable p t
 IsPuttable (prepared.Line text) = 0 < length text
 IsPuttable (prepared.Responses tasks ticks) = length ticks ≡ length tasks
 IsPuttable (prepared.Polled s r) = length r.outcomes ≡ request_count s

@@ -11,7 +11,7 @@ use Rattle.sched_model.specs.Plan.{Plan, names, plan_of}
 use Rattle.sched_model.specs.Admission.{IsAdmitted}
 use Rattle.sched_model.specs.Jobs.{demand_of, IsWithin, released_jobs}
 use Rattle.note_laws.specs.RunText.{run_text_in, task_texts}
-use Rattle.trace_reader.specs.Traces.{TraceOf, text_of, task_lines}
+use Rattle.trace_reader.specs.Traces.{TraceOf, IsTrace, text_of, task_lines}
 use Rattle.replay_laws.specs.FixedDemands.{fixed_of, fixed_list}
 use Rattle.words.specs.declared.command.WordFault.{WordFault}
 use Rattle.words.specs.Commands.{TracedOf, CommandOf, traced}
@@ -135,6 +135,11 @@ replayed_text t =
 -- the text of version 2 of a trace of a plan
 abbrev pub migrated_text : Plan → TraceOf → List ℕ
 migrated_text p t = text_of (names p) (task_texts p) (record t { version = Two })
+
+-- the trace is one of the plan's scheduler, and has a text in version 2
+pub record IsMigratable (p : Plan) (t : TraceOf) : Type 0 where
+  pub scheduler : t.plan.scheduler ≡ p.scheduler
+  pub trace : IsTrace (names p) (task_texts p) (record t { version = Two })
 
 -- what is printed for a trace that is that of its schedule: its totals by `replay`, its text in version 2 by `migrate`
 abbrev pub printed : TraceUse → Plan × TraceOf → Totals → List ℕ

@@ -9,6 +9,7 @@ use rm_response::Response;
 use sched_model::Admitted;
 use std::marker::Model;
 use task_model::TaskSet;
+use trace_reader::Trace;
 
 /// A run that is to be written: an admitted plan, the demands of its jobs, the number of ticks, the governor, the version
 /// of the text, and whether the probes are told its notes.
@@ -60,8 +61,10 @@ pub(crate) struct EdfTotals {
 /// What a command prepares before anything is put.
 #[derive(Drop)]
 pub(crate) enum Prepared {
-    /// The run whose trace `run` or `migrate` writes.
+    /// The run whose trace `run` writes.
     Trace(ReadyRun),
+    /// The plan and the trace that `migrate` writes in version 2.
+    Migrated(Admitted, Trace),
     /// The line of `admit`, `replay` or `constrain`.
     Line(Line),
     Responses(TaskSet, Response),

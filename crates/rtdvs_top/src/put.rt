@@ -9,7 +9,8 @@ use crate::poll::put_polled;
 use crate::prepared::Prepared;
 use crate::response::put_responses;
 use crate::run::put_run;
-use dvs_base::{Failed, Sink, put_line};
+use dvs_base::{Failed, Sink, Version, put_line};
+use event_kernel::put_trace;
 use probes::Probe;
 use std::alloc::Global;
 
@@ -35,6 +36,7 @@ pub(crate) fn put<W: Sink, P: Probe>(
 {
     match prepared {
         Prepared::Trace(run) => put_run(alloc, run, out, probes),
+        Prepared::Migrated(plan, trace) => status_of_put(put_trace(plan, trace, Version::Two, out)),
         Prepared::Line(line) => status_of_put(put_line(line, out)),
         Prepared::Responses(tasks, response) => status_of_put(put_responses(tasks, response, out)),
         Prepared::Polled(polling, served) => status_of_put(put_polled(polling, served, out)),

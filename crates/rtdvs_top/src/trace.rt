@@ -1,5 +1,5 @@
 // A trace compared with the schedule for the demands that it fixes, and what `replay` and `migrate` prepare.
-ghost use Rattle.std.specs.Prelude.{◌≡◌, map, IfOk, IfErr, ◌<◌, false, length, IsOk, Ok};
+ghost use Rattle.std.specs.Prelude.{◌≡◌, map, IfOk, IfErr, ◌<◌, false, length};
 ghost use Rattle.dvs_base.specs.Checks.{IsUnlessMemory};
 ghost use Rattle.trace_reader.specs.Traces.{IsTrace};
 ghost use Rattle.sched_model.specs.Admission.{IsAdmitted};
@@ -14,11 +14,11 @@ ghost use Rattle.rtdvs_top.specs.Prepared.{IsComparable, IsPuttable, PrepareStep
 use crate::admit::admit;
 use crate::at_pair::at_pair;
 use crate::files::{load_file, load_machine, load_tasks};
-use crate::prepared::{Prepared, ReadyRun};
+use crate::prepared::Prepared;
 use crate::{FileKind, Status};
-use dvs_base::{Line, Name, NoMemory, Part, Shelf, Totals, Version, line_of};
+use dvs_base::{Line, Name, NoMemory, Part, Shelf, Totals, line_of};
 use governor::Publishing;
-use replay::{ReplayFault, fixed_demands, replay};
+use replay::{ReplayFault, replay};
 use sched_model::Admitted;
 use std::alloc::Global;
 use task_model::TaskSet;
@@ -193,51 +193,26 @@ fn replayed_line(totals: Totals) -> Line
     ])
 }
 
-// The run that writes a compared trace in version 2: that of the schedule for the demands that the trace fixes.
-fn migrated_run(alloc: Global, plan: Admitted, trace: &Trace) -> Result<ReadyRun, Status>
-    requires trace { IsComparable plan trace.now }
-    requires compared { IsOk (totals_at (plan, trace.now)) }
-    ensures answer { IfOk result (λ w. answer_of (Prepared.Trace w) ≡ Ok (migrated_text plan trace.now)) }
-    ensures puttable { IfOk result (λ w. IsPuttable (Prepared.Trace w)) }
-    ensures silent { IfOk result (λ w. w.probes ≡ false) }
-    ensures refused { IfErr result (λ s. s ≡ Status.NoMemory) }
-{
-    let _scheduler = plan.scheduler();
-    match fixed_demands(alloc, &plan, &trace.notes) {
-        Ok(demands) => Ok(ReadyRun {
-            plan,
-            demands,
-            ticks: trace.plan.ticks,
-            governor: trace.plan.governor,
-            version: Version::Two,
-            probes: false,
-        }),
-        Err(NoMemory) => Err(Status::NoMemory),
-    }
-}
-
 // What is put for a trace, which is compared with its schedule first: its totals or its text in version 2, as `asked`.
 fn prepare_compared(
     alloc: Global,
     asked: TraceUse,
     plan: Admitted,
-    trace: &Trace,
+    trace: Trace,
 ) -> Result<Prepared, Status>
-    requires { IsComparable plan trace.now }
-    ensures answer { IfOk result (λ p. answer_of_traced asked (plan, trace.now) ≡ answer_of p) }
+    requires { IsComparable plan trace }
+    ensures answer { IfOk result (λ p. answer_of_traced asked (plan, trace) ≡ answer_of p) }
     ensures puttable { IfOk result IsPuttable }
     ensures silent { IfOk result (λ p. tells_probes p ≡ false) }
-    ensures refused { IfErr result (EndsWith (answer_of_traced asked (plan, trace.now))) }
+    ensures refused { IfErr result (EndsWith (answer_of_traced asked (plan, trace))) }
     ensures loads { IfErr result (OfLoad (λ kind. ⊥)) }
     ensures shown { IfErr result IsShown }
 {
-    let totals = compare_pair(alloc, &plan, trace)?;
+    let _admitted = plan.scheduler();
+    let totals = compare_pair(alloc, &plan, &trace)?;
     match asked {
         TraceUse::Replay => Ok(Prepared::Line(replayed_line(totals))),
-        TraceUse::Migrate => match migrated_run(alloc, plan, trace) {
-            Ok(run) => Ok(Prepared::Trace(run)),
-            Err(status) => Err(status),
-        },
+        TraceUse::Migrate => Ok(Prepared::Migrated(plan, trace)),
     }
 }
 
@@ -257,7 +232,7 @@ pub(crate) fn prepare_trace<S: Shelf>(
         Ok(loaded) => loaded,
         Err(status) => return (Err(status), Some(tasks)),
     };
-    match prepare_compared(alloc, words.asked, plan, &trace) {
+    match prepare_compared(alloc, words.asked, plan, trace) {
         Ok(prepared) => (Ok(prepared), Some(tasks)),
         Err(status) => (Err(status), Some(tasks)),
     }

@@ -17,5 +17,6 @@ mod write;
 
 pub use fault_line::trace_fault_line;
 pub use read::{read_any, read_trace};
+pub use shares::task_energies;
 pub use trace::{TaskLine, Trace, TraceFault, TraceKind};
 pub use write::{has_task_lines, write_share, write_task, write_version};

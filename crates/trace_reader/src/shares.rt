@@ -1,5 +1,6 @@
 // The energies of the tasks, summed over the notes of a trace.
-ghost use Rattle.std.specs.Prelude.{◌≡◌, ◌<◌, ◌==◌, ◌++◌, ◌∷◌, [], List};
+ghost use Rattle.std.specs.Prelude.{◌≡◌, ℕ, ◌<◌, ◌^◌, ◌==◌, ◌++◌, ◌∷◌, [], List, slice_index};
+ghost use Rattle.std.specs.List.{AllByRecursion};
 ghost use Rattle.dvs_base.specs.declared.note.Note.{Note};
 ghost use Rattle.dvs_base.specs.declared.limits.TheConstants.{MOST_TASKS};
 ghost use Rattle.trace_reader.specs.TraceText.{task_energy};
@@ -55,4 +56,29 @@ impl Shares {
             None => false,
         }
     }
+
+    // The sums, with 0 for one from 2^128 on.
+    fn energies(&self) -> [u128; MOST_TASKS]
+        ensures { (notes : List Note) (i : ℕ) → HasSums notes self.now.sums → i < MOST_TASKS
+            → task_energy notes i < 2 ^ 128 → slice_index result i ≡ task_energy notes i }
+    {
+        let mut energies = [0; MOST_TASKS];
+        for i in 0..MOST_TASKS {
+            energies[i] = self.sums[i].unwrap_or(0);
+        }
+        energies
+    }
+}
+
+/// The energy of each task, the sum over its runs, where that is below 2^128.
+pub fn task_energies(notes: &[Note]) -> [u128; MOST_TASKS]
+    requires { AllByRecursion (λ n. HasTaskBelow MOST_TASKS (Item.Told n)) notes.now }
+    ensures { (i : ℕ) → i < MOST_TASKS → task_energy notes.now i < 2 ^ 128
+        → slice_index result i ≡ task_energy notes.now i }
+{
+    let mut shares = Shares::new();
+    for note in notes {
+        shares.add(note);
+    }
+    shares.energies()
 }

@@ -1,9 +1,9 @@
-use Rattle.std.proofs.Common.{[], ◌∷◌}
+use Rattle.std.proofs.Common.{[], ◌∷◌, ap}
 use Rattle.dvs_base.specs.declared.note.Note.TheVariants.{End}
 use Rattle.sched_model.specs.Plan.{names}
 use Rattle.trace_reader.specs.TraceText.{noted}
 use Rattle.event_kernel.specs.PlainLines.{sum_lines}
-use Rattle.event_kernel.proofs.WrittenLines.{writes-then, lines-some-more, stopped-exit}
+use Rattle.event_kernel.proofs.WrittenLines.{writes-then, lines-some-more, stopped-exit, all-as, some-as}
 use Rattle.event_kernel.proofs.teller.tell_tail.Goals as goal
 
 pub returns-clause-writes : goal.returns-clause-writes
@@ -11,7 +11,7 @@ returns-clause-writes g c =
     let h = c.args.head in
     let s = c.args.account.now in
     writes-then _ _ _ _ _ _ (sum_lines h.version h.plan.now s.by_task) (noted (names h.plan.now) (End h.ticks s.totals.run s.totals.idle) ∷ [])
-    c.tell_end.result (c.in_ok-put_sums.ensures _) c.tell_end.ensures.writes
+    c.tell_end.result (all-as (ap (sum_lines h.version h.plan.now) c.by_task.ensures) (c.in_ok-put_sums.ensures _)) c.tell_end.ensures.writes
 
 pub returns-in_err-put_sums-clause-writes : goal.returns-in_err-put_sums-clause-writes
 returns-in_err-put_sums-clause-writes g c =
@@ -19,4 +19,4 @@ returns-in_err-put_sums-clause-writes g c =
     let s = c.args.account.now in
     stopped-exit _ _ _ _ _ c.from_residual.result c.from_residual.ensures.0
     (lines-some-more _ _ _ _ (sum_lines h.version h.plan.now s.by_task) (noted (names h.plan.now) (End h.ticks s.totals.run s.totals.idle) ∷ [])
-    (c.in_err-put_sums.ensures _))
+    (some-as (ap (sum_lines h.version h.plan.now) c.by_task.ensures) (c.in_err-put_sums.ensures _)))

@@ -12,4 +12,4 @@ abbrev pub invariant-loop-i : goal.invariant-loop-i
 invariant-loop-i g l =
     let p = l.fn.plan in
     (ps : List ProbeOf) → WroteLines (g.W.Sink.shows l.fn.out) (g.W.Sink.shows l.out) ps ps
-    (map plain (list_below l.i (λ i. share_text (name_of (names p) i) (slice_index l.fn.account.by_task i))))
+    (map plain (list_below l.i (λ i. share_text (name_of (names p) i) (slice_index l.fn.energies i))))

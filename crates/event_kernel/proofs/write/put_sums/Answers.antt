@@ -6,5 +6,5 @@ pub returns-then-has_task_lines : goal.returns-then-has_task_lines
 returns-then-has_task_lines g c ps =
     let h = c.args.head in
     lines-as _ _ ps ps _ _ c.put_shares.result
-    (task-lines h.version (sum_texts h.plan.now c.args.account.now.by_task) c.has_task_lines.ensures c.if-has_task_lines.true)
+    (task-lines h.version (sum_texts h.plan.now c.args.energies.now) c.has_task_lines.ensures c.if-has_task_lines.true)
     (c.put_shares.ensures ps)
