@@ -39,7 +39,7 @@ at_line-ok n (Err k) x e = absurd cc
 -- the item of the next line, with the checks that it passed
 record IsNextItem (v : Version) (names : List (List ℕ)) (s : SoFar) (fields : List (List ℕ)) (item : Item) : Type 0 where
   read : item_of v names fields ≡ Ok item
-  order : is_in_order s.told (wanted v names) item ≡ true
+  order : is_in_order s.energies_read (wanted v names) item ≡ true
   right : is_right_share s.notes item ≡ true
 
 checks : (order right : Bool) (x item : Item) → (if order then (if right then Ok x else Err kind.Share) else Err kind.Order) ≡ Ok item
@@ -52,7 +52,7 @@ next_item-found : (v : Version) (names : List (List ℕ)) (s : SoFar) (fields : 
 unfolding next_item
 next_item-found v names s fields item e =
     let a = step-ok _ _ item e in
-    let c = checks (is_in_order s.told (wanted v names) a.0) (is_right_share s.notes a.0) a.0 item a.2 in
+    let c = checks (is_in_order s.energies_read (wanted v names) a.0) (is_right_share s.notes a.0) a.0 item a.2 in
     subst (λ (x : Item). IsNextItem v names s fields x) c.2 (record { read = a.1; order = c.0; right = c.1 })
 
 -- the notes `all` that are read from line n on: those so far, `body` and the last, with their text and its limits
@@ -63,10 +63,10 @@ pub record Reads (v : Version) (names : List (List ℕ)) (n : ℕ) (s : SoFar) (
   pub no_end : AllByRecursion (λ m. is_end m ≡ false) body
   pub end : is_end last ≡ true
   pub each : AllByRecursion (IsNoteOf (length names)) (body ++ last ∷ [])
-  pub none : 0 < s.told → body ≡ []
-  pub text : join_with_byte 10 ps ≡ rest_text v names s.told s.notes body last
-  pub widths : (i : ℕ) → s.told ≤ i → i < wanted v names → task_energy (s.notes ++ body) i < 2 ^ 128
-  pub lines : n + (length body + (wanted v names - s.told)) ≤ MOST_LINES
+  pub none : 0 < s.energies_read → body ≡ []
+  pub text : join_with_byte 10 ps ≡ rest_text v names s.energies_read s.notes body last
+  pub widths : (i : ℕ) → s.energies_read ≤ i → i < wanted v names → task_energy (s.notes ++ body) i < 2 ^ 128
+  pub lines : n + (length body + (wanted v names - s.energies_read)) ≤ MOST_LINES
 
 nothing-is : (ps : List (List ℕ)) → is_nothing ps ≡ true → ps ≡ [] ∷ []
 nothing-is ([] ∷ []) e = refl
@@ -81,9 +81,9 @@ ends-told : (n : Note) → ends (Told n) ≡ is_end n
 ends-told (End t run idle) = refl
 ends-told _ = refl
 
-order-told : (told w : ℕ) (n : Note) (b : Bool) → is_end n ≡ b → is_in_order told w (Told n) ≡ (if b then nat_le w told else told == 0)
-order-told told w (End t run idle) b e = ap (λ (c : Bool). if c then nat_le w told else told == 0) e
-order-told told w _ b e = ap (λ (c : Bool). if c then nat_le w told else told == 0) e
+order-told : (energies_read w : ℕ) (n : Note) (b : Bool) → is_end n ≡ b → is_in_order energies_read w (Told n) ≡ (if b then nat_le w energies_read else energies_read == 0)
+order-told energies_read w (End t run idle) b e = ap (λ (c : Bool). if c then nat_le w energies_read else energies_read == 0) e
+order-told energies_read w _ b e = ap (λ (c : Bool). if c then nat_le w energies_read else energies_read == 0) e
 
 pub note-line : (names : List (List ℕ)) (n : Note) → note_text names n ≡ item_text names (Told n)
 unfolding note_text
@@ -96,8 +96,8 @@ read-last : (v : Version) (names : List (List ℕ)) (n : ℕ) (s : SoFar) (text 
     → s.notes ++ last ∷ [] ≡ all → Reads v names n s (text ∷ rest) all
 read-last v names n s text rest last all end read item nothing whole =
     let found = item-found v names text (Told last) item.read in
-    let told : wanted v names ≤ s.told =
-    leb-true (wanted v names) s.told (sym (order-told s.told (wanted v names) last true end) ∙ item.order) in
+    let energies_read : wanted v names ≤ s.energies_read =
+    leb-true (wanted v names) s.energies_read (sym (order-told s.energies_read (wanted v names) last true end) ∙ item.order) in
     let line : join_with_byte 10 (text ∷ rest) ≡ note_text names last =
     join-line text rest read.more ∙ (ap (λ ps. text ++ 10 ∷ join_with_byte 10 ps) (nothing-is rest nothing) ∙ (found.0 ∙ sym (note-line names last))) in
     record {
@@ -108,7 +108,7 @@ read-last v names n s text rest last all end read item nothing whole =
       end = end;
       each = (found.1, tt);
       none = λ _. refl;
-      text = line ∙ ap (λ ls. joined ls ++ note_text names last) (sym (shares-told v names (s.notes ++ []) s.told told));
+      text = line ∙ ap (λ ls. joined ls ++ note_text names last) (sym (shares-told v names (s.notes ++ []) s.energies_read energies_read));
       widths = λ i low high. absurd (omega arith);
       lines = omega (arith, read.few);
     }
@@ -117,12 +117,12 @@ read-last v names n s text rest last all end read item nothing whole =
 read-note : (v : Version) (names : List (List ℕ)) (n : ℕ) (s : SoFar) (text : List ℕ) (rest : List (List ℕ)) (note : Note) (all : List Note)
     → is_end note ≡ false
     → IsLineOf n (text ∷ rest) text rest → IsNextItem v names s (parts 32 text) (Told note)
-    → Reads v names (n + 1) (record { notes = s.notes ++ note ∷ []; told = s.told }) rest all → Reads v names n s (text ∷ rest) all
+    → Reads v names (n + 1) (record { notes = s.notes ++ note ∷ []; energies_read = s.energies_read }) rest all → Reads v names n s (text ∷ rest) all
 read-note v names n s text rest note all other read item more =
     let found = item-found v names text (Told note) item.read in
-    let none : s.told ≡ 0 = eqb-true s.told 0 (sym (order-told s.told (wanted v names) note false other) ∙ item.order) in
+    let none : s.energies_read ≡ 0 = eqb-true s.energies_read 0 (sym (order-told s.energies_read (wanted v names) note false other) ∙ item.order) in
     let joined_notes : (s.notes ++ note ∷ []) ++ more.body ≡ s.notes ++ note ∷ more.body = append_assoc s.notes (note ∷ []) more.body in
-    let tail : List ℕ = joined (drop s.told (shares v names (s.notes ++ note ∷ more.body))) ++ note_text names more.last in
+    let tail : List ℕ = joined (drop s.energies_read (shares v names (s.notes ++ note ∷ more.body))) ++ note_text names more.last in
     let line : join_with_byte 10 (text ∷ rest) ≡ note_text names note ++ join_with_byte 10 rest =
     join-line text rest read.more
     ∙ (sym (append_assoc text (10 ∷ []) (join_with_byte 10 rest)) ∙ ap (λ t. t ++ join_with_byte 10 rest) (found.0 ∙ sym (note-line names note))) in
@@ -135,52 +135,52 @@ read-note v names n s text rest note all other read item more =
       each = (found.1, more.each);
       none = λ some. absurd (omega arith);
       text = line ∙ (ap (λ t. note_text names note ++ t) (more.text
-          ∙ ap (λ ns. flat_map (note_text names) more.body ++ (joined (drop s.told (shares v names ns)) ++ note_text names more.last)) joined_notes)
+          ∙ ap (λ ns. flat_map (note_text names) more.body ++ (joined (drop s.energies_read (shares v names ns)) ++ note_text names more.last)) joined_notes)
           ∙ sym (append_assoc (note_text names note) (flat_map (note_text names) more.body) tail));
       widths = λ i low high. subst (λ ns. task_energy ns i < 2 ^ 128) joined_notes (more.widths i low high);
       lines = omega (arith, more.lines);
     }
 
 -- where a choice between a number and 0 is above another number, the number was chosen
-pub wanted-some : (b : Bool) (told n : ℕ) → told < (if b then n else 0) → (b ≡ true) × (told < n)
-wanted-some true told n lt = (refl, lt)
-wanted-some false told n lt = absurd (omega arith)
+pub wanted-some : (b : Bool) (energies_read n : ℕ) → energies_read < (if b then n else 0) → (b ≡ true) × (energies_read < n)
+wanted-some true energies_read n lt = (refl, lt)
+wanted-some false energies_read n lt = absurd (omega arith)
 
-share-facts : (v : Version) (names : List (List ℕ)) (notes : List Note) (told : ℕ) → has_task_lines v ≡ true → told < length names
-    → (wanted v names ≡ length names) × (drop told (shares v names notes)
-    ≡ share_text (name_of names told) (task_energy notes told) ∷ drop (told + 1) (shares v names notes))
-share-facts v names notes told e lt = rw e (refl, shares-next names notes told lt)
+share-facts : (v : Version) (names : List (List ℕ)) (notes : List Note) (energies_read : ℕ) → has_task_lines v ≡ true → energies_read < length names
+    → (wanted v names ≡ length names) × (drop energies_read (shares v names notes)
+    ≡ share_text (name_of names energies_read) (task_energy notes energies_read) ∷ drop (energies_read + 1) (shares v names notes))
+share-facts v names notes energies_read e lt = rw e (refl, shares-next names notes energies_read lt)
 
--- the energy of task j is below 2^128, where that of task `told` is and those after it are
-share-widths : (notes body : List Note) (told j energy : ℕ) → body ≡ [] → energy ≡ task_energy notes told → energy < 2 ^ 128 → told ≤ j
-    → (told + 1 ≤ j → task_energy (notes ++ body) j < 2 ^ 128) → task_energy (notes ++ []) j < 2 ^ 128
-share-widths notes body told j energy none sum fits low later = by (nat_lt told j) refl
+-- the energy of task j is below 2^128, where that of task `energies_read` is and those after it are
+share-widths : (notes body : List Note) (energies_read j energy : ℕ) → body ≡ [] → energy ≡ task_energy notes energies_read → energy < 2 ^ 128 → energies_read ≤ j
+    → (energies_read + 1 ≤ j → task_energy (notes ++ body) j < 2 ^ 128) → task_energy (notes ++ []) j < 2 ^ 128
+share-widths notes body energies_read j energy none sum fits low later = by (nat_lt energies_read j) refl
   where
-    by : (b : Bool) → nat_lt told j ≡ b → task_energy (notes ++ []) j < 2 ^ 128
+    by : (b : Bool) → nat_lt energies_read j ≡ b → task_energy (notes ++ []) j < 2 ^ 128
     by true e = subst (λ bs. task_energy (notes ++ bs) j < 2 ^ 128) none (later (grind (arith, nat_tests)))
     by false e =
-        let here : told ≡ j = grind (arith, nat_tests) in
+        let here : energies_read ≡ j = grind (arith, nat_tests) in
         let same : energy ≡ task_energy (notes ++ []) j = sum ∙ ap₂ (λ ns i. task_energy ns i) (sym (append-nil notes)) here in
         omega (arith, same)
 
 -- reading the energy of a task
 read-share : (v : Version) (names : List (List ℕ)) (n : ℕ) (s : SoFar) (text : List ℕ) (rest : List (List ℕ)) (i energy : ℕ) (all : List Note)
     → IsLineOf n (text ∷ rest) text rest → IsNextItem v names s (parts 32 text) (Share i energy)
-    → (s.told < wanted v names → Reads v names (n + 1) (record { notes = s.notes; told = s.told + 1 }) rest all) → Reads v names n s (text ∷ rest) all
+    → (s.energies_read < wanted v names → Reads v names (n + 1) (record { notes = s.notes; energies_read = s.energies_read + 1 }) rest all) → Reads v names n s (text ∷ rest) all
 read-share v names n s text rest i energy all read item next =
     let found = item-found v names text (Share i energy) item.read in
-    let place : i ≡ s.told = eqb-true i s.told item.order in
+    let place : i ≡ s.energies_read = eqb-true i s.energies_read item.order in
     let sum : energy ≡ task_energy s.notes i = eqb-true energy (task_energy s.notes i) item.right in
-    let within : s.told < length names = omega (arith, found.1.1) in
-    let facts = share-facts v names (s.notes ++ []) s.told found.1.0 within in
-    let wide : s.told < wanted v names = omega (arith, facts.0) in
+    let within : s.energies_read < length names = omega (arith, found.1.1) in
+    let facts = share-facts v names (s.notes ++ []) s.energies_read found.1.0 within in
+    let wide : s.energies_read < wanted v names = omega (arith, facts.0) in
     let more = next wide in
     let none : more.body ≡ [] = more.none (omega arith) in
-    let here : share_text (name_of names i) energy ≡ share_text (name_of names s.told) (task_energy (s.notes ++ []) s.told) =
+    let here : share_text (name_of names i) energy ≡ share_text (name_of names s.energies_read) (task_energy (s.notes ++ []) s.energies_read) =
     ap₂ (λ j e. share_text (name_of names j) e) place (sum ∙ ap₂ (λ ns j. task_energy ns j) (sym (append-nil s.notes)) place) in
     let line : join_with_byte 10 (text ∷ rest) ≡ share_text (name_of names i) energy ++ join_with_byte 10 rest =
     join-line text rest read.more ∙ (sym (append_assoc text (10 ∷ []) (join_with_byte 10 rest)) ∙ ap (λ t. t ++ join_with_byte 10 rest) found.0) in
-    let left : List (List ℕ) = drop (s.told + 1) (shares v names (s.notes ++ [])) in
+    let left : List (List ℕ) = drop (s.energies_read + 1) (shares v names (s.notes ++ [])) in
     record {
       body = [];
       last = more.last;
@@ -189,10 +189,10 @@ read-share v names n s text rest i energy all read item next =
       end = more.end;
       each = subst (λ b. AllByRecursion (IsNoteOf (length names)) (b ++ more.last ∷ [])) none more.each;
       none = λ _. refl;
-      text = line ∙ (ap₂ (λ t u. t ++ u) here (more.text ∙ ap (λ b. rest_text v names (s.told + 1) s.notes b more.last) none)
-          ∙ (sym (append_assoc (share_text (name_of names s.told) (task_energy (s.notes ++ []) s.told)) (joined left) (note_text names more.last))
+      text = line ∙ (ap₂ (λ t u. t ++ u) here (more.text ∙ ap (λ b. rest_text v names (s.energies_read + 1) s.notes b more.last) none)
+          ∙ (sym (append_assoc (share_text (name_of names s.energies_read) (task_energy (s.notes ++ []) s.energies_read)) (joined left) (note_text names more.last))
           ∙ ap (λ ls. joined ls ++ note_text names more.last) (sym facts.1)));
-      widths = λ j low high. share-widths s.notes more.body s.told j energy none (sum ∙ ap (task_energy s.notes) place) found.1.2 low
+      widths = λ j low high. share-widths s.notes more.body s.energies_read j energy none (sum ∙ ap (task_energy s.notes) place) found.1.2 low
           (λ later. more.widths j later high);
       lines = omega (arith, more.lines);
     }
@@ -208,7 +208,7 @@ item-step : (v : Version) (names : List (List ℕ)) (n : ℕ) (s : SoFar) (text 
     → after_item v names n s rest item ≡ Ok all
     → ((t : SoFar) → notes_from v names (n + 1) t rest ≡ Ok all → Reads v names (n + 1) t rest all) → Reads v names n s (text ∷ rest) all
 item-step v names n s text rest (Share i energy) all read item e later = read-share v names n s text rest i energy all read item
-    (λ _. later (record { notes = s.notes; told = s.told + 1 }) e)
+    (λ _. later (record { notes = s.notes; energies_read = s.energies_read + 1 }) e)
 item-step v names n s text rest (Told note) all read item e later = by (is_end note) refl
   where
     by : (b : Bool) → is_end note ≡ b → Reads v names n s (text ∷ rest) all
@@ -216,7 +216,7 @@ item-step v names n s text rest (Told note) all read item e later = by (is_end n
         let last = ended (is_nothing rest) (s.notes ++ note ∷ []) all (n + 1) (rw (ends-told note ∙ end) at e) in
         read-last v names n s text rest note all end read item last.0 last.1
     by false other = read-note v names n s text rest note all other read item
-        (later (record { notes = s.notes ++ note ∷ []; told = s.told }) (rw (ends-told note ∙ other) at e))
+        (later (record { notes = s.notes ++ note ∷ []; energies_read = s.energies_read }) (rw (ends-told note ∙ other) at e))
 
 -- a line that was read is the first part, with the parts after it
 line-pair : (n : ℕ) (text : List ℕ) (rest : List (List ℕ)) (p : List ℕ × List (List ℕ)) → line_at n (text ∷ rest) ≡ Ok p
@@ -247,7 +247,7 @@ answer n all more = if is_nothing (parts 10 more) then Ok all else Err (Refused 
 module _ (v : Version) (names : List (List ℕ)) (named : AreNames names) (apart : AreApart names) where
   -- the line of an item that may come next is read
   item-next : (n : ℕ) (s : SoFar) (item : Item) (more : List ℕ) → IsItemOf v (length names) item → n ≤ MOST_LINES
-      → is_in_order s.told (wanted v names) item ≡ true → is_right_share s.notes item ≡ true
+      → is_in_order s.energies_read (wanted v names) item ≡ true → is_right_share s.notes item ≡ true
       → notes_from v names n s (parts 10 (item_text names item ++ more)) ≡ after_item v names n s (parts 10 more) item
   unfolding notes_from next_item
   item-next n s item more fits few order right =
@@ -266,78 +266,78 @@ module _ (v : Version) (names : List (List ℕ)) (named : AreNames names) (apart
   end-after n s last more end = rw (ends-told last ∙ end) refl
 
   -- the text of the last note is read
-  last-text : (n : ℕ) (s : SoFar) (last : Note) (more : List ℕ) → is_end last ≡ true → IsNoteOf (length names) last → wanted v names ≤ s.told → n ≤ MOST_LINES
+  last-text : (n : ℕ) (s : SoFar) (last : Note) (more : List ℕ) → is_end last ≡ true → IsNoteOf (length names) last → wanted v names ≤ s.energies_read → n ≤ MOST_LINES
       → notes_from v names n s (parts 10 (note_text names last ++ more)) ≡ answer (n + 1) (s.notes ++ last ∷ []) more
-  last-text n s last more end fits told few =
+  last-text n s last more end fits energies_read few =
       ap (λ t. notes_from v names n s (parts 10 (t ++ more))) (note-line names last)
-      ∙ (item-next n s (Told last) more fits few (order-told s.told (wanted v names) last true end ∙ le-leb (wanted v names) s.told told) refl
+      ∙ (item-next n s (Told last) more fits few (order-told s.energies_read (wanted v names) last true end ∙ le-leb (wanted v names) s.energies_read energies_read) refl
       ∙ end-after n s last more end)
 
   -- the text of the energies that are left and the last note is read
-  shares-text : (k n : ℕ) (s : SoFar) (last : Note) (more : List ℕ) → wanted v names - s.told ≡ k → is_end last ≡ true → IsNoteOf (length names) last
-      → ((i : ℕ) → s.told ≤ i → i < wanted v names → task_energy s.notes i < 2 ^ 128) → n + k ≤ MOST_LINES
-      → notes_from v names n s (parts 10 ((joined (drop s.told (shares v names s.notes)) ++ note_text names last) ++ more)) ≡ answer
+  shares-text : (k n : ℕ) (s : SoFar) (last : Note) (more : List ℕ) → wanted v names - s.energies_read ≡ k → is_end last ≡ true → IsNoteOf (length names) last
+      → ((i : ℕ) → s.energies_read ≤ i → i < wanted v names → task_energy s.notes i < 2 ^ 128) → n + k ≤ MOST_LINES
+      → notes_from v names n s (parts 10 ((joined (drop s.energies_read (shares v names s.notes)) ++ note_text names last) ++ more)) ≡ answer
       (n + k + 1) (s.notes ++ last ∷ []) more
   shares-text zero n s last more left end fits widths few =
-      let told : wanted v names ≤ s.told = omega arith in
+      let energies_read : wanted v names ≤ s.energies_read = omega arith in
       let here : n + 1 ≡ n + 0 + 1 = omega arith in
-      ap (λ ls. notes_from v names n s (parts 10 ((joined ls ++ note_text names last) ++ more))) (shares-told v names s.notes s.told told)
-      ∙ (last-text n s last more end fits told (omega arith)
+      ap (λ ls. notes_from v names n s (parts 10 ((joined ls ++ note_text names last) ++ more))) (shares-told v names s.notes s.energies_read energies_read)
+      ∙ (last-text n s last more end fits energies_read (omega arith)
       ∙ ap (λ m. answer m (s.notes ++ last ∷ []) more) here)
   shares-text (suc k) n s last more left end fits widths few =
-      let wide : s.told < wanted v names = omega arith in
-      let two = wanted-some (has_task_lines v) s.told (length names) wide in
-      let facts = share-facts v names s.notes s.told two.0 two.1 in
-      let energy : ℕ = task_energy s.notes s.told in
-      let item : Item = Share s.told energy in
-      let next : SoFar = record { notes = s.notes; told = s.told + 1 } in
-      let rest : List ℕ = joined (drop (s.told + 1) (shares v names s.notes)) ++ note_text names last in
-      let text : (joined (drop s.told (shares v names s.notes)) ++ note_text names last) ++ more ≡ item_text names item ++ (rest ++ more) =
+      let wide : s.energies_read < wanted v names = omega arith in
+      let two = wanted-some (has_task_lines v) s.energies_read (length names) wide in
+      let facts = share-facts v names s.notes s.energies_read two.0 two.1 in
+      let energy : ℕ = task_energy s.notes s.energies_read in
+      let item : Item = Share s.energies_read energy in
+      let next : SoFar = record { notes = s.notes; energies_read = s.energies_read + 1 } in
+      let rest : List ℕ = joined (drop (s.energies_read + 1) (shares v names s.notes)) ++ note_text names last in
+      let text : (joined (drop s.energies_read (shares v names s.notes)) ++ note_text names last) ++ more ≡ item_text names item ++ (rest ++ more) =
       ap (λ ls. (joined ls ++ note_text names last) ++ more) facts.1
-      ∙ (ap (λ t. t ++ more) (append_assoc (item_text names item) (joined (drop (s.told + 1) (shares v names s.notes))) (note_text names last))
+      ∙ (ap (λ t. t ++ more) (append_assoc (item_text names item) (joined (drop (s.energies_read + 1) (shares v names s.notes))) (note_text names last))
       ∙ append_assoc (item_text names item) rest more) in
       let later = shares-text k (n + 1) next last more (omega arith) end fits (λ i low high. widths i (omega arith) high) (omega arith) in
       let here : n + 1 + k + 1 ≡ n + suc k + 1 = omega arith in
       ap (λ t. notes_from v names n s (parts 10 t)) text
-      ∙ (item-next n s item (rest ++ more) (two.0, two.1, widths s.told (omega arith) wide) (omega arith)
-      (eq-eqb s.told s.told refl) (eq-eqb energy energy refl)
+      ∙ (item-next n s item (rest ++ more) (two.0, two.1, widths s.energies_read (omega arith) wide) (omega arith)
+      (eq-eqb s.energies_read s.energies_read refl) (eq-eqb energy energy refl)
       ∙ (later ∙ ap (λ m. answer m (s.notes ++ last ∷ []) more) here))
 
   note-after : (n : ℕ) (s : SoFar) (note : Note) (rest : List (List ℕ)) → is_end note ≡ false
-      → after_item v names n s rest (Told note) ≡ notes_from v names (n + 1) (record { notes = s.notes ++ note ∷ []; told = s.told }) rest
+      → after_item v names n s rest (Told note) ≡ notes_from v names (n + 1) (record { notes = s.notes ++ note ∷ []; energies_read = s.energies_read }) rest
   note-after n s note rest other = rw (ends-told note ∙ other) refl
 
   -- the text of the notes, the energies and the last note is read
-  pub notes_from-text : (n : ℕ) (s : SoFar) (body : List Note) (last : Note) (more : List ℕ) → s.told ≡ 0
+  pub notes_from-text : (n : ℕ) (s : SoFar) (body : List Note) (last : Note) (more : List ℕ) → s.energies_read ≡ 0
       → AllByRecursion (λ m. is_end m ≡ false) body → is_end last ≡ true
       → AllByRecursion (IsNoteOf (length names)) (body ++ last ∷ [])
       → ((i : ℕ) → i < wanted v names → task_energy (s.notes ++ body) i < 2 ^ 128) → n + (length body + wanted v names) ≤ MOST_LINES
-      → notes_from v names n s (parts 10 (rest_text v names s.told s.notes body last ++ more)) ≡ answer
+      → notes_from v names n s (parts 10 (rest_text v names s.energies_read s.notes body last ++ more)) ≡ answer
       (n + (length body + wanted v names) + 1) (s.notes ++ (body ++ last ∷ [])) more
   notes_from-text n s [] last more none no_end end each widths few =
       let same : s.notes ++ [] ≡ s.notes = append-nil s.notes in
       let here : n + wanted v names + 1 ≡ n + (0 + wanted v names) + 1 = omega arith in
-      ap (λ ns. notes_from v names n s (parts 10 ((joined (drop s.told (shares v names ns)) ++ note_text names last) ++ more))) same
+      ap (λ ns. notes_from v names n s (parts 10 ((joined (drop s.energies_read (shares v names ns)) ++ note_text names last) ++ more))) same
       ∙ (shares-text (wanted v names) n s last more (omega arith) end each.0
       (λ i low high. subst (λ ns. task_energy ns i < 2 ^ 128) same (widths i high)) (omega arith)
       ∙ ap (λ m. answer m (s.notes ++ last ∷ []) more) here)
   notes_from-text n s (note ∷ body) last more none no_end end each widths few =
-      let next : SoFar = record { notes = s.notes ++ note ∷ []; told = s.told } in
+      let next : SoFar = record { notes = s.notes ++ note ∷ []; energies_read = s.energies_read } in
       let regrouped : (s.notes ++ note ∷ []) ++ body ≡ s.notes ++ note ∷ body = append_assoc s.notes (note ∷ []) body in
       let front : List ℕ = flat_map (note_text names) body in
-      let tail : List ℕ = joined (drop s.told (shares v names (s.notes ++ note ∷ body))) ++ note_text names last in
-      let text : rest_text v names s.told s.notes (note ∷ body) last ++ more
-      ≡ item_text names (Told note) ++ (rest_text v names s.told next.notes body last ++ more) =
+      let tail : List ℕ = joined (drop s.energies_read (shares v names (s.notes ++ note ∷ body))) ++ note_text names last in
+      let text : rest_text v names s.energies_read s.notes (note ∷ body) last ++ more
+      ≡ item_text names (Told note) ++ (rest_text v names s.energies_read next.notes body last ++ more) =
       ap (λ t. t ++ more) (append_assoc (note_text names note) front tail)
       ∙ (append_assoc (note_text names note) (front ++ tail) more
-      ∙ ap₂ (λ t ns. t ++ ((front ++ (joined (drop s.told (shares v names ns)) ++ note_text names last)) ++ more)) (note-line names note) (sym regrouped)) in
+      ∙ ap₂ (λ t ns. t ++ ((front ++ (joined (drop s.energies_read (shares v names ns)) ++ note_text names last)) ++ more)) (note-line names note) (sym regrouped)) in
       let later = notes_from-text (n + 1) next body last more none no_end.1 end each.1
       (λ i high. subst (λ ns. task_energy ns i < 2 ^ 128) (sym regrouped) (widths i high)) (omega arith) in
       let here : n + 1 + (length body + wanted v names) + 1 ≡ n + (suc (length body) + wanted v names) + 1 = omega arith in
       let whole : (s.notes ++ note ∷ []) ++ (body ++ last ∷ []) ≡ s.notes ++ note ∷ (body ++ last ∷ []) =
       append_assoc s.notes (note ∷ []) (body ++ last ∷ []) in
       ap (λ t. notes_from v names n s (parts 10 t)) text
-      ∙ (item-next n s (Told note) (rest_text v names s.told next.notes body last ++ more) each.0 (omega arith)
-      (order-told s.told (wanted v names) note false no_end.0 ∙ eq-eqb s.told 0 none) refl
-      ∙ (note-after n s note (parts 10 (rest_text v names s.told next.notes body last ++ more)) no_end.0
+      ∙ (item-next n s (Told note) (rest_text v names s.energies_read next.notes body last ++ more) each.0 (omega arith)
+      (order-told s.energies_read (wanted v names) note false no_end.0 ∙ eq-eqb s.energies_read 0 none) refl
+      ∙ (note-after n s note (parts 10 (rest_text v names s.energies_read next.notes body last ++ more)) no_end.0
       ∙ (later ∙ ap₂ (λ m ns. answer m ns more) here whole)))

@@ -20,10 +20,10 @@ use Rattle.trace_reader.proofs.WholeText.{length-shares, lines-by, text-for}
 abbrev pub shares : Version → List (List ℕ) → List Note → List (List ℕ)
 shares v names notes = version_task_lines v (shares_from notes 0 names)
 
--- the text of `body` and the last note, after the notes `before` and the energies of `told` tasks
+-- the text of `body` and the last note, after the notes `before` and the energies of `energies_read` tasks
 abbrev pub rest_text : Version → List (List ℕ) → ℕ → List Note → List Note → Note → List ℕ
-rest_text v names told before body last =
-    flat_map (note_text names) body ++ (joined (drop told (shares v names (before ++ body))) ++ note_text names last)
+rest_text v names energies_read before body last =
+    flat_map (note_text names) body ++ (joined (drop energies_read (shares v names (before ++ body))) ++ note_text names last)
 
 pub energy-end : (notes : List Note) (n : Note) (i : ℕ) → is_end n ≡ true → task_energy (notes ++ n ∷ []) i ≡ task_energy notes i
 energy-end notes (End t run idle) i e = energy-more notes (End t run idle) i ∙ omega arith
@@ -36,8 +36,8 @@ shares-same a b i [] same = refl
 shares-same a b i (name ∷ names) same = ap₂ (λ e rest. share_text name e ∷ rest) (same i) (shares-same a b (i + 1) names same)
 
 -- once all energies were read, no energy line is left
-pub shares-told : (v : Version) (names : List (List ℕ)) (notes : List Note) (told : ℕ) → wanted v names ≤ told → drop told (shares v names notes) ≡ []
-shares-told v names notes told h = drop_all told (shares v names notes) (omega (arith, length-shares v names notes, h))
+pub shares-told : (v : Version) (names : List (List ℕ)) (notes : List Note) (energies_read : ℕ) → wanted v names ≤ energies_read → drop energies_read (shares v names notes) ≡ []
+shares-told v names notes energies_read h = drop_all energies_read (shares v names notes) (omega (arith, length-shares v names notes, h))
 
 drop-from : (notes : List Note) (i j : ℕ) (names : List (List ℕ)) → j < length names
     → drop j (shares_from notes i names) ≡ share_text (name_of names j) (task_energy notes (i + j)) ∷ drop (suc j) (shares_from notes i names)
@@ -47,13 +47,13 @@ drop-from notes i (suc j) (name ∷ names) lt =
     drop-from notes (i + 1) j names (omega arith)
     ∙ ap (λ k. share_text (name_of names j) (task_energy notes k) ∷ drop (suc j) (shares_from notes (i + 1) names)) (omega arith)
 
--- the next energy line is that of task `told`
-pub shares-next : (names : List (List ℕ)) (notes : List Note) (told : ℕ) → told < length names
-    → drop told (shares_from notes 0 names) ≡ share_text (name_of names told) (task_energy notes told) ∷ drop (told + 1) (shares_from notes 0 names)
-shares-next names notes told lt =
-    let here : 0 + told ≡ told = omega arith in
-    let next : suc told ≡ told + 1 = omega arith in
-    drop-from notes 0 told names lt ∙ ap₂ (λ i k. share_text (name_of names told) (task_energy notes i) ∷ drop k (shares_from notes 0 names)) here next
+-- the next energy line is that of task `energies_read`
+pub shares-next : (names : List (List ℕ)) (notes : List Note) (energies_read : ℕ) → energies_read < length names
+    → drop energies_read (shares_from notes 0 names) ≡ share_text (name_of names energies_read) (task_energy notes energies_read) ∷ drop (energies_read + 1) (shares_from notes 0 names)
+shares-next names notes energies_read lt =
+    let here : 0 + energies_read ≡ energies_read = omega arith in
+    let next : suc energies_read ≡ energies_read + 1 = omega arith in
+    drop-from notes 0 energies_read names lt ∙ ap₂ (λ i k. share_text (name_of names energies_read) (task_energy notes i) ∷ drop k (shares_from notes 0 names)) here next
 
 -- the text of notes that don't end the run, before others, is their lines and then the others' text
 told-body : (v : Version) (names : List (List ℕ)) (all body last : List Note) → AllByRecursion (λ n. is_end n ≡ false) body

@@ -19,11 +19,11 @@ use Rattle.trace_reader.specs.Traces.{TraceOf}
 -- what was read so far: the notes, and the number of tasks whose energies were read
 pub record SoFar : Type 0 where
   pub notes : List Note
-  pub told : ℕ
+  pub energies_read : ℕ
 
 -- what was read before the first line of the notes
 abbrev pub nothing_yet : SoFar
-nothing_yet = record { notes = []; told = 0 }
+nothing_yet = record { notes = []; energies_read = 0 }
 
 -- how many energies of tasks a trace has: one for each name, in a version that has such lines
 abbrev pub wanted : Version → List (List ℕ) → ℕ
@@ -31,9 +31,9 @@ wanted v names = if has_task_lines v then length names else 0
 
 -- whether the item may come next: the energies of the tasks are in file order, between the other notes and the last
 abbrev pub is_in_order : ℕ → ℕ → Item → Bool
-is_in_order told wanted (Share i energy) = i == told
-is_in_order told wanted (Told (End t run idle)) = nat_le wanted told
-is_in_order told wanted (Told n) = told == 0
+is_in_order energies_read wanted (Share i energy) = i == energies_read
+is_in_order energies_read wanted (Told (End t run idle)) = nat_le wanted energies_read
+is_in_order energies_read wanted (Told n) = energies_read == 0
 
 -- whether the energy of a task is the sum over its runs; a note passes
 abbrev pub is_right_share : List Note → Item → Bool
@@ -44,14 +44,14 @@ is_right_share notes (Told n) = true
 unfoldable pub next_item : Version → List (List ℕ) → SoFar → List (List ℕ) → Result Item TraceKind
 next_item v names s fields = do
   item ← item_of v names fields
-  if is_in_order s.told (wanted v names) item
+  if is_in_order s.energies_read (wanted v names) item
       then (if is_right_share s.notes item then Ok item else Err kind.Share)
       else Err kind.Order
 
 -- what was read, with one item more
 abbrev pub with_item : SoFar → Item → SoFar
-with_item s (Told n) = record { notes = s.notes ++ n ∷ []; told = s.told }
-with_item s (Share i energy) = record { notes = s.notes; told = s.told + 1 }
+with_item s (Told n) = record { notes = s.notes ++ n ∷ []; energies_read = s.energies_read }
+with_item s (Share i energy) = record { notes = s.notes; energies_read = s.energies_read + 1 }
 
 -- whether the item is the end of the run
 abbrev pub ends : Item → Bool

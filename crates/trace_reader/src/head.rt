@@ -9,7 +9,7 @@ ghost use Rattle.trace_reader.specs.Heads.{version_in, plan_line_of, parts_after
 ghost use Rattle.trace_reader.specs.Traces.{task_lines};
 
 use crate::parts::four;
-use crate::read::line_at;
+use crate::text_line::line_at;
 use crate::{TaskLine, TraceFault, TraceKind, has_task_lines, write_task};
 use dvs_base::{Line, Name, Version, governor_of, is_pair, scheduler_of, ticks_of};
 use trace_text::PlanLine;

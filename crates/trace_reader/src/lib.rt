@@ -12,6 +12,7 @@ mod number;
 mod parts;
 mod read;
 mod shares;
+mod text_line;
 mod trace;
 mod write;
 

@@ -10,7 +10,6 @@ ghost use Rattle.trace_reader.specs.declared.trace.TraceFault.TheVariants as fau
 ghost use Rattle.trace_reader.specs.declared.trace.TraceKind.TheVariants as kind;
 ghost use Rattle.trace_reader.specs.TraceText.{has_task_lines};
 ghost use Rattle.trace_reader.specs.Fields.{parts};
-ghost use Rattle.trace_reader.specs.Heads.{line_at, at_line};
 ghost use Rattle.trace_reader.specs.Items.{HasTaskBelow};
 ghost use Rattle.trace_reader.specs.Sums.{HasSums};
 ghost use Rattle.trace_reader.specs.TraceFile.{is_in_order, is_right_share, wanted, next_item, nothing_yet, is_nothing, notes_from, trace_file};
@@ -18,49 +17,11 @@ ghost use Rattle.trace_reader.specs.Traces.{TraceOf, task_lines, IsTextOf, HaveO
 
 use crate::head::{plan_line_of, read_tasks, version_in};
 use crate::line::{Item, item_of};
-use crate::parts::cut;
 use crate::shares::Shares;
+use crate::text_line::{at_line, line_at, refused};
 use crate::{TaskLine, Trace, TraceFault, TraceKind, has_task_lines};
-use dvs_base::{LONGEST_LINE, MOST_LINES, Name, Note, Version};
+use dvs_base::{Name, Note, Version};
 use std::alloc::Global;
-
-fn refused(line: u64, kind: TraceKind) -> TraceFault
-    ensures { result ≡ fault.Refused line kind }
-{
-    TraceFault::Refused { line, kind }
-}
-
-// The line of this number without its line feed, and the bytes after it.
-pub(crate) fn line_at(number: u64, bytes: &[u8]) -> Result<(&[u8], &[u8]), TraceFault>
-    ensures line { IsUnlessMemory TraceFault.NoMemory (λ p. (p.0.now, parts 10 p.1.now)) result
-        (line_at number (parts 10 bytes.now)) }
-    ensures rest { IfOk result (λ p. parts 10 bytes.now ≡ p.0.now ∷ parts 10 p.1.now) }
-    ensures less { IfOk result (λ p. length p.1.now < length bytes.now) }
-    ensures few { IfOk result (λ p. number ≤ MOST_LINES) }
-{
-    match cut(bytes, b'\n') {
-        None => Err(refused(number, TraceKind::NoEnd)),
-        Some((line, rest)) => {
-            if number > MOST_LINES {
-                Err(refused(number, TraceKind::TooMany))
-            } else if line.len() > LONGEST_LINE {
-                Err(refused(number, TraceKind::TooLong))
-            } else {
-                Ok((line, rest))
-            }
-        }
-    }
-}
-
-// The value that was read, or the refusal of this line.
-fn at_line<T>(line: u64, read: Result<T, TraceKind>) -> Result<T, TraceFault>
-    ensures { result ≡ at_line line read }
-{
-    match read {
-        Ok(value) => Ok(value),
-        Err(kind) => Err(refused(line, kind)),
-    }
-}
 
 // How many energies of tasks a trace has: one for each name, in a version that has such lines.
 fn wanted_of(version: Version, names: &[Name]) -> u32
@@ -75,13 +36,13 @@ fn wanted_of(version: Version, names: &[Name]) -> u32
 }
 
 // Whether the item may come next: the energies of the tasks are in file order, between the other notes and the last.
-fn is_in_order(told: u32, wanted: u32, item: &Item) -> bool
-    ensures { result ≡ is_in_order told wanted item.now }
+fn is_in_order(energies_read: u32, wanted: u32, item: &Item) -> bool
+    ensures { result ≡ is_in_order energies_read wanted item.now }
 {
     match *item {
-        Item::Share { task, .. } => task == told,
-        Item::Told(Note::End { .. }) => wanted <= told,
-        Item::Told(_) => told == 0,
+        Item::Share { task, .. } => task == energies_read,
+        Item::Told(Note::End { .. }) => wanted <= energies_read,
+        Item::Told(_) => energies_read == 0,
     }
 }
 
@@ -102,16 +63,16 @@ fn next_item(
     version: Version,
     names: &[Name],
     shares: &Shares,
-    told: u32,
+    energies_read: u32,
     line: &[u8],
 ) -> Result<Item, TraceKind>
     requires { length names.now ≤ MOST_TASKS }
     ensures item { (notes : List Note) → HasSums notes shares.now.sums
-        → result ≡ next_item version names.now (record { notes = notes; told = told }) (parts 32 line.now) }
+        → result ≡ next_item version names.now (record { notes = notes; energies_read = energies_read }) (parts 32 line.now) }
     ensures task { IfOk result (HasTaskBelow (length names.now)) }
 {
     let item = item_of(version, names, line)?;
-    if !is_in_order(told, wanted_of(version, names), &item) {
+    if !is_in_order(energies_read, wanted_of(version, names), &item) {
         return Err(TraceKind::Order);
     }
     if !is_right_share(shares, &item) {
@@ -148,16 +109,19 @@ fn read_notes(
 {
     let mut notes = Vec::new(alloc);
     let mut shares = Shares::new();
-    let mut told = 0;
+    let mut energies_read = 0;
     let mut number = first;
     let mut rest = bytes;
     loop {
         let (line, after) = line_at(number, rest)?;
-        let item = at_line(number, next_item(version, names, &shares, told, line))?;
+        let item = at_line(
+            number,
+            next_item(version, names, &shares, energies_read, line),
+        )?;
         rest = after;
         number += 1;
         match item {
-            Item::Share { .. } => told += 1,
+            Item::Share { .. } => energies_read += 1,
             Item::Told(note) => {
                 if notes.push(note).is_err() {
                     return Err(TraceFault::NoMemory);

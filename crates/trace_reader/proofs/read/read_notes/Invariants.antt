@@ -9,9 +9,9 @@ use Rattle.trace_reader.proofs.read.read_notes.Given as goal
 abbrev pub invariant-loop-notes : goal.invariant-loop-notes
 invariant-loop-notes l = record {
   few : l.number ≤ MOST_LINES + 1;
-  told : l.told ≤ l.number;
+  energies_read : l.energies_read ≤ l.number;
   sums : HasSums l.notes.items l.shares.sums;
-  left : notes_from l.version l.names l.number (record { notes = l.notes.items; told = l.told }) (parts 10 l.rest)
+  left : notes_from l.version l.names l.number (record { notes = l.notes.items; energies_read = l.energies_read }) (parts 10 l.rest)
       ≡ notes_from l.version l.names l.first nothing_yet (parts 10 l.bytes);
 }
 

@@ -1,6 +1,6 @@
 use Rattle.std.proofs.Common.{rules}
 use Rattle.trace_reader.proofs.Reading.{line_at-more}
-use Rattle.trace_reader.proofs.read.line_at.Goals as goal
+use Rattle.trace_reader.proofs.text_line.line_at.Goals as goal
 
 pub returns-then-number-gt-MOST_LINES-clause-line : goal.returns-then-number-gt-MOST_LINES-clause-line
 returns-then-number-gt-MOST_LINES-clause-line c = rw (c.in-Some.ensures.found, line_at-more) (search rules)
