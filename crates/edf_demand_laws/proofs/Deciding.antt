@@ -27,9 +27,10 @@ module _ (p : Plan) (relative : ℕ → ℕ) (con : IsConstrained p relative) wh
   few_jobs : (i k : ℕ) → i < count p → suc k ≤ absolute p relative i (suc k)
   unfolding release
   few_jobs i k h =
+      let some : 0 < period p i = omega (arith, con.some i h, con.within i h) in
       let less : suc k - 1 ≡ k = omega arith in
       let grown : (suc k - 1) * period p i ≡ k * period p i = ap (λ (n : ℕ). n * period p i) less in
-      omega (arith, grown, le-mul_of_pos_right k (omega (arith, con.some i h, con.within i h)), con.some i h)
+      omega (arith, grown, le-mul_of_pos_right k some, con.some i h)
 
   found : (d : ℕ) → IsDeadline p relative d → is_deadline p relative d ≡ true
   found d at = go at.job at.some at.is
