@@ -19,7 +19,7 @@ import sys
 
 CRATES = pathlib.Path("crates")
 TESTS = {"test_inputs", "text_tests", "trace_tests", "file_tests", "model_tests", "run_tests", "call_tests", "kernel_tests",
-         "program_rows", "worked_rows", "stored_calls", "example_runs"}
+         "call_tests", "kernel_tests", "stored_calls", "example_runs"}
 LIMITS = r"(?<![\w.#])(?:64|800_?00[01]|1_?000_?000|20_?000|100_?000|1099511627776|16777216|281474976710656)(?![\w.])"
 
 

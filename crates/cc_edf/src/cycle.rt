@@ -9,7 +9,7 @@ ghost use Rattle.governor.specs.Serving.{ServesEdf};
 ghost use Rattle.cc_edf_laws.specs.Cycle.{edf_cycle_demand, sum_charged, Counts};
 ghost use Rattle.cc_edf_laws.specs.Conditions.{CycleCalm, CycleSafe};
 ghost use Rattle.cc_edf_laws.proofs.CycleLaws.{cycle_laws};
-ghost use Rattle.cc_edf_laws.proofs.Publishing.{cycle_publishing};
+ghost use Rattle.cc_edf_laws.proofs.EdfCyclePublished.{cycle_publishing};
 
 use dvs_base::{GovernorKind, NoMemory};
 use governor::{Choice, Governor, Publishing, chosen};

@@ -19,7 +19,7 @@ use Rattle.sched_model.proofs.Allotments.{due_by_gets}
 use Rattle.sched_model.proofs.LevelSums.{sum_where-tight, sum_below-times, sum_where-term, sum_where-zero, sum_below-term}
 use Rattle.governor.specs.Serving.{ServesEdf}
 use Rattle.governor.specs.Steps.{share_in, left_in, IsLegalIn, after_tick, Belongs, after_boundary, wleft_at, IsBeforeAll}
-use Rattle.governor.proofs.Belonging.{legal_most, unborn_done, opening_at, boundary_at, tick_at, due_soon}
+use Rattle.governor.proofs.StatesOfDemands.{legal_most, unborn_done, opening_at, boundary_at, tick_at, due_soon}
 use Rattle.governor.proofs.Ticks.{tick-closes, demand_most}
 use Rattle.governor.specs.Edf.{due_by}
 use Rattle.dvs_base.specs.declared.kind.GovernorKind.TheVariants.{Cycle}

@@ -1,3 +1,3 @@
 pub mod Rows
-pub mod Publishing
+pub mod EdfCyclePublished
 pub mod CycleLaws

@@ -9,7 +9,7 @@ use Rattle.sched_model.specs.Plan.{Plan, period}
 use Rattle.sched_model.specs.Jobs.{JobDemands}
 use Rattle.sched_model.specs.States.{row_wleft}
 use Rattle.governor.specs.Steps.{boundary_row}
-use Rattle.governor.proofs.Belonging.{boundary_row-by}
+use Rattle.governor.proofs.StatesOfDemands.{boundary_row-by}
 use Rattle.cc_edf_laws.specs.Cycle.{charged_of}
 
 -- what a row that is due by d may still need; 0 for a row that is due later

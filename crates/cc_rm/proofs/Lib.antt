@@ -1,2 +1,2 @@
-pub mod Handing
-pub mod Counting
+pub mod MarkUnits
+pub mod KeptCounters

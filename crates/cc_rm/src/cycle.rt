@@ -12,7 +12,7 @@ ghost use Rattle.governor.specs.Worst.{MeetsAtWorst};
 ghost use Rattle.cc_rm_laws.specs.Allotments.{rm_cycle_demand};
 ghost use Rattle.cc_rm_laws.specs.Conditions.{CcRmCalm, CcRmSafe};
 ghost use Rattle.cc_rm_laws.proofs.CcRmLaws.{cc_rm_laws};
-ghost use Rattle.cc_rm_laws.proofs.Publishing.{cycle_publishing};
+ghost use Rattle.cc_rm_laws.proofs.RmCyclePublished.{cycle_publishing};
 ghost use Rattle.cc_rm.specs.Counters.{AreCounters, lowered};
 
 use crate::allotments::{left_in_all, static_speed};

@@ -20,12 +20,12 @@ use Rattle.sched_model.proofs.Orders.{before-total}
 use Rattle.sched_model.proofs.Allotments.{allotment_of, down-set-gets}
 use Rattle.sched_model.proofs.LevelSums.{sum_where-mono, sum_where-plus, sum_where-tight}
 use Rattle.governor.specs.Steps.{wleft_at, release_of, share_in, left_in, IsLegalIn, after_tick, IsBeforeAll, Belongs, IsAtDecision}
-use Rattle.governor.proofs.Belonging.{done_none, tick_at, legal_most, earliest-later}
+use Rattle.governor.proofs.StatesOfDemands.{done_none, tick_at, legal_most, earliest-later}
 use Rattle.governor.proofs.Ticks.{tick-falls, tick-closes}
 use Rattle.governor.specs.Rm.{level}
 use Rattle.cc_rm_laws.specs.Allotments.{base_of, allotted_units, allotted_in, allotment_left_in, rm_cycle_demand}
 use Rattle.cc_rm_laws.specs.Conditions.{CcRmCalm, CcRmSafe}
-use Rattle.cc_rm_laws.proofs.Allotting.{allotment-full, allotment-none, some-term}
+use Rattle.cc_rm_laws.proofs.AllottedUnits.{allotment-full, allotment-none, some-term}
 use Rattle.cc_rm_laws.proofs.Lefts.{left_by, left-part, left-full, left-some, left-idle, left-open}
 use Rattle.cc_rm_laws.proofs.Deadlines.{allotted-most, cc_rm_completes, cc_rm_opens, cc_rm_releases}
 use Rattle.dvs_base.specs.declared.kind.GovernorKind.TheVariants.{Cycle}

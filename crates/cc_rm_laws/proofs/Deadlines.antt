@@ -19,7 +19,7 @@ use Rattle.sched_model.proofs.Limits.{some_period}
 use Rattle.sched_model.proofs.JobLaws.{latest-is, latest-unique, latest_since-pos, release-suc, release-due, due-suc}
 use Rattle.sched_model.proofs.LevelSums.{sum_where-term, up_to-self, greatest-above, greatest-least, sum_where-mono, sum_where-plus, sum_where-zero, level-gets}
 use Rattle.governor.specs.Steps.{opened_row, after_boundary, wleft_at, release_of, Belongs, each_row, is_due, boundary_row}
-use Rattle.governor.proofs.Belonging.{wleft-most, earliest-from, unborn_done, boundary-by, none_due_at, some_due_at, done_none, in_rows, opening_at, belongs_boundary, decision_boundary, opened_release, earliest-later}
+use Rattle.governor.proofs.StatesOfDemands.{wleft-most, earliest-from, unborn_done, boundary-by, none_due_at, some_due_at, done_none, in_rows, opening_at, belongs_boundary, decision_boundary, opened_release, earliest-later}
 use Rattle.governor.proofs.Ticks.{demand_most}
 use Rattle.governor.specs.Rm.{level}
 use Rattle.governor.proofs.EdfLaws.{closed_row}
@@ -28,7 +28,7 @@ use Rattle.sched_model.specs.Priority.{SharesOut}
 use Rattle.sched_model.proofs.Allotments.{allotment-shares, down-set-gets}
 use Rattle.cc_rm_laws.specs.Allotments.{base_of, allotted_units, allotted_in, allotment_left_in}
 use Rattle.cc_rm_laws.specs.Conditions.{CcRmCalm, LacksNothing}
-use Rattle.cc_rm_laws.proofs.Allotting.{allotment-most}
+use Rattle.cc_rm_laws.proofs.AllottedUnits.{allotment-most}
 use Rattle.cc_rm_laws.proofs.Backlog.{lack, lack_after, lack-is, IsQuiet, quiet_row, lack-none, released-lack, after-least, backlog-empties, level_down, backlog-span, backlog-where}
 use Rattle.cc_rm_laws.proofs.Lefts.{left-marked}
 

@@ -1,6 +1,6 @@
-pub mod Allotting
+pub mod AllottedUnits
 pub mod Lefts
 pub mod Backlog
 pub mod Deadlines
 pub mod CcRmLaws
-pub mod Publishing
+pub mod RmCyclePublished

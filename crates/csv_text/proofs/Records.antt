@@ -12,7 +12,7 @@ use Rattle.csv.specs.Reading.{Reached, records, records_from, records_next, stri
 use Rattle.csv.specs.declared.parser.Config.{Config}
 use Rattle.csv.specs.declared.parser.State.{State}
 use Rattle.csv.proofs.ReadFacts.{rows-end, rows-more}
-use Rattle.csv_text.specs.Rows.{has_fields, rows_after, TextReader, IsPlain, records_left, records_in, unread}
+use Rattle.csv_text.specs.Rows.{has_fields, rows_after, TextReader, IsDefault, records_left, records_in, unread}
 use Rattle.csv.specs.declared.parser.State.TheVariants as st
 
 -- a record that has exactly these fields is the list of them
@@ -161,12 +161,12 @@ reader_ended : (a b : TextReader) (f : List (List ℕ)) (known : Option (List �
 reader_ended a b f known config e h r = grind (arith, nat_tests, records_in-None, rows-end)
 
 -- a record that is read is the first of those that were left
-pub left-read : (a b : TextReader) (f : List (List ℕ)) → IsPlain a → ReadRecord (λ s. Some s.now) a b true f
+pub left-read : (a b : TextReader) (f : List (List ℕ)) → IsDefault a → ReadRecord (λ s. Some s.now) a b true f
     → records_left a ≡ f ∷ records_left b
 left-read a b f h r = (reader_took a b f (unread a) h.config refl h.known r).1
 
 -- where no record is read, none was left
-pub left-ended : (a b : TextReader) (f : List (List ℕ)) → IsPlain a → ReadRecord (λ s. Some s.now) a b false f
+pub left-ended : (a b : TextReader) (f : List (List ℕ)) → IsDefault a → ReadRecord (λ s. Some s.now) a b false f
     → records_left a ≡ []
 left-ended a b f h r = reader_ended a b f (unread a) h.config refl h.known r
 

@@ -26,7 +26,7 @@ abbrev pub records_left : TextReader → List (List (List ℕ))
 records_left reader = records_in (reader_state reader) (unread reader)
 
 -- the reader has the default settings, takes records of any number of fields, and can go on
-pub record IsPlain (reader : TextReader) : Type 0 where
+pub record IsDefault (reader : TextReader) : Type 0 where
   pub trim : reader_trim reader ≡ trim.None
   pub ready : Ready reader
   pub config : reader_config reader ≡ default_config

@@ -10,7 +10,7 @@ ghost use Rattle.std.specs.Prelude.{◌≡◌, ◌<◌, ◌≤◌, ◌+◌, ◌�
 ghost use Rattle.csv.specs.Reading.{default_config, records, strip_bom, error_kind, stops_reader};
 ghost use Rattle.csv.specs.Records.{field_at, fields_of};
 ghost use Rattle.dvs_base.specs.Parts.{two_of, three_of};
-ghost use Rattle.csv_text.specs.Rows.{IsPlain, records_left, has_fields, text_rows};
+ghost use Rattle.csv_text.specs.Rows.{IsDefault, records_left, has_fields, text_rows};
 
 use csv::{ByteRecord, Error, Reader, ReaderBuilder};
 use dvs_base::NoMemory;
@@ -19,7 +19,7 @@ use std::alloc::Global;
 // A reader of the records of a text, of any number of fields, the first one included. It fails only where memory runs
 // out. The reader is given an empty header row first, so that it keeps no copy of the first record.
 fn text_reader(alloc: Global, text: &[u8]) -> Result<Reader<&[u8]>, NoMemory>
-    ensures plain { IfOk result (λ reader. IsPlain reader) }
+    ensures default_reader { IfOk result (λ reader. IsDefault reader) }
     ensures all { IfOk result (λ reader. records_left reader ≡ records default_config (strip_bom text.now)) }
     ensures few { IfOk result (λ reader. length (records_left reader) ≤ length text.now + 1) }
 {
@@ -39,9 +39,9 @@ fn no_record(error: Error) -> NoMemory
 
 /// Reads the fields of the next record, and returns whether there is one. It fails only where memory runs out.
 pub fn next_record(reader: &mut Reader<&[u8]>, fields: &mut ByteRecord) -> Result<bool, NoMemory>
-    requires { IsPlain reader.old }
+    requires { IsDefault reader.old }
     ensures some { result ≡ Ok true → records_left reader.old ≡ fields_of fields.new ∷ records_left reader.new }
-    ensures plain { result ≡ Ok true → IsPlain reader.new }
+    ensures default_reader { result ≡ Ok true → IsDefault reader.new }
     ensures none { result ≡ Ok false → records_left reader.old ≡ [] }
 {
     match reader.read_byte_record(fields) {
@@ -103,7 +103,7 @@ pub fn rows_reader<'a>(
 ) -> Result<Option<Reader<&'a [u8]>>, NoMemory>
     ensures rows { IfOk result (λ found.
         option_map records_left found ≡ text_rows (map (λ n. n.now) header.now) text.now) }
-    ensures plain { IfOk result (λ found. IfSome found IsPlain) }
+    ensures default_reader { IfOk result (λ found. IfSome found IsDefault) }
     ensures few { IfOk result (λ found. IfSome found (λ reader. length (records_left reader) ≤ length text.now)) }
 {
     let mut reader = text_reader(alloc, text)?;

@@ -1,7 +1,7 @@
 // Reading demand files.
 ghost use Rattle.std.specs.Prelude.{codes, ◌≡◌, ◌≤◌, ◌<◌, ◌^◌, length, map, IfOk, vec_len};
 ghost use Rattle.csv.specs.Records.{fields_of};
-ghost use Rattle.csv_text.specs.Rows.{IsPlain, AreCountedFrom, records_left};
+ghost use Rattle.csv_text.specs.Rows.{IsDefault, AreCountedFrom, records_left};
 ghost use Rattle.task_model.specs.TaskFile.{place_of};
 ghost use Rattle.demand_list.specs.DemandFile.{MeansDemands, demand_of_row, demands_from, with_checked, demand_file, worst_list};
 
@@ -119,7 +119,7 @@ fn read_rows(
     tasks: &TaskSet,
     mut demands: Demands,
 ) -> Result<Demands, DemandFault>
-    requires plain { IsPlain reader.old }
+    requires default_reader { IsDefault reader.old }
     requires few { AreCountedFrom 1 reader.old }
     requires worsts { length demands.worsts ≡ length tasks.now }
     ensures worsts { IfOk result (λ d. d.worsts ≡ demands.worsts) }

@@ -7,14 +7,14 @@ use Rattle.std.proofs.lemmas.Bool.{cases_lt, eq-eqb, eqb-true, eqb-false}
 use Rattle.std.specs.List.{AllByRecursion}
 use Rattle.std.proofs.lemmas.Bool.Decides.{nat_tests}
 use Rattle.edf_demand_laws.specs.ProcessorDemand.{jobs_due}
-use Rattle.edf_demand_laws.proofs.Counting.{jobs_due-above, jobs_due-below, jobs_due-most}
+use Rattle.edf_demand_laws.proofs.JobsDue.{jobs_due-above, jobs_due-below, jobs_due-most}
 use Rattle.grid_fraction.specs.Numbers.{least_below, sum_below, sum_where}
 use Rattle.grid_fraction.proofs.Least.{least-below, least-above}
 use Rattle.sched_model.specs.Plan.{Plan, count, period, worst}
 use Rattle.ready_queue.specs.declared.entry.Entry.{Entry}
 use Rattle.ready_queue.specs.Orders.{due_before}
 use Rattle.ready_queue.specs.Entries.{QueueOf, IsAbsent, placed, ComesFirst}
-use Rattle.ready_queue.proofs.Placing.{placed-All}
+use Rattle.ready_queue.proofs.EntryOrder.{placed-All}
 use Rattle.grid_fraction.proofs.Sums.{sum_below-limit, sum_below-same, sum_below-add, sum_below-own, sum_below-zero, sum_where-le}
 use Rattle.sched_model.specs.Admission.{IsWithinLimits}
 use Rattle.sched_model.proofs.Limits.{some_task, every_period, low_worst}

@@ -1,4 +1,4 @@
 pub mod Calendars
-pub mod Walking
-pub mod Answering
+pub mod DemandWalk
+pub mod LowestEntry
 pub mod Examples

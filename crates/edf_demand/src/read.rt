@@ -1,7 +1,7 @@
 // Deadline files.
 ghost use Rattle.std.specs.Prelude.{◌≡◌, ◌≤◌, ◌<◌, length, IfOk};
 ghost use Rattle.csv.specs.Records.{fields_of};
-ghost use Rattle.csv_text.specs.Rows.{IsPlain, AreCountedFrom, records_left};
+ghost use Rattle.csv_text.specs.Rows.{IsDefault, AreCountedFrom, records_left};
 ghost use Rattle.dvs_base.specs.Checks.{IsUnlessMemory};
 ghost use Rattle.task_model.specs.Tasks.{task_at};
 ghost use Rattle.edf_demand.specs.Deadlines.{AreFor};
@@ -78,7 +78,7 @@ fn read_rows(
     tasks: &TaskSet,
     mut given: Vec<Option<u64>>,
 ) -> Result<Vec<Option<u64>>, DeadlineFault>
-    requires plain { IsPlain reader.old }
+    requires default_reader { IsDefault reader.old }
     requires few { AreCountedFrom 1 reader.old }
     requires given { AreGiven tasks.now given.items }
     ensures rows { IsUnlessMemory DeadlineFault.NoMemory (λ v. v.items) result

@@ -12,7 +12,7 @@ use Rattle.sched_model.specs.Admission.{IsWithinLimits}
 use Rattle.sched_model.proofs.Limits.{every_period, some_hyper, period_divides}
 use Rattle.edf_demand_laws.specs.Constrained.{IsConstrained, absolute}
 use Rattle.edf_demand_laws.specs.ProcessorDemand.{jobs_due, work_due, processor_demand, IsDeadline, IsConstrainedDemand}
-use Rattle.edf_demand_laws.proofs.Counting.{jobs_due-above, jobs_due-below, jobs_due-most}
+use Rattle.edf_demand_laws.proofs.JobsDue.{jobs_due-above, jobs_due-below, jobs_due-most}
 
 -- the absolute deadline of job q + 1 is its task's relative deadline and q periods
 pub absolute-suc : (p : Plan) (relative : ℕ → ℕ) (i q : ℕ) → offset p i ≡ 0

@@ -15,7 +15,7 @@ use Rattle.sched_model.proofs.Schedules.{exec-drop, exec-within, at-now, at-befo
 use Rattle.sched_model.proofs.LevelSums.{share-most, sum_where-plus, sum_where-mono, sum_where-all, sum_where-term}
 use Rattle.edf_demand_laws.specs.Constrained.{IsConstrained, absolute, key_at, IsScheduleAt, IsMetBy, IsNextAt}
 use Rattle.edf_demand_laws.specs.ProcessorDemand.{jobs_due, work_due, processor_demand}
-use Rattle.edf_demand_laws.proofs.Counting.{jobs_due-below, jobs_due-above}
+use Rattle.edf_demand_laws.proofs.JobsDue.{jobs_due-below, jobs_due-above}
 use Rattle.edf_demand_laws.proofs.AllSpans.{absolute-suc}
 
 -- the units that task i got in all ticks

@@ -1,6 +1,6 @@
-pub mod Counting
+pub mod JobsDue
 pub mod AllSpans
 pub mod Enough
-pub mod Existing
-pub mod Deciding
+pub mod ConstrainedSchedules
+pub mod DemandDecides
 mod Examples

@@ -9,7 +9,7 @@ use Rattle.dvs_base.specs.declared.note.Note.{Note}
 use Rattle.dvs_base.specs.declared.note.Note.TheVariants.{Release, Speed, Run, Idle, Done, End}
 use Rattle.grid_fraction.specs.Numbers.{list_below}
 use Rattle.grid_fraction.proofs.Counts.{count-append, one-or-none}
-use Rattle.sched_model.specs.Notes.{energy_run, energy_idle}
+use Rattle.sched_model.specs.Notes.{run_energy_told, idle_energy_told}
 use Rattle.sched_model.specs.Totals.{is_released, is_finished, is_decided}
 use Rattle.sched_model.proofs.Schedules.{length-list_below}
 use Rattle.sched_model.proofs.Tables.{get-table, set-table, table-same}
@@ -61,8 +61,8 @@ module _ (tasks points : ℕ) (told : List Told) (note : Note) (e : ℕ) where
 
   -- what the note adds to each sum and to each table
   pub record Adds (run idle released finished decisions : ℕ) (by_task by_point : List ℕ) : Type 0 where
-    pub run_is : run ≡ sum_by energy_run notes + energy_run note
-    pub idle_is : idle ≡ sum_by energy_idle notes + energy_idle note
+    pub run_is : run ≡ sum_by run_energy_told notes + run_energy_told note
+    pub idle_is : idle ≡ sum_by idle_energy_told notes + idle_energy_told note
     pub released_is : released ≡ count_by is_released notes + (if is_released note then 1 else 0)
     pub finished_is : finished ≡ count_by is_finished notes + (if is_finished note then 1 else 0)
     pub decisions_is : decisions ≡ count_by is_decided notes + (if is_decided note then 1 else 0)
@@ -73,8 +73,8 @@ module _ (tasks points : ℕ) (told : List Told) (note : Note) (e : ℕ) where
       → books_by run idle released finished decisions by_task by_point ≡ books_of tasks points more
   books-more run idle released finished decisions by_task by_point a = λ i. record {
     totals = record {
-      run = (a.run_is ∙ sym (sum-more energy_run)) i;
-      idle = (a.idle_is ∙ sym (sum-more energy_idle)) i;
+      run = (a.run_is ∙ sym (sum-more run_energy_told)) i;
+      idle = (a.idle_is ∙ sym (sum-more idle_energy_told)) i;
       released = (a.released_is ∙ sym (count-more is_released)) i;
       finished = (a.finished_is ∙ sym (count-more is_finished)) i;
       decisions = (a.decisions_is ∙ sym (count-more is_decided)) i;
@@ -94,20 +94,20 @@ added-table n i more f lt =
 
 -- the energy of a note is added to the sum of its entry
 point-table : (points e : ℕ) (note : Note) (told : List Told) → e < points
-    → raised (list_below points (λ k. sum_by (energy_at_point k) told)) e (energy_run note + energy_idle note)
+    → raised (list_below points (λ k. sum_by (energy_at_point k) told)) e (run_energy_told note + idle_energy_told note)
     ≡ list_below points (λ k. sum_by (energy_at_point k) told + energy_at_point k (note, e))
-point-table points e note told lt = added-table points e (energy_run note + energy_idle note) (λ k. sum_by (energy_at_point k) told) lt
+point-table points e note told lt = added-table points e (run_energy_told note + idle_energy_told note) (λ k. sum_by (energy_at_point k) told) lt
 
-none-at-point : (k e : ℕ) (note : Note) → energy_run note + energy_idle note ≡ 0 → energy_at_point k (note, e) ≡ 0
+none-at-point : (k e : ℕ) (note : Note) → run_energy_told note + idle_energy_told note ≡ 0 → energy_at_point k (note, e) ≡ 0
 none-at-point k e note none = grind (arith, nat_tests, none)
 
 -- a note without energy adds to no table
-books-still : (tasks points : ℕ) (told : List Told) (note : Note) (e released finished decisions : ℕ) → energy_run note ≡ 0 → energy_idle note ≡ 0
+books-still : (tasks points : ℕ) (told : List Told) (note : Note) (e released finished decisions : ℕ) → run_energy_told note ≡ 0 → idle_energy_told note ≡ 0
     → ((i : ℕ) → energy_of_task i note ≡ 0)
     → released ≡ count_by is_released (noted told) + (if is_released note then 1 else 0)
     → finished ≡ count_by is_finished (noted told) + (if is_finished note then 1 else 0)
     → decisions ≡ count_by is_decided (noted told) + (if is_decided note then 1 else 0)
-    → books_by (sum_by energy_run (noted told)) (sum_by energy_idle (noted told)) released finished decisions
+    → books_by (sum_by run_energy_told (noted told)) (sum_by idle_energy_told (noted told)) released finished decisions
     (list_below tasks (task_sum tasks points told note e)) (list_below points (point_sum tasks points told note e))
     ≡ books_of tasks points (told ++ (note, e) ∷ [])
 books-still tasks points told note e released finished decisions run idle task r f d =
@@ -181,35 +181,35 @@ booked-points b (Idle from to units energy) e = length-set b.by_point e (get_or 
 booked-points b _ e = refl
 
 -- the energy of a task is at most that of all running segments
-task-most : (i : ℕ) (told : List Told) → sum_by (λ (t : Told). energy_of_task i t.0) told ≤ sum_by energy_run (noted told)
+task-most : (i : ℕ) (told : List Told) → sum_by (λ (t : Told). energy_of_task i t.0) told ≤ sum_by run_energy_told (noted told)
 task-most i [] = omega arith
 task-most i (t ∷ told) =
     omega (
       arith,
       sum_by-cons (λ (t : Told). energy_of_task i t.0) t told,
-      sum_by-cons energy_run t.0 (noted told),
+      sum_by-cons run_energy_told t.0 (noted told),
       task-most i told,
       one t.0,
     )
   where
-    one : (n : Note) → energy_of_task i n ≤ energy_run n
+    one : (n : Note) → energy_of_task i n ≤ run_energy_told n
     one (Run from to j k units energy) = grind (arith, nat_tests)
     one _ = omega arith
 
 -- the energy at an entry is at most that of all segments
-point-most : (e : ℕ) (told : List Told) → sum_by (energy_at_point e) told ≤ sum_by energy_run (noted told) + sum_by energy_idle (noted told)
+point-most : (e : ℕ) (told : List Told) → sum_by (energy_at_point e) told ≤ sum_by run_energy_told (noted told) + sum_by idle_energy_told (noted told)
 point-most e [] = omega arith
 point-most e (t ∷ told) =
     omega (
       arith,
       sum_by-cons (energy_at_point e) t told,
-      sum_by-cons energy_run t.0 (noted told),
-      sum_by-cons energy_idle t.0 (noted told),
+      sum_by-cons run_energy_told t.0 (noted told),
+      sum_by-cons idle_energy_told t.0 (noted told),
       point-most e told,
       one (nat_eq t.1 e),
     )
   where
-    one : (b : Bool) → (if b then energy_run t.0 + energy_idle t.0 else 0) ≤ energy_run t.0 + energy_idle t.0
+    one : (b : Bool) → (if b then run_energy_told t.0 + idle_energy_told t.0 else 0) ≤ run_energy_told t.0 + idle_energy_told t.0
     one true = omega arith
     one false = omega arith
 
@@ -220,21 +220,21 @@ count-most test (t ∷ told) = omega (arith, count-append test (t.0 ∷ []) (not
 
 -- there is room for a note where the sum of all energies and the number of notes are low
 pub has-room : (tasks points : ℕ) (told : List Told) (note : Note) (e : ℕ) → HasTask (books_of tasks points told) note → e < points
-    → length told + 1 < 2 ^ 64 → sum_by energy_run (noted told) + sum_by energy_idle (noted told) + (energy_run note + energy_idle note) < 2 ^ 128
+    → length told + 1 < 2 ^ 64 → sum_by run_energy_told (noted told) + sum_by idle_energy_told (noted told) + (run_energy_told note + idle_energy_told note) < 2 ^ 128
     → HasRoom (books_of tasks points told) note e
 has-room tasks points told note e task lt few low = go note task low
   where
     at_task : (i : ℕ) → i < length (books_of tasks points told).by_task
-        → slice_index (books_of tasks points told).by_task i ≤ sum_by energy_run (noted told)
+        → slice_index (books_of tasks points told).by_task i ≤ sum_by run_energy_told (noted told)
     at_task i l =
         let there : i < tasks = omega (arith, l, length-list_below tasks (λ i. sum_by (λ (t : Told). energy_of_task i t.0) told)) in
         omega (arith, get-table tasks (λ i. sum_by (λ (t : Told). energy_of_task i t.0) told) i 0 there, task-most i told)
 
-    at_point : slice_index (books_of tasks points told).by_point e ≤ sum_by energy_run (noted told) + sum_by energy_idle (noted told)
+    at_point : slice_index (books_of tasks points told).by_point e ≤ sum_by run_energy_told (noted told) + sum_by idle_energy_told (noted told)
     at_point = omega (arith, get-table points (λ k. sum_by (energy_at_point k) told) e 0 lt, point-most e told)
 
     go : (n : Note) → HasTask (books_of tasks points told) n
-        → sum_by energy_run (noted told) + sum_by energy_idle (noted told) + (energy_run n + energy_idle n) < 2 ^ 128
+        → sum_by run_energy_told (noted told) + sum_by idle_energy_told (noted told) + (run_energy_told n + idle_energy_told n) < 2 ^ 128
         → HasRoom (books_of tasks points told) n e
     go (Release tick i k) own fits = omega (arith, few, count-most is_released told)
     go (Speed tick speed num den) own fits = omega (arith, few, count-most is_decided told)

@@ -6,7 +6,7 @@ use Rattle.dvs_base.specs.declared.note.Note.TheVariants.{Release, Speed, Run, I
 use Rattle.dvs_base.specs.declared.note.Totals.{Totals}
 use Rattle.dvs_base.specs.NoteTasks.{energy_of_task}
 use Rattle.grid_fraction.specs.Numbers.{list_below}
-use Rattle.sched_model.specs.Notes.{energy_run, energy_idle}
+use Rattle.sched_model.specs.Notes.{run_energy_told, idle_energy_told}
 use Rattle.sched_model.specs.Totals.{totals_of}
 
 -- what contracts see of an account: the totals, the energy of each task's segments, and of all segments at each entry
@@ -21,7 +21,7 @@ Told = Note × ℕ
 
 -- the energy that a note, told with the entry in force, adds to entry e
 abbrev pub energy_at_point : ℕ → Told → ℕ
-energy_at_point e told = if nat_eq told.1 e then energy_run told.0 + energy_idle told.0 else 0
+energy_at_point e told = if nat_eq told.1 e then run_energy_told told.0 + idle_energy_told told.0 else 0
 
 -- an account of `tasks` tasks and `points` entries after these notes: the sums over them
 abbrev pub books_of : ℕ → ℕ → List Told → Books

@@ -19,7 +19,7 @@ use Rattle.sched_model.specs.Plan.{Plan, count, point}
 use Rattle.sched_model.specs.Jobs.{JobDemands}
 use Rattle.sched_model.specs.Ticks.{PublishedDemand, Tick, share}
 use Rattle.sched_model.specs.Schedule.{IsNext, IsScheduleBy}
-use Rattle.sched_model.specs.Notes.{energy_run, energy_idle, tick_units, notes_before_end, notes_of}
+use Rattle.sched_model.specs.Notes.{run_energy_told, idle_energy_told, tick_units, notes_before_end, notes_of}
 use Rattle.sched_model.proofs.NoteSums.{none-sum, with-end, segments-next, running, idling, run-next, idle-next}
 use Rattle.sched_model.proofs.Schedules.{force-within}
 use Rattle.sched_model.proofs.Units.{units-weight, shares-fit}
@@ -52,8 +52,8 @@ module _ (p : Plan) (dem : JobDemands) (ask : PublishedDemand) (some : 1 ≤ len
   tick_cost v f w share = grind (arith, nat_tests)
 
   costs : (ticks : List Tick) → IsScheduleBy p dem ask ticks
-      → sum_by energy_run (notes ticks) + sum_by energy_idle (notes ticks) ≡ total_cost p.machine (choices_of p ticks)
-  costs [] h = omega (arith, none-sum p dem ask energy_run, none-sum p dem ask energy_idle)
+      → sum_by run_energy_told (notes ticks) + sum_by idle_energy_told (notes ticks) ≡ total_cost p.machine (choices_of p ticks)
+  costs [] h = omega (arith, none-sum p dem ask run_energy_told, none-sum p dem ask idle_energy_told)
   costs (x ∷ past) h =
       omega (
         arith,
@@ -89,7 +89,7 @@ module _ (p : Plan) (dem : JobDemands) (ask : PublishedDemand) (some : 1 ≤ len
   costs-its-ticks ticks h = record {
     choices = All-from_recursion (IsChoice p.machine) (choices_of p ticks) (choices ticks h);
     units = omega (arith, with-end p dem ask run_units ticks, units ticks h);
-    cost = omega (arith, with-end p dem ask energy_run ticks, with-end p dem ask energy_idle ticks, costs ticks h);
+    cost = omega (arith, with-end p dem ask run_energy_told ticks, with-end p dem ask idle_energy_told ticks, costs ticks h);
   }
 
 pub schedules-cost : (m : Table) → 1 ≤ length m.points → SchedulesCostTheirTicks m

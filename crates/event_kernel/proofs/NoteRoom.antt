@@ -8,7 +8,7 @@ use Rattle.sched_model.specs.Plan.{Plan}
 use Rattle.sched_model.specs.Jobs.{JobDemands}
 use Rattle.sched_model.specs.Schedule.{IsScheduleBy}
 use Rattle.sched_model.specs.Admission.{IsAdmitted}
-use Rattle.sched_model.specs.Notes.{span_notes, energy_run, energy_idle}
+use Rattle.sched_model.specs.Notes.{span_notes, run_energy_told, idle_energy_told}
 use Rattle.note_laws.proofs.FewNotes.{IsNoteIn, ticks-fit, last-fits}
 use Rattle.governor.specs.Meanings.{OwnDemand}
 use Rattle.governor.specs.Schedule.{ask_of, course}
@@ -20,7 +20,7 @@ use Rattle.event_kernel.proofs.SpanSteps.{spans-whole}
 -- the notes are of the plan's tasks, and the sums and the count over them fit into their numbers
 pub record AreBooked (p : Plan) (notes : List Note) : Type 0 where
   pub each : AllByRecursion (IsNoteIn p) notes
-  pub energy : sum_by energy_run notes + sum_by energy_idle notes < 2 ^ 120
+  pub energy : sum_by run_energy_told notes + sum_by idle_energy_told notes < 2 ^ 120
   pub few : length notes < 2 ^ 63
 
 -- the notes before tick t are of the plan's tasks and fit into an account, and those of its span fit into the buffer

@@ -8,7 +8,7 @@ use Rattle.dvs_base.specs.declared.note.Note.{Note}
 use Rattle.dvs_base.specs.declared.note.Note.TheVariants.{Release, Run, Done}
 use Rattle.grid_fraction.specs.Numbers.{list_below}
 use Rattle.sched_model.specs.Plan.{Plan, count}
-use Rattle.sched_model.specs.Notes.{energy_run, energy_idle}
+use Rattle.sched_model.specs.Notes.{run_energy_told, idle_energy_told}
 use Rattle.sched_model.specs.Totals.{totals_of}
 use Rattle.sched_model.proofs.Schedules.{length-list_below}
 use Rattle.note_laws.proofs.FewNotes.{IsNoteIn}
@@ -48,12 +48,12 @@ module _ (p : Plan) where
             (omega (
               arith,
               all.energy,
-              ap (sum_by energy_run) h.notes_are,
-              ap (sum_by energy_idle) h.notes_are,
-              sum_by-append energy_run notes (n ∷ rest),
-              sum_by-append energy_idle notes (n ∷ rest),
-              sum_by-cons energy_run n rest,
-              sum_by-cons energy_idle n rest,
+              ap (sum_by run_energy_told) h.notes_are,
+              ap (sum_by idle_energy_told) h.notes_are,
+              sum_by-append run_energy_told notes (n ∷ rest),
+              sum_by-append idle_energy_told notes (n ∷ rest),
+              sum_by-cons run_energy_told n rest,
+              sum_by-cons idle_energy_told n rest,
             ))),
       )
     where

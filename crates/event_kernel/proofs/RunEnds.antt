@@ -13,7 +13,7 @@ use Rattle.sched_model.specs.Decision.{is_decision}
 use Rattle.sched_model.specs.Ticks.{Tick}
 use Rattle.governor.specs.Meanings.{OwnDemand}
 use Rattle.governor.specs.Schedule.{course}
-use Rattle.sched_model.specs.Notes.{notes_before_end, energy_run, energy_idle}
+use Rattle.sched_model.specs.Notes.{notes_before_end, run_energy_told, idle_energy_told}
 use Rattle.sched_model.specs.States.{prior_state, StateOf}
 use Rattle.sched_model.specs.Totals.{totals_of, is_released, is_finished, is_decided}
 use Rattle.energy.specs.Books.{Books}
@@ -106,8 +106,8 @@ module _ (demand : OwnDemand) (r : Run) where
 
   totals-end : (ticks run idle : ℕ) → totals_of before ≡ totals_of (before ++ End ticks run idle ∷ [])
   totals-end ticks run idle j = record {
-    run = sum-end energy_run (End ticks run idle) refl j;
-    idle = sum-end energy_idle (End ticks run idle) refl j;
+    run = sum-end run_energy_told (End ticks run idle) refl j;
+    idle = sum-end idle_energy_told (End ticks run idle) refl j;
     released = count-end is_released (End ticks run idle) refl j;
     finished = count-end is_finished (End ticks run idle) refl j;
     decisions = count-end is_decided (End ticks run idle) refl j;

@@ -20,11 +20,11 @@ use Rattle.probes.specs.Tallies.{ProbeOf}
 use Rattle.trace_text.specs.TraceLines.{note_text}
 use Rattle.trace_reader.specs.declared.line.Item.TheVariants.{Told}
 use Rattle.trace_reader.specs.Items.{HasTaskBelow}
-use Rattle.trace_reader.specs.TraceText.{LineOf, noted, plain, task_energy, share_text, shares_from, for_tasks, has_task_lines, head_lines, lines_of_note, note_lines, text_of_lines}
+use Rattle.trace_reader.specs.TraceText.{LineOf, noted, unnoted, task_energy, share_text, shares_from, for_tasks, has_task_lines, head_lines, lines_of_note, note_lines, text_of_lines}
 use Rattle.note_laws.specs.RunText.{task_texts}
 use Rattle.trace_reader.specs.Traces.{TraceOf, text_of, IsNoteOf, HasShares}
 use Rattle.event_kernel.specs.Lines.{WroteLines, StoppedIn}
-use Rattle.event_kernel.specs.PlainLines.{sum_lines, sums_before, lines_with}
+use Rattle.event_kernel.specs.UnnotedLines.{sum_lines, sums_before, lines_with}
 use Rattle.event_kernel.proofs.Wholes.{shares-below}
 use Rattle.event_kernel.proofs.WrittenLines.{text-append, stopped-some}
 
@@ -111,7 +111,7 @@ sums-are One p energies notes same = refl
 sums-are Two p energies notes same =
     let ns = names p in
     let long : length ns ≡ count p = length-map p.tasks (λ (t : Task). t.name) in
-    ap (map plain)
+    ap (map unnoted)
     (ap (λ n. list_below n (λ i. share_text (name_of ns i) (slice_index energies i))) (sym long)
     ∙ shares-below notes ns 0 (λ i. slice_index energies i)
     (λ k m e lt. same refl k (omega (arith, lt, long)) ∙ ap (task_energy notes) (omega (arith, e))))

@@ -20,17 +20,17 @@ use Rattle.sched_model.specs.Plan.{Plan, count, names, task, period, offset}
 use Rattle.sched_model.specs.Jobs.{released_jobs}
 use Rattle.sched_model.specs.Admission.{IsAdmitted}
 use Rattle.sched_model.specs.Totals.{totals_of}
-use Rattle.sched_model.specs.Notes.{energy_run, energy_idle}
+use Rattle.sched_model.specs.Notes.{run_energy_told, idle_energy_told}
 use Rattle.sched_model.proofs.Tables.{get-table, length-list_below}
 use Rattle.governor.specs.Meanings.{OwnDemand}
 use Rattle.governor.specs.Schedule.{ask_of}
 use Rattle.note_laws.specs.LineCounts.{AreFew}
 use Rattle.note_laws.specs.RunText.{task_texts, run_lines}
 use Rattle.note_laws.proofs.FewNotes.{has-few-notes, IsNoteIn}
-use Rattle.trace_reader.specs.TraceText.{LineOf, plain, noted, task_energy, task_text, share_text, shares_from, for_tasks, head_lines, lines_of_note, note_lines, text_of_lines}
+use Rattle.trace_reader.specs.TraceText.{LineOf, unnoted, noted, task_energy, task_text, share_text, shares_from, for_tasks, head_lines, lines_of_note, note_lines, text_of_lines}
 use Rattle.probes.specs.Tallies.{ProbeOf}
 use Rattle.event_kernel.specs.Lines.{most_lines, WritesLines}
-use Rattle.event_kernel.specs.PlainLines.{sum_lines}
+use Rattle.event_kernel.specs.UnnotedLines.{sum_lines}
 use Rattle.event_kernel.specs.Runs.{Run as RunOf, demands_of, run_ticks, notes_of_run}
 use Rattle.event_kernel.specs.SpanNotes.{notes_before_end_of}
 use Rattle.event_kernel.proofs.NoteRoom.{course-fits}
@@ -92,8 +92,8 @@ few-lines Two p energies notes ticks few =
       each (λ i. share_text (name_of (names p) i) (slice_index energies i)),
     )
   where
-    each : (f : ℕ → List ℕ) → length (map plain (list_below (count p) f)) ≡ count p
-    each f = length-map (list_below (count p) f) plain ∙ length-list_below (count p) f
+    each : (f : ℕ → List ℕ) → length (map unnoted (list_below (count p) f)) ≡ count p
+    each f = length-map (list_below (count p) f) unnoted ∙ length-list_below (count p) f
 
 module _ (demand : OwnDemand) (r : RunOf) (v : Version) where
   abbrev before : List Note
@@ -103,7 +103,7 @@ module _ (demand : OwnDemand) (r : RunOf) (v : Version) where
   energies = list_below (count r.plan) (task_energy before)
 
   abbrev end : Note
-  end = End (length (run_ticks demand r)) (sum_by energy_run before) (sum_by energy_idle before)
+  end = End (length (run_ticks demand r)) (sum_by run_energy_told before) (sum_by idle_energy_told before)
 
   -- the energies of the tasks over the notes before the `End` are those over all notes
   same-sums : sum_lines v r.plan energies ≡ for_tasks v (shares_from (notes_of_run demand r) 0 (names r.plan))

@@ -11,7 +11,7 @@ use Rattle.dvs_base.specs.declared.note.Note.{Note}
 use Rattle.dvs_base.specs.Outside.{SinkView}
 use Rattle.dvs_base.proofs.TextPuts.{wrote-none, wrote-then, wrote-then-some, wrote-some-more}
 use Rattle.probes.specs.Tallies.{ProbeOf, told_all, told_notes}
-use Rattle.trace_reader.specs.TraceText.{LineOf, plain, has_task_lines, for_tasks, text_of_lines, notes_of_lines}
+use Rattle.trace_reader.specs.TraceText.{LineOf, unnoted, has_task_lines, for_tasks, text_of_lines, notes_of_lines}
 use Rattle.event_kernel.specs.Lines.{WroteLines, StoppedIn, WritesLines}
 use Rattle.dvs_base.specs.WritesText.{Wrote, WroteSome}
 
@@ -111,44 +111,44 @@ one-line-part a b ps l w = record {
 }
 
 -- a line of no note that was put, by its text
-pub plain-line : (a b : SinkView) (ps : List ProbeOf) (line text : List ℕ) → line ≡ text → Wrote a b line → WroteLines a b ps ps (plain text ∷ [])
-plain-line a b ps line text is w = one-line a b ps ps (plain text) (subst (λ (t : List ℕ). Wrote a b t) is w) refl
+pub unnoted-line : (a b : SinkView) (ps : List ProbeOf) (line text : List ℕ) → line ≡ text → Wrote a b line → WroteLines a b ps ps (unnoted text ∷ [])
+unnoted-line a b ps line text is w = one-line a b ps ps (unnoted text) (subst (λ (t : List ℕ). Wrote a b t) is w) refl
 
-pub plain-part : (a b : SinkView) (ps : List ProbeOf) (line text : List ℕ) → line ≡ text → WroteSome a b line → StoppedIn a b ps ps (plain text ∷ [])
-plain-part a b ps line text is w = one-line-part a b ps (plain text) (subst (λ (t : List ℕ). WroteSome a b t) is w)
+pub unnoted-part : (a b : SinkView) (ps : List ProbeOf) (line text : List ℕ) → line ≡ text → WroteSome a b line → StoppedIn a b ps ps (unnoted text ∷ [])
+unnoted-part a b ps line text is w = one-line-part a b ps (unnoted text) (subst (λ (t : List ℕ). WroteSome a b t) is w)
 
 -- the lines for the tasks, where a version has them
-pub task-lines : (v : Version) {has : Bool} (texts : List (List ℕ)) → has ≡ has_task_lines v → has ≡ true → map plain texts ≡ for_tasks v texts
-task-lines v texts is holds = ap (λ (b : Bool). if b then map plain texts else []) (sym holds ∙ is)
+pub task-lines : (v : Version) {has : Bool} (texts : List (List ℕ)) → has ≡ has_task_lines v → has ≡ true → map unnoted texts ≡ for_tasks v texts
+task-lines v texts is holds = ap (λ (b : Bool). if b then map unnoted texts else []) (sym holds ∙ is)
 
 -- one more line of texts that are a function of their number
 pub below-next : {a b c : SinkView} (ps : List ProbeOf) (f : ℕ → List ℕ) (i : ℕ) {line : List ℕ} → line ≡ f i
-    → WroteLines a b ps ps (map plain (list_below i f)) → Wrote b c line → WroteLines a c ps ps (map plain (list_below (i + 1) f))
+    → WroteLines a b ps ps (map unnoted (list_below i f)) → Wrote b c line → WroteLines a c ps ps (map unnoted (list_below (i + 1) f))
 below-next {a} {b} {c} ps f i {line} is w x =
-    all-as (sym (ap (map plain) (list_below-more i f) ∙ map-append plain (list_below i f) (f i ∷ [])))
-    (lines-then a b c ps ps ps (map plain (list_below i f)) (plain (f i) ∷ []) w (plain-line b c ps line (f i) is x))
+    all-as (sym (ap (map unnoted) (list_below-more i f) ∙ map-append unnoted (list_below i f) (f i ∷ [])))
+    (lines-then a b c ps ps ps (map unnoted (list_below i f)) (unnoted (f i) ∷ []) w (unnoted-line b c ps line (f i) is x))
 
 below-stop : (a b : SinkView) (ps : List ProbeOf) (f : ℕ → List ℕ) (i n : ℕ) → i < n
-    → StoppedIn a b ps ps (map plain (list_below i f) ++ plain (f i) ∷ []) → StoppedIn a b ps ps (map plain (list_below n f))
+    → StoppedIn a b ps ps (map unnoted (list_below i f) ++ unnoted (f i) ∷ []) → StoppedIn a b ps ps (map unnoted (list_below n f))
 below-stop a b ps f i zero lt s = absurd (omega (arith, lt))
 below-stop a b ps f i (suc n) lt s =
-    some-as (sym (map-append plain (list_below n f) (f n ∷ []))) (go (eq-or-lt_of_le (le_of_suc-le-suc lt)) (below-stop a b ps f i n))
+    some-as (sym (map-append unnoted (list_below n f) (f n ∷ []))) (go (eq-or-lt_of_le (le_of_suc-le-suc lt)) (below-stop a b ps f i n))
   where
     go : (i ≡ n) ⊎ (i < n)
-        → (i < n → StoppedIn a b ps ps (map plain (list_below i f) ++ plain (f i) ∷ []) → StoppedIn a b ps ps (map plain (list_below n f)))
-        → StoppedIn a b ps ps (map plain (list_below n f) ++ plain (f n) ∷ [])
-    go (inl e) more = subst (λ (k : ℕ). StoppedIn a b ps ps (map plain (list_below k f) ++ plain (f k) ∷ [])) e s
-    go (inr l) more = lines-some-more a b ps ps (map plain (list_below n f)) (plain (f n) ∷ []) (more l s)
+        → (i < n → StoppedIn a b ps ps (map unnoted (list_below i f) ++ unnoted (f i) ∷ []) → StoppedIn a b ps ps (map unnoted (list_below n f)))
+        → StoppedIn a b ps ps (map unnoted (list_below n f) ++ unnoted (f n) ∷ [])
+    go (inl e) more = subst (λ (k : ℕ). StoppedIn a b ps ps (map unnoted (list_below k f) ++ unnoted (f k) ∷ [])) e s
+    go (inr l) more = lines-some-more a b ps ps (map unnoted (list_below n f)) (unnoted (f n) ∷ []) (more l s)
 
 pub below-stopped : {a b c : SinkView} (ps : List ProbeOf) (f : ℕ → List ℕ) {i n : ℕ} → i < n → {line : List ℕ} → line ≡ f i
-    → WroteLines a b ps ps (map plain (list_below i f)) → WroteSome b c line → StoppedIn a c ps ps (map plain (list_below n f))
+    → WroteLines a b ps ps (map unnoted (list_below i f)) → WroteSome b c line → StoppedIn a c ps ps (map unnoted (list_below n f))
 below-stopped {a} {b} {c} ps f {i} {n} lt {line} is w x =
     below-stop a c ps f i n lt
-    (lines-then-some a b c ps ps ps (map plain (list_below i f)) (plain (f i) ∷ []) w (plain-part b c ps line (f i) is x))
+    (lines-then-some a b c ps ps ps (map unnoted (list_below i f)) (unnoted (f i) ∷ []) w (unnoted-part b c ps line (f i) is x))
 
-pub below-all : {a b : SinkView} (ps : List ProbeOf) (f : ℕ → List ℕ) {i n : ℕ} → i ≡ n → WroteLines a b ps ps (map plain (list_below i f))
-    → WroteLines a b ps ps (map plain (list_below n f))
-below-all {a} {b} ps f is w = all-as (ap (λ (n : ℕ). map plain (list_below n f)) is) w
+pub below-all : {a b : SinkView} (ps : List ProbeOf) (f : ℕ → List ℕ) {i n : ℕ} → i ≡ n → WroteLines a b ps ps (map unnoted (list_below i f))
+    → WroteLines a b ps ps (map unnoted (list_below n f))
+below-all {a} {b} ps f is w = all-as (ap (λ (n : ℕ). map unnoted (list_below n f)) is) w
 
 -- each line of a note has bytes
 pub note-some : (names : List (List ℕ)) (n : Note) → 0 < length (note_text names n)

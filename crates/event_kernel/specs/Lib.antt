@@ -4,7 +4,7 @@ pub mod Meeting
 pub mod SpanNotes
 pub mod Segment
 pub mod Lines
-pub mod PlainLines
+pub mod UnnotedLines
 pub mod Writing
 pub mod Tickwork
 pub mod Boundary

@@ -9,7 +9,7 @@ ghost use Rattle.sched_model.specs.Plan.{count, names};
 ghost use Rattle.sched_model.specs.Totals.{totals_of};
 ghost use Rattle.trace_reader.specs.TraceText.{noted, head_lines, note_lines, text_of_lines};
 ghost use Rattle.event_kernel.specs.Lines.{WritesLines, WroteLines, StoppedIn, most_lines};
-ghost use Rattle.event_kernel.specs.PlainLines.{sum_lines};
+ghost use Rattle.event_kernel.specs.UnnotedLines.{sum_lines};
 ghost use Rattle.event_kernel.specs.Runs.{notes_of_run, MeetsDeadlines, MeetsDemands};
 
 use crate::ending::ending;

@@ -5,7 +5,7 @@ ghost use Rattle.sched_model.specs.Plan.{count, names};
 ghost use Rattle.note_laws.specs.RunText.{task_texts};
 ghost use Rattle.trace_reader.specs.TraceText.{text_of_lines};
 ghost use Rattle.trace_reader.specs.Traces.{IsTrace, text_of};
-ghost use Rattle.event_kernel.specs.PlainLines.{WritesPlain, sums_before, lines_with};
+ghost use Rattle.event_kernel.specs.UnnotedLines.{WritesUnnoted, sums_before, lines_with};
 
 use crate::write::{Head, put_head, put_note, put_sums};
 use dvs_base::{Failed, Line, Note, Sink, Version};
@@ -20,7 +20,7 @@ fn put_sums_before<W: Sink>(
     out: &mut W,
 ) -> Result<(), Failed>
     requires { count head.plan.now ≤ length energies.now }
-    ensures { WritesPlain (W.shows out.old) (W.shows out.new)
+    ensures { WritesUnnoted (W.shows out.old) (W.shows out.new)
         (sums_before head.entry.version head.entry.plan.now energies.now note.now) result }
 {
     match *note {

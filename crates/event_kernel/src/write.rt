@@ -4,9 +4,9 @@ ghost use Rattle.dvs_base.specs.Parts.{name_of};
 ghost use Rattle.dvs_base.specs.WritesText.{WritesText};
 ghost use Rattle.sched_model.specs.Plan.{count, names, task, period, offset};
 ghost use Rattle.trace_text.specs.TraceLines.{note_text, plan_text};
-ghost use Rattle.trace_reader.specs.TraceText.{version_line, task_text, share_text, plain, for_tasks, head_lines};
+ghost use Rattle.trace_reader.specs.TraceText.{version_line, task_text, share_text, unnoted, for_tasks, head_lines};
 ghost use Rattle.note_laws.specs.RunText.{task_texts};
-ghost use Rattle.event_kernel.specs.PlainLines.{WritesPlain, sum_texts, sum_lines};
+ghost use Rattle.event_kernel.specs.UnnotedLines.{WritesUnnoted, sum_texts, sum_lines};
 
 use dvs_base::{Failed, GovernorKind, Line, Name, Note, Sink, Version, put_line};
 use sched_model::Admitted;
@@ -71,7 +71,7 @@ fn line_of_share(plan: &Admitted, i: u32, energy: u128) -> Line
 
 // Puts a line for each task in a version that has such lines, and nothing in another.
 fn put_task_lines<W: Sink>(version: Version, plan: &Admitted, out: &mut W) -> Result<(), Failed>
-    ensures { WritesPlain (W.shows out.old) (W.shows out.new) (for_tasks version (task_texts plan.now)) result }
+    ensures { WritesUnnoted (W.shows out.old) (W.shows out.new) (for_tasks version (task_texts plan.now)) result }
 {
     if has_task_lines(version) {
         put_tasks(plan, out)
@@ -82,7 +82,7 @@ fn put_task_lines<W: Sink>(version: Version, plan: &Admitted, out: &mut W) -> Re
 
 /// Puts the lines before the notes: the version, the plan, and those of the tasks.
 pub(crate) fn put_head<W: Sink>(head: Head<'_>, out: &mut W) -> Result<(), Failed>
-    ensures { WritesPlain (W.shows out.old) (W.shows out.new)
+    ensures { WritesUnnoted (W.shows out.old) (W.shows out.new)
         (head_lines head.entry.version head.entry.plan.now.scheduler head.entry.governor head.entry.ticks
         (task_texts head.entry.plan.now)) result }
 {
@@ -93,7 +93,7 @@ pub(crate) fn put_head<W: Sink>(head: Head<'_>, out: &mut W) -> Result<(), Faile
 
 // Puts a line for each task: its name, its period, its offset and its declared worst case.
 fn put_tasks<W: Sink>(plan: &Admitted, out: &mut W) -> Result<(), Failed>
-    ensures { WritesPlain (W.shows out.old) (W.shows out.new) (map plain (task_texts plan.now)) result }
+    ensures { WritesUnnoted (W.shows out.old) (W.shows out.new) (map unnoted (task_texts plan.now)) result }
 {
     for i in 0..plan.count() {
         put_line(&line_of_task(plan, i), out)?;
@@ -104,7 +104,7 @@ fn put_tasks<W: Sink>(plan: &Admitted, out: &mut W) -> Result<(), Failed>
 // Puts a line for each task: its name and its energy.
 fn put_shares<W: Sink>(plan: &Admitted, energies: &[u128], out: &mut W) -> Result<(), Failed>
     requires { count plan.now ≤ length energies.now }
-    ensures { WritesPlain (W.shows out.old) (W.shows out.new) (map plain (sum_texts plan.now energies.now)) result }
+    ensures { WritesUnnoted (W.shows out.old) (W.shows out.new) (map unnoted (sum_texts plan.now energies.now)) result }
 {
     for i in 0..plan.count() {
         put_line(&line_of_share(plan, i, energies[i as usize]), out)?;
@@ -119,7 +119,7 @@ pub(crate) fn put_sums<W: Sink>(
     out: &mut W,
 ) -> Result<(), Failed>
     requires { count head.plan.now ≤ length energies.now }
-    ensures { WritesPlain (W.shows out.old) (W.shows out.new)
+    ensures { WritesUnnoted (W.shows out.old) (W.shows out.new)
         (sum_lines head.entry.version head.entry.plan.now energies.now) result }
 {
     if has_task_lines(head.version) {

@@ -18,13 +18,13 @@ use Rattle.sched_model.proofs.Limits.{every_period}
 use Rattle.sched_model.proofs.Schedules.{next_tick-may, schedule_exists, schedule-none, schedule-suc, force-decided, force-within, share-legal}
 use Rattle.sched_model.proofs.JobLaws.{latest-is, release-due}
 use Rattle.sched_model.proofs.States.{row_at-prior_state, state-still}
-use Rattle.sched_model.proofs.Agreeing.{same-schedule}
+use Rattle.sched_model.proofs.AgreedDemands.{same-schedule}
 use Rattle.governor.specs.Meanings.{Serving, OwnDemand, Condition, EntryCondition}
 use Rattle.governor.specs.Steps.{after_tick, IsAtDecision, IsLegalIn, Belongs}
 use Rattle.governor.specs.Laws.{GovernorLaws, InRun}
 use Rattle.governor.specs.Schedule.{ask_of, course, Publishes, HasScheduleOf, PublishingLaws}
 use Rattle.governor.proofs.Joins.{boundary-is, tick-is, legal-is}
-use Rattle.governor.proofs.Belonging.{belongs_opening, belongs_boundary, belongs_tick, decision_boundary}
+use Rattle.governor.proofs.StatesOfDemands.{belongs_opening, belongs_boundary, belongs_tick, decision_boundary}
 
 -- the past at tick r of a schedule is the schedule of r ticks
 pub at-schedule : (p : Plan) (dem : JobDemands) (ask : PublishedDemand) (t r : ℕ) → r ≤ t

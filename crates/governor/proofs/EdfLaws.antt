@@ -20,7 +20,7 @@ use Rattle.sched_model.specs.States.{StateOf, row_at, row_wleft, opening, openin
 use Rattle.sched_model.proofs.Limits.{some_task, some_hyper, period_divides}
 use Rattle.sched_model.proofs.LevelSums.{sum_where-plus, sum_where-times, sum_where-term, sum_where-zero, sum_where-all, sum_below-times}
 use Rattle.governor.specs.Steps.{boundary_row, opened_row, after_boundary, wleft_at, IsLegalIn, after_tick, IsBeforeAll, Belongs}
-use Rattle.governor.proofs.Belonging.{wleft-most, earliest-from, opening_at, boundary_row-by, boundary_at, tick_at}
+use Rattle.governor.proofs.StatesOfDemands.{wleft-most, earliest-from, opening_at, boundary_row-by, boundary_at, tick_at}
 use Rattle.governor.proofs.Ticks.{tick_set, demand_most}
 use Rattle.governor.specs.Edf.{due_by, load, EdfCalm, EdfSafe}
 

@@ -1,4 +1,4 @@
-pub mod Belonging
+pub mod StatesOfDemands
 pub mod Ticks
 pub mod Joins
 pub mod Course

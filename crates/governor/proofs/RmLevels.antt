@@ -17,7 +17,7 @@ use Rattle.sched_model.proofs.JobLaws.{due-suc, release-suc, release-due, latest
 use Rattle.sched_model.proofs.Limits.{some_period}
 use Rattle.sched_model.proofs.LevelSums.{sum_where-mono, sum_where-plus, sum_where-term, up_to-self, up_to-trans, sum_up_to-where}
 use Rattle.governor.specs.Steps.{opened_row, after_boundary, wleft_at, release_of, IsLegalIn, after_tick, IsBeforeAll, Belongs}
-use Rattle.governor.proofs.Belonging.{done_none, wleft-most, unborn_done, opening_at, opened_release, boundary-by, tick_at, belongs_tick}
+use Rattle.governor.proofs.StatesOfDemands.{done_none, wleft-most, unborn_done, opening_at, opened_release, boundary-by, tick_at, belongs_tick}
 use Rattle.governor.proofs.Ticks.{tick_set, demand_most}
 use Rattle.governor.specs.Worst.{level_work_in}
 use Rattle.governor.specs.Rm.{level, released_since, asked_since, LevelCalm}

@@ -10,7 +10,7 @@ use Rattle.sched_model.specs.States.{StateOf, row_at, key_in}
 use Rattle.sched_model.proofs.Allotments.{down-set-gets}
 use Rattle.sched_model.proofs.LevelSums.{sum_where-mono, sum_where-plus, sum_where-tight}
 use Rattle.governor.specs.Steps.{wleft_at, share_in, left_in, IsLegalIn, after_tick, Belongs}
-use Rattle.governor.proofs.Belonging.{tick_at, legal_most}
+use Rattle.governor.proofs.StatesOfDemands.{tick_at, legal_most}
 
 falls_by : (b : Bool) (used worst sh : ℕ) → used + sh ≤ worst → (if b then 0 else worst - (used + sh)) + sh ≤ worst - used
 falls_by true used worst sh fits = omega arith

@@ -1,3 +1,3 @@
-pub mod Keeping
-pub mod Moving
-pub mod Walking
+pub mod AheadCounters
+pub mod MovedTask
+pub mod WalkLoop

@@ -9,7 +9,7 @@ ghost use Rattle.look_ahead_laws.specs.Ahead.{ahead_demand, AheadCalm, AheadSafe
 ghost use Rattle.look_ahead_laws.specs.Whole.{HasSpread, IsDemandOfSpread, RatesFit};
 ghost use Rattle.look_ahead.specs.Counters.{Keeps};
 ghost use Rattle.look_ahead_laws.proofs.AheadLaws.{ahead_laws};
-ghost use Rattle.look_ahead_laws.proofs.Publishing.{ahead_publishing};
+ghost use Rattle.look_ahead_laws.proofs.AheadPublished.{ahead_publishing};
 
 use crate::order::{move_to_place, opening_order};
 use crate::rates::rates_of;

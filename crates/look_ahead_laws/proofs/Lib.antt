@@ -1,5 +1,5 @@
-pub mod Spreading
+pub mod PutOffWork
 pub mod AheadLaws
 pub mod Whole
-pub mod Publishing
+pub mod AheadPublished
 pub mod Examples

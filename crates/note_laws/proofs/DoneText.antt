@@ -18,7 +18,7 @@ use Rattle.dvs_base.specs.declared.note.Note.{Note}
 use Rattle.sched_model.specs.Plan.{Plan, count, names, task, period, offset}
 use Rattle.sched_model.proofs.Tables.{each-below}
 use Rattle.trace_text.specs.TraceLines.{lines_of, line, done_fields, fields_of, note_text}
-use Rattle.trace_text.proofs.PlainLines.{ArePlain, each-append, plain-name, some-name}
+use Rattle.trace_text.proofs.Unspaced.{AreUnspaced, each-append, unspaced-name, some-name}
 use Rattle.trace_reader.specs.TraceText.{head_lines, text_of_lines, shares_from, version_line, LineOf, noted, lines_of_note}
 use Rattle.trace_reader.proofs.WholeText.{each-for, each-share, each-noted}
 use Rattle.trace_reader.proofs.SplitLines.{IsLine, lines-text, task-fields, each-line}
@@ -48,7 +48,7 @@ abbrev pub IsQuiet : List ℕ → Type 0
 IsQuiet l = nat_eq (get_or l 0 0) 100 ≡ false
 
 -- the text of a run is split into the lines that it was made of
-pub lines-run : (p : Plan) → ((i : ℕ) → ArePlain (name_of (names p) i)) → (v : Version) (g : GovernorKind) (ticks : ℕ) (notes : List Note)
+pub lines-run : (p : Plan) → ((i : ℕ) → AreUnspaced (name_of (names p) i)) → (v : Version) (g : GovernorKind) (ticks : ℕ) (notes : List Note)
     → lines_of (text_of_lines (run_lines v p g ticks notes)) ≡ map (λ l. l.text) (run_lines v p g ticks notes)
 lines-run p named v g ticks notes =
     lines-text (run_lines v p g ticks notes)
@@ -80,7 +80,7 @@ none-done : (name : List ℕ) (k : ℕ) (ls : List LineOf) → AllByRecursion (�
 none-done name k ls h = All-map (IsOther name k) (λ (l : LineOf). l.text) ls (All-from_recursion (λ (l : LineOf). IsOther name k l.text) ls h)
 
 -- a note of another kind, or of another job, doesn't have the line of this job's completion
-silent : (ns : List (List ℕ)) → ((i : ℕ) → ArePlain (name_of ns i)) → (i k : ℕ) → ((j : ℕ) → name_of ns j ≡ name_of ns i → j ≡ i) → k < 2 ^ 64
+silent : (ns : List (List ℕ)) → ((i : ℕ) → AreUnspaced (name_of ns i)) → (i k : ℕ) → ((j : ℕ) → name_of ns j ≡ name_of ns i → j ≡ i) → k < 2 ^ 64
     → (n : Note) → tells_done i k n ≡ false → ((l : ℕ) → tells_done i l n ≡ true → l < 2 ^ 64)
     → IsOther (name_of ns i) k (note_text ns n)
 silent ns named i k apart low n off small at_end d = go n off small (d.0, sym (note-fields ns n) ∙ d.1)
@@ -101,7 +101,7 @@ silent ns named i k apart low n off small at_end d = go n off small (d.0, sym (n
     go n off small d = other-line (name_of ns i) k (line (fields_of ns n)) refl at_end d
 
 -- where no note of some is the job's completion, no line of theirs is
-silent-lines : (v : Version) (ns : List (List ℕ)) → ((i : ℕ) → ArePlain (name_of ns i)) → (i k : ℕ)
+silent-lines : (v : Version) (ns : List (List ℕ)) → ((i : ℕ) → AreUnspaced (name_of ns i)) → (i k : ℕ)
     → ((j : ℕ) → name_of ns j ≡ name_of ns i → j ≡ i) → k < 2 ^ 64
     → (all notes : List Note) → AllByRecursion (λ n. tells_done i k n ≡ false) notes
     → AllByRecursion (λ n. (l : ℕ) → tells_done i l n ≡ true → l < 2 ^ 64) notes
@@ -144,8 +144,8 @@ module _ (p : Plan) (dem : JobDemands) (ask : PublishedDemand) (lim : IsWithinLi
   name-out : (i : ℕ) → count p ≤ i → name_of (names p) i ≡ []
   name-out i le = get_or-eq_default (names p) [] (omega (arith, length-map p.tasks (λ (t : Task). t.name), le))
 
-  named : (i : ℕ) → ArePlain (name_of (names p) i)
-  named i = grind (arith, nat_tests, cases_lt, name-in, plain-name, name-out)
+  named : (i : ℕ) → AreUnspaced (name_of (names p) i)
+  named i = grind (arith, nat_tests, cases_lt, name-in, unspaced-name, name-out)
 
   -- two tasks of the plan don't have one name
   apart : (i : ℕ) → i < count p → (j : ℕ) → name_of (names p) j ≡ name_of (names p) i → j ≡ i

@@ -16,7 +16,7 @@ use Rattle.sched_model.specs.Ticks.{PublishedDemand, Tick, share, exec}
 use Rattle.sched_model.specs.Decision.{completes_in}
 use Rattle.sched_model.specs.Schedule.{IsScheduleBy}
 use Rattle.sched_model.specs.Admission.{IsWithinLimits}
-use Rattle.sched_model.specs.Notes.{Span, spans_of, pieces_of, all_release_notes, pieces_notes, span_notes, energy_run, energy_idle, most_unit_energy, notes_before_end, notes_of}
+use Rattle.sched_model.specs.Notes.{Span, spans_of, pieces_of, all_release_notes, pieces_notes, span_notes, run_energy_told, idle_energy_told, most_unit_energy, notes_before_end, notes_of}
 use Rattle.sched_model.proofs.Limits.{energy-most, every_period}
 use Rattle.sched_model.proofs.Spans.{notes-span, IsLastSpan, IsNow, last-span, by-spans}
 use Rattle.sched_model.proofs.NoteSums.{one_if, release-counts, pieces-most, none-sum, running, idling, run-next, idle-next, releases, completions, span-sum, none-weighs, reached-up, done_by, tells-all, all_done-next}
@@ -74,9 +74,9 @@ module _ (p : Plan) (lim : IsWithinLimits p) (dem : JobDemands) (needless : (i :
   each-in s t = grind (arith, nat_tests)
 
   low-energy : (ticks : List Tick) → IsScheduleBy p dem ask ticks
-      → sum_by energy_run (notes_before_end p dem ask ticks) + sum_by energy_idle (notes_before_end p dem ask ticks)
+      → sum_by run_energy_told (notes_before_end p dem ask ticks) + sum_by idle_energy_told (notes_before_end p dem ask ticks)
       ≤ most_unit_energy * (TOP_SPEED * length ticks)
-  low-energy [] h = omega (arith, none-sum p dem ask energy_run, none-sum p dem ask energy_idle)
+  low-energy [] h = omega (arith, none-sum p dem ask run_energy_told, none-sum p dem ask idle_energy_told)
   low-energy (x ∷ past) h =
       let (s, l) = last-span p dem ask x past h in
       let entry : x.entry < length p.machine.points = subst (λ e. e < length p.machine.points) l.force (l.entry lim) in
@@ -120,7 +120,7 @@ module _ (p : Plan) (lim : IsWithinLimits p) (dem : JobDemands) (needless : (i :
   pub record AllFit (ticks : List Tick) : Type 0 where
     pub each : AllByRecursion (IsNoteIn p) (notes_before_end p dem ask ticks)
     pub few : length (notes_before_end p dem ask ticks) ≤ span_most * length ticks
-    pub low : sum_by energy_run (notes_before_end p dem ask ticks) + sum_by energy_idle (notes_before_end p dem ask ticks)
+    pub low : sum_by run_energy_told (notes_before_end p dem ask ticks) + sum_by idle_energy_told (notes_before_end p dem ask ticks)
         ≤ most_unit_energy * (TOP_SPEED * length ticks)
 
   pub ticks-fit : (ticks : List Tick) → IsScheduleBy p dem ask ticks → AllFit ticks
@@ -256,7 +256,7 @@ module _ (p : Plan) (dem : JobDemands) (ask : PublishedDemand) (lim : IsWithinLi
   few-notes : (ticks : List Tick) → IsScheduleBy p dem ask ticks
       → length (notes_of p dem ask ticks) ≤ 7 * released_jobs p (length ticks) + 3
   few-notes ticks h =
-      let last : Note = End (length ticks) (sum_by energy_run (notes ticks)) (sum_by energy_idle (notes ticks)) in
+      let last : Note = End (length ticks) (sum_by run_energy_told (notes ticks)) (sum_by idle_energy_told (notes ticks)) in
       let few : AreFew (totals_of (notes_of p dem ask ticks)) = has-few p lim dem needless ask ticks h in
       omega (
         arith,

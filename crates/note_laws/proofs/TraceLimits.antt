@@ -36,7 +36,7 @@ use Rattle.sched_model.proofs.StaticShare.{heaviest_within}
 use Rattle.dvs_base.specs.declared.note.Note.{Note}
 use Rattle.sched_model.specs.declared.holder.Holder.TheVariants.{Held}
 use Rattle.sched_model.specs.Schedule.{IsScheduleBy, schedule}
-use Rattle.sched_model.specs.Notes.{Span, position_of, energy_run, energy_idle, notes_before_end}
+use Rattle.sched_model.specs.Notes.{Span, position_of, run_energy_told, idle_energy_told, notes_before_end}
 use Rattle.trace_reader.specs.Traces.{IsPlace, IsNoteOf, lines_for_tasks, IsTrace}
 use Rattle.sched_model.proofs.Spans.{IsLastSpan, IsNow}
 use Rattle.sched_model.proofs.Walk.{at_unit, EachNote, each-note}
@@ -45,7 +45,7 @@ use Rattle.dvs_base.specs.declared.note.Note.TheVariants.{Run, End}
 use Rattle.dvs_base.specs.Parts.{name_of}
 use Rattle.task_model.specs.declared.task.Task.{Task}
 use Rattle.sched_model.proofs.Schedules.{length-list_below, schedule_exists}
-use Rattle.trace_text.proofs.PlainLines.{each-append}
+use Rattle.trace_text.proofs.Unspaced.{each-append}
 use Rattle.dvs_base.specs.NoteTasks.{energy_of_task}
 use Rattle.trace_reader.specs.TraceText.{task_text, task_energy}
 use Rattle.sched_model.proofs.Units.{each-weaker}
@@ -168,7 +168,7 @@ most_energy = 2 ^ 100
 
 -- the note's numbers fit in their types, and its energy is at most `most_energy`
 abbrev pub IsLowNote : Plan → Note → Type 0
-IsLowNote p n = IsNoteOf (count p) n × (energy_run n ≤ most_energy) × (energy_idle n ≤ most_energy)
+IsLowNote p n = IsNoteOf (count p) n × (run_energy_told n ≤ most_energy) × (idle_energy_told n ≤ most_energy)
 
 -- the numbers of a position of a run are below 2^64
 is-place : (from f q : ℕ) → from ≤ MOST_TICKS → q ≤ most_units → IsPlace (position_of from f q)
@@ -212,7 +212,7 @@ module _ (p : Plan) (lim : IsWithinLimits p) (dem : JobDemands) (within : IsWith
   notes-low ticks few h = each-note p dem ask lim (IsLowNote p) ticks (λ x past s first l. each-low x past s l (omega (arith, first.fewer, few))) h
 
 -- the energy that a note adds to one task is at most that of its run
-own-most : (i : ℕ) (n : Note) → energy_of_task i n ≤ energy_run n
+own-most : (i : ℕ) (n : Note) → energy_of_task i n ≤ run_energy_told n
 own-most i (Run from to j k units energy) = grind arith
 own-most i _ = omega arith
 
@@ -246,7 +246,7 @@ module _ (v : Version) (p : Plan) (g : GovernorKind) (dem : JobDemands) (ticks :
   notes = notes_before_end p dem (published p g dem) past
 
   abbrev last : Note
-  last = End (length past) (sum_by energy_run notes) (sum_by energy_idle notes)
+  last = End (length past) (sum_by run_energy_told notes) (sum_by idle_energy_told notes)
 
   all-low : AllByRecursion (IsLowNote p) notes
   all-low = grind (arith, nat_tests, notes-low, early, published-low, long, legal)
@@ -257,10 +257,10 @@ module _ (v : Version) (p : Plan) (g : GovernorKind) (dem : JobDemands) (ticks :
   few-before : length notes ≤ most_notes
   few-before = omega (arith, few-lines, length-append notes (last ∷ []))
 
-  run-low : sum_by energy_run notes < 2 ^ 128
+  run-low : sum_by run_energy_told notes < 2 ^ 128
   run-low = grind (arith, nat_tests, sum-low, few-before, each-weaker, all-low)
 
-  idle-low : sum_by energy_idle notes < 2 ^ 128
+  idle-low : sum_by idle_energy_told notes < 2 ^ 128
   idle-low = grind (arith, nat_tests, sum-low, few-before, each-weaker, all-low)
 
   shares-low : (i : ℕ) → task_energy (notes ++ last ∷ []) i < 2 ^ 128

@@ -1,7 +1,7 @@
 pub mod Takings
-pub mod Ending
+pub mod JobEnds
 pub mod Steps
-pub mod Belonging
+pub mod RequestJobs
 pub mod Whole
 pub mod Examples
-pub mod Running
+pub mod ServerRuns

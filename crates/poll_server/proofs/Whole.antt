@@ -17,8 +17,8 @@ use Rattle.poll_server.specs.Outcomes.{done_at, IsOutcome, ServedOf}
 use Rattle.poll_server.specs.Bound.{latest_job, latest_end, IsServedBy, KeepsBound, jobs_before, HaveJobs}
 use Rattle.poll_server.specs.Polled.{IsPolled, polled_notes}
 use Rattle.poll_server.specs.EachOutcome.{job_of, outcome_by, outcome_of, served_by, outcomes_of, served_of}
-use Rattle.poll_server.proofs.Belonging.{belongs, one-job, job-some, job-most, have-jobs}
-use Rattle.poll_server.proofs.Ending.{IsEndBy, ends-never, ends-in-time, HearsAll, hears-all, none-told}
+use Rattle.poll_server.proofs.RequestJobs.{belongs, one-job, job-some, job-most, have-jobs}
+use Rattle.poll_server.proofs.JobEnds.{IsEndBy, ends-never, ends-in-time, HearsAll, hears-all, none-told}
 use Rattle.std.specs.Option.{option_or}
 use Rattle.std.proofs.lemmas.List.{length-replicate}
 use Rattle.dvs_base.specs.declared.note.Totals.{Totals}
@@ -39,7 +39,7 @@ use Rattle.poll_server.specs.declared.ends.Ends.{Ends}
 use Rattle.poll_server.specs.declared.served.Outcome.{Outcome}
 use Rattle.poll_server.specs.Walking.{IsServable, AreTaken, AreEnds, Hears, end_at}
 use Rattle.poll_server.proofs.Takings.{before-released}
-use Rattle.poll_server.proofs.Running.{same-notes}
+use Rattle.poll_server.proofs.ServerRuns.{same-notes}
 use Rattle.poll_server.proofs.Steps.{some-budget, some-period}
 
 -- a later job is due no earlier

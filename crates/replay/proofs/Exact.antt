@@ -22,8 +22,8 @@ use Rattle.replay.specs.Comparing.{same_note, line_of, first_unequal, FirstUnequ
 use Rattle.replay.specs.Replays.{first_over, too_many, unless, own_notes, replay_of, IsCause, IsReplayed, IsFirstDifference}
 use Rattle.replay.specs.declared.fault.ReplayFault.{ReplayFault}
 use Rattle.replay.specs.declared.fault.ReplayFault.TheVariants as fault
-use Rattle.replay.proofs.Comparing.{same-self, compared-same}
-use Rattle.replay.proofs.Fixing.{over-fit, fit-over}
+use Rattle.replay.proofs.ComparedNotes.{same-self, compared-same}
+use Rattle.replay.proofs.FixedByNotes.{over-fit, fit-over}
 
 -- notes that are equal by `same_note` are equal
 pub same-is : (m n : Note) → same_note m n ≡ true → m ≡ n

@@ -1,6 +1,6 @@
-pub mod Fixing
+pub mod FixedByNotes
 pub mod Exact
 pub mod Texts
 pub mod SameTexts
-pub mod Comparing
+pub mod ComparedNotes
 pub mod Examples

@@ -13,11 +13,11 @@ use Rattle.sched_model.specs.Jobs.{JobDemands, latest, release, demand_of, IsWit
 use Rattle.sched_model.specs.Ticks.{PublishedDemand, Tick, exec, is_done}
 use Rattle.sched_model.specs.Schedule.{IsScheduleBy, schedule_by}
 use Rattle.sched_model.specs.Admission.{IsWithinLimits}
-use Rattle.sched_model.specs.Notes.{Span, had_by, notes_before_end, notes_of, energy_run, energy_idle}
+use Rattle.sched_model.specs.Notes.{Span, had_by, notes_before_end, notes_of, run_energy_told, idle_energy_told}
 use Rattle.sched_model.proofs.NoteSums.{one_if, tells_done, same-numbers}
 use Rattle.sched_model.proofs.Spans.{IsLastSpan, IsNow}
 use Rattle.sched_model.proofs.Walk.{EachNote, AreFirst, each-note, IsBeforeEnd, notes-each}
-use Rattle.trace_text.proofs.PlainLines.{each-append}
+use Rattle.trace_text.proofs.Unspaced.{each-append}
 use Rattle.note_laws.proofs.CountLemmas.{count-next, told-once}
 use Rattle.sched_model.proofs.Schedules.{schedule_exists, schedule_unique, exec-most}
 use Rattle.demand_list.specs.Demands.{IsDemands, IsRow}

@@ -34,7 +34,7 @@ use Rattle.grid_fraction.specs.Numbers.{list_below}
 use Rattle.grid_fraction.proofs.Counts.{count-append}
 use Rattle.sched_model.specs.declared.holder.Holder.{Holder}
 use Rattle.sched_model.specs.declared.holder.Holder.TheVariants.{Nobody, Held}
-use Rattle.sched_model.specs.Notes.{same_holder, tick_units, Span, lengthened, spans_of, Piece, pieces_of, position_of, run_energy, release_notes, all_release_notes, had_by, segment_notes, pieces_notes, span_notes, energy_run, energy_idle, notes_before_end, notes_of}
+use Rattle.sched_model.specs.Notes.{same_holder, tick_units, Span, lengthened, spans_of, Piece, pieces_of, position_of, run_energy, release_notes, all_release_notes, had_by, segment_notes, pieces_notes, span_notes, run_energy_told, idle_energy_told, notes_before_end, notes_of}
 use Rattle.sched_model.proofs.Spans.{notes-span, IsLastSpan, IsNow, by-spans}
 use Rattle.sched_model.proofs.PieceLemmas.{each-piece}
 use Rattle.sched_model.proofs.Units.{each-weaker}
@@ -388,5 +388,5 @@ module _ (p : Plan) (lim : IsWithinLimits p) (dem other : JobDemands) where
     pub same-notes : ((i : ℕ) → dem i 0 ≡ other i 0) → (ticks : List Tick) → IsScheduleBy p dem (ask dem) ticks → Alike p dem other ticks (length ticks)
         → notes_of p dem (ask dem) ticks ≡ notes_of p other (ask other) ticks
     same-notes none ticks sched h =
-        ap (λ (notes : List Note). notes ++ End (length ticks) (sum_by energy_run notes) (sum_by energy_idle notes) ∷ [])
+        ap (λ (notes : List Note). notes ++ End (length ticks) (sum_by run_energy_told notes) (sum_by idle_energy_told notes) ∷ [])
         (same-before-end none ticks sched h)

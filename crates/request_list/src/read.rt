@@ -2,7 +2,7 @@
 ghost use Rattle.std.specs.Prelude.{List, codes, ◌≡◌, ◌≤◌, ◌<◌, [], Ok, length, ok_or, IfOk, IfErr};
 ghost use Rattle.dvs_base.specs.Widths.{u64_end};
 ghost use Rattle.csv.specs.Records.{fields_of};
-ghost use Rattle.csv_text.specs.Rows.{IsPlain, records_left, text_rows};
+ghost use Rattle.csv_text.specs.Rows.{IsDefault, records_left, text_rows};
 ghost use Rattle.dvs_base.specs.Checks.{IsUnlessMemory};
 ghost use Rattle.request_list.specs.declared.limits.TheConstants.{MOST_REQUESTS};
 ghost use Rattle.request_list.specs.declared.fault.RequestFault.TheVariants as fault;
@@ -51,7 +51,7 @@ fn request_rows<'a>(
 ) -> Result<Reader<&'a [u8]>, RequestFault>
     ensures rows { IsUnlessMemory RequestFault.NoMemory (λ reader. records_left reader) result
         (ok_or (text_rows request_header bytes.now) RequestFault.Header) }
-    ensures plain { IfOk result (λ reader. IsPlain reader) }
+    ensures default_reader { IfOk result (λ reader. IsDefault reader) }
     ensures few { IfOk result (λ reader. length (records_left reader) ≤ length bytes.now) }
 {
     let rows = rows_reader(alloc, bytes, &["arrival", "units"], fields)?;
@@ -60,7 +60,7 @@ fn request_rows<'a>(
 
 // How many rows a reader has left.
 fn count_rows(reader: &mut Reader<&[u8]>, fields: &mut ByteRecord) -> Result<u64, RequestFault>
-    requires plain { IsPlain reader.old }
+    requires default_reader { IsDefault reader.old }
     requires few { length (records_left reader.old) < u64_end }
     ensures count { IfOk result (λ n. n ≡ length (records_left reader.old)) }
     ensures err { IfErr result (λ e. e ≡ fault.NoMemory) }
@@ -78,7 +78,7 @@ fn read_rows(
     reader: &mut Reader<&[u8]>,
     fields: &mut ByteRecord,
 ) -> Result<Vec<Request>, RequestFault>
-    requires plain { IsPlain reader.old }
+    requires default_reader { IsDefault reader.old }
     requires few { length (records_left reader.old) ≤ MOST_REQUESTS }
     ensures rows { IsUnlessMemory RequestFault.NoMemory (λ v. v.items) result
         (requests_from 1 0 [] (records_left reader.old)) }

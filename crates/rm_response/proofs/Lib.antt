@@ -1,4 +1,4 @@
 pub mod FirstInOrder
-pub mod Knowing
+pub mod KnownResponses
 pub mod Examples
-pub mod Deciding
+pub mod FitDecisions

@@ -22,7 +22,7 @@ use Rattle.dvs_base.specs.declared.kind.Scheduler.TheVariants.{Rm}
 use Rattle.sched_model.proofs.JobLaws.{due-none, release-suc, latest-is, exec-early, worst_demand-pos}
 use Rattle.rm_response_laws.proofs.Ceilings.{ceil-after}
 use Rattle.rm_response_laws.specs.Responses.{IsUnserved, full_worst_ticks, is_first_done}
-use Rattle.rm_response_laws.proofs.Keeping.{full_ask, full-same}
+use Rattle.rm_response_laws.proofs.BusyStretches.{full_ask, full-same}
 
 -- where a task is first released at tick 0, its deadlines are the multiples of its period
 pub due-is : (p : Plan) (i k : ℕ) → offset p i ≡ 0 → due p i k ≡ k * period p i

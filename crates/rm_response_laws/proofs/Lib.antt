@@ -1,8 +1,8 @@
 pub mod Ceilings
-pub mod Keeping
-pub mod Searching
+pub mod BusyStretches
+pub mod ResponseSearch
 pub mod Firsts
-pub mod Responding
-pub mod Bounding
-pub mod Fitting
+pub mod ResponseMeaning
+pub mod RateBounds
+pub mod WorkFits
 mod Examples

@@ -9,7 +9,7 @@ use Rattle.sched_model.specs.Jobs.{JobDemands, demand_of, IsWithin}
 use Rattle.sched_model.specs.Notes.{notes_of}
 use Rattle.sched_model.specs.Schedule.{schedule_by}
 use Rattle.sched_model.proofs.Schedules.{schedule_exists}
-use Rattle.sched_model.proofs.Agreeing.{AgreeOnSchedules, same-schedule, same-notes}
+use Rattle.sched_model.proofs.AgreedDemands.{AgreeOnSchedules, same-schedule, same-notes}
 use Rattle.governor.specs.Meanings.{OwnDemand}
 use Rattle.governor.specs.Schedule.{ask_of, Publishes}
 use Rattle.trace_reader.specs.Traces.{TraceOf}
@@ -20,7 +20,7 @@ use Rattle.replay.specs.Comparing.{compared}
 use Rattle.replay.specs.Replays.{first_over, too_many, unless, own_notes, replay_of}
 use Rattle.replay.specs.declared.fault.ReplayFault.{ReplayFault}
 use Rattle.replay.specs.declared.fault.ReplayFault.TheVariants as replay_fault
-use Rattle.replay.proofs.Fixing.{over-fit}
+use Rattle.replay.proofs.FixedByNotes.{over-fit}
 use Rattle.rtdvs_top.specs.Trace.{replay_status, totals_at}
 use Rattle.statuses.specs.Steps.{EndsWith}
 use Rattle.statuses.specs.Refused.{or_status}

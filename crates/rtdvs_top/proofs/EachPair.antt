@@ -14,11 +14,11 @@ use Rattle.governor.specs.Schedule.{PublishingLaws}
 use Rattle.governor.proofs.OneSpeedLaws.{pairs_plain, full_laws, pairs_fixed, static_laws}
 use Rattle.governor.proofs.Worst.{plain_publishing, fixed_publishing}
 use Rattle.cc_edf_laws.proofs.CycleLaws.{cycle_laws}
-use Rattle.cc_edf_laws.proofs.Publishing.{cycle_publishing}
+use Rattle.cc_edf_laws.proofs.EdfCyclePublished.{cycle_publishing}
 use Rattle.cc_rm_laws.proofs.CcRmLaws.{cc_rm_laws}
-use Rattle.cc_rm_laws.proofs.Publishing.{cycle_publishing as rm_cycle_publishing}
+use Rattle.cc_rm_laws.proofs.RmCyclePublished.{cycle_publishing as rm_cycle_publishing}
 use Rattle.look_ahead_laws.proofs.AheadLaws.{ahead_laws}
-use Rattle.look_ahead_laws.proofs.Publishing.{ahead_publishing}
+use Rattle.look_ahead_laws.proofs.AheadPublished.{ahead_publishing}
 use Rattle.event_kernel.specs.Runs.{Run}
 use Rattle.event_kernel.proofs.MetRuns.{run-met}
 use Rattle.rtdvs_top.specs.Run.{HasMet}

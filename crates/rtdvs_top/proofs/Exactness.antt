@@ -19,7 +19,7 @@ use Rattle.replay.specs.declared.fault.ReplayFault.{ReplayFault}
 use Rattle.replay.specs.declared.fault.ReplayFault.TheVariants as replay_fault
 use Rattle.replay.proofs.Exact.{Passes, replayed-passes, some-replayed, is-replayed}
 use Rattle.rtdvs_top.specs.Trace.{replay_status, totals_at, task_line, lines_of_tasks, trace_of, trace_at, traced_of, printed, answer_of_traced, trace_answer, IsScheduleText, AreFilesOf, TellsOwn, IsMigratable, IsDoneUnless, OfTrace}
-use Rattle.rtdvs_top.proofs.Denying.{is_given, given-once, given-both, passes-admission, admission-gives}
+use Rattle.rtdvs_top.proofs.DeniedPlans.{is_given, given-once, given-both, passes-admission, admission-gives}
 use Rattle.dvs_base.specs.Outside.{Files, file_of}
 use Rattle.dvs_base.specs.Checks.{and_then}
 use Rattle.dvs_base.specs.declared.kind.GovernorKind.{GovernorKind}
@@ -49,7 +49,7 @@ use Rattle.statuses.specs.declared.status.Status.{Status}
 use Rattle.statuses.specs.declared.status.Status.TheVariants as status
 use Rattle.statuses.specs.declared.status.TextFault.TheVariants as text_fault
 use Rattle.statuses.specs.Refused.{or_status, trace_status}
-use Rattle.rtdvs_top.proofs.Loading.{short_file}
+use Rattle.rtdvs_top.proofs.FileLoads.{short_file}
 use Rattle.event_kernel.proofs.Wholes.{below-first}
 use Rattle.rtdvs_top.specs.Prepared.{MetIn, IsComparable}
 

@@ -22,7 +22,7 @@ use Rattle.statuses.specs.declared.status.Status.{Status}
 use Rattle.statuses.specs.declared.status.Status.TheVariants as status
 use Rattle.rtdvs_top.proofs.EachPair.{has-met}
 use Rattle.rtdvs_top.proofs.Responses.{responds-or-is-denied}
-use Rattle.rtdvs_top.proofs.Denying.{status_of, is_given, given-once, within-few, denied-later, denied-first, given-both, tasks_at-denies-not, machine_at-denies-not, demands_at-denies-not, within-denies-not, Decides, decides, admission-gives, denied-plan}
+use Rattle.rtdvs_top.proofs.DeniedPlans.{status_of, is_given, given-once, within-few, denied-later, denied-first, given-both, tasks_at-denies-not, machine_at-denies-not, demands_at-denies-not, within-denies-not, Decides, decides, admission-gives, denied-plan}
 
 -- what the files of a run that was prepared mean
 prepared-means : (r : RunOf) (files : Files) (tasks : List Task) (p : Plan) (d : DemandsOf)

@@ -1,7 +1,7 @@
 -- The joined lines of the first numbers.
 use Rattle.std.proofs.Common.{◌≡◌, ℕ, suc, List, [], ◌∷◌, ◌++◌, ap, ◌∙◌, append-nil}
 use Rattle.dvs_base.specs.Parts.{joined}
-use Rattle.dvs_base.proofs.Parting.{joined-append}
+use Rattle.dvs_base.proofs.JoinedTexts.{joined-append}
 use Rattle.grid_fraction.specs.Numbers.{list_below}
 
 -- the lines of the first n numbers, and of number n after them

@@ -6,16 +6,16 @@ use Rattle.dvs_base.specs.declared.kind.GovernorKind.{GovernorKind}
 use Rattle.dvs_base.specs.declared.kind.Scheduler.{Scheduler}
 use Rattle.dvs_base.specs.declared.note.Note.{Note}
 use Rattle.dvs_base.specs.declared.note.Note.TheVariants.{End}
-use Rattle.trace_reader.specs.TraceText.{plain, noted, shares_from, for_tasks, head_lines, lines_of_note, note_lines, trace_lines, notes_of_lines}
+use Rattle.trace_reader.specs.TraceText.{unnoted, noted, shares_from, for_tasks, head_lines, lines_of_note, note_lines, trace_lines, notes_of_lines}
 use Rattle.event_kernel.proofs.WrittenLines.{notes-append}
 
-notes-plain : (texts : List (List ℕ)) → notes_of_lines (map plain texts) ≡ []
-notes-plain [] = refl
-notes-plain (text ∷ texts) = notes-plain texts
+notes-unnoted : (texts : List (List ℕ)) → notes_of_lines (map unnoted texts) ≡ []
+notes-unnoted [] = refl
+notes-unnoted (text ∷ texts) = notes-unnoted texts
 
 notes-tasks : (v : Version) (texts : List (List ℕ)) → notes_of_lines (for_tasks v texts) ≡ []
 notes-tasks One texts = refl
-notes-tasks Two texts = notes-plain texts
+notes-tasks Two texts = notes-unnoted texts
 
 module _ (v : Version) (names : List (List ℕ)) (all : List Note) where
   own-note : (n : Note) → notes_of_lines (lines_of_note v names all n) ≡ n ∷ []

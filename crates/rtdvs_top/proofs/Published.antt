@@ -37,7 +37,7 @@ use Rattle.probes.specs.Tallies.{ProbeOf, told_notes}
 use Rattle.statuses.specs.declared.status.Status.{Status}
 use Rattle.statuses.specs.declared.status.Status.TheVariants as status
 use Rattle.rtdvs_top.proofs.LineNotes.{trace-notes}
-use Rattle.rtdvs_top.proofs.Denying.{within-few}
+use Rattle.rtdvs_top.proofs.DeniedPlans.{within-few}
 use Rattle.rtdvs_top.proofs.Comparisons as comparisons
 
 module _ (demand : OwnDemand) (kind : GovernorKind) (p : Plan) (d : DemandsOf) (list : IsListOf p d)

@@ -16,7 +16,7 @@ use Rattle.statuses.specs.declared.status.Denied.{Denied}
 use Rattle.statuses.specs.declared.status.Status.{Status}
 use Rattle.statuses.specs.declared.status.Status.TheVariants as status
 use Rattle.statuses.specs.Refused.{or_status}
-use Rattle.rtdvs_top.proofs.Denying.{status_of, is_given, given-once}
+use Rattle.rtdvs_top.proofs.DeniedPlans.{status_of, is_given, given-once}
 
 -- the answer of a test whose files mean these tasks and this machine
 module _ (r : ResponseOf) (files : Files) (tasks : List Task) (machine : Table) (means : MeansPlan r files tasks machine) where

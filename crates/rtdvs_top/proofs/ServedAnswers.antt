@@ -6,7 +6,7 @@ use Rattle.sched_model.specs.Jobs.{released_jobs}
 use Rattle.poll_server.specs.Serving.{ServerOf}
 use Rattle.poll_server.specs.Outcomes.{ServedOf}
 use Rattle.rtdvs_top.specs.Poll.{polled_text, polling_served, answer_of_polling}
-use Rattle.rtdvs_top.proofs.Denying.{within-few}
+use Rattle.rtdvs_top.proofs.DeniedPlans.{within-few}
 
 pub served-answer : (kind : GovernorKind) (ticks : ℕ) (s : ServerOf) (r : ServedOf) → released_jobs s.plan ticks ≤ MOST_JOBS
     → r ≡ polling_served kind s ticks → answer_of_polling kind ticks s ≡ Ok (polled_text s r)

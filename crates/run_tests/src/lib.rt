@@ -1,4 +1,4 @@
-//! Tests of the crates of runs, one module a crate: `ready_queue`, `agenda`, `plain_schedule` and `poll_server`.
+//! Tests of the crates of runs, one module a crate: `ready_queue`, `agenda`, `slow_schedule` and `poll_server`.
 #![tactic(auto)]
 
 #[cfg(test)]

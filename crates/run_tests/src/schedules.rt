@@ -4,7 +4,7 @@ use demand_list::Demands;
 use dvs_base::GovernorKind;
 use edf_admit::edf_admit;
 use freq_table::Machine;
-use plain_schedule::{PlainTick, plain_schedule};
+use slow_schedule::{SlowTick, slow_schedule};
 use rm_admit::rm_admit;
 use std::alloc::Global;
 use std::test::Fail;
@@ -12,16 +12,16 @@ use task_model::TaskSet;
 use test_inputs::example::{PAPER_DEMANDS, PAPER_MACHINE, PAPER_TASKS};
 
 // The first 16 ticks under EDF, or under RM.
-fn sixteen(alloc: Global, edf: bool, governor: GovernorKind) -> Result<Vec<PlainTick>, Fail> {
+fn sixteen(alloc: Global, edf: bool, governor: GovernorKind) -> Result<Vec<SlowTick>, Fail> {
     let tasks = TaskSet::read(alloc, PAPER_TASKS).map_err(|_| "tasks")?;
     let machine = Machine::read(alloc, PAPER_MACHINE).map_err(|_| "machine")?;
     let demands = Demands::read(alloc, PAPER_DEMANDS, &tasks).map_err(|_| "demands")?;
     if edf {
         let plan = edf_admit(alloc, &tasks, &machine).map_err(|_| "denied")?;
-        Ok(plain_schedule(alloc, &plan, &demands, governor, 16).map_err(|_| "memory")?)
+        Ok(slow_schedule(alloc, &plan, &demands, governor, 16).map_err(|_| "memory")?)
     } else {
         let plan = rm_admit(alloc, &tasks, &machine).map_err(|_| "denied")?;
-        Ok(plain_schedule(alloc, &plan, &demands, governor, 16).map_err(|_| "memory")?)
+        Ok(slow_schedule(alloc, &plan, &demands, governor, 16).map_err(|_| "memory")?)
     }
 }
 
@@ -29,7 +29,7 @@ fn sixteen(alloc: Global, edf: bool, governor: GovernorKind) -> Result<Vec<Plain
 type Expected = (u32, [u64; 3]);
 
 // Whether the ticks have exactly these entries and shares.
-fn are(ticks: &[PlainTick], want: &[Expected]) -> bool {
+fn are(ticks: &[SlowTick], want: &[Expected]) -> bool {
     ticks.len() == want.len()
         && ticks.iter().zip(want.iter()).all(|(tick, want)| tick.entry == want.0
             && tick.shares.as_slice() == want.1.as_slice())
@@ -156,7 +156,7 @@ fn offsets_shift_the_jobs(rt: HostRuntime) -> Result<(), Fail> {
     let machine = Machine::read(alloc, PAPER_MACHINE).map_err(|_| "machine")?;
     let demands = Demands::read(alloc, b"task,job,units\n", &tasks).map_err(|_| "demands")?;
     let plan = edf_admit(alloc, &tasks, &machine).map_err(|_| "denied")?;
-    let cycle = plain_schedule(alloc, &plan, &demands, GovernorKind::Cycle, 8).map_err(
+    let cycle = slow_schedule(alloc, &plan, &demands, GovernorKind::Cycle, 8).map_err(
         |_| "memory",
     )?;
     assert!(rt; are(&cycle, OFFSETS));

@@ -2,7 +2,7 @@ pub mod Orders
 pub mod JobLaws
 pub mod Tables
 pub mod PieceLemmas
-pub mod Agreeing
+pub mod AgreedDemands
 pub mod Allotments
 pub mod LevelSums
 pub mod Examples

@@ -22,7 +22,7 @@ use Rattle.sched_model.specs.Ticks.{PublishedDemand, Tick, exec, is_done}
 use Rattle.sched_model.specs.Decision.{completes_in, is_decision}
 use Rattle.sched_model.specs.Schedule.{IsScheduleBy}
 use Rattle.sched_model.specs.Admission.{IsWithinLimits}
-use Rattle.sched_model.specs.Notes.{same_holder, Span, Piece, pieces_of, run_energy, idle_energy, all_release_notes, had_by, segment_notes, pieces_notes, span_notes, tick_units, energy_run, energy_idle, notes_before_end, notes_of}
+use Rattle.sched_model.specs.Notes.{same_holder, Span, Piece, pieces_of, run_energy, idle_energy, all_release_notes, had_by, segment_notes, pieces_notes, span_notes, tick_units, run_energy_told, idle_energy_told, notes_before_end, notes_of}
 use Rattle.sched_model.specs.Totals.{is_finished}
 use Rattle.sched_model.proofs.LevelSums.{sum_below-times}
 use Rattle.sched_model.proofs.Limits.{every_period}
@@ -276,8 +276,8 @@ module _ (p : Plan) (dem : JobDemands) (ask : PublishedDemand) where
     -- the last note of a schedule adds its own measure
     pub with-end : (ticks : List Tick)
         → sum_by f (notes_of p dem ask ticks)
-        ≡ sum_by f (notes ticks) + f (End (length ticks) (sum_by energy_run (notes ticks)) (sum_by energy_idle (notes ticks)))
-    with-end ticks = sum_by_push f (notes ticks) (End (length ticks) (sum_by energy_run (notes ticks)) (sum_by energy_idle (notes ticks)))
+        ≡ sum_by f (notes ticks) + f (End (length ticks) (sum_by run_energy_told (notes ticks)) (sum_by idle_energy_told (notes ticks)))
+    with-end ticks = sum_by_push f (notes ticks) (End (length ticks) (sum_by run_energy_told (notes ticks)) (sum_by idle_energy_told (notes ticks)))
 
     pub span-sum : (x : Tick) (past : List Tick) (s : Span) → IsLastSpan p dem ask x past s
         → sum_by f (notes (x ∷ past))
@@ -416,16 +416,16 @@ module _ (p : Plan) (dem : JobDemands) (ask : PublishedDemand) where
   idling e (Held i k) = 0
 
   pub run-next : (x : Tick) (past : List Tick) → IsScheduleBy p dem ask (x ∷ past)
-      → sum_by energy_run (notes (x ∷ past)) ≡ sum_by energy_run (notes past) + sum_by (running x.entry) (tick_units p past x)
+      → sum_by run_energy_told (notes (x ∷ past)) ≡ sum_by run_energy_told (notes past) + sum_by (running x.entry) (tick_units p past x)
   run-next =
-      segments-next energy_run running
+      segments-next run_energy_told running
       (record { run = λ from to i k units e. omega arith; idle = λ from to units e. omega arith; done = λ at_end i k used. refl })
       (record { release = λ tick i k. refl; speed = λ tick speed num den. refl })
 
   pub idle-next : (x : Tick) (past : List Tick) → IsScheduleBy p dem ask (x ∷ past)
-      → sum_by energy_idle (notes (x ∷ past)) ≡ sum_by energy_idle (notes past) + sum_by (idling x.entry) (tick_units p past x)
+      → sum_by idle_energy_told (notes (x ∷ past)) ≡ sum_by idle_energy_told (notes past) + sum_by (idling x.entry) (tick_units p past x)
   idle-next =
-      segments-next energy_idle idling
+      segments-next idle_energy_told idling
       (record { run = λ from to i k units e. omega arith; idle = λ from to units e. omega arith; done = λ at_end i k used. refl })
       (record { release = λ tick i k. refl; speed = λ tick speed num den. refl })
 

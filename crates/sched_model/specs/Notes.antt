@@ -100,14 +100,14 @@ span_notes p dem ask s =
     ∷ pieces_notes p dem s 0 (pieces_of s.units)
 
 -- the energy that a note gives for a running segment; 0 for other notes
-abbrev pub energy_run : Note → ℕ
-energy_run (Run from to i k units energy) = energy
-energy_run _ = 0
+abbrev pub run_energy_told : Note → ℕ
+run_energy_told (Run from to i k units energy) = energy
+run_energy_told _ = 0
 
 -- the energy that a note gives for an idle segment; 0 for other notes
-abbrev pub energy_idle : Note → ℕ
-energy_idle (Idle from to units energy) = energy
-energy_idle _ = 0
+abbrev pub idle_energy_told : Note → ℕ
+idle_energy_told (Idle from to units energy) = energy
+idle_energy_told _ = 0
 
 -- the units that the tasks of a list get, one task after another; `job` is each task's job
 abbrev pub given_units : (ℕ → ℕ) → (ℕ → ℕ) → List ℕ → List Holder
@@ -141,4 +141,4 @@ notes_before_end p dem ask ticks = flat_map (span_notes p dem ask) (reverse (spa
 abbrev pub notes_of : Plan → JobDemands → PublishedDemand → List Tick → List Note
 notes_of p dem ask ticks =
     let notes = notes_before_end p dem ask ticks in
-    notes ++ End (length ticks) (sum_by energy_run notes) (sum_by energy_idle notes) ∷ []
+    notes ++ End (length ticks) (sum_by run_energy_told notes) (sum_by idle_energy_told notes) ∷ []

@@ -3,7 +3,7 @@ use Rattle.std.specs.Prelude.{Bool, true, false, List, sum_by, count_by}
 use Rattle.dvs_base.specs.declared.note.Note.{Note}
 use Rattle.dvs_base.specs.declared.note.Note.TheVariants.{Release, Done, Speed}
 use Rattle.dvs_base.specs.declared.note.Totals.{Totals}
-use Rattle.sched_model.specs.Notes.{energy_run, energy_idle}
+use Rattle.sched_model.specs.Notes.{run_energy_told, idle_energy_told}
 
 -- whether a note is a release
 abbrev pub is_released : Note → Bool
@@ -23,8 +23,8 @@ is_decided _ = false
 -- the energies of all segments, and the numbers of jobs released, jobs completed and decisions
 abbrev pub totals_of : List Note → Totals
 totals_of notes = record {
-  run = sum_by energy_run notes;
-  idle = sum_by energy_idle notes;
+  run = sum_by run_energy_told notes;
+  idle = sum_by idle_energy_told notes;
   released = count_by is_released notes;
   finished = count_by is_finished notes;
   decisions = count_by is_decided notes;

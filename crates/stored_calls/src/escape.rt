@@ -14,7 +14,7 @@ fn digit_of(byte: u8) -> Option<u8> {
 // What has been read of an escape.
 #[derive(Clone, Copy)]
 enum State {
-    Plain,
+    Unescaped,
     Backslash,
     Hex,
     Digit(u8),
@@ -23,12 +23,12 @@ enum State {
 /// The bytes that a text stands for. `Script` where an escape has no form.
 pub(crate) fn unescaped(alloc: Global, text: &str) -> Result<Vec<u8>, Trouble> {
     let mut bytes = Vec::new(alloc);
-    let mut state = State::Plain;
+    let mut state = State::Unescaped;
     for byte in text.as_bytes() {
         let (next, found) = match (state, *byte) {
-            (State::Plain, b'\\') => (State::Backslash, None),
-            (State::Plain, other) => (State::Plain, Some(other)),
-            (State::Backslash, b'\\') => (State::Plain, Some(b'\\')),
+            (State::Unescaped, b'\\') => (State::Backslash, None),
+            (State::Unescaped, other) => (State::Unescaped, Some(other)),
+            (State::Backslash, b'\\') => (State::Unescaped, Some(b'\\')),
             (State::Backslash, b'x') => (State::Hex, None),
             (State::Backslash, _) => return Err(Trouble::Script),
             (State::Hex, other) => {
@@ -37,7 +37,7 @@ pub(crate) fn unescaped(alloc: Global, text: &str) -> Result<Vec<u8>, Trouble> {
             }
             (State::Digit(high), other) => {
                 let low = digit_of(other).ok_or(Trouble::Script)?;
-                (State::Plain, Some((high & 15) * 16 + (low & 15)))
+                (State::Unescaped, Some((high & 15) * 16 + (low & 15)))
             }
         };
         if let Some(value) = found {
@@ -46,7 +46,7 @@ pub(crate) fn unescaped(alloc: Global, text: &str) -> Result<Vec<u8>, Trouble> {
         state = next;
     }
     match state {
-        State::Plain => Ok(bytes),
+        State::Unescaped => Ok(bytes),
         _ => Err(Trouble::Script),
     }
 }

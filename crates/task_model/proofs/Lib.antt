@@ -1,3 +1,3 @@
 pub mod Entries
 pub mod Written
-pub mod Finding
+pub mod FirstOffset

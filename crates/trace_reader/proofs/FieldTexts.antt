@@ -19,7 +19,7 @@ use Rattle.trace_reader.specs.declared.trace.TraceKind.{TraceKind}
 use Rattle.trace_reader.specs.declared.trace.TraceKind.TheVariants as kind
 use Rattle.trace_reader.specs.Fields.{parts, whole_in, wide_in, position_in, fraction_in, task_in}
 use Rattle.trace_reader.specs.Traces.{IsPlace}
-use Rattle.trace_reader.proofs.Plain.{lacks-decimal, parts-first, parts-alone}
+use Rattle.trace_reader.proofs.UnspacedFields.{lacks-decimal, parts-first, parts-alone}
 
 -- where a choice between a result and an error gives a value, the result did
 pub if-ok : {A F : Type 0} (b : Bool) (r : Result A F) (k : F) (x : A) → (if b then r else Err k) ≡ Ok x → (b ≡ true) × (r ≡ Ok x)

@@ -8,7 +8,7 @@ use Rattle.std.proofs.lemmas.Option.{same_Some}
 use Rattle.std.proofs.lemmas.Slice.Eq.{bytes_eq-Decides}
 use Rattle.dvs_base.specs.Text.{number_below}
 use Rattle.trace_text.specs.TraceLines.{scheduler_word, governor_word, line, plan_fields, plan_text}
-use Rattle.trace_text.proofs.PlainLines.{ArePlain, plain-name}
+use Rattle.trace_text.proofs.Unspaced.{AreUnspaced, unspaced-name}
 use Rattle.dvs_base.specs.PlanWords.{scheduler_of, governor_of, ticks_from, ticks_of, is_pair}
 use Rattle.dvs_base.specs.Parts.{joined}
 use Rattle.trace_reader.specs.TraceText.{version_line}
@@ -31,12 +31,12 @@ use Rattle.trace_reader.specs.Fields.{parts, four_of}
 use Rattle.trace_reader.specs.Heads.{line_at, version_in, plan_line_of, parts_after_tasks, version_task_lines}
 use Rattle.trace_reader.specs.Traces.{task_lines}
 use Rattle.trace_reader.proofs.Lined.{spaced, line-spaced}
-use Rattle.trace_reader.proofs.Plain.{Lacks, lacks-plain, lacks-spaced, length-decimal, parts-joined}
+use Rattle.trace_reader.proofs.UnspacedFields.{Lacks, lacks-unspaced, lacks-spaced, length-decimal, parts-joined}
 use Rattle.trace_reader.proofs.FieldTexts.{read-step, if-ok}
 use Rattle.dvs_base.proofs.Checks.{step-ok, ok-is, ok_or-ok}
 use Rattle.trace_reader.proofs.ItemTexts.{four-is}
 use Rattle.trace_reader.proofs.LineTexts.{AreNames, line_at-found, line_at-text, read-line, join-line, join-spaced, length-spaced}
-use Rattle.trace_reader.proofs.SplitLines.{plain-plan, plain-task}
+use Rattle.trace_reader.proofs.SplitLines.{unspaced-plan, unspaced-task}
 
 -- the second version is not above the first
 abbrev pub IsUpTo : Version → Version → Type 0
@@ -176,15 +176,15 @@ pub record PlanRead (plan : PlanLine) (more : List ℕ) : Type 0 where
 pub plan-text : (plan : PlanLine) (more : List ℕ) → IsPlan plan → PlanRead plan more
 plan-text plan more h =
     let fields : List (List ℕ) = plan_fields plan.scheduler plan.governor plan.ticks in
-    let plain : AllByRecursion ArePlain fields = plain-plan plan.scheduler plan.governor plan.ticks in
+    let unspaced : AllByRecursion AreUnspaced fields = unspaced-plan plan.scheduler plan.governor plan.ticks in
     record {
       text = spaced fields;
       line_read =
-          read-line 2 fields more plain (omega arith)
+          read-line 2 fields more unspaced (omega arith)
           (omega (arith, scheduler-short plan.scheduler, governor-short plan.governor, length-decimal plan.ticks));
       plan_read =
           ap plan_line_of (parts-joined 32 (codes "plan")
-          (scheduler_word plan.scheduler ∷ governor_word plan.governor ∷ decimal plan.ticks ∷ []) (lacks-plain fields plain).0) ∙ plan-read plan h;
+          (scheduler_word plan.scheduler ∷ governor_word plan.governor ∷ decimal plan.ticks ∷ []) (lacks-unspaced fields unspaced).0) ∙ plan-read plan h;
     }
 
 -- the version line is read as line 1
@@ -196,7 +196,7 @@ version-read Two more = line_at-text 1 (codes "trace 2") more (refl, (refl, (ref
 pub record IsLine (text : List ℕ) : Type 0 where
   pub body : List ℕ
   pub ended : text ≡ body ++ 10 ∷ []
-  pub plain : Lacks 10 body
+  pub unspaced : Lacks 10 body
   pub short : length body ≤ LONGEST_LINE
 
 abbrev pub AreLines : List (List ℕ) → Type 0
@@ -207,11 +207,11 @@ task_lines-lines [] tasks h = tt
 task_lines-lines (name ∷ names) [] h = tt
 task_lines-lines (name ∷ names) (t ∷ tasks) h =
     let fields : List (List ℕ) = codes "task" ∷ name ∷ decimal t.period ∷ decimal t.offset ∷ decimal t.worst ∷ [] in
-    let plain : AllByRecursion ArePlain fields = plain-task name t.period t.offset t.worst (plain-name name h.0) in (
+    let unspaced : AllByRecursion AreUnspaced fields = unspaced-task name t.period t.offset t.worst (unspaced-name name h.0) in (
       record {
         body = spaced fields;
         ended = line-spaced fields;
-        plain = lacks-spaced fields (lacks-plain fields plain).1;
+        unspaced = lacks-spaced fields (lacks-unspaced fields unspaced).1;
         short = omega (arith, length-spaced fields, length-name name h.0, length-decimal t.period, length-decimal t.offset, length-decimal t.worst);
       },
       task_lines-lines names tasks h.1,
@@ -257,7 +257,7 @@ tasks-text n (task ∷ tasks) more h few =
     let whole : (task ++ joined tasks) ++ more ≡ h.0.body ++ 10 ∷ (joined tasks ++ more) =
     append_assoc task (joined tasks) more ∙ (ap (λ t. t ++ (joined tasks ++ more)) h.0.ended ∙ append_assoc h.0.body (10 ∷ []) (joined tasks ++ more)) in
     let line : line_at n (parts 10 ((task ++ joined tasks) ++ more)) ≡ Ok (h.0.body, parts 10 (joined tasks ++ more)) =
-    ap (λ t. line_at n (parts 10 t)) whole ∙ line_at-text n h.0.body (joined tasks ++ more) h.0.plain (omega arith) h.0.short in
+    ap (λ t. line_at n (parts 10 t)) whole ∙ line_at-text n h.0.body (joined tasks ++ more) h.0.unspaced (omega arith) h.0.short in
     let same : bytes_eq (h.0.body ++ 10 ∷ []) task ≡ true = (bytes_eq-Decides (h.0.body ++ 10 ∷ []) task).1 (sym h.0.ended) in
     let here : n + 1 + length tasks ≡ n + suc (length tasks) = omega arith in
     rw (line, same) (tasks-text (n + 1) tasks more h.1 (omega arith) ∙ ap (λ m. Ok (m, parts 10 more)) here)

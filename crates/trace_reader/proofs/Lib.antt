@@ -1,8 +1,8 @@
-pub mod Splitting
-pub mod Reading
-pub mod Summing
+pub mod FirstCut
+pub mod ReaderSteps
+pub mod EnergySums
 pub mod Lined
-pub mod Plain
+pub mod UnspacedFields
 pub mod Numbers
 pub mod FieldTexts
 pub mod ItemTexts

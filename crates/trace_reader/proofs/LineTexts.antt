@@ -6,8 +6,8 @@ use Rattle.std.proofs.lemmas.Bool.Decides.{nat_tests}
 use Rattle.std.proofs.lemmas.List.Splits.{join_with_byte-slice_split}
 use Rattle.dvs_base.specs.Text.{is_name}
 use Rattle.trace_text.specs.TraceLines.{line}
-use Rattle.trace_text.proofs.PlainLines.{ArePlain, plain-decimal, plain-name}
-use Rattle.trace_text.proofs.NoteLines.{plain-word, plain-fields}
+use Rattle.trace_text.proofs.Unspaced.{AreUnspaced, unspaced-decimal, unspaced-name}
+use Rattle.trace_text.proofs.NoteLines.{unspaced-word, unspaced-fields}
 use Rattle.dvs_base.specs.Parts.{name_of}
 use Rattle.dvs_base.proofs.Decimals.{length-decimal_u64, length-decimal_u128, length-position_text, length-fraction_text}
 use Rattle.dvs_base.specs.declared.note.Note.TheVariants.{Release, Speed, Run, Idle, Done, End}
@@ -21,9 +21,9 @@ use Rattle.trace_reader.specs.declared.trace.TraceKind.TheVariants as kind
 use Rattle.trace_reader.specs.Fields.{parts}
 use Rattle.trace_reader.specs.Heads.{line_at}
 use Rattle.trace_reader.specs.Items.{item_of}
-use Rattle.trace_reader.proofs.Splitting.{HasPart, some-part}
+use Rattle.trace_reader.proofs.FirstCut.{HasPart, some-part}
 use Rattle.trace_reader.proofs.Lined.{spaced, line-spaced}
-use Rattle.trace_reader.proofs.Plain.{Lacks, lacks-plain, lacks-spaced, parts-first, parts-joined}
+use Rattle.trace_reader.proofs.UnspacedFields.{Lacks, lacks-unspaced, lacks-spaced, parts-first, parts-joined}
 use Rattle.trace_reader.proofs.ItemTexts.{item_fields, IsItemOf, item_of-found}
 
 -- each of the texts has the form of a name
@@ -62,11 +62,11 @@ join-line text rest p =
 
 pub line_at-text : (n : ℕ) (text more : List ℕ) → Lacks 10 text → n ≤ MOST_LINES → length text ≤ LONGEST_LINE
     → line_at n (parts 10 (text ++ 10 ∷ more)) ≡ Ok (text, parts 10 more)
-line_at-text n text more plain few short =
+line_at-text n text more unspaced few short =
     let p = some-part 10 more in
     let in_time : nat_lt MOST_LINES n ≡ false = grind (arith, nat_tests) in
     let fits : nat_lt LONGEST_LINE (length text) ≡ false = grind (arith, nat_tests) in
-    ap (line_at n) (parts-first 10 text more plain)
+    ap (line_at n) (parts-first 10 text more unspaced)
     ∙ subst (λ ps. line_at n (text ∷ ps) ≡ Ok (text, ps)) (sym p.all) (rw (in_time, fits) refl)
 
 -- the line of an item
@@ -89,11 +89,11 @@ name-of P none each [] i h = none
 name-of P none each (name ∷ names) zero h = each name h.0
 name-of P none each (name ∷ names) (suc i) h = name-of P none each names i h.1
 
--- the fields of an item's line are plain
-pub plain-item : (names : List (List ℕ)) → AreNames names → (item : Item) → AllByRecursion ArePlain (item_fields names item)
-plain-item names named (Told n) = plain-fields names (λ i. name-of ArePlain tt plain-name names i named) n
-plain-item names named (Share i energy) =
-    (plain-word (codes "energy") refl, (name-of ArePlain tt plain-name names i named, (plain-decimal energy, tt)))
+-- the fields of an item's line are unspaced
+pub unspaced-item : (names : List (List ℕ)) → AreNames names → (item : Item) → AllByRecursion AreUnspaced (item_fields names item)
+unspaced-item names named (Told n) = unspaced-fields names (λ i. name-of AreUnspaced tt unspaced-name names i named) n
+unspaced-item names named (Share i energy) =
+    (unspaced-word (codes "energy") refl, (name-of AreUnspaced tt unspaced-name names i named, (unspaced-decimal energy, tt)))
 
 -- how many bytes the fields have, with one byte after each
 abbrev pub lengths : List (List ℕ) → ℕ
@@ -131,24 +131,24 @@ lengths-item v c names (Told (Done q i k used)) named h =
 lengths-item v c names (Told (End t run idle)) named h = omega (arith, length-decimal_u64 t h.0, length-decimal_u128 run h.1, length-decimal_u128 idle h.2)
 lengths-item v c names (Share i energy) named h = omega (arith, length-name_of names i named, length-decimal_u128 energy h.2)
 
--- a line of plain fields ends the first part of a text
-pub cut-line : (fields : List (List ℕ)) (more : List ℕ) → AllByRecursion ArePlain fields → parts 10 (line fields ++ more) ≡ spaced fields ∷ parts 10 more
-cut-line fields more plain =
+-- a line of unspaced fields ends the first part of a text
+pub cut-line : (fields : List (List ℕ)) (more : List ℕ) → AllByRecursion AreUnspaced fields → parts 10 (line fields ++ more) ≡ spaced fields ∷ parts 10 more
+cut-line fields more unspaced =
     ap (λ t. parts 10 (t ++ more)) (line-spaced fields)
     ∙ (ap (parts 10) (append_assoc (spaced fields) (10 ∷ []) more)
-    ∙ parts-first 10 (spaced fields) more (lacks-spaced fields (lacks-plain fields plain).1))
+    ∙ parts-first 10 (spaced fields) more (lacks-spaced fields (lacks-unspaced fields unspaced).1))
 
--- a line of plain fields that is not too long is read
-pub read-line : (n : ℕ) (fields : List (List ℕ)) (more : List ℕ) → AllByRecursion ArePlain fields → n ≤ MOST_LINES → lengths fields ≤ LONGEST_LINE
+-- a line of unspaced fields that is not too long is read
+pub read-line : (n : ℕ) (fields : List (List ℕ)) (more : List ℕ) → AllByRecursion AreUnspaced fields → n ≤ MOST_LINES → lengths fields ≤ LONGEST_LINE
     → line_at n (parts 10 (line fields ++ more)) ≡ Ok (spaced fields, parts 10 more)
-read-line n fields more plain few short =
+read-line n fields more unspaced few short =
     ap (λ t. line_at n (parts 10 (t ++ more))) (line-spaced fields)
     ∙ (ap (λ t. line_at n (parts 10 t)) (append_assoc (spaced fields) (10 ∷ []) more)
-    ∙ line_at-text n (spaced fields) more (lacks-spaced fields (lacks-plain fields plain).1) few (omega (arith, length-spaced fields, short)))
+    ∙ line_at-text n (spaced fields) more (lacks-spaced fields (lacks-unspaced fields unspaced).1) few (omega (arith, length-spaced fields, short)))
 
 -- fields that are read as an item are the parts of their line
-pub parts-fields : (v : Version) (names fields : List (List ℕ)) (item : Item) → item_of v names fields ≡ Ok item → AllByRecursion ArePlain fields
+pub parts-fields : (v : Version) (names fields : List (List ℕ)) (item : Item) → item_of v names fields ≡ Ok item → AllByRecursion AreUnspaced fields
     → parts 32 (spaced fields) ≡ fields
 unfolding item_of
 parts-fields v names [] item read h = absurd cc
-parts-fields v names (field ∷ fields) item read h = parts-joined 32 field fields (lacks-plain (field ∷ fields) h).0
+parts-fields v names (field ∷ fields) item read h = parts-joined 32 field fields (lacks-unspaced (field ∷ fields) h).0

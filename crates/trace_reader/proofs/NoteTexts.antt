@@ -7,7 +7,7 @@ use Rattle.std.proofs.lemmas.Bool.Decides.{nat_tests}
 use Rattle.std.proofs.lemmas.List.{append-nil}
 use Rattle.dvs_base.specs.Parts.{joined, name_of}
 use Rattle.trace_text.specs.TraceLines.{note_text}
-use Rattle.trace_text.proofs.PlainLines.{ArePlain}
+use Rattle.trace_text.proofs.Unspaced.{AreUnspaced}
 use Rattle.trace_reader.specs.TraceText.{has_task_lines, share_text, task_energy}
 use Rattle.dvs_base.specs.declared.note.Note.{Note}
 use Rattle.dvs_base.specs.declared.note.Note.TheVariants.{End}
@@ -24,12 +24,12 @@ use Rattle.trace_reader.specs.Heads.{line_at, at_line}
 use Rattle.trace_reader.specs.Items.{item_of}
 use Rattle.trace_reader.specs.TraceFile.{SoFar, wanted, is_in_order, is_right_share, next_item, with_item, ends, is_nothing, notes_from}
 use Rattle.trace_reader.specs.Traces.{IsNoteOf, is_end}
-use Rattle.trace_reader.proofs.Splitting.{HasPart}
+use Rattle.trace_reader.proofs.FirstCut.{HasPart}
 use Rattle.trace_reader.proofs.FieldTexts.{AreApart}
 use Rattle.dvs_base.proofs.Checks.{step-ok, ok-is}
 use Rattle.trace_reader.proofs.Lined.{spaced}
 use Rattle.trace_reader.proofs.ItemTexts.{item_fields, IsItemOf, item_of-text}
-use Rattle.trace_reader.proofs.LineTexts.{AreNames, IsLineOf, line_at-found, join-line, item_text, item-found, plain-item, cut-line, read-line, parts-fields, lengths-item}
+use Rattle.trace_reader.proofs.LineTexts.{AreNames, IsLineOf, line_at-found, join-line, item_text, item-found, unspaced-item, cut-line, read-line, parts-fields, lengths-item}
 use Rattle.trace_reader.proofs.ShareTexts.{shares, rest_text, shares-told, shares-next}
 
 pub at_line-ok : {A : Type 0} (n : ℕ) (r : Result A TraceKind) (x : A) → at_line n r ≡ Ok x → r ≡ Ok x
@@ -252,14 +252,14 @@ module _ (v : Version) (names : List (List ℕ)) (named : AreNames names) (apart
   unfolding notes_from next_item
   item-next n s item more fits few order right =
       let fields : List (List ℕ) = item_fields names item in
-      let plain : AllByRecursion ArePlain fields = plain-item names named item in
+      let unspaced : AllByRecursion AreUnspaced fields = unspaced-item names named item in
       let read : item_of v names fields ≡ Ok item = item_of-text v names item apart fits in
       let line : line_at n (spaced fields ∷ parts 10 more) ≡ Ok (spaced fields, parts 10 more) =
-      ap (line_at n) (sym (cut-line fields more plain))
-      ∙ read-line n fields more plain few (lengths-item v (length names) names item named fits) in
+      ap (line_at n) (sym (cut-line fields more unspaced))
+      ∙ read-line n fields more unspaced few (lengths-item v (length names) names item named fits) in
       let checked : next_item v names s (parts 32 (spaced fields)) ≡ Ok item =
-      rw (parts-fields v names fields item read plain, read, order, right) refl in
-      ap (notes_from v names n s) (cut-line fields more plain) ∙ rw (line, checked) refl
+      rw (parts-fields v names fields item read unspaced, read, order, right) refl in
+      ap (notes_from v names n s) (cut-line fields more unspaced) ∙ rw (line, checked) refl
 
   end-after : (n : ℕ) (s : SoFar) (last : Note) (more : List ℕ) → is_end last ≡ true
       → after_item v names n s (parts 10 more) (Told last) ≡ answer (n + 1) (s.notes ++ last ∷ []) more

@@ -13,7 +13,7 @@ use Rattle.dvs_base.specs.declared.note.Note.TheVariants.{End}
 use Rattle.dvs_base.specs.declared.kind.Version.{Version}
 use Rattle.trace_reader.specs.TraceFile.{wanted}
 use Rattle.trace_reader.specs.Traces.{is_end}
-use Rattle.trace_reader.proofs.Summing.{energy-more}
+use Rattle.trace_reader.proofs.EnergySums.{energy-more}
 use Rattle.trace_reader.proofs.WholeText.{length-shares, lines-by, text-for}
 
 -- the energy lines that a version has

@@ -8,7 +8,7 @@ use Rattle.dvs_base.specs.declared.limits.TheConstants.{LONGEST_LINE, LONGEST_TR
 use Rattle.dvs_base.specs.declared.note.Note.{Note}
 use Rattle.dvs_base.proofs.Decimals.{length-decimal_u128}
 use Rattle.trace_text.specs.TraceLines.{line, note_text, plan_fields, plan_text}
-use Rattle.trace_text.proofs.PlainLines.{each-append}
+use Rattle.trace_text.proofs.Unspaced.{each-append}
 use Rattle.trace_reader.specs.declared.line.Item.TheVariants.{Told}
 use Rattle.trace_reader.specs.TraceText.{LineOf, for_tasks, note_lines, trace_lines, text_of_lines, version_line, share_text, task_energy}
 use Rattle.trace_reader.specs.Traces.{TraceOf, IsNoteOf, IsTrace, text_of}
@@ -17,7 +17,7 @@ use Rattle.trace_reader.proofs.LineTexts.{AreNames, lengths, length-spaced, leng
 use Rattle.trace_reader.proofs.WholeText.{each-for, each-share, each-noted, length-lines}
 use Rattle.trace_reader.proofs.NoteTexts.{note-line}
 use Rattle.trace_reader.proofs.HeadTexts.{AreLines, scheduler-short, governor-short}
-use Rattle.trace_reader.proofs.Plain.{length-decimal}
+use Rattle.trace_reader.proofs.UnspacedFields.{length-decimal}
 
 -- a line with its line feed is as short as it may be
 abbrev IsShort : List ℕ → Type 0

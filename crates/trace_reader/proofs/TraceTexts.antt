@@ -20,7 +20,7 @@ use Rattle.trace_reader.specs.Fields.{parts}
 use Rattle.trace_reader.specs.Heads.{line_at, at_line, version_in, plan_line_of, parts_after_tasks, version_task_lines}
 use Rattle.trace_reader.specs.TraceFile.{nothing_yet, wanted, is_nothing, notes_from, trace_file}
 use Rattle.trace_reader.specs.Traces.{TraceOf, text_of, IsNoteOf, is_end, IsEnded, HasShares, lines_for_tasks, IsTrace, IsTextOf, HaveOneText}
-use Rattle.trace_reader.proofs.Reading.{is_nothing-some}
+use Rattle.trace_reader.proofs.ReaderSteps.{is_nothing-some}
 use Rattle.trace_reader.proofs.WholeText.{lines-wanted, text-parts}
 use Rattle.trace_reader.proofs.FieldTexts.{AreApart}
 use Rattle.dvs_base.proofs.Checks.{step-ok, ok-is}

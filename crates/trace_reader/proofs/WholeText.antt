@@ -11,8 +11,8 @@ use Rattle.dvs_base.specs.declared.note.Note.{Note}
 use Rattle.dvs_base.specs.declared.note.Note.TheVariants.{End}
 use Rattle.trace_text.specs.TraceLines.{note_text, plan_text}
 use Rattle.trace_text.specs.declared.write.PlanLine.{PlanLine}
-use Rattle.trace_text.proofs.PlainLines.{each-append}
-use Rattle.trace_reader.specs.TraceText.{LineOf, plain, noted, has_task_lines, for_tasks, lines_of_note, note_lines, trace_lines, text_of_lines, whole_text, version_line, share_text, task_energy, shares_from}
+use Rattle.trace_text.proofs.Unspaced.{each-append}
+use Rattle.trace_reader.specs.TraceText.{LineOf, unnoted, noted, has_task_lines, for_tasks, lines_of_note, note_lines, trace_lines, text_of_lines, whole_text, version_line, share_text, task_energy, shares_from}
 use Rattle.trace_reader.specs.Heads.{version_task_lines}
 use Rattle.trace_reader.specs.TraceFile.{wanted}
 use Rattle.trace_reader.specs.Traces.{is_end, IsEnded, lines_for_tasks}
@@ -31,11 +31,11 @@ pub each-for : (P : List ℕ → Type 0) (v : Version) (texts : List (List ℕ))
     → AllByRecursion (λ l. P l.text) (for_tasks v texts)
 each-for P v texts h = by (has_task_lines v) h
   where
-    each : (some : List (List ℕ)) → AllByRecursion P some → AllByRecursion (λ l. P l.text) (map plain some)
+    each : (some : List (List ℕ)) → AllByRecursion P some → AllByRecursion (λ l. P l.text) (map unnoted some)
     each [] h = tt
     each (text ∷ some) h = (h.0, each some h.1)
 
-    by : (b : Bool) → (b ≡ true → AllByRecursion P texts) → AllByRecursion (λ l. P l.text) (if b then map plain texts else [])
+    by : (b : Bool) → (b ≡ true → AllByRecursion P texts) → AllByRecursion (λ l. P l.text) (if b then map unnoted texts else [])
     by true h = each texts (h refl)
     by false h = tt
 
@@ -64,15 +64,15 @@ each-noted P v names all (n ∷ notes) shares own =
     by false = (own.0, tt)
 
 -- the lines for the tasks are those of the texts that the version has
-for-has : (v : Version) (texts : List (List ℕ)) → for_tasks v texts ≡ map plain (version_task_lines v texts)
+for-has : (v : Version) (texts : List (List ℕ)) → for_tasks v texts ≡ map unnoted (version_task_lines v texts)
 for-has v texts = by (has_task_lines v)
   where
-    by : (b : Bool) → (if b then map plain texts else []) ≡ map plain (if b then texts else [])
+    by : (b : Bool) → (if b then map unnoted texts else []) ≡ map unnoted (if b then texts else [])
     by true = refl
     by false = refl
 
 length-for : (v : Version) (texts : List (List ℕ)) → length (for_tasks v texts) ≡ length (version_task_lines v texts)
-length-for v texts = ap length (for-has v texts) ∙ length-map (version_task_lines v texts) plain
+length-for v texts = ap length (for-has v texts) ∙ length-map (version_task_lines v texts) unnoted
 
 length-has : (v : Version) (texts : List (List ℕ)) → length (version_task_lines v texts) ≡ (if has_task_lines v then length texts else 0)
 length-has v texts = by (has_task_lines v)
@@ -125,7 +125,7 @@ length-lines v s g ticks names tasks notes ended =
 pub text-for : (v : Version) (texts : List (List ℕ)) → text_of_lines (for_tasks v texts) ≡ joined (version_task_lines v texts)
 text-for v texts = ap text_of_lines (for-has v texts) ∙ each (version_task_lines v texts)
   where
-    each : (some : List (List ℕ)) → text_of_lines (map plain some) ≡ joined some
+    each : (some : List (List ℕ)) → text_of_lines (map unnoted some) ≡ joined some
     each [] = refl
     each (text ∷ some) = ap (λ more. text ++ more) (each some)
 

@@ -37,8 +37,8 @@ pub record LineOf : Type 0 where
   pub notes : List Note
 
 -- a line that shows no note
-abbrev pub plain : List ℕ → LineOf
-plain text = record { text = text; notes = [] }
+abbrev pub unnoted : List ℕ → LineOf
+unnoted text = record { text = text; notes = [] }
 
 -- the line of a note
 abbrev pub noted : List (List ℕ) → Note → LineOf
@@ -51,11 +51,11 @@ has_task_lines Two = true
 
 -- lines of these texts for the tasks, in a version that has such lines
 abbrev pub for_tasks : Version → List (List ℕ) → List LineOf
-for_tasks v texts = if has_task_lines v then map plain texts else []
+for_tasks v texts = if has_task_lines v then map unnoted texts else []
 
 -- the lines before the notes: the version, the plan, and those of the tasks
 abbrev pub head_lines : Version → Scheduler → GovernorKind → ℕ → List (List ℕ) → List LineOf
-head_lines v s g ticks tasks = plain (version_line v) ∷ plain (plan_text s g ticks) ∷ for_tasks v tasks
+head_lines v s g ticks tasks = unnoted (version_line v) ∷ unnoted (plan_text s g ticks) ∷ for_tasks v tasks
 
 -- the lines of a note among all notes: its own, and before that of `end` those of the tasks' energies
 abbrev pub lines_of_note : Version → List (List ℕ) → List Note → Note → List LineOf

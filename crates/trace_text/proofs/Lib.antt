@@ -1,2 +1,2 @@
-pub mod PlainLines
+pub mod Unspaced
 pub mod NoteLines

@@ -12,65 +12,65 @@ use Rattle.dvs_base.specs.declared.note.Note.TheVariants.{Release, Speed, Run, I
 use Rattle.dvs_base.specs.declared.note.Pos.{Pos}
 use Rattle.dvs_base.specs.Parts.{position_text, fraction_text, name_of}
 use Rattle.trace_text.specs.TraceLines.{scheduler_word, governor_word, line, done_fields, fields_of, note_text}
-use Rattle.trace_text.proofs.PlainLines.{IsPlain, ArePlain, each-append, plain-decimal, field-same}
+use Rattle.trace_text.proofs.Unspaced.{IsUnspaced, AreUnspaced, each-append, unspaced-decimal, field-same}
 
 -- whether a byte is neither a space nor a line feed
-abbrev plain_byte : ℕ → Bool
-plain_byte b = not (nat_eq b 32) && not (nat_eq b 10)
+abbrev unspaced_byte : ℕ → Bool
+unspaced_byte b = not (nat_eq b 32) && not (nat_eq b 10)
 
-plain-byte : (b : ℕ) → plain_byte b ≡ true → IsPlain b
-plain-byte b e = (λ q. true≢false (sym e ∙ ap plain_byte q), λ q. true≢false (sym e ∙ ap plain_byte q))
+unspaced-byte : (b : ℕ) → unspaced_byte b ≡ true → IsUnspaced b
+unspaced-byte b e = (λ q. true≢false (sym e ∙ ap unspaced_byte q), λ q. true≢false (sym e ∙ ap unspaced_byte q))
 
-pub plain-word : (w : List ℕ) → list_all plain_byte w ≡ true → ArePlain w
-plain-word [] e = tt
-plain-word (b ∷ w) e =
-    let each = and_parts (plain_byte b) (list_all plain_byte w) e in
-    (plain-byte b each.0, plain-word w each.1)
+pub unspaced-word : (w : List ℕ) → list_all unspaced_byte w ≡ true → AreUnspaced w
+unspaced-word [] e = tt
+unspaced-word (b ∷ w) e =
+    let each = and_parts (unspaced_byte b) (list_all unspaced_byte w) e in
+    (unspaced-byte b each.0, unspaced-word w each.1)
 
-pub plain-position : (q : Pos) → ArePlain (position_text q)
-plain-position q =
-    each-append IsPlain (decimal q.tick ++ codes ":") (decimal q.offset)
-    (each-append IsPlain (decimal q.tick) (codes ":") (plain-decimal q.tick) (plain-word (codes ":") refl)) (plain-decimal q.offset)
+pub unspaced-position : (q : Pos) → AreUnspaced (position_text q)
+unspaced-position q =
+    each-append IsUnspaced (decimal q.tick ++ codes ":") (decimal q.offset)
+    (each-append IsUnspaced (decimal q.tick) (codes ":") (unspaced-decimal q.tick) (unspaced-word (codes ":") refl)) (unspaced-decimal q.offset)
 
-pub plain-fraction : (num den : ℕ) → ArePlain (fraction_text num den)
-plain-fraction num den =
-    each-append IsPlain (decimal num ++ codes "/") (decimal den)
-    (each-append IsPlain (decimal num) (codes "/") (plain-decimal num) (plain-word (codes "/") refl)) (plain-decimal den)
+pub unspaced-fraction : (num den : ℕ) → AreUnspaced (fraction_text num den)
+unspaced-fraction num den =
+    each-append IsUnspaced (decimal num ++ codes "/") (decimal den)
+    (each-append IsUnspaced (decimal num) (codes "/") (unspaced-decimal num) (unspaced-word (codes "/") refl)) (unspaced-decimal den)
 
-pub plain-scheduler : (s : Scheduler) → ArePlain (scheduler_word s)
-plain-scheduler Edf = plain-word (codes "edf") refl
-plain-scheduler Rm = plain-word (codes "rm") refl
+pub unspaced-scheduler : (s : Scheduler) → AreUnspaced (scheduler_word s)
+unspaced-scheduler Edf = unspaced-word (codes "edf") refl
+unspaced-scheduler Rm = unspaced-word (codes "rm") refl
 
-pub plain-governor : (g : GovernorKind) → ArePlain (governor_word g)
-plain-governor Plain = plain-word (codes "none") refl
-plain-governor Fixed = plain-word (codes "static") refl
-plain-governor Cycle = plain-word (codes "cc") refl
-plain-governor Ahead = plain-word (codes "la") refl
+pub unspaced-governor : (g : GovernorKind) → AreUnspaced (governor_word g)
+unspaced-governor Plain = unspaced-word (codes "none") refl
+unspaced-governor Fixed = unspaced-word (codes "static") refl
+unspaced-governor Cycle = unspaced-word (codes "cc") refl
+unspaced-governor Ahead = unspaced-word (codes "la") refl
 
 pub note-fields : (ns : List (List ℕ)) (n : Note) → note_text ns n ≡ line (fields_of ns n)
 unfolding note_text
 note-fields ns n = refl
 
--- the fields of a note's line are plain
-pub plain-fields : (ns : List (List ℕ)) → ((i : ℕ) → ArePlain (name_of ns i)) → (n : Note) → AllByRecursion ArePlain (fields_of ns n)
-plain-fields ns named (Release t i k) = (plain-word (codes "release") refl, (plain-decimal t, (named i, (plain-decimal k, tt))))
-plain-fields ns named (Speed t f num den) = (plain-word (codes "speed") refl, (plain-decimal t, (plain-decimal f, (plain-fraction num den, tt))))
-plain-fields ns named (Run from to i k units energy) =
-    (plain-word (codes "run") refl, (plain-position from, (plain-position to, (named i, (plain-decimal k, (plain-decimal units, (plain-decimal energy, tt)))))))
-plain-fields ns named (Idle from to units energy) =
-    (plain-word (codes "idle") refl, (plain-position from, (plain-position to, (plain-decimal units, (plain-decimal energy, tt)))))
-plain-fields ns named (Done q i k used) = (plain-word (codes "done") refl, (plain-position q, (named i, (plain-decimal k, (plain-decimal used, tt)))))
-plain-fields ns named (End t run idle) = (plain-word (codes "end") refl, (plain-decimal t, (plain-decimal run, (plain-decimal idle, tt))))
+-- the fields of a note's line are unspaced
+pub unspaced-fields : (ns : List (List ℕ)) → ((i : ℕ) → AreUnspaced (name_of ns i)) → (n : Note) → AllByRecursion AreUnspaced (fields_of ns n)
+unspaced-fields ns named (Release t i k) = (unspaced-word (codes "release") refl, (unspaced-decimal t, (named i, (unspaced-decimal k, tt))))
+unspaced-fields ns named (Speed t f num den) = (unspaced-word (codes "speed") refl, (unspaced-decimal t, (unspaced-decimal f, (unspaced-fraction num den, tt))))
+unspaced-fields ns named (Run from to i k units energy) =
+    (unspaced-word (codes "run") refl, (unspaced-position from, (unspaced-position to, (named i, (unspaced-decimal k, (unspaced-decimal units, (unspaced-decimal energy, tt)))))))
+unspaced-fields ns named (Idle from to units energy) =
+    (unspaced-word (codes "idle") refl, (unspaced-position from, (unspaced-position to, (unspaced-decimal units, (unspaced-decimal energy, tt)))))
+unspaced-fields ns named (Done q i k used) = (unspaced-word (codes "done") refl, (unspaced-position q, (named i, (unspaced-decimal k, (unspaced-decimal used, tt)))))
+unspaced-fields ns named (End t run idle) = (unspaced-word (codes "end") refl, (unspaced-decimal t, (unspaced-decimal run, (unspaced-decimal idle, tt))))
 
 -- the line of a completion says which job it is
-pub done-same : (ns : List (List ℕ)) → ((i : ℕ) → ArePlain (name_of ns i)) → (name : List ℕ) → ArePlain name
+pub done-same : (ns : List (List ℕ)) → ((i : ℕ) → AreUnspaced (name_of ns i)) → (name : List ℕ) → AreUnspaced name
     → (k : ℕ) (at_end : Pos) (used : ℕ) (q : Pos) (j l u : ℕ)
     → line (fields_of ns (Done q j l u)) ≡ line (done_fields at_end name k used)
     → (name_of ns j ≡ name) × (decimal l ≡ decimal k)
-done-same ns named name plain k at_end used q j l u e =
+done-same ns named name unspaced k at_end used q j l u e =
     let after_word : line (position_text q ∷ name_of ns j ∷ decimal l ∷ decimal u ∷ [])
     ≡ line (position_text at_end ∷ name ∷ decimal k ∷ decimal used ∷ []) = ap (drop 5) e in
     let after_position = (field-same (position_text q) (position_text at_end) (line (name_of ns j ∷ decimal l ∷ decimal u ∷ []))
-    (line (name ∷ decimal k ∷ decimal used ∷ [])) (plain-position q) (plain-position at_end) after_word).1 in
-    let own = field-same (name_of ns j) name (line (decimal l ∷ decimal u ∷ [])) (line (decimal k ∷ decimal used ∷ [])) (named j) plain after_position in
-    (own.0, (field-same (decimal l) (decimal k) (decimal u ++ (10 ∷ [])) (decimal used ++ (10 ∷ [])) (plain-decimal l) (plain-decimal k) own.1).0)
+    (line (name ∷ decimal k ∷ decimal used ∷ [])) (unspaced-position q) (unspaced-position at_end) after_word).1 in
+    let own = field-same (name_of ns j) name (line (decimal l ∷ decimal u ∷ [])) (line (decimal k ∷ decimal used ∷ [])) (named j) unspaced after_position in
+    (own.0, (field-same (decimal l) (decimal k) (decimal u ++ (10 ∷ [])) (decimal used ++ (10 ∷ [])) (unspaced-decimal l) (unspaced-decimal k) own.1).0)

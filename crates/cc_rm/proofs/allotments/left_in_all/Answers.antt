@@ -3,7 +3,7 @@ use Rattle.std.specs.Prelude.{min}
 use Rattle.sched_model.specs.Plan.{count}
 use Rattle.sched_model.specs.States.{row_at}
 use Rattle.cc_rm_laws.specs.Allotments.{base_of, had_since_mark}
-use Rattle.cc_rm.proofs.Handing.{IsWalked, ranked-below, walked-next, walked-end}
+use Rattle.cc_rm.proofs.MarkUnits.{IsWalked, ranked-below, walked-next, walked-end}
 use Rattle.cc_rm.proofs.allotments.left_in_all.Goals as goal
 
 pub base_of-requires : goal.base_of-requires

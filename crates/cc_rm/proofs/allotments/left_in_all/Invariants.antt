@@ -1,4 +1,4 @@
-use Rattle.cc_rm.proofs.Handing.{IsWalked}
+use Rattle.cc_rm.proofs.MarkUnits.{IsWalked}
 use Rattle.cc_rm.proofs.allotments.left_in_all.Given as goal
 
 abbrev pub invariant-loop-k : goal.invariant-loop-k

@@ -5,8 +5,8 @@ use Rattle.sched_model.specs.Plan.{count}
 use Rattle.sched_model.specs.States.{StateOf, row_at, after_mark}
 use Rattle.sched_model.proofs.States.{row_read}
 use Rattle.governor.specs.Steps.{wleft_at}
-use Rattle.governor.proofs.Belonging.{done_none}
-use Rattle.cc_rm.proofs.Handing.{ranked-below, walked-end, IsHanded, handed-next, handed-none, handed-end}
+use Rattle.governor.proofs.StatesOfDemands.{done_none}
+use Rattle.cc_rm.proofs.MarkUnits.{ranked-below, walked-end, IsHanded, handed-next, handed-none, handed-end}
 use Rattle.cc_rm.proofs.counters.allot.Goals as goal
 use Rattle.cc_rm.proofs.counters.allot.Goals.{then-index, else-index}
 

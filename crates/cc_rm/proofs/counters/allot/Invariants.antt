@@ -1,4 +1,4 @@
-use Rattle.cc_rm.proofs.Handing.{IsHanded}
+use Rattle.cc_rm.proofs.MarkUnits.{IsHanded}
 use Rattle.cc_rm.proofs.counters.allot.Given as goal
 
 abbrev pub invariant-loop-k : goal.invariant-loop-k

@@ -1,12 +1,12 @@
 use Rattle.std.proofs.Common.{◌≡◌, ◌<◌, length}
-use Rattle.csv_text.specs.Rows.{IsPlain, AreCountedFrom, records_left}
+use Rattle.csv_text.specs.Rows.{IsDefault, AreCountedFrom, records_left}
 use Rattle.demand_list.specs.DemandFile.{demands_from}
 use Rattle.demand_list.proofs.read.read_rows.Given as goal
 
 -- the list so far, with the records that are left, gives what all the records give
 abbrev pub invariant-loop-demands : goal.invariant-loop-demands
 invariant-loop-demands l = record {
-  plain : IsPlain l.reader;
+  default_reader : IsDefault l.reader;
   fits : AreCountedFrom l.row l.reader;
   worsts : l.demands.worsts ≡ l.fn.demands.worsts;
   before : l.before < length l.tasks;

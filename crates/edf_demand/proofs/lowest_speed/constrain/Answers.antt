@@ -4,8 +4,8 @@ use Rattle.freq_table.specs.declared.machine.Pick.{Pick}
 use Rattle.freq_table.specs.Tables.{lowest_pick}
 use Rattle.sched_model.specs.Plan.{Plan, plan_of, top_speed}
 use Rattle.edf_demand_laws.specs.ProcessorDemand.{IsConstrainedDemand}
-use Rattle.edf_demand.proofs.Answering.{constrained_of, within_limits, lowest-speed, overload, answer-met, answer-denied}
-use Rattle.edf_demand_laws.proofs.Deciding.{is-constrained_demand}
+use Rattle.edf_demand.proofs.LowestEntry.{constrained_of, within_limits, lowest-speed, overload, answer-met, answer-denied}
+use Rattle.edf_demand_laws.proofs.DemandDecides.{is-constrained_demand}
 use Rattle.edf_demand.specs.Answers.{LooksAtDemand}
 use Rattle.edf_demand.proofs.lowest_speed.constrain.Goals as goal
 

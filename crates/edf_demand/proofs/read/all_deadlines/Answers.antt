@@ -2,7 +2,7 @@ use Rattle.std.proofs.Common.{◌≡◌, ℕ, length, sym, ◌∙◌, ap, subst,
 use Rattle.grid_fraction.specs.Numbers.{list_below}
 use Rattle.edf_demand.specs.Deadlines.{AreFor}
 use Rattle.edf_demand.specs.DeadlineFile.{relative_deadline, all_deadlines}
-use Rattle.edf_demand.proofs.Answering.{all-for}
+use Rattle.edf_demand.proofs.LowestEntry.{all-for}
 use Rattle.edf_demand.proofs.read.all_deadlines.Goals as goal
 
 pub returns-clause-for_tasks : goal.returns-clause-for_tasks

@@ -7,8 +7,8 @@ use Rattle.grid_fraction.specs.Numbers.{least_below}
 use Rattle.sched_model.specs.Plan.{Plan, plan_of, count, hyper}
 use Rattle.edf_demand_laws.specs.ProcessorDemand.{processor_demand}
 use Rattle.edf_demand.specs.Walk.{due_of}
-use Rattle.edf_demand.proofs.Answering.{within_limits}
-use Rattle.edf_demand.proofs.Walking.{Walking, walk-start, walk-takes, walk-keeps, walk-ends, work-next, low-demand, now-later, goes-on}
+use Rattle.edf_demand.proofs.LowestEntry.{within_limits}
+use Rattle.edf_demand.proofs.DemandWalk.{Walking, walk-start, walk-takes, walk-keeps, walk-ends, work-next, low-demand, now-later, goes-on}
 use Rattle.edf_demand.proofs.walk.constrained_demand.Goals as goal
 use Rattle.edf_demand.proofs.walk.constrained_demand.Goals.{then-greater, else-greater}
 

@@ -3,7 +3,7 @@ use Rattle.dvs_base.specs.declared.kind.Scheduler.TheVariants.{Edf}
 use Rattle.task_model.specs.Tasks.{hyper_of}
 use Rattle.sched_model.specs.Plan.{plan_of, count}
 use Rattle.edf_demand.specs.Walk.{due_of, IsCalendar}
-use Rattle.edf_demand.proofs.Walking.{Walking}
+use Rattle.edf_demand.proofs.DemandWalk.{Walking}
 use Rattle.edf_demand.proofs.walk.constrained_demand.Given as goal
 
 abbrev pub invariant-loop-now : goal.invariant-loop-now

@@ -3,7 +3,7 @@ use Rattle.dvs_base.specs.declared.kind.Scheduler.TheVariants.{Edf}
 use Rattle.grid_fraction.specs.Numbers.{least_below}
 use Rattle.sched_model.specs.Plan.{Plan, plan_of, count}
 use Rattle.edf_demand.specs.Walk.{due_of}
-use Rattle.edf_demand.proofs.Answering.{within_limits}
+use Rattle.edf_demand.proofs.LowestEntry.{within_limits}
 use Rattle.edf_demand.proofs.Calendars.{Taken, taken-start, taken-on, falls, low-due, taken-work, taken-moved}
 use Rattle.edf_demand.proofs.walk.take_due.Goals as goal
 

@@ -7,7 +7,7 @@ use Rattle.sched_model.specs.Plan.{count, names}
 use Rattle.sched_model.specs.Totals.{totals_of}
 use Rattle.sched_model.proofs.Schedules.{length-list_below}
 use Rattle.trace_reader.specs.TraceText.{noted, task_energy}
-use Rattle.event_kernel.specs.PlainLines.{sum_lines}
+use Rattle.event_kernel.specs.UnnotedLines.{sum_lines}
 use Rattle.event_kernel.specs.SpanNotes.{notes_before_end_of}
 use Rattle.event_kernel.proofs.RunAccount.{booked-tasks, booked-totals}
 use Rattle.event_kernel.proofs.Tellers.{heard-written, balked-written}

@@ -2,7 +2,7 @@ use Rattle.std.proofs.Common.{take}
 use Rattle.std.specs.Prelude.{flat_map}
 use Rattle.dvs_base.specs.WritesText.{Wrote}
 use Rattle.trace_reader.specs.TraceText.{text_of_lines}
-use Rattle.event_kernel.specs.PlainLines.{lines_with}
+use Rattle.event_kernel.specs.UnnotedLines.{lines_with}
 use Rattle.event_kernel.proofs.trace.put_notes.Given as goal
 
 abbrev pub invariant-loop-note : goal.invariant-loop-note

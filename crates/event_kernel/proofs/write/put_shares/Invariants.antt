@@ -4,7 +4,7 @@ use Rattle.grid_fraction.specs.Numbers.{list_below}
 use Rattle.probes.specs.Tallies.{ProbeOf}
 use Rattle.sched_model.specs.Plan.{names}
 use Rattle.dvs_base.specs.Parts.{name_of}
-use Rattle.trace_reader.specs.TraceText.{share_text, plain}
+use Rattle.trace_reader.specs.TraceText.{share_text, unnoted}
 use Rattle.event_kernel.specs.Lines.{WroteLines}
 use Rattle.event_kernel.proofs.write.put_shares.Given as goal
 
@@ -12,4 +12,4 @@ abbrev pub invariant-loop-i : goal.invariant-loop-i
 invariant-loop-i g l =
     let p = l.fn.plan in
     (ps : List ProbeOf) → WroteLines (g.W.Sink.shows l.fn.out) (g.W.Sink.shows l.out) ps ps
-    (map plain (list_below l.i (λ i. share_text (name_of (names p) i) (slice_index l.fn.energies i))))
+    (map unnoted (list_below l.i (λ i. share_text (name_of (names p) i) (slice_index l.fn.energies i))))

@@ -1,4 +1,4 @@
-use Rattle.event_kernel.specs.PlainLines.{sum_texts}
+use Rattle.event_kernel.specs.UnnotedLines.{sum_texts}
 use Rattle.event_kernel.proofs.WrittenLines.{lines-as, task-lines}
 use Rattle.event_kernel.proofs.write.put_sums.Goals as goal
 

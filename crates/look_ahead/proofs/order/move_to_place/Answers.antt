@@ -5,9 +5,9 @@ use Rattle.sched_model.specs.Plan.{period}
 use Rattle.sched_model.proofs.States.{row_read}
 use Rattle.look_ahead_laws.specs.Ahead.{deadline_at}
 use Rattle.look_ahead.specs.Counters.{stands_before_due}
-use Rattle.look_ahead.proofs.Keeping.{order-released}
-use Rattle.look_ahead.proofs.Moving.{passing_end, passing_moves, passing_stays, stays_other}
-use Rattle.look_ahead.proofs.Walking.{tasks_long}
+use Rattle.look_ahead.proofs.AheadCounters.{order-released}
+use Rattle.look_ahead.proofs.MovedTask.{passing_end, passing_moves, passing_stays, stays_other}
+use Rattle.look_ahead.proofs.WalkLoop.{tasks_long}
 use Rattle.look_ahead.proofs.order.move_to_place.Goals as goal
 use Rattle.look_ahead.proofs.order.move_to_place.Goals.{then-order-k+then-stands_before_due, else-order-k, else-order-k-via-then-order-k+else-stands_before_due, else-order-k-via-else-order-k}
 

@@ -1,6 +1,6 @@
 use Rattle.look_ahead_laws.specs.Ahead.{deadline_at}
 use Rattle.look_ahead.specs.Counters.{stands_before_due}
-use Rattle.look_ahead.proofs.Moving.{Passing}
+use Rattle.look_ahead.proofs.MovedTask.{Passing}
 use Rattle.look_ahead.proofs.order.move_to_place.Given as goal
 
 abbrev pub invariant-loop-k : goal.invariant-loop-k

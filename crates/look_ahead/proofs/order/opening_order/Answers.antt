@@ -4,7 +4,7 @@ use Rattle.sched_model.specs.Plan.{count, offset}
 use Rattle.sched_model.specs.States.{opening}
 use Rattle.sched_model.proofs.SortedKeys.{sorted_keys}
 use Rattle.look_ahead_laws.specs.Ahead.{edf_order}
-use Rattle.look_ahead.proofs.Keeping.{order-opening}
+use Rattle.look_ahead.proofs.AheadCounters.{order-opening}
 use Rattle.look_ahead.proofs.order.opening_order.Goals as goal
 
 pub returns : goal.returns

@@ -1,6 +1,6 @@
 use Rattle.std.proofs.Common.{ℕ, sym, ap, ◌∙◌, arith}
 use Rattle.look_ahead.specs.Walk.{next_spare}
-use Rattle.look_ahead.proofs.Walking.{none_spare}
+use Rattle.look_ahead.proofs.WalkLoop.{none_spare}
 use Rattle.look_ahead.proofs.walk.step.Goals as goal
 
 pub returns-then-job-eq0-2-clause-spare : goal.returns-then-job-eq0-2-clause-spare

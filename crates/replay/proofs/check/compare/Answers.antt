@@ -7,7 +7,7 @@ use Rattle.event_kernel.specs.Runs.{notes_of_run}
 use Rattle.trace_reader.specs.Traces.{TraceOf}
 use Rattle.replay.specs.Comparing.{differs}
 use Rattle.replay.specs.declared.compared.Compared.{Compared}
-use Rattle.replay.proofs.Comparing.{stopped-compared, compared-same, run-same, run-stopped}
+use Rattle.replay.proofs.ComparedNotes.{stopped-compared, compared-same, run-same, run-stopped}
 use Rattle.replay.proofs.check.compare.Goals as goal
 
 -- the notes of the trace that are left, and the note heard in place of the next one

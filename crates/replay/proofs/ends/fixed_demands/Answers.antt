@@ -4,7 +4,7 @@ use Rattle.std.proofs.lemmas.List.{drop_all}
 use Rattle.sched_model.specs.Plan.{count}
 use Rattle.replay_laws.specs.OwnList.{IsFit}
 use Rattle.replay.specs.Replays.{NamesTask}
-use Rattle.replay.proofs.Fixing.{drop-next, over-fit, fixed-none, fixed-next, fixed-whole}
+use Rattle.replay.proofs.FixedByNotes.{drop-next, over-fit, fixed-none, fixed-next, fixed-whole}
 use Rattle.replay.proofs.ends.fixed_demands.Goals as goal
 
 pub loop-note-init : goal.loop-note-init

@@ -4,7 +4,7 @@ use Rattle.sched_model.specs.Plan.{count}
 use Rattle.event_kernel.specs.Runs.{IsListOf}
 use Rattle.replay_laws.specs.OwnList.{IsFit}
 use Rattle.replay.specs.Replays.{NamesTask}
-use Rattle.replay.proofs.Fixing.{AreFixedFrom}
+use Rattle.replay.proofs.FixedByNotes.{AreFixedFrom}
 use Rattle.replay.proofs.ends.fixed_demands.Given as goal
 
 abbrev pub invariant-loop-note : goal.invariant-loop-note

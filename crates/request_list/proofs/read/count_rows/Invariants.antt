@@ -1,11 +1,11 @@
 use Rattle.std.proofs.Common.{◌≡◌, ◌+◌, length}
-use Rattle.csv_text.specs.Rows.{IsPlain, records_left}
+use Rattle.csv_text.specs.Rows.{IsDefault, records_left}
 use Rattle.request_list.proofs.read.count_rows.Given as goal
 
 -- the rows so far and those that are left add up to all the rows
 abbrev pub invariant-loop-count : goal.invariant-loop-count
 invariant-loop-count l = record {
-  plain : IsPlain l.reader;
+  default_reader : IsDefault l.reader;
   all : l.count + length (records_left l.reader) ≡ length (records_left l.fn.reader);
 }
 

@@ -15,7 +15,7 @@ loop-requests-preserved c =
     let to : AreRequestsTo (so_far ++ r ∷ []) r.arrival =
     one-more so_far r c.loop-requests.earlier c.loop-requests.invariant.limits c.in_ok-request.ensures.limits c.in_ok-request.ensures.order few in
     record {
-      plain = search rules;
+      default_reader = search rules;
       count = omega (arith, c.loop-requests.invariant.count);
       few = omega (arith, c.loop-requests.invariant.few);
       limits = rw all to;

@@ -1,5 +1,5 @@
 use Rattle.std.proofs.Common.{◌≡◌, ◌≤◌, ◌+◌, [], length}
-use Rattle.csv_text.specs.Rows.{IsPlain, records_left}
+use Rattle.csv_text.specs.Rows.{IsDefault, records_left}
 use Rattle.request_list.specs.declared.limits.TheConstants.{MOST_REQUESTS}
 use Rattle.request_list.specs.RequestFile.{requests_from}
 use Rattle.request_list.proofs.Texts.{AreRequestsTo}
@@ -8,7 +8,7 @@ use Rattle.request_list.proofs.read.read_rows.Given as goal
 -- the requests so far, with the records that are left, give what all the records give
 abbrev pub invariant-loop-requests : goal.invariant-loop-requests
 invariant-loop-requests l = record {
-  plain : IsPlain l.reader;
+  default_reader : IsDefault l.reader;
   count : l.row ≡ length l.requests.items + 1;
   few : length l.requests.items + length (records_left l.reader) ≤ MOST_REQUESTS;
   limits : AreRequestsTo l.requests.items l.earlier;

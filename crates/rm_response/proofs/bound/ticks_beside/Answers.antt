@@ -4,7 +4,7 @@ use Rattle.grid_fraction.proofs.Ceilings.{div_ceil_is}
 use Rattle.dvs_base.specs.declared.kind.Scheduler.TheVariants.{Rm}
 use Rattle.sched_model.specs.Plan.{Plan, plan_of, hyper}
 use Rattle.rm_response_laws.specs.Bounds.{spare}
-use Rattle.rm_response.proofs.Deciding.{beside-some}
+use Rattle.rm_response.proofs.FitDecisions.{beside-some}
 use Rattle.rm_response.proofs.bound.ticks_beside.Goals as goal
 
 pub returns : goal.returns

@@ -5,9 +5,9 @@ use Rattle.sched_model.specs.Plan.{Plan, plan_of, period}
 use Rattle.sched_model.specs.Priority.{is_up_to}
 use Rattle.sched_model.specs.Admission.{IsWithinLimits}
 use Rattle.rm_response_laws.specs.Bounds.{IsUnservedFrom, rest_work}
-use Rattle.rm_response_laws.proofs.Bounding.{ticks_for, unserved-for, unserved-both}
+use Rattle.rm_response_laws.proofs.RateBounds.{ticks_for, unserved-for, unserved-both}
 use Rattle.rm_response.specs.Bounds.{ticks_beside}
-use Rattle.rm_response.proofs.Deciding.{unserved-rest}
+use Rattle.rm_response.proofs.FitDecisions.{unserved-rest}
 use Rattle.rm_response.proofs.iteration.next_tick.Goals as goal
 
 pub returns-then-work-gt-MOST_SERVED-clause-least : goal.returns-then-work-gt-MOST_SERVED-clause-least

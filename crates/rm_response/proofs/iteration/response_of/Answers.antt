@@ -4,8 +4,8 @@ use Rattle.task_model.specs.declared.task.Task.{Task}
 use Rattle.sched_model.specs.Plan.{Plan, plan_of, period}
 use Rattle.sched_model.specs.Admission.{IsWithinLimits}
 use Rattle.rm_response_laws.specs.Responses.{IsUnserved}
-use Rattle.rm_response_laws.proofs.Searching.{response-is, response-none}
-use Rattle.rm_response_laws.proofs.Bounding.{goes_on, ends}
+use Rattle.rm_response_laws.proofs.ResponseSearch.{response-is, response-none}
+use Rattle.rm_response_laws.proofs.RateBounds.{goes_on, ends}
 use Rattle.rm_response.proofs.iteration.response_of.Goals as goal
 
 pub loop-at-preserved : goal.loop-at-preserved

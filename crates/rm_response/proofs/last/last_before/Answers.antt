@@ -1,7 +1,7 @@
 use Rattle.std.proofs.Common.{ℕ, ◌+◌, Some, sym, ◌∙◌, ap, subst}
 use Rattle.task_model.specs.Tasks.{task_at}
 use Rattle.rm_response.specs.Last.{FindsLast}
-use Rattle.rm_response.proofs.Deciding.{last-off, last-on}
+use Rattle.rm_response.proofs.FitDecisions.{last-off, last-on}
 use Rattle.rm_response.proofs.last.last_before.Goals.{then-stands_before, else-stands_before}
 use Rattle.rm_response.proofs.last.last_before.Goals as goal
 

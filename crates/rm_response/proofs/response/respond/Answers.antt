@@ -5,7 +5,7 @@ use Rattle.task_model.specs.declared.task.Task.{Task}
 use Rattle.sched_model.specs.Plan.{Plan, plan_of, count, period}
 use Rattle.rm_response_laws.specs.Responses.{HasResponse}
 use Rattle.rm_response.specs.Denials.{NoneLate}
-use Rattle.rm_response.proofs.Knowing.{AreKnown, IsNext, known-next, known-all}
+use Rattle.rm_response.proofs.KnownResponses.{AreKnown, IsNext, known-next, known-all}
 use Rattle.rm_response.proofs.response.respond.Goals as goal
 
 pub loop-task-preserved : goal.loop-task-preserved

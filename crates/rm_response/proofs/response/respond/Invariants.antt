@@ -1,7 +1,7 @@
 use Rattle.std.specs.List.{sum_by}
 use Rattle.dvs_base.specs.declared.kind.Scheduler.TheVariants.{Rm}
 use Rattle.sched_model.specs.Plan.{plan_of}
-use Rattle.rm_response.proofs.Knowing.{AreKnown}
+use Rattle.rm_response.proofs.KnownResponses.{AreKnown}
 use Rattle.rm_response.proofs.response.respond.Given as goal
 
 abbrev pub invariant-loop-task : goal.invariant-loop-task

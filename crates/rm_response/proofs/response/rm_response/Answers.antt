@@ -4,9 +4,9 @@ use Rattle.sched_model.specs.Plan.{Plan, plan_of, count}
 use Rattle.sched_model.specs.Admission.{IsWithinLimits}
 use Rattle.sched_model.proofs.Tables.{length-list_below}
 use Rattle.rm_response_laws.specs.Responses.{response}
-use Rattle.rm_response_laws.proofs.Responding.{always-meets}
+use Rattle.rm_response_laws.proofs.ResponseMeaning.{always-meets}
 use Rattle.rm_response.specs.Denials.{AreLeast, IsMissedAtPeriod, IsShownMiss}
-use Rattle.rm_response.proofs.Knowing.{answer-misses, answer-ok, missed-at, shown-at, are-least}
+use Rattle.rm_response.proofs.KnownResponses.{answer-misses, answer-ok, missed-at, shown-at, are-least}
 use Rattle.rm_response.proofs.response.rm_response.Goals as goal
 
 pub returns-in-Ok-respond-clause-answer : goal.returns-in-Ok-respond-clause-answer

@@ -1,7 +1,7 @@
 -- Each call is for a task with fewer tasks before it.
 use Rattle.dvs_base.specs.declared.kind.Scheduler.TheVariants.{Rm}
 use Rattle.sched_model.specs.Plan.{plan_of}
-use Rattle.rm_response.proofs.Deciding.{rank}
+use Rattle.rm_response.proofs.FitDecisions.{rank}
 use Rattle.rm_response.proofs.search.+fitting.Given as goal
 
 abbrev pub decreases-fitting : goal.decreases-fitting

@@ -3,7 +3,7 @@ use Rattle.std.proofs.lemmas.Bool.Decides.{nat_tests}
 use Rattle.dvs_base.specs.declared.kind.Scheduler.TheVariants.{Rm}
 use Rattle.sched_model.specs.Plan.{Plan, plan_of}
 use Rattle.sched_model.specs.Admission.{IsWithinLimits}
-use Rattle.rm_response.proofs.Deciding.{none-over}
+use Rattle.rm_response.proofs.FitDecisions.{none-over}
 use Rattle.rm_response.proofs.search.is_beyond.Goals as goal
 
 pub returns-else-rest-done_in-clause-none : goal.returns-else-rest-done_in-clause-none

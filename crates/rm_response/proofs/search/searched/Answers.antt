@@ -4,8 +4,8 @@ use Rattle.task_model.specs.declared.task.Task.{Task}
 use Rattle.sched_model.specs.Plan.{Plan, plan_of, period, worst}
 use Rattle.sched_model.specs.Admission.{IsWithinLimits}
 use Rattle.rm_response_laws.specs.Fitting.{Fits, NoneFits}
-use Rattle.rm_response_laws.proofs.Searching.{response-is, response-none}
-use Rattle.rm_response_laws.proofs.Fitting.{serves-fit, unserved-none}
+use Rattle.rm_response_laws.proofs.ResponseSearch.{response-is, response-none}
+use Rattle.rm_response_laws.proofs.WorkFits.{serves-fit, unserved-none}
 use Rattle.rm_response.proofs.search.searched.Goals as goal
 
 pub returns-in_default : goal.returns-in_default

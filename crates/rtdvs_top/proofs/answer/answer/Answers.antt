@@ -1,4 +1,4 @@
-use Rattle.rtdvs_top.proofs.Meeting.{put-answered, refused-answered, left}
+use Rattle.rtdvs_top.proofs.MetByPair.{put-answered, refused-answered, left}
 use Rattle.rtdvs_top.proofs.answer.answer.Goals as goal
 
 pub put-requires : goal.put-requires

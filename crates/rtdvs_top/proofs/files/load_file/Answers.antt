@@ -1,6 +1,6 @@
 use Rattle.std.proofs.Common.{ℕ, ◌+◌, subst, arith}
 use Rattle.dvs_base.specs.Outside.{LoadsFrom}
-use Rattle.rtdvs_top.proofs.Loading.{too_long, gives_bytes}
+use Rattle.rtdvs_top.proofs.FileLoads.{too_long, gives_bytes}
 use Rattle.rtdvs_top.proofs.files.load_file.Goals as goal
 
 pub returns-then-len-most-clause-refused : goal.returns-then-len-most-clause-refused

@@ -1,4 +1,4 @@
-use Rattle.rtdvs_top.proofs.Refusing.{machine-refused}
+use Rattle.rtdvs_top.proofs.RefusedSteps.{machine-refused}
 use Rattle.rtdvs_top.proofs.files.load_machine.Goals as goal
 
 pub returns-clause-refused : goal.returns-clause-refused

@@ -1,4 +1,4 @@
-use Rattle.rtdvs_top.proofs.Refusing.{demands-refused}
+use Rattle.rtdvs_top.proofs.RefusedSteps.{demands-refused}
 use Rattle.rtdvs_top.proofs.Shows.{demand-shown}
 use Rattle.rtdvs_top.proofs.files.load_named_demands.Goals as goal
 

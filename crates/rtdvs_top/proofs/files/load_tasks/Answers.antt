@@ -1,4 +1,4 @@
-use Rattle.rtdvs_top.proofs.Refusing.{tasks-refused}
+use Rattle.rtdvs_top.proofs.RefusedSteps.{tasks-refused}
 use Rattle.rtdvs_top.proofs.files.load_tasks.Goals as goal
 
 pub returns-clause-refused : goal.returns-clause-refused

@@ -6,7 +6,7 @@ use Rattle.poll_server.specs.Serving.{ServerOf}
 use Rattle.poll_server.specs.Bound.{HaveJobs, KeepsBound}
 use Rattle.poll_server.specs.Polled.{IsPolled, polled_notes}
 use Rattle.poll_server.specs.EachOutcome.{served_of}
-use Rattle.poll_server.proofs.Running.{polled-within}
+use Rattle.poll_server.proofs.ServerRuns.{polled-within}
 use Rattle.rtdvs_top.proofs.ServedAnswers.{served-answer}
 use Rattle.rtdvs_top.proofs.Pollings.{same-served, has-served}
 use Rattle.rtdvs_top.proofs.poll.serve_governed.Goals as goal

@@ -3,13 +3,13 @@ use Rattle.probes.specs.Tallies.{ProbeOf}
 use Rattle.words.specs.Shown.{shown_command}
 use Rattle.statuses.specs.Status.{CountsPuts}
 use Rattle.rtdvs_top.specs.Prepared.{IsAnswered, seen}
-use Rattle.rtdvs_top.proofs.Answering.{answers-of, not-words, sure-of, writes-of, parts-of, counts-puts}
-use Rattle.rtdvs_top.proofs.Noting.{notes-of}
+use Rattle.rtdvs_top.proofs.StepAnswers.{answers-of, not-words, sure-of, writes-of, parts-of, counts-puts}
+use Rattle.rtdvs_top.proofs.StatusNotes.{notes-of}
 use Rattle.rtdvs_top.proofs.Headlines.{of-run, headline-of}
-use Rattle.rtdvs_top.proofs.Admitting.{of-admission}
+use Rattle.rtdvs_top.proofs.AdmittedPlans.{of-admission}
 use Rattle.rtdvs_top.proofs.Exactness.{of-trace}
 use Rattle.rtdvs_top.proofs.Pollings.{of-poll}
-use Rattle.rtdvs_top.proofs.Bounding.{of-least}
+use Rattle.rtdvs_top.proofs.LeastBounds.{of-least}
 use Rattle.rtdvs_top.proofs.top.rtdvs.Given.{Over}
 use Rattle.rtdvs_top.proofs.top.rtdvs.Goals as goal
 use Rattle.rtdvs_top.proofs.top.rtdvs.Goals.{Joined-tasks}

@@ -1,7 +1,7 @@
 use Rattle.std.proofs.Common.{sym, ◌∙◌}
 use Rattle.std.proofs.lemmas.Result.{err_from_is_err_and}
 use Rattle.trace_reader.specs.Fields.{parts}
-use Rattle.trace_reader.proofs.Reading.{tasks-refused}
+use Rattle.trace_reader.proofs.ReaderSteps.{tasks-refused}
 use Rattle.trace_reader.proofs.head.read_task_lines.Goals as goal
 
 pub returns-in_err-line-clause-read : goal.returns-in_err-line-clause-read

@@ -1,6 +1,6 @@
 use Rattle.std.proofs.Common.{sym}
 use Rattle.std.proofs.lemmas.List.{take_rest}
-use Rattle.trace_reader.proofs.Splitting.{parts-found, parts-none}
+use Rattle.trace_reader.proofs.FirstCut.{parts-found, parts-none}
 use Rattle.trace_reader.proofs.parts.cut.Goals as goal
 
 pub returns-in-Some-clause-found : goal.returns-in-Some-clause-found

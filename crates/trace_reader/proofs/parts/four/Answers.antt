@@ -1,5 +1,5 @@
 use Rattle.std.proofs.Common.{refl}
-use Rattle.trace_reader.proofs.Splitting.{four_of-more}
+use Rattle.trace_reader.proofs.FirstCut.{four_of-more}
 use Rattle.trace_reader.proofs.parts.four.Goals as goal
 
 pub returns : goal.returns

@@ -1,5 +1,5 @@
 use Rattle.std.proofs.Common.{sym}
-use Rattle.trace_reader.proofs.Splitting.{one_of-more}
+use Rattle.trace_reader.proofs.FirstCut.{one_of-more}
 use Rattle.trace_reader.proofs.parts.one.Goals as goal
 
 pub returns-in-Some : goal.returns-in-Some

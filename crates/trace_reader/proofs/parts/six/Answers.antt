@@ -1,5 +1,5 @@
 use Rattle.std.proofs.Common.{refl}
-use Rattle.trace_reader.proofs.Splitting.{six_of-more}
+use Rattle.trace_reader.proofs.FirstCut.{six_of-more}
 use Rattle.trace_reader.proofs.parts.six.Goals as goal
 
 pub returns : goal.returns

@@ -1,6 +1,6 @@
 use Rattle.std.proofs.Common.{◌≡◌, ◌<◌, length, arith, rules}
 use Rattle.std.proofs.lemmas.Bool.Decides.{nat_tests}
-use Rattle.trace_reader.proofs.Reading.{is_nothing-some, is_nothing-none}
+use Rattle.trace_reader.proofs.ReaderSteps.{is_nothing-some, is_nothing-none}
 use Rattle.trace_reader.proofs.read.ended.Goals as goal
 
 pub returns-then-is_empty : goal.returns-then-is_empty

@@ -1,5 +1,5 @@
 use Rattle.std.proofs.Common.{rules}
-use Rattle.trace_reader.proofs.Reading.{line_at-more}
+use Rattle.trace_reader.proofs.ReaderSteps.{line_at-more}
 use Rattle.trace_reader.proofs.text_line.line_at.Goals as goal
 
 pub returns-then-number-gt-MOST_LINES-clause-line : goal.returns-then-number-gt-MOST_LINES-clause-line

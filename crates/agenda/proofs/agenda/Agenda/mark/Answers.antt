@@ -5,7 +5,7 @@ use Rattle.sched_model.specs.Plan.{Plan}
 use Rattle.sched_model.specs.States.{StateOf, row_wleft, after_mark}
 use Rattle.agenda.specs.declared.agenda.Agenda.{Agenda}
 use Rattle.agenda.specs.Stands.{Stands}
-use Rattle.agenda.proofs.Standing.{stands-rows}
+use Rattle.agenda.proofs.StateQueues.{stands-rows}
 use Rattle.agenda.proofs.agenda.Agenda.mark.Goals as goal
 
 -- the bases that are copied

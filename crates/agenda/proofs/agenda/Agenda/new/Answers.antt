@@ -4,7 +4,7 @@ use Rattle.sched_model.specs.Plan.{count}
 use Rattle.sched_model.specs.States.{opening}
 use Rattle.sched_model.proofs.States.{left-opening}
 use Rattle.agenda.specs.Agenda.{ReadyOf}
-use Rattle.agenda.proofs.Standing.{more-held, all-held, opening-ready, opening-entry}
+use Rattle.agenda.proofs.StateQueues.{more-held, all-held, opening-ready, opening-entry}
 use Rattle.agenda.proofs.agenda.Agenda.new.Goals as goal
 
 pub loop-task-preserved : goal.loop-task-preserved

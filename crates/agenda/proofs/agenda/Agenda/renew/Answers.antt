@@ -6,7 +6,7 @@ use Rattle.sched_model.specs.Plan.{period}
 use Rattle.sched_model.specs.States.{no_row, row_at, row_wleft}
 use Rattle.sched_model.proofs.States.{row_read, left-set}
 use Rattle.agenda.specs.Agenda.{StandFor, next_job_row, opened}
-use Rattle.agenda.proofs.Standing.{first-is-due, after-open, after-closed, opened-entry}
+use Rattle.agenda.proofs.StateQueues.{first-is-due, after-open, after-closed, opened-entry}
 use Rattle.agenda.proofs.agenda.Agenda.renew.Goals as goal
 
 pub replace_first-requires : goal.replace_first-requires

@@ -1,5 +1,5 @@
 use Rattle.sched_model.proofs.States.{left-run}
-use Rattle.agenda.proofs.Standing.{stand-run}
+use Rattle.agenda.proofs.StateQueues.{stand-run}
 use Rattle.agenda.proofs.agenda.Agenda.serve.Goals as goal
 
 pub returns : goal.returns

@@ -1,6 +1,6 @@
 use Rattle.std.proofs.Common.{◌≡◌, ap, arith}
 use Rattle.sched_model.specs.States.{StateOf}
-use Rattle.governor.proofs.Belonging.{earliest-later}
+use Rattle.governor.proofs.StatesOfDemands.{earliest-later}
 use Rattle.cc_rm.proofs.cycle.CcRm.demand_of.Goals as goal
 
 pub overflow_sub-first : goal.overflow_sub-first

@@ -1,6 +1,6 @@
 use Rattle.std.proofs.Common.{◌<◌, arith}
 use Rattle.sched_model.specs.Plan.{count}
-use Rattle.cc_rm.proofs.Counting.{rest-most, counts-finished}
+use Rattle.cc_rm.proofs.KeptCounters.{rest-most, counts-finished}
 use Rattle.cc_rm.proofs.cycle.CcRmGovernor.finished.Goals as goal
 
 pub lower-requires-clause-part : goal.lower-requires-clause-part

@@ -2,7 +2,7 @@ use Rattle.std.proofs.Common.{◌≡◌, ◌<◌, ◌-◌, ◌∙◌, ap₂, ℕ
 use Rattle.std.specs.Prelude.{slice_index}
 use Rattle.std.proofs.lemmas.List.{get_or_read}
 use Rattle.sched_model.specs.Plan.{count}
-use Rattle.cc_rm.proofs.Counting.{rest-most, counts-ran}
+use Rattle.cc_rm.proofs.KeptCounters.{rest-most, counts-ran}
 use Rattle.cc_rm.proofs.cycle.CcRmGovernor.ran.Goals as goal
 
 pub lower-requires-clause-part : goal.lower-requires-clause-part

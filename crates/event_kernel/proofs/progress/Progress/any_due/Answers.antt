@@ -1,5 +1,5 @@
 use Rattle.std.proofs.Common.{ap₂, ◌∙◌, nat_eq}
-use Rattle.agenda.proofs.Standing.{release-now}
+use Rattle.agenda.proofs.StateQueues.{release-now}
 use Rattle.event_kernel.proofs.Bounds.{bounds}
 use Rattle.event_kernel.proofs.progress.Progress.any_due.Goals as goal
 

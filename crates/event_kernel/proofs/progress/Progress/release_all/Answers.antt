@@ -7,7 +7,7 @@ use Rattle.sched_model.specs.Notes.{all_release_notes}
 use Rattle.governor.specs.Meanings.{OwnDemand}
 use Rattle.governor.specs.Schedule.{course}
 use Rattle.agenda.specs.Agenda.{IsFirstDue, due_left}
-use Rattle.agenda.proofs.Standing.{due-falls}
+use Rattle.agenda.proofs.StateQueues.{due-falls}
 use Rattle.event_kernel.specs.declared.progress.Setting.{Setting}
 use Rattle.event_kernel.specs.declared.span_trace.SpanTrace.{SpanTrace}
 use Rattle.event_kernel.specs.Runs.{demands_of}

@@ -2,7 +2,7 @@ use Rattle.std.proofs.Common.{◌≡◌, ℕ, ◌+◌, ◌*◌, ◌≤◌, arith
 use Rattle.sched_model.specs.Plan.{Plan, point}
 use Rattle.sched_model.specs.States.{after_advance, CanRun, StateOf}
 use Rattle.std.specs.Prelude.{Option, None, Some, IfSome}
-use Rattle.agenda.proofs.Standing.{stands-rows}
+use Rattle.agenda.proofs.StateQueues.{stands-rows}
 use Rattle.event_kernel.specs.Segment.{entered, holder_at, IsFirst}
 use Rattle.event_kernel.specs.Tickwork.{gives}
 use Rattle.event_kernel.specs.Settings.{IsLastTick}

@@ -1,7 +1,7 @@
 use Rattle.std.proofs.Common.{◌≡◌, ℕ, ◌+◌, ◌<◌, min, Bool, true, ◌||◌, arith, refl, ap, ◌∙◌, sym, subst, inl, inr, ◌⊎◌, nat_eq, rules}
 use Rattle.sched_model.specs.Plan.{count}
 use Rattle.sched_model.specs.States.{row_at, after_advance, StateOf}
-use Rattle.agenda.proofs.Standing.{stands-rows}
+use Rattle.agenda.proofs.StateQueues.{stands-rows}
 use Rattle.event_kernel.specs.declared.progress.Progress.{Progress}
 use Rattle.event_kernel.specs.Current.{IsCurrent}
 use Rattle.event_kernel.specs.Segment.{entered}

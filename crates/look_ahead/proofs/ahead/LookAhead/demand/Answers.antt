@@ -2,8 +2,8 @@ use Rattle.std.proofs.Common.{◌≡◌, ap, arith}
 use Rattle.sched_model.specs.Plan.{count}
 use Rattle.sched_model.specs.States.{StateOf}
 use Rattle.sched_model.proofs.Limits.{some_hyper}
-use Rattle.governor.proofs.Belonging.{earliest-later}
-use Rattle.look_ahead.proofs.Walking.{done_none, first_grows, most_low, step_below, step_fits, step_next, tasks_long}
+use Rattle.governor.proofs.StatesOfDemands.{earliest-later}
+use Rattle.look_ahead.proofs.WalkLoop.{done_none, first_grows, most_low, step_below, step_fits, step_next, tasks_long}
 use Rattle.look_ahead.proofs.ahead.LookAhead.demand.Goals as goal
 
 pub loop-k-init : goal.loop-k-init

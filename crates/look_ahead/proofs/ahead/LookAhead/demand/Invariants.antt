@@ -1,6 +1,6 @@
 use Rattle.std.proofs.Common.{◌+◌, ◌*◌, ◌^◌, ◌≤◌}
 use Rattle.sched_model.specs.Plan.{count}
-use Rattle.look_ahead.proofs.Walking.{Done}
+use Rattle.look_ahead.proofs.WalkLoop.{Done}
 use Rattle.look_ahead.proofs.ahead.LookAhead.demand.Given as goal
 
 abbrev pub invariant-loop-k : goal.invariant-loop-k

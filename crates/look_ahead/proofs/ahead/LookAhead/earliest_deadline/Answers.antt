@@ -2,7 +2,7 @@ use Rattle.std.proofs.Common.{◌∙◌, length, ap, arith}
 use Rattle.sched_model.specs.declared.state.Row.{Row}
 use Rattle.sched_model.specs.States.{StateOf}
 use Rattle.sched_model.proofs.States.{row_read}
-use Rattle.look_ahead.proofs.Walking.{first_below, first_due, some_first}
+use Rattle.look_ahead.proofs.WalkLoop.{first_below, first_due, some_first}
 use Rattle.look_ahead.proofs.ahead.LookAhead.earliest_deadline.Goals as goal
 
 pub index-requires : goal.index-requires

@@ -1,4 +1,4 @@
-use Rattle.look_ahead.proofs.Keeping.{keeps-opening}
+use Rattle.look_ahead.proofs.AheadCounters.{keeps-opening}
 use Rattle.look_ahead.proofs.ahead.LookAhead.new.Goals as goal
 
 pub returns-in-Ok : goal.returns-in-Ok

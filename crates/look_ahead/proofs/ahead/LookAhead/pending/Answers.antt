@@ -4,7 +4,7 @@ use Rattle.sched_model.specs.declared.state.Row.{Row}
 use Rattle.sched_model.specs.Plan.{count}
 use Rattle.sched_model.proofs.States.{row_read}
 use Rattle.look_ahead_laws.specs.Ahead.{deadline_at}
-use Rattle.look_ahead.proofs.Keeping.{rate_read, rates_long}
+use Rattle.look_ahead.proofs.AheadCounters.{rate_read, rates_long}
 use Rattle.look_ahead.proofs.ahead.LookAhead.pending.Goals as goal
 
 pub index-requires : goal.index-requires

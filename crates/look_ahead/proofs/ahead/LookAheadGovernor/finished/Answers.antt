@@ -1,4 +1,4 @@
-use Rattle.look_ahead.proofs.Keeping.{keeps-finished}
+use Rattle.look_ahead.proofs.AheadCounters.{keeps-finished}
 use Rattle.look_ahead.proofs.ahead.LookAheadGovernor.finished.Goals as goal
 
 pub returns : goal.returns

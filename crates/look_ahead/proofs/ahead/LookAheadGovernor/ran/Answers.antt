@@ -1,4 +1,4 @@
-use Rattle.look_ahead.proofs.Keeping.{keeps-ran}
+use Rattle.look_ahead.proofs.AheadCounters.{keeps-ran}
 use Rattle.look_ahead.proofs.ahead.LookAheadGovernor.ran.Goals as goal
 
 pub returns : goal.returns

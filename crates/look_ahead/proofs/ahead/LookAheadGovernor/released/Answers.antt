@@ -4,8 +4,8 @@ use Rattle.sched_model.specs.declared.state.Row.{Row}
 use Rattle.sched_model.specs.States.{after_release}
 use Rattle.sched_model.proofs.States.{row_read}
 use Rattle.look_ahead.specs.Counters.{Keeps}
-use Rattle.look_ahead.proofs.Keeping.{keeps-released}
-use Rattle.look_ahead.proofs.Moving.{written_back}
+use Rattle.look_ahead.proofs.AheadCounters.{keeps-released}
+use Rattle.look_ahead.proofs.MovedTask.{written_back}
 use Rattle.look_ahead.proofs.ahead.LookAheadGovernor.released.Goals as goal
 
 pub returns : goal.returns

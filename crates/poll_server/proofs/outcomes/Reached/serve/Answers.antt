@@ -1,7 +1,7 @@
 use Rattle.std.proofs.Common.{ap, ◌∙◌, sym}
 use Rattle.poll_server.specs.EachOutcome.{outcome_by}
 use Rattle.poll_server.proofs.Steps.{some-budget, some-period}
-use Rattle.poll_server.proofs.Belonging.{reached-some, outcome-reached, outcome-pending}
+use Rattle.poll_server.proofs.RequestJobs.{reached-some, outcome-reached, outcome-pending}
 use Rattle.poll_server.proofs.outcomes.Reached.serve.Goals as goal
 
 pub returns-then-self-clause-outcome : goal.returns-then-self-clause-outcome

@@ -2,7 +2,7 @@ use Rattle.std.proofs.Common.{sym, ap, subst, ◌∙◌, List, length, slice_set
 use Rattle.ready_queue.specs.declared.entry.Entry.{Entry}
 use Rattle.ready_queue.specs.Entries.{QueueOf, IsOfFirst, AreApart}
 use Rattle.ready_queue.specs.Heaps.{IsSinking}
-use Rattle.ready_queue.proofs.Holding.{apart_replaced, replaced_sinks, replaced}
+use Rattle.ready_queue.proofs.QueueEntries.{apart_replaced, replaced_sinks, replaced}
 use Rattle.ready_queue.proofs.queue.Queue.replace_first.Goals as goal
 
 pub sink-requires-clause-apart : goal.sink-requires-clause-apart

@@ -1,7 +1,7 @@
 use Rattle.std.proofs.Common.{length, sym, ap, ◌∙◌, arith}
 use Rattle.task_model.specs.declared.task.Task.{Task}
 use Rattle.task_model.specs.Tasks.{task_at}
-use Rattle.task_model.proofs.Finding.{none-found, first-found}
+use Rattle.task_model.proofs.FirstOffset.{none-found, first-found}
 use Rattle.task_model.proofs.task.TaskSet.first_offset.Goals as goal
 
 pub returns-then-task-ne0-clause-is : goal.returns-then-task-ne0-clause-is

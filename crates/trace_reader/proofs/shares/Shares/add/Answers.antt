@@ -1,6 +1,6 @@
 use Rattle.std.proofs.Common.{◌≡◌, length, rules}
 use Rattle.dvs_base.specs.declared.limits.TheConstants.{MOST_TASKS}
-use Rattle.trace_reader.proofs.Summing.{sums-run}
+use Rattle.trace_reader.proofs.EnergySums.{sums-run}
 use Rattle.trace_reader.proofs.shares.Shares.add.Goals as goal
 
 pub returns-in-Run : goal.returns-in-Run

@@ -1,0 +1,22 @@
+use Rattle.call_tests.proofs.TwoCalls.{puts-later, first-answers, second-answers, both-steady}
+use Rattle.call_tests.proofs.twice.twice.Goals as goal
+
+pub returns-clause-first : goal.returns-clause-first
+returns-clause-first g c =
+    first-answers (g.S.Shelf.shows c.args.shelf.now) (g.S.Shelf.shows c.rtdvs-first.new.shelf)
+    (g.S.Shelf.shows c.rtdvs-second.new.shelf) (g.W.Sink.shows c.args.out.now) (g.W.Sink.shows c.rtdvs-first.new.out)
+    (g.W.Sink.shows c.rtdvs-second.new.out) _ _ c.rtdvs-second.ensures.shelf.later
+    (puts-later _ _ _ c.rtdvs-second.ensures.puts) c.rtdvs-first.ensures.answers
+
+pub returns-clause-second : goal.returns-clause-second
+returns-clause-second g c =
+    second-answers (g.S.Shelf.shows c.args.shelf.now) (g.S.Shelf.shows c.rtdvs-first.new.shelf)
+    (g.S.Shelf.shows c.rtdvs-second.new.shelf) (g.W.Sink.shows c.args.out.now) (g.W.Sink.shows c.rtdvs-first.new.out)
+    (g.W.Sink.shows c.rtdvs-second.new.out) _ _ c.rtdvs-first.ensures.shelf.held c.rtdvs-first.ensures.shelf.later
+    (puts-later _ _ _ c.rtdvs-first.ensures.puts) c.rtdvs-second.ensures.answers
+
+pub returns-clause-sure : goal.returns-clause-sure
+returns-clause-sure g c =
+    both-steady (g.S.Shelf.shows c.args.shelf.now) (g.S.Shelf.shows c.rtdvs-first.new.shelf)
+    (g.S.Shelf.shows c.rtdvs-second.new.shelf) _ _
+    c.rtdvs-first.ensures.shelf c.rtdvs-first.ensures.loads c.rtdvs-second.ensures.loads

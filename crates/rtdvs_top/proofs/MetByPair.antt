@@ -1,0 +1,121 @@
+-- What was prepared and then put answers its command, and so does what was refused before.
+use Rattle.std.proofs.Common.{◌≡◌, ℕ, Bool, true, false, List, Option, Some, None, Result, Ok, Err, IfOk, IfErr, refl, sym, subst}
+use Rattle.dvs_base.specs.Outside.{Files, ShelfView, SinkView}
+use Rattle.task_model.specs.declared.task.Task.{Task}
+use Rattle.probes.specs.Tallies.{ProbeOf}
+use Rattle.words.specs.Commands.{CommandOf, run, traced, poll, least, asks_probes}
+use Rattle.rtdvs_top.specs.Promises.{LoadFailed, Tells, answer_of_command}
+use Rattle.statuses.specs.Steps.{IsRefusal, Refuses}
+use Rattle.rtdvs_top.specs.Files.{files_for}
+use Rattle.statuses.specs.Status.{CountsLoads, LeavesProbes, IsShown}
+use Rattle.rtdvs_top.specs.Prepared.{Ends, EndsAs, PutEnds, Named, HasAnswer, PutStep, PrepareStep, Seen, seen, IsAnswered, MetIn, answer_of}
+use Rattle.rtdvs_top.specs.declared.prepared.Prepared.{Prepared}
+use Rattle.statuses.specs.declared.status.Status.{Status}
+use Rattle.statuses.specs.declared.status.Status.TheVariants as status
+use Rattle.rtdvs_top.proofs.RefusedSteps.{ends-refusal}
+
+-- the put of an answer ends as a command with this answer does
+put-ends : (files : Option Files) (c : CommandOf) (old new : SinkView) (answer : Result (List ℕ) Status) (s : Status)
+    → HasAnswer files c answer → Ends old new answer s → EndsAs old new files (answer_of_command c) s
+put-ends None c old new answer status.Done h ends = (ends.0, tt, ends.2)
+put-ends None c old new answer status.Write h ends = (ends.0, tt, ends.2)
+put-ends None c old new answer (status.Words why) h ends = absurd ends
+put-ends None c old new answer s h ends = tt
+put-ends (Some files) c old new answer s h ends =
+    same-ends s (subst (λ (a : Result (List ℕ) Status). Ends old new a s) (sym h) ends)
+  where
+    same-ends : (s : Status) → Ends old new (answer_of_command c files) s → EndsAs old new (Some files) (answer_of_command c) s
+    same-ends status.Done e = e
+    same-ends status.Write e = e
+    same-ends s e = e
+
+-- what holds of the statuses that a put can end with
+put-cases : (answer : Result (List ℕ) Status) (s : Status) (P : Status → Type 0) → PutEnds answer s
+    → P status.Done → P status.Write → P status.NoMemory → ((jobs : ℕ) → P (status.Limit jobs)) → P s
+put-cases answer status.Done P put done write memory limit = done
+put-cases answer status.Write P put done write memory limit = write
+put-cases answer status.NoMemory P put done write memory limit = memory
+put-cases answer (status.Limit jobs) P put done write memory limit = limit jobs
+put-cases answer s P put done write memory limit = absurd put
+
+-- none of them names a task
+put-named : (files : Option Files) (c : CommandOf) (tasks : Option (List Task)) (answer : Result (List ℕ) Status) (s : Status)
+    → PutEnds answer s → Named files c tasks status.Done → Named files c tasks s
+put-named None c tasks answer s put named = tt
+put-named (Some files) c tasks answer s put named =
+    put-cases answer s (Named (Some files) c tasks) put named refl refl (λ jobs. refl)
+
+-- a command that was refused ends so
+refusal-of : (files : Option Files) (step : Files → Result (List ℕ) Status) (s : Status) → Refuses files step s → IsRefusal s
+refusal-of None step s refuses = refuses
+refusal-of (Some files) step s refuses = ends-refusal (step files) s refuses
+
+refused-ends : (files : Option Files) (old new : SinkView) (step : Files → Result (List ℕ) Status) (s : Status)
+    → Refuses files step s → EndsAs old new files step s
+refused-ends None old new step status.Done refuses = absurd refuses
+refused-ends None old new step status.Write refuses = absurd refuses
+refused-ends None old new step s refuses = refuses
+refused-ends (Some files) old new step status.Done refuses = absurd refuses
+refused-ends (Some files) old new step status.Write refuses = absurd refuses
+refused-ends (Some files) old new step s refuses = refuses
+
+refused-met : (files : Option Files) (c : CommandOf) (s : Status) → IsRefusal s → MetIn files c s
+refused-met files (run r) status.Done refusal = absurd refusal
+refused-met files (traced r) status.Done refusal = absurd refusal
+refused-met files (poll q) status.Done refusal = absurd refusal
+refused-met files (least l) status.Done refusal = absurd refusal
+refused-met files c s refusal = tt
+
+refused-told : (files : Option Files) (c : CommandOf) (old new : SinkView) (before after : List ProbeOf) (s : Status)
+    → IsRefusal s → Tells files (Ok c) old new before after s
+refused-told files (run r) old new before after status.Done refusal = absurd refusal
+refused-told files (run r) old new before after status.Write refusal = absurd refusal
+refused-told files c old new before after s refusal = tt
+
+-- what was refused before anything was put answers the command
+pub refused-answered : (old new : Seen) (c : CommandOf) (tasks : Option (List Task)) (s : Status)
+    → PrepareStep old.shelf new.shelf c tasks (Err s) → IsAnswered c old new s tasks
+refused-answered old new c tasks s step =
+    let files = files_for old.shelf.held c in
+    let refused = step.refused in
+    let refusal = refusal-of files (answer_of_command c) s refused.ended in
+    record {
+      ended = refused-ends files old.out new.out (answer_of_command c) s refused.ended;
+      met = refused-met files c s refusal;
+      tested = refused.tested;
+      named = refused.named;
+      failed = refused.failed;
+      loads = step.loads;
+      counts = step.counts;
+      told = refused-told files c old.out new.out old.probes new.probes s refusal;
+      shown = refused.shown;
+    }
+
+-- what was prepared and then put answers the command
+pub put-answered : {W V : Type 0} (out : W × W) (probes : V × V) (shows : W → SinkView) (counts : V → List ProbeOf)
+    (old new : ShelfView) (c : CommandOf) (tasks : Option (List Task)) (p : Prepared) (s : Status)
+    → PrepareStep old new c tasks (Ok p) → PutStep out probes shows counts p s
+    → IsAnswered c (seen old (shows out.0) (counts probes.0)) (seen new (shows out.1) (counts probes.1)) s tasks
+put-answered out probes shows counts old new c tasks p s step put =
+    let files = files_for old.held c in
+    let prepared = step.prepared in
+    let steady = step.counts in
+    let ends = put.ends in
+    record {
+      ended = put-ends files c (shows out.0) (shows out.1) (answer_of p) s prepared.answer put.ended;
+      met = prepared.met s ends;
+      tested = prepared.tested s ends;
+      named = put-named files c tasks (answer_of p) s ends prepared.named;
+      failed = put-cases (answer_of p) s (LoadFailed old new (Ok c)) ends tt tt tt (λ jobs. tt);
+      loads = step.loads;
+      counts = put-cases (answer_of p) s (CountsLoads old.faults new.faults) ends steady steady steady (λ jobs. steady);
+      told = prepared.told (shows out.0) (shows out.1) (counts probes.0) (counts probes.1) s put.told;
+      shown = put.shown;
+    }
+
+-- what is as it was is left so
+pub left : {V : Type 0} (asks : Bool) (s : Status) (v : V) → LeavesProbes asks s v v
+left false s v = refl
+left true status.Done v = tt
+left true status.Write v = tt
+left true s v = refl
