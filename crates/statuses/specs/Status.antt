@@ -1,4 +1,4 @@
--- The statuses, their exit statuses, and what a status says of the counts of faults and by itself.
+-- Statuses, their exit statuses, and what they show.
 use Rattle.std.specs.Prelude.{◌≤◌, ◌≡◌, ℕ, Bool, true, ⊤, ◌<◌, ◌≢◌, false}
 use Rattle.statuses.specs.declared.status.Status.{Status}
 use Rattle.statuses.specs.declared.status.Status.TheVariants as status

@@ -2,8 +2,8 @@ use Rattle.std.proofs.Common.{◌≡◌, IfOk, subst}
 use Rattle.rtdvs_top.proofs.Published.{totals-published}
 use Rattle.rtdvs_top.proofs.generated.governed_totals.Goals as goal
 
-pub returns-in-Ok : goal.returns-in-Ok
-returns-in-Ok g c =
+pub returns : goal.returns
+returns g c =
     let r = c.args.run.now in
     let publishes = g.met.G.Publishing.publishing.publishes r.plan.now c.scheduler-admitted.ensures.admitted c.requires.serves in
     subst (λ totals. IfOk c.totals_from_opening.result (λ t. t ≡ totals))

@@ -13,5 +13,5 @@ pub returns : goal.returns
 returns g c =
     let text = c.last_line.ensures.text ∙ ap₂ polled_line c.in_ok-count.ensures.served c.totals.ensures in
     writes-then _ _ _ _ _ c.put_line.result c.in_ok-count.ensures.wrote
-    (subst (λ (t : List ℕ). WritesText (g.W.Sink.shows c.put_requests-count.new.out) (g.W.Sink.shows c.put_line.new.out) t c.put_line.result) text
+    (subst (λ (t : List ℕ). WritesText (g.W.Sink.shows c.put_requests.new.out) (g.W.Sink.shows c.put_line.new.out) t c.put_line.result) text
     c.put_line.ensures)

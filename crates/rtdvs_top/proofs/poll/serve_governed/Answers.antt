@@ -11,35 +11,35 @@ use Rattle.rtdvs_top.proofs.ServedAnswers.{served-answer}
 use Rattle.rtdvs_top.proofs.Pollings.{same-served, has-served}
 use Rattle.rtdvs_top.proofs.poll.serve_governed.Goals as goal
 
-pub returns-in-Ok-poll-clause-served : goal.returns-in-Ok-poll-clause-served
-returns-in-Ok-poll-clause-served g c =
+pub returns-in-Ok-clause-served : goal.returns-in-Ok-clause-served
+returns-in-Ok-clause-served g c =
     let s = c.args.polling.now in
     let admitted = subst (λ (x : ServerOf). IsAdmitted x.plan) c.polling.view_is c.scheduler-admitted.ensures.admitted in
     let publishes = g.met.G.Publishing.publishing.publishes s.plan admitted c.requires.serves in
     let served =
-    subst (λ (x : ServerOf). c.in-Ok-poll.served ≡ served_of g.G.Governor.demand x c.args.ticks) c.polling.view_is
-    c.in-Ok-poll.ensures.served in
+    subst (λ (x : ServerOf). c.in-Ok.served ≡ served_of g.G.Governor.demand x c.args.ticks) c.polling.view_is
+    c.in-Ok.ensures.served in
     served ∙ same-served g.G.Governor.demand g.G.Governor.the_kind s publishes (polled-within s) c.args.ticks
 
-pub returns-in-Ok-poll-clause-kept : goal.returns-in-Ok-poll-clause-kept
-returns-in-Ok-poll-clause-kept g c =
+pub returns-in-Ok-clause-kept : goal.returns-in-Ok-clause-kept
+returns-in-Ok-clause-kept g c =
     let s = c.args.polling.now in
     let d = g.G.Governor.demand in
     let admitted = subst (λ (x : ServerOf). IsAdmitted x.plan) c.polling.view_is c.scheduler-admitted.ensures.admitted in
     let publishes = g.met.G.Publishing.publishing.publishes s.plan admitted c.requires.serves in
-    let r = c.in-Ok-poll.served in
-    let served = subst (λ (x : ServerOf). r ≡ served_of d x c.args.ticks) c.polling.view_is c.in-Ok-poll.ensures.served in
+    let r = c.in-Ok.served in
+    let served = subst (λ (x : ServerOf). r ≡ served_of d x c.args.ticks) c.polling.view_is c.in-Ok.ensures.served in
     let polled =
-    subst (λ (x : ServerOf). IsPolled x (polled_notes d x c.args.ticks) r) c.polling.view_is c.in-Ok-poll.ensures.outcomes in
+    subst (λ (x : ServerOf). IsPolled x (polled_notes d x c.args.ticks) r) c.polling.view_is c.in-Ok.ensures.outcomes in
     let jobs = subst HaveJobs c.polling.view_is c.poll.ensures.in_order in
-    let bound = subst (λ (x : ServerOf). KeepsBound x c.args.ticks r) c.polling.view_is c.in-Ok-poll.ensures.bound in
+    let bound = subst (λ (x : ServerOf). KeepsBound x c.args.ticks r) c.polling.view_is c.in-Ok.ensures.bound in
     has-served d g.G.Governor.the_kind s publishes (polled-within s) c.args.ticks r served polled jobs bound
 
-pub returns-in-Ok-poll-clause-step : goal.returns-in-Ok-poll-clause-step
-returns-in-Ok-poll-clause-step g c =
-    let few = subst (λ (x : ServerOf). released_jobs x.plan c.args.ticks ≤ MOST_JOBS) c.polling.view_is c.in-Ok-poll.ensures.few in
+pub returns-in-Ok-clause-step : goal.returns-in-Ok-clause-step
+returns-in-Ok-clause-step g c =
+    let few = subst (λ (x : ServerOf). released_jobs x.plan c.args.ticks ≤ MOST_JOBS) c.polling.view_is c.in-Ok.ensures.few in
     record {
-      gives = served-answer g.G.Governor.the_kind c.args.ticks c.args.polling.now c.in-Ok-poll.served few (returns-in-Ok-poll-clause-served g c);
+      gives = served-answer g.G.Governor.the_kind c.args.ticks c.args.polling.now c.in-Ok.served few (returns-in-Ok-clause-served g c);
       refused = tt;
       loads = tt;
       shown = tt;
