@@ -15,9 +15,7 @@ use crate::at_pair::at_pair;
 use crate::files::{load_file, load_machine, load_tasks};
 use crate::prepared::{Polling, Prepared};
 use crate::{FileKind, Status, TextFault};
-use dvs_base::{
-    Failed, GovernorKind, Line, Part, Shelf, Short, Sink, Totals, line_of, put_line,
-};
+use dvs_base::{Failed, GovernorKind, Line, Part, Shelf, Short, Sink, Totals, line_of, put_line};
 use governor::Publishing;
 use poll_server::{Outcome, PollFault, Served, poll};
 use request_list::Requests;

@@ -1,7 +1,7 @@
 // What a command prepares before anything is put.
 
-use dvs_base::{GovernorKind, Line, Totals, Version};
 use demand_list::Demands;
+use dvs_base::{GovernorKind, Line, Totals, Version};
 use energy_bound::Least;
 use poll_server::Served;
 use request_list::Requests;
