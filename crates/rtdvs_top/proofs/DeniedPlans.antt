@@ -10,22 +10,18 @@ use Rattle.task_model.specs.declared.task.Task.{Task}
 use Rattle.task_model.specs.declared.fault.TaskFault.{TaskFault}
 use Rattle.task_model.specs.declared.fault.TaskFault.TheVariants as task_fault
 use Rattle.task_model.specs.TaskFile.{task_file, place_of}
-use Rattle.freq_table.specs.Tables.{Table}
 use Rattle.freq_table.specs.MachineFile.{machine_file}
 use Rattle.freq_table.specs.declared.fault.MachineFault.{MachineFault}
 use Rattle.freq_table.specs.declared.fault.MachineFault.TheVariants as machine_fault
-use Rattle.demand_list.specs.Demands.{DemandsOf}
 use Rattle.demand_list.specs.DemandFile.{demand_file}
 use Rattle.demand_list.specs.declared.fault.DemandFault.{DemandFault}
 use Rattle.demand_list.specs.declared.fault.DemandFault.TheVariants as demand_fault
-use Rattle.request_list.specs.declared.requests.Request.{Request}
 use Rattle.request_list.specs.RequestFile.{request_file}
 use Rattle.request_list.specs.declared.fault.RequestFault.{RequestFault}
 use Rattle.request_list.specs.declared.fault.RequestFault.TheVariants as request_fault
 use Rattle.trace_reader.specs.Traces.{TraceOf}
 use Rattle.trace_reader.specs.declared.trace.TraceFault.{TraceFault}
 use Rattle.trace_reader.specs.declared.trace.TraceFault.TheVariants as trace_fault
-use Rattle.dvs_base.specs.declared.note.Totals.{Totals}
 use Rattle.replay.specs.Replays.{replay_of}
 use Rattle.replay.specs.declared.fault.ReplayFault.{ReplayFault}
 use Rattle.replay.specs.declared.fault.ReplayFault.TheVariants as replay_fault

@@ -272,7 +272,7 @@ of-trace (Some files) (traced r) loads_rose puts_rose s met answers = (
   λ e.
       let m = subst (MetIn (Some files) (traced r)) e met in
       let ok = subst (IsAnswer loads_rose puts_rose (trace_answer r files)) e answers in
-      done-own r files m.0 m.2.0 m.2.1 m.1 m.2.2 m.2.3 ok,
+      done-own r files m.0 m.2 m.3 m.1 m.4 m.5 ok,
   λ v p g ticks rows bytes of tells.
       let ok = subst IsOk (sym (printed-done r files v p g ticks rows bytes of tells)) refl in
       done-unless loads_rose puts_rose (trace_answer r files) s answers ok,

@@ -97,7 +97,7 @@ done-run r files old new tasks p d bytes t q e wrote ready =
 pub of-run : (files : Option Files) (c : CommandOf) (s : Status) (old new : SinkView)
     → EndsAs old new files (answer_of_command c) s → MetIn files c s → OfRun files (Ok c) old new s
 of-run (Some files) (run r) status.Done old new ends met =
-    done-run r files old new met.0 met.2.0 met.2.1 ends.0 met.1 met.2.2 ends.1 ends.2.bytes met.2.3
+    done-run r files old new met.0 met.2 met.3 ends.0 met.1 met.4 ends.1 ends.2.bytes met.5
 of-run (Some files) (run r) (status.NotAdmitted why) old new ends met = denied-means r files why ends
 of-run files c s old new ends met = tt
 

@@ -1,13 +1,13 @@
 -- What was prepared and then put answers its command, and so does what was refused before.
-use Rattle.std.proofs.Common.{◌≡◌, ℕ, Bool, true, false, List, Option, Some, None, Result, Ok, Err, IfOk, IfErr, refl, sym, subst}
+use Rattle.std.proofs.Common.{ℕ, Bool, true, false, List, Option, Some, None, Result, Ok, Err, refl, sym, subst}
 use Rattle.dvs_base.specs.Outside.{Files, ShelfView, SinkView}
 use Rattle.task_model.specs.declared.task.Task.{Task}
 use Rattle.probes.specs.Tallies.{ProbeOf}
-use Rattle.words.specs.Commands.{CommandOf, run, traced, poll, least, asks_probes}
+use Rattle.words.specs.Commands.{CommandOf, run, traced, poll, least}
 use Rattle.rtdvs_top.specs.Promises.{LoadFailed, Tells, answer_of_command}
 use Rattle.statuses.specs.Steps.{IsRefusal, Refuses}
 use Rattle.rtdvs_top.specs.Files.{files_for}
-use Rattle.statuses.specs.Status.{CountsLoads, LeavesProbes, IsShown}
+use Rattle.statuses.specs.Status.{CountsLoads, LeavesProbes}
 use Rattle.rtdvs_top.specs.Prepared.{Ends, EndsAs, PutEnds, Named, HasAnswer, PutStep, PrepareStep, Seen, seen, IsAnswered, MetIn, answer_of}
 use Rattle.rtdvs_top.specs.declared.prepared.Prepared.{Prepared}
 use Rattle.statuses.specs.declared.status.Status.{Status}

@@ -42,5 +42,5 @@ module _ (demand : OwnDemand) (kind : GovernorKind) (s : ServerOf) (publishes : 
 
 -- what a `poll` run that is done has kept, from what it met
 pub of-poll : (files : Option Files) (c : CommandOf) (s : Status) → MetIn files c s → OfPoll files (Ok c) s
-of-poll (Some files) (poll q) status.Done met = (met.0, met.2.0, met.1, met.2.1, met.2.2)
+of-poll (Some files) (poll q) status.Done met = (met.0, met.2, met.1, met.3, met.4)
 of-poll files c s met = tt

@@ -1,5 +1,5 @@
 -- A run by a governor's own demand is the run by the published one.
-use Rattle.std.proofs.Common.{◌≡◌, ℕ, ◌≤◌, true, List, ap, ◌∙◌, sym, subst}
+use Rattle.std.proofs.Common.{◌≡◌, ℕ, ◌≤◌, true, List, ap, ◌∙◌, subst}
 use Rattle.dvs_base.specs.Outside.{SinkView}
 use Rattle.dvs_base.specs.declared.note.Note.{Note}
 use Rattle.dvs_base.specs.declared.kind.GovernorKind.{GovernorKind}
@@ -34,7 +34,6 @@ use Rattle.rtdvs_top.specs.Generated.{run_totals}
 use Rattle.rtdvs_top.specs.Prepared.{answer_of_run, Ends}
 use Rattle.rtdvs_top.specs.Run.{HasMet, text_under}
 use Rattle.probes.specs.Tallies.{ProbeOf, told_notes}
-use Rattle.statuses.specs.declared.status.Status.{Status}
 use Rattle.statuses.specs.declared.status.Status.TheVariants as status
 use Rattle.rtdvs_top.proofs.LineNotes.{trace-notes}
 use Rattle.rtdvs_top.proofs.DeniedPlans.{within-few}

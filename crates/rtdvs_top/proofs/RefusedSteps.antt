@@ -1,6 +1,7 @@
 -- A reader's refusal, as the status of the step that loads and reads.
-use Rattle.std.proofs.Common.{◌≡◌, ◌≢◌, ℕ, List, Option, Some, None, Result, Err, refl}
-use Rattle.dvs_base.specs.Outside.{Files}
+use Rattle.std.proofs.Common.{◌≡◌, ◌≢◌, ℕ, List, Option, Some, None, Result, Ok, Err, refl, sym, subst}
+use Rattle.std.specs.Result.{IsErrAnd}
+use Rattle.dvs_base.specs.Outside.{Files, ShelfView}
 use Rattle.task_model.specs.declared.task.Task.{Task}
 use Rattle.task_model.specs.declared.fault.TaskFault.{TaskFault}
 use Rattle.task_model.specs.declared.fault.TaskFault.TheVariants as task_fault
@@ -11,11 +12,15 @@ use Rattle.freq_table.specs.MachineFile.{machine_file}
 use Rattle.demand_list.specs.declared.fault.DemandFault.{DemandFault}
 use Rattle.demand_list.specs.declared.fault.DemandFault.TheVariants as demand_fault
 use Rattle.demand_list.specs.DemandFile.{demand_file}
+use Rattle.statuses.specs.declared.status.FileKind.{FileKind}
 use Rattle.statuses.specs.declared.status.FileKind.TheVariants as file
 use Rattle.statuses.specs.declared.status.Status.{Status}
 use Rattle.statuses.specs.declared.status.Status.TheVariants as status
 use Rattle.rtdvs_top.specs.Meanings.{bytes_at, tasks_at, machine_at, demands_at}
-use Rattle.statuses.specs.Refused.{task_status, machine_status, demand_status}
+use Rattle.statuses.specs.Refused.{IsRefusedAs, task_status, machine_status, demand_status}
+use Rattle.statuses.specs.Status.{OfLoad, CountsLoads, IsShown}
+use Rattle.rtdvs_top.specs.Files.{FailsFrom, MakesLoads}
+use Rattle.rtdvs_top.specs.Loads.{LoadStep, one_file}
 use Rattle.statuses.specs.Steps.{Gives, Refuses, EndsWith, IsRefusal}
 
 -- a step that ended with a status
@@ -63,3 +68,51 @@ pub demands-refused : (files : Option Files) (tasks : List Task) (name v : List 
 demands-refused None tasks name v e gives unless = ends-refusal (failed (demand_status e)) (demand_status e)
     (demand-ends (failed (demand_status e)) e (λ n. refl))
 demands-refused (Some files) tasks name v e gives unless = demand-ends (demands_at tasks (Some name) files) e (λ n. rw (gives, unless n) refl)
+
+-- a refused demand file is no failed load
+demand-unloaded : (e : DemandFault) (Holds : FileKind → Type 0) → OfLoad Holds (demand_status e)
+demand-unloaded demand_fault.NoMemory Holds = tt
+demand-unloaded (demand_fault.OverWorst task job units worst) Holds = tt
+demand-unloaded e Holds = tt
+
+demand-counts : (e : DemandFault) (before now : ℕ) → now ≡ before → CountsLoads before now (demand_status e)
+demand-counts demand_fault.NoMemory before now same = same
+demand-counts (demand_fault.OverWorst task job units worst) before now same = same
+demand-counts e before now same = same
+
+module _ {T A : Type 0} (kind : FileKind) (name : List ℕ) (means : Files → Result A Status) (old new : ShelfView) (see : T → A)
+    (loads : MakesLoads 1 old new) (still : new.faults ≡ old.faults) where
+  -- the step that loads one file, reads it and refuses it
+  pub file-refused : (r : Result T Status) (own : Status) → IsErrAnd r (IsRefusedAs own) → Refuses old.held means own
+      → LoadStep (one_file kind name means) old new r see
+  file-refused (Ok v) own h refuses = absurd h
+  file-refused (Err (status.Text why)) own h refuses = record {
+    read = tt;
+    refused = subst (Refuses old.held means) (sym h.is) refuses;
+    failed = tt;
+    loads = loads;
+    counts = still;
+    shown = h.of_file;
+  }
+  file-refused (Err status.NoMemory) own h refuses = record {
+    read = tt;
+    refused = subst (Refuses old.held means) (sym h.is) refuses;
+    failed = tt;
+    loads = loads;
+    counts = still;
+    shown = tt;
+  }
+  file-refused (Err s) own h refuses = absurd h.of_file
+
+  -- the step that loads the demands, reads them and refuses them
+  pub demand-file-refused : (r : Result T Status) (e : DemandFault) → IsErrAnd r (λ s. s ≡ demand_status e)
+      → Refuses old.held means (demand_status e) → IsShown (demand_status e) → LoadStep (one_file kind name means) old new r see
+  demand-file-refused (Ok v) e h refuses shown = absurd h
+  demand-file-refused (Err s) e h refuses shown = record {
+    read = tt;
+    refused = subst (Refuses old.held means) (sym h) refuses;
+    failed = subst (OfLoad (FailsFrom (one_file kind name means).passed old new 1 (one_file kind name means).files)) (sym h) (demand-unloaded e _);
+    loads = loads;
+    counts = subst (CountsLoads old.faults new.faults) (sym h) (demand-counts e old.faults new.faults still);
+    shown = subst IsShown (sym h) shown;
+  }

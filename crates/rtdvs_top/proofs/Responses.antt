@@ -8,7 +8,7 @@ use Rattle.freq_table.specs.Tables.{Table}
 use Rattle.sched_model.specs.Plan.{Plan, plan_of, count, period, offset}
 use Rattle.task_model.specs.Tasks.{first_offset}
 use Rattle.rm_response_laws.specs.Responses.{response as response_of}
-use Rattle.rm_response.specs.Denials.{first_late, exact_answer_from, exact_answer}
+use Rattle.rm_response.specs.Denials.{first_late, exact_answer_from}
 use Rattle.words.specs.Commands.{ResponseOf, response}
 use Rattle.rtdvs_top.specs.Promises.{answer_of_command, Answers}
 use Rattle.rtdvs_top.specs.Response.{response_status, responses_on, responses_text, Responds, FailsToRespond, MeansPlan, OfTest, RespondsOrIsDenied}

@@ -1,5 +1,5 @@
 -- The answer of `constrain`, and what it proves (Baruah, Rosier and Howell 1990).
-use Rattle.std.specs.Prelude.{ℕ, List, Result, Ok, Err, [], ◌∷◌, codes, decimal, slice_index, ◌≡◌, ⊤, Option, Some}
+use Rattle.std.specs.Prelude.{ℕ, List, Result, Ok, [], ◌∷◌, codes, decimal, slice_index, ◌≡◌, ⊤, Option, Some}
 use Rattle.dvs_base.specs.Checks.{◌>>=◌}
 use Rattle.dvs_base.specs.Outside.{Files}
 use Rattle.dvs_base.specs.Parts.{fraction_text}
@@ -10,15 +10,12 @@ use Rattle.freq_table.specs.Tables.{Table, speed_at}
 use Rattle.sched_model.specs.Plan.{plan_of, Plan, count, offset}
 use Rattle.edf_demand.specs.Answers.{tested_answer, LooksAtDemand, IsLowestSpeed, IsOverload, IsTooLong}
 use Rattle.edf_demand.specs.DeadlineFile.{deadline_file}
-use Rattle.edf_demand.specs.declared.fault.DeadlineFault.{DeadlineFault}
-use Rattle.edf_demand.specs.declared.fault.DeadlineFault.TheVariants as deadline_fault
 use Rattle.edf_demand.specs.declared.lowest_speed.Constrained.{Constrained}
 use Rattle.edf_demand.specs.declared.lowest_speed.ConstrainFault.{ConstrainFault}
 use Rattle.edf_demand.specs.declared.lowest_speed.ConstrainFault.TheVariants as constrain_fault
 use Rattle.words.specs.Commands.{ConstrainOf}
 use Rattle.statuses.specs.declared.status.Denied.TheVariants as denied
 use Rattle.statuses.specs.declared.status.FileKind.TheVariants as file
-use Rattle.statuses.specs.declared.status.TextFault.TheVariants as text
 use Rattle.statuses.specs.declared.status.Status.{Status}
 use Rattle.statuses.specs.declared.status.Status.TheVariants as status
 use Rattle.task_model.specs.Tasks.{IsFirstOffset}

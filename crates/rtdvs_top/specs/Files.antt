@@ -1,12 +1,11 @@
 -- The files that a command names, and which of their loads fail.
-use Rattle.std.specs.Prelude.{⊤, ◌≡◌, ℕ, ◌≤◌, ◌⊎◌, ◌<◌, List, ◌+◌, Bool, true, is_ok, Option, Some, None, [], ◌∷◌, if◌then◌else◌, length, IsTrue, Result, Ok, Err}
+use Rattle.std.specs.Prelude.{◌≡◌, ℕ, ◌≤◌, ◌⊎◌, ◌<◌, List, ◌+◌, Bool, true, is_ok, Option, Some, None, [], ◌∷◌, if◌then◌else◌, length, IsTrue, Result, Ok, Err}
 use Rattle.dvs_base.specs.Outside.{Rose, ShelfView, Lacks, Files}
 use Rattle.dvs_base.specs.Checks.{◌>>=◌}
 use Rattle.words.specs.Commands.{CommandOf, poll, run, admit, traced, workload, response, constrain, least}
 use Rattle.statuses.specs.declared.status.FileKind.{FileKind}
 use Rattle.statuses.specs.declared.status.FileKind.TheVariants as file
 use Rattle.statuses.specs.declared.status.Status.{Status}
-use Rattle.statuses.specs.declared.status.Status.TheVariants as status
 use Rattle.task_model.specs.declared.task.Task.{Task}
 use Rattle.task_model.specs.Tasks.{names_of}
 use Rattle.rtdvs_top.specs.Meanings.{tasks_at, machine_at}

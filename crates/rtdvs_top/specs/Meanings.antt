@@ -1,19 +1,13 @@
 -- What a command's files mean.
-use Rattle.std.specs.Prelude.{ℕ, List, length, nat_lt, Option, Some, None, Result, Ok, Err, if◌then◌else◌, ◌≡◌, ⊤}
+use Rattle.std.specs.Prelude.{ℕ, List, length, nat_lt, Option, Some, None, Result, Ok, Err, if◌then◌else◌}
 use Rattle.dvs_base.specs.Checks.{◌>>=◌}
 use Rattle.dvs_base.specs.Outside.{Files, file_of}
 use Rattle.task_model.specs.declared.task.Task.{Task}
-use Rattle.task_model.specs.declared.fault.TaskFault.{TaskFault}
-use Rattle.task_model.specs.declared.fault.TaskFault.TheVariants as task_fault
 use Rattle.task_model.specs.TaskFile.{task_file}
 use Rattle.freq_table.specs.Tables.{Table}
 use Rattle.freq_table.specs.MachineFile.{machine_file}
-use Rattle.freq_table.specs.declared.fault.MachineFault.{MachineFault}
-use Rattle.freq_table.specs.declared.fault.MachineFault.TheVariants as machine_fault
 use Rattle.demand_list.specs.Demands.{DemandsOf}
 use Rattle.demand_list.specs.DemandFile.{demand_file, worst_list}
-use Rattle.demand_list.specs.declared.fault.DemandFault.{DemandFault}
-use Rattle.demand_list.specs.declared.fault.DemandFault.TheVariants as demand_fault
 use Rattle.dvs_base.specs.declared.limits.TheConstants.{LONGEST_FILE, LONGEST_TRACE}
 use Rattle.statuses.specs.declared.status.FileKind.{FileKind}
 use Rattle.statuses.specs.declared.status.FileKind.TheVariants as file

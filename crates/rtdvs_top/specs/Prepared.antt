@@ -7,7 +7,7 @@ use Rattle.task_model.specs.declared.task.Task.{Task}
 use Rattle.sched_model.specs.Plan.{Plan, count, plan_of}
 use Rattle.event_kernel.specs.Runs.{Run, IsListOf}
 use Rattle.dvs_base.specs.declared.limits.TheConstants.{MOST_TICKS}
-use Rattle.words.specs.Commands.{CommandOf, asks_probes, RunOf, TracedOf, LeastOf, PollOf, run, traced, poll, least, ResponseOf}
+use Rattle.words.specs.Commands.{CommandOf, asks_probes, run, traced, poll, least, ResponseOf}
 use Rattle.statuses.specs.declared.status.Status.{Status}
 use Rattle.statuses.specs.declared.status.Status.TheVariants as status
 use Rattle.task_model.specs.Tasks.{names_of}
@@ -22,7 +22,6 @@ use Rattle.probes.specs.Tallies.{ProbeOf}
 use Rattle.rtdvs_top.specs.declared.prepared.Prepared.{Prepared}
 use Rattle.rtdvs_top.specs.declared.prepared.Prepared.TheVariants as prepared
 use Rattle.std.specs.List.{AllByRecursion}
-use Rattle.dvs_base.specs.declared.note.Totals.{Totals}
 use Rattle.replay.specs.Replays.{NamesTask}
 use Rattle.rtdvs_top.specs.declared.generated.PlannedRun.{PlannedRun}
 use Rattle.rtdvs_top.specs.declared.prepared.ReadyRun.{ReadyRun}
@@ -35,7 +34,7 @@ use Rattle.rtdvs_top.specs.Run.{answer_of_plan, run_with, prepared_of}
 use Rattle.rtdvs_top.specs.Promises.{OfTests, Tells, LoadFailed, answer_of_command}
 use Rattle.rtdvs_top.specs.Constrain.{FailsToKeep}
 use Rattle.rtdvs_top.specs.Generated.{workload_tasks, workload_ticks, workload_totals, workload_text}
-use Rattle.rtdvs_top.specs.Trace.{totals_at, traced_of, migrated_text, IsMigratable}
+use Rattle.rtdvs_top.specs.Trace.{traced_of, migrated_text, IsMigratable}
 use Rattle.rtdvs_top.specs.Least.{least_text, IsLeastOn}
 use Rattle.rtdvs_top.specs.Poll.{polled_text, polling_of, HasServed}
 use Rattle.rtdvs_top.specs.Response.{responses_text, FailsToRespond, Responds}

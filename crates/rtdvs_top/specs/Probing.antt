@@ -1,10 +1,9 @@
 -- What a run tells the probes that it is given.
-use Rattle.std.specs.Prelude.{Bool, false, ◌≡◌, ℕ, List, ⊤, true}
+use Rattle.std.specs.Prelude.{Bool, false, ◌≡◌, List, ⊤, true}
 use Rattle.dvs_base.specs.Outside.{SinkView}
 use Rattle.dvs_base.specs.declared.kind.Version.{Version}
 use Rattle.dvs_base.specs.declared.kind.GovernorKind.{GovernorKind}
 use Rattle.dvs_base.specs.declared.note.Note.{Note}
-use Rattle.sched_model.specs.Plan.{Plan}
 use Rattle.sched_model.specs.RunNotes.{run_notes}
 use Rattle.event_kernel.specs.Runs.{Run, demands_of}
 use Rattle.note_laws.specs.RunText.{run_lines}
@@ -12,7 +11,6 @@ use Rattle.event_kernel.specs.Lines.{StoppedIn}
 use Rattle.probes.specs.Tallies.{ProbeOf, told_notes}
 use Rattle.statuses.specs.declared.status.Status.{Status}
 use Rattle.statuses.specs.declared.status.Status.TheVariants as status
-use Rattle.statuses.specs.Status.{Leaves}
 
 -- the notes of a run's schedule, by the published demand of the governor's kind
 abbrev pub notes_under : GovernorKind → Run → List Note

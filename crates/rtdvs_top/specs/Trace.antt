@@ -1,5 +1,5 @@
 -- The answer of `replay` and `migrate`, and which trace files they take.
-use Rattle.std.specs.Prelude.{◌≡◌, ℕ, ◌≤◌, true, List, Some, Ok, ⊤, Option, Result, map, Err, [], ◌∷◌, codes, decimal}
+use Rattle.std.specs.Prelude.{◌≡◌, ℕ, ◌≤◌, true, List, Some, Ok, ⊤, Option, Result, map, [], ◌∷◌, codes, decimal}
 use Rattle.dvs_base.specs.Outside.{Files, file_of}
 use Rattle.dvs_base.specs.declared.kind.GovernorKind.{GovernorKind}
 use Rattle.dvs_base.specs.declared.kind.Version.{Version}
@@ -25,7 +25,6 @@ use Rattle.task_model.specs.declared.task.Task.{Task}
 use Rattle.sched_model.specs.Demand.{published}
 use Rattle.trace_reader.specs.declared.trace.TaskLine.{TaskLine}
 use Rattle.trace_reader.specs.declared.trace.TraceFault.{TraceFault}
-use Rattle.trace_reader.specs.declared.trace.TraceFault.TheVariants as trace_fault
 use Rattle.trace_reader.specs.TraceFile.{trace_file}
 use Rattle.replay.specs.Replays.{replay_of}
 use Rattle.replay.specs.declared.fault.ReplayFault.{ReplayFault}
@@ -33,7 +32,6 @@ use Rattle.replay.specs.declared.fault.ReplayFault.TheVariants as replay_fault
 use Rattle.words.specs.declared.command.TraceUse.{TraceUse}
 use Rattle.words.specs.declared.command.TraceUse.TheVariants.{Replay, Migrate}
 use Rattle.statuses.specs.declared.status.FileKind.TheVariants as file
-use Rattle.statuses.specs.declared.status.TextFault.TheVariants as text
 use Rattle.rtdvs_top.specs.Meanings.{tasks_at, machine_at, bytes_at}
 use Rattle.rtdvs_top.specs.Admit.{admission}
 use Rattle.statuses.specs.Refused.{or_status, trace_status}

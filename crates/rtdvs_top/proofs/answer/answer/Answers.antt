@@ -1,11 +1,11 @@
-use Rattle.rtdvs_top.proofs.MetByPair.{put-answered, refused-answered, left}
+use Rattle.rtdvs_top.proofs.MetByPair.{put-answered, refused-answered}
 use Rattle.rtdvs_top.proofs.answer.answer.Goals as goal
 
 pub put-requires : goal.put-requires
-put-requires g c = c.prepare-step.ensures.prepared.puttable
+put-requires g c = (rw c.in-Ok.is at c.prepare-step.ensures.prepared).puttable
 
 pub returns-in-Ok-clause-answered : goal.returns-in-Ok-clause-answered
-returns-in-Ok-clause-answered g c = put-answered _ _ g.W.Sink.shows _ _ _ _ _ _ _ c.prepare-step.ensures c.put.ensures
+returns-in-Ok-clause-answered g c = put-answered _ _ g.W.Sink.shows _ _ _ _ _ _ _ (rw c.in-Ok.is at c.prepare-step.ensures) c.put.ensures
 
 pub returns-in-Err-clause-answered : goal.returns-in-Err-clause-answered
-returns-in-Err-clause-answered g c = refused-answered _ _ _ _ _ c.prepare-step.ensures
+returns-in-Err-clause-answered g c = refused-answered _ _ _ _ _ (rw c.in-Err.is at c.prepare-step.ensures)

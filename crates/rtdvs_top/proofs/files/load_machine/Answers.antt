@@ -1,7 +1,14 @@
-use Rattle.rtdvs_top.proofs.RefusedSteps.{machine-refused}
+use Rattle.statuses.specs.declared.status.FileKind.TheVariants as file
+use Rattle.statuses.specs.Refused.{machine_status}
+use Rattle.rtdvs_top.specs.Meanings.{machine_at}
+use Rattle.rtdvs_top.proofs.RefusedSteps.{machine-refused, file-refused}
 use Rattle.rtdvs_top.proofs.files.load_machine.Goals as goal
 
-pub returns-clause-refused : goal.returns-clause-refused
-returns-clause-refused g c =
-    rw c.machine_status.ensures.is (machine-refused (g.S.Shelf.shows c.args.shelf.now).held c.args.name.now c.in_ok-bytes.bytes.items
-    c.in-Err.why c.in_ok-bytes.ensures.read (rw c.deref.ensures.value at c.in-Err.ensures))
+pub returns-in_err-read-clause-step : goal.returns-in_err-read-clause-step
+returns-in_err-read-clause-step g c =
+    let loaded = c.in_ok-bytes.ensures.step in
+    let why = c.in_err-read.field-0.0 in
+    file-refused file.Machine c.args.name.now (machine_at c.args.name.now) _ _ (λ v. v) loaded.loads loaded.counts
+    c.from_residual-in_err-read.result (machine_status why) c.from_residual-in_err-read.ensures.1
+    (machine-refused (g.S.Shelf.shows c.args.shelf.now).held c.args.name.now c.in_ok-bytes.bytes.items why loaded.read
+    (rw c.deref.ensures.value at c.in_err-read.ensures))

@@ -1,12 +1,16 @@
-use Rattle.rtdvs_top.proofs.RefusedSteps.{demands-refused}
+use Rattle.std.proofs.Common.{Some}
+use Rattle.statuses.specs.declared.status.FileKind.TheVariants as file
+use Rattle.rtdvs_top.specs.Meanings.{demands_at}
+use Rattle.rtdvs_top.proofs.RefusedSteps.{demands-refused, demand-file-refused}
 use Rattle.rtdvs_top.proofs.Shows.{demand-shown}
 use Rattle.rtdvs_top.proofs.files.load_named_demands.Goals as goal
 
-pub returns-clause-refused : goal.returns-clause-refused
-returns-clause-refused g c =
-    rw c.demand_status.ensures (demands-refused (g.S.Shelf.shows c.args.shelf.now).held c.args.tasks.now c.args.name.now
-    c.in_ok-bytes.bytes.items c.in-Err.why c.in_ok-bytes.ensures.read (rw c.deref.ensures.value at c.in-Err.ensures.file))
-
-pub returns-clause-shown : goal.returns-clause-shown
-returns-clause-shown g c =
-    rw c.demand_status.ensures (demand-shown c.args.tasks.now c.in_ok-bytes.bytes.items c.in-Err.why (rw c.deref.ensures.value at c.in-Err.ensures.file))
+pub returns-in_err-read-clause-step : goal.returns-in_err-read-clause-step
+returns-in_err-read-clause-step g c =
+    let loaded = c.in_ok-bytes.ensures.step in
+    let why = c.in_err-read.field-0.0 in
+    let unless = rw c.deref.ensures.value at c.in_err-read.ensures.file in
+    demand-file-refused file.Demands c.args.name.now (demands_at c.args.tasks.now (Some c.args.name.now)) _ _ (λ v. v) loaded.loads loaded.counts
+    c.from_residual-in_err-read.result why c.from_residual-in_err-read.ensures.1
+    (demands-refused (g.S.Shelf.shows c.args.shelf.now).held c.args.tasks.now c.args.name.now c.in_ok-bytes.bytes.items why loaded.read unless)
+    (demand-shown c.args.tasks.now c.in_ok-bytes.bytes.items why unless)
