@@ -67,7 +67,7 @@ fn compare<G: Governor>(
     requires ended { IsEnded trace.now.notes }
     ensures { result ≡ compared (count plan.now) trace.now (notes_of_run G.demand kernel.entry) }
 {
-    let _scheduler = plan.scheduler();
+    let _admitted = plan.scheduler();
     let mut compared = Compared {
         rest: &trace.notes,
         wanted: None,
@@ -150,6 +150,6 @@ pub fn replay<G: Governor>(
         → IsErrOf result (ReplayFault.Differs line wanted found)
         → IsFirstDifference plan.now (ask_of G.demand plan.now) trace.now line wanted found }
 {
-    let _scheduler = plan.scheduler();
+    let _admitted = plan.scheduler();
     check(alloc, plan, trace, governor)
 }

@@ -8,7 +8,7 @@ ghost use Rattle.words.specs.Shown.{shown_trace};
 ghost use Rattle.statuses.specs.Status.{OfLoad, IsShown};
 ghost use Rattle.statuses.specs.Steps.{TestStep, EndsWith};
 ghost use Rattle.rtdvs_top.specs.Loads.{LoadStep, one_file, later_files};
-ghost use Rattle.rtdvs_top.specs.Trace.{task_names, task_line, lines_of_tasks, trace_of, trace_at, traced_of, replay_status, totals_at, replayed_text, migrated_text, answer_of_traced};
+ghost use Rattle.rtdvs_top.specs.Trace.{task_names, task_line, lines_of_tasks, trace_of, trace_at, traced_of, replay_status, totals_at, replayed_text, answer_of_traced};
 ghost use Rattle.rtdvs_top.specs.Prepared.{IsComparable, IsPuttable, PrepareStep, answer_of, tells_probes};
 
 use crate::admit::admit;
@@ -104,7 +104,7 @@ pub(crate) fn load_traced<S: Shelf>(
     let machine = load_machine(alloc, words.machine, shelf)?;
     let trace = load_trace(alloc, words.trace, tasks, shelf)?;
     let plan = admit(alloc, trace.plan.scheduler, tasks, &machine)?;
-    let _scheduler = plan.scheduler();
+    let _admitted = plan.scheduler();
     Ok((plan, trace))
 }
 
@@ -149,7 +149,7 @@ fn compare_governed<G: Publishing>(
     requires serves { G.serves plan.now.scheduler }
     ensures { TestStep (totals_at (plan.now, trace.now)) result (λ totals. totals) }
 {
-    let _scheduler = plan.scheduler();
+    let _admitted = plan.scheduler();
     match G::made(alloc, plan) {
         Ok(governor) => match replay(alloc, plan, trace, governor) {
             Ok(totals) => Ok(totals),

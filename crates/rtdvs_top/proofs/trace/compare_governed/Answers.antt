@@ -5,7 +5,7 @@ use Rattle.rtdvs_top.proofs.trace.compare_governed.Goals as goal
 pub returns-in-Ok-replay : goal.returns-in-Ok-replay
 returns-in-Ok-replay g c =
     let p = c.args.plan.now in
-    let publishes = g.met.G.Publishing.publishing.publishes p c.scheduler-scheduler.ensures.admitted c.requires.serves in
+    let publishes = g.met.G.Publishing.publishing.publishes p c.scheduler-admitted.ensures.admitted c.requires.serves in
     record {
       gives = governed-totals g.G.Governor.demand g.G.Governor.the_kind p publishes c.args.trace.now c.requires.kind
           (Ok c.in-Ok-replay.totals) c.in-Ok-replay.ensures.answer;
@@ -18,7 +18,7 @@ pub returns-in-Err-replay : goal.returns-in-Err-replay
 returns-in-Err-replay g c =
     let p = c.args.plan.now in
     let t = c.args.trace.now in
-    let publishes = g.met.G.Publishing.publishing.publishes p c.scheduler-scheduler.ensures.admitted c.requires.serves in
+    let publishes = g.met.G.Publishing.publishing.publishes p c.scheduler-admitted.ensures.admitted c.requires.serves in
     record {
       gives = tt;
       refused = rw c.replay_status.ensures (replay-ends p t c.in-Err-replay.why (λ other.
