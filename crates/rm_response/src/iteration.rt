@@ -54,8 +54,8 @@ fn next_tick(tasks: &TaskSet, machine: &Machine, ticks: u64, k: u32, i: u32) -> 
         ceil_div (level_work_in p ticks i) (top_speed p)) ≤ result }
     ensures least { IsUnservedFrom (plan_of tasks.now machine.now Rm) i ticks result }
 {
-    let _tasks = tasks.as_slice();
-    let _entries = machine.as_slice();
+    let _task_limits = tasks.as_slice();
+    let _machine_limits = machine.as_slice();
     let work = level_work_in(tasks, machine, ticks, i);
     let next = up(work, machine.top());
     if work > MOST_SERVED || !is_up_to(tasks, i, k) {
@@ -74,8 +74,8 @@ pub(crate) fn response_of(tasks: &TaskSet, machine: &Machine, from: u64, i: u32)
     requires unserved { IsUnserved (plan_of tasks.now machine.now Rm) i from }
     ensures { result ≡ response (plan_of tasks.now machine.now Rm) i }
 {
-    let _tasks = tasks.as_slice();
-    let _entries = machine.as_slice();
+    let _task_limits = tasks.as_slice();
+    let _machine_limits = machine.as_slice();
     let period = tasks.task(i).period;
     let mut at = u128::from(from);
     let mut k = i;

@@ -113,8 +113,8 @@ pub fn rm_response(
     ensures missed { IfErr result (IsMissedAtPeriod (plan_of tasks.now machine.now Rm)) }
     ensures shown { IfErr result IsShownMiss }
 {
-    let _tasks = tasks.as_slice();
-    let _entries = machine.as_slice();
+    let _task_limits = tasks.as_slice();
+    let _machine_limits = machine.as_slice();
     if let Some(task) = tasks.first_offset() {
         return Err(ResponseFault::Offset { task });
     }

@@ -28,7 +28,7 @@ fn done_in(machine: &Machine, ticks: u64) -> u128
     ensures value { result ≡ highest_speed machine.now * ticks }
     ensures low { result ≤ 2 ^ 64 }
 {
-    let _entries = machine.as_slice();
+    let _machine_limits = machine.as_slice();
     u128::from(machine.top()) * u128::from(ticks)
 }
 
@@ -42,8 +42,8 @@ fn is_beyond(tasks: &TaskSet, machine: &Machine, k: u32, rest: u128, most: u64) 
     ensures within { IsFalse result → rest ≤ highest_speed machine.now * most }
     ensures low { IsFalse result → rest ≤ 2 ^ 64 }
 {
-    let _tasks = tasks.as_slice();
-    let _entries = machine.as_slice();
+    let _task_limits = tasks.as_slice();
+    let _machine_limits = machine.as_slice();
     rest > done_in(machine, most) || ticks_beside(tasks, machine, rest, k) > u128::from(most)
 }
 
@@ -60,8 +60,8 @@ fn fitting(tasks: &TaskSet, machine: &Machine, k: u32, rest: u128, span: Span) -
     requires low_ticks { span.last ≤ LONGEST_PERIOD }
     ensures { FindsFit (plan_of tasks.now machine.now Rm) k rest span.first span.last result }
 {
-    let _tasks = tasks.as_slice();
-    let _entries = machine.as_slice();
+    let _task_limits = tasks.as_slice();
+    let _machine_limits = machine.as_slice();
     if is_beyond(tasks, machine, k, rest, span.last) {
         return None;
     }
@@ -100,8 +100,8 @@ pub(crate) fn searched(tasks: &TaskSet, machine: &Machine, from: u64, i: u32) ->
     requires unserved { IsUnserved (plan_of tasks.now machine.now Rm) i from }
     ensures { result ≡ response (plan_of tasks.now machine.now Rm) i }
 {
-    let _tasks = tasks.as_slice();
-    let _entries = machine.as_slice();
+    let _task_limits = tasks.as_slice();
+    let _machine_limits = machine.as_slice();
     let period = tasks.task(i).period;
     let job = u128::from(worst(tasks, machine, i));
     let whole = Span {

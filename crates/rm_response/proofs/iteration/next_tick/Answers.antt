@@ -14,7 +14,7 @@ pub returns-then-work-gt-MOST_SERVED-clause-least : goal.returns-then-work-gt-MO
 returns-then-work-gt-MOST_SERVED-clause-least c =
     let p : Plan = plan_of c.args.tasks.now c.args.machine.now Rm in
     let lim : IsWithinLimits p =
-    record { tasks = c.as_slice-tasks.ensures.limits; machine = c.as_slice-entries.ensures.limits } in
+    record { tasks = c.as_slice-task_limits.ensures.limits; machine = c.as_slice-machine_limits.ensures.limits } in
     let all : c.up-next.result ≡ ticks_for p c.args.i c.args.ticks =
     c.up-next.ensures ∙ ap₂ ceil_div c.level_work_in-work.ensures c.top.ensures in
     subst (IsUnservedFrom p c.args.i c.args.ticks) (sym all) (unserved-for p lim c.args.i c.requires.task c.args.ticks)
@@ -23,7 +23,7 @@ pub returns-clause-least : goal.returns-clause-least
 returns-clause-least c =
     let p : Plan = plan_of c.args.tasks.now c.args.machine.now Rm in
     let lim : IsWithinLimits p =
-    record { tasks = c.as_slice-tasks.ensures.limits; machine = c.as_slice-entries.ensures.limits } in
+    record { tasks = c.as_slice-task_limits.ensures.limits; machine = c.as_slice-machine_limits.ensures.limits } in
     let i = c.args.i in
     let k = c.args.k in
     let t = c.args.ticks in

@@ -24,7 +24,7 @@ pub returns-then-next-at : goal.returns-then-next-at
 returns-then-next-at c =
     let p : Plan = plan_of c.args.tasks.now c.args.machine.now Rm in
     let lim : IsWithinLimits p =
-    record { tasks = c.as_slice-tasks.ensures.limits; machine = c.as_slice-entries.ensures.limits } in
+    record { tasks = c.as_slice-task_limits.ensures.limits; machine = c.as_slice-machine_limits.ensures.limits } in
     let long : c.task-period.result.period ≡ period p c.args.i =
     ap (λ (t : Task). t.period) c.task-period.ensures.task in
     let within : c.loop-at.at ≤ period p c.args.i = omega (arith, c.loop-at-test.true, long) in

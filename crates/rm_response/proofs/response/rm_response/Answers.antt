@@ -24,14 +24,14 @@ pub returns-in-Ok-respond-clause-deadlines : goal.returns-in-Ok-respond-clause-d
 returns-in-Ok-respond-clause-deadlines c =
     let p : Plan = plan_of c.args.tasks.now c.args.machine.now Rm in
     let lim : IsWithinLimits p =
-    record { tasks = c.as_slice-tasks.ensures.limits; machine = c.as_slice-entries.ensures.limits } in
+    record { tasks = c.as_slice-task_limits.ensures.limits; machine = c.as_slice-machine_limits.ensures.limits } in
     always-meets p lim refl c.in-Ok-respond.ensures.known.all
 
 pub returns-in-Ok-respond-clause-least : goal.returns-in-Ok-respond-clause-least
 returns-in-Ok-respond-clause-least c =
     let p : Plan = plan_of c.args.tasks.now c.args.machine.now Rm in
     let lim : IsWithinLimits p =
-    record { tasks = c.as_slice-tasks.ensures.limits; machine = c.as_slice-entries.ensures.limits } in
+    record { tasks = c.as_slice-task_limits.ensures.limits; machine = c.as_slice-machine_limits.ensures.limits } in
     let known = c.in-Ok-respond.ensures.known in
     subst (AreLeast p) (sym known.are) (are-least p lim refl c.in_default.ensures.finds known.all)
 
@@ -44,7 +44,7 @@ pub returns-in-Err-clause-missed : goal.returns-in-Err-clause-missed
 returns-in-Err-clause-missed c =
     let p : Plan = plan_of c.args.tasks.now c.args.machine.now Rm in
     let lim : IsWithinLimits p =
-    record { tasks = c.as_slice-tasks.ensures.limits; machine = c.as_slice-entries.ensures.limits } in
+    record { tasks = c.as_slice-task_limits.ensures.limits; machine = c.as_slice-machine_limits.ensures.limits } in
     subst (IsMissedAtPeriod p) (sym c.missing.ensures)
     (missed-at p c.in-Err.task c.in_default.ensures.finds c.in-Err.ensures.late lim refl)
 
@@ -52,6 +52,6 @@ pub returns-in-Err-clause-shown : goal.returns-in-Err-clause-shown
 returns-in-Err-clause-shown c =
     let p : Plan = plan_of c.args.tasks.now c.args.machine.now Rm in
     let lim : IsWithinLimits p =
-    record { tasks = c.as_slice-tasks.ensures.limits; machine = c.as_slice-entries.ensures.limits } in
+    record { tasks = c.as_slice-task_limits.ensures.limits; machine = c.as_slice-machine_limits.ensures.limits } in
     subst IsShownMiss (sym c.missing.ensures)
     (shown-at p c.in-Err.task c.in_default.ensures.finds c.in-Err.ensures.late lim)

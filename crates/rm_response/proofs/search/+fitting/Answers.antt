@@ -15,7 +15,7 @@ pub returns-in_default : goal.returns-in_default
 returns-in_default t c =
     let p : Plan = plan_of c.args.tasks.now c.args.machine.now Rm in
     let lim : IsWithinLimits p =
-    record { tasks = c.as_slice-tasks.ensures.limits; machine = c.as_slice-entries.ensures.limits } in
+    record { tasks = c.as_slice-task_limits.ensures.limits; machine = c.as_slice-machine_limits.ensures.limits } in
     record {
       from = c.requires.in_span;
       within = omega arith;
@@ -55,7 +55,7 @@ pub returns-then-is_some : goal.returns-then-is_some
 returns-then-is_some t c =
     let p : Plan = plan_of c.args.tasks.now c.args.machine.now Rm in
     let lim : IsWithinLimits p =
-    record { tasks = c.as_slice-tasks.ensures.limits; machine = c.as_slice-entries.ensures.limits } in
+    record { tasks = c.as_slice-task_limits.ensures.limits; machine = c.as_slice-machine_limits.ensures.limits } in
     let k = c.args.k in
     let j = c.in-Some.j in
     let rest = c.args.rest in
@@ -112,7 +112,7 @@ pub returns : goal.returns
 returns t c =
     let p : Plan = plan_of c.args.tasks.now c.args.machine.now Rm in
     let lim : IsWithinLimits p =
-    record { tasks = c.as_slice-tasks.ensures.limits; machine = c.as_slice-entries.ensures.limits } in
+    record { tasks = c.as_slice-task_limits.ensures.limits; machine = c.as_slice-machine_limits.ensures.limits } in
     let k = c.args.k in
     let j = c.in-Some.j in
     let rest = c.args.rest in

@@ -10,7 +10,7 @@ pub returns-else-rest-done_in-clause-none : goal.returns-else-rest-done_in-claus
 returns-else-rest-done_in-clause-none c = λ on.
     let p : Plan = plan_of c.args.tasks.now c.args.machine.now Rm in
     let lim : IsWithinLimits p =
-    record { tasks = c.as_slice-tasks.ensures.limits; machine = c.as_slice-entries.ensures.limits } in
+    record { tasks = c.as_slice-task_limits.ensures.limits; machine = c.as_slice-machine_limits.ensures.limits } in
     let over : c.from.result < c.ticks_beside.result = grind (arith, nat_tests, on) in
     none-over p lim c.args.k c.args.rest c.args.most 1 c.requires.some_rest c.requires.low_ticks
     (omega (arith, over, c.from.ensures, c.ticks_beside.ensures))

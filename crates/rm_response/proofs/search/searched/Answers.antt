@@ -14,7 +14,7 @@ returns-in_default c =
     let i = c.args.i in
     let from = c.args.from in
     let lim : IsWithinLimits p =
-    record { tasks = c.as_slice-tasks.ensures.limits; machine = c.as_slice-entries.ensures.limits } in
+    record { tasks = c.as_slice-task_limits.ensures.limits; machine = c.as_slice-machine_limits.ensures.limits } in
     let long : c.task-period.result.period ≡ period p i = ap (λ (x : Task). x.period) c.task-period.ensures.task in
     let job : c.from-job.result ≡ worst p i = c.from-job.ensures ∙ c.worst.ensures.value in
     let none : NoneFits p i (worst p i) from (period p i) =
@@ -30,7 +30,7 @@ loop-low-init c =
     let from = c.args.from in
     let high = c.in-Some.high in
     let lim : IsWithinLimits p =
-    record { tasks = c.as_slice-tasks.ensures.limits; machine = c.as_slice-entries.ensures.limits } in
+    record { tasks = c.as_slice-task_limits.ensures.limits; machine = c.as_slice-machine_limits.ensures.limits } in
     let long : c.task-period.result.period ≡ period p i = ap (λ (x : Task). x.period) c.task-period.ensures.task in
     let job : c.from-job.result ≡ worst p i = c.from-job.ensures ∙ c.worst.ensures.value in
     let fit : Fits p i (worst p i) from (period p i) high =
@@ -50,7 +50,7 @@ loop-low-preserved-in-Some-fitting c =
     let i = c.args.i in
     let at = c.loop-low.invariant in
     let lim : IsWithinLimits p =
-    record { tasks = c.as_slice-tasks.ensures.limits; machine = c.as_slice-entries.ensures.limits } in
+    record { tasks = c.as_slice-task_limits.ensures.limits; machine = c.as_slice-machine_limits.ensures.limits } in
     let job : c.from-job.result ≡ worst p i = c.from-job.ensures ∙ c.worst.ensures.value in
     let low = c.loop-low.low in
     let middle = low + (c.loop-low.high - low) / 2 in
@@ -71,7 +71,7 @@ loop-low-preserved c =
     let i = c.args.i in
     let at = c.loop-low.invariant in
     let lim : IsWithinLimits p =
-    record { tasks = c.as_slice-tasks.ensures.limits; machine = c.as_slice-entries.ensures.limits } in
+    record { tasks = c.as_slice-task_limits.ensures.limits; machine = c.as_slice-machine_limits.ensures.limits } in
     let job : c.from-job.result ≡ worst p i = c.from-job.ensures ∙ c.worst.ensures.value in
     let low = c.loop-low.low in
     let middle = low + (c.loop-low.high - low) / 2 in
