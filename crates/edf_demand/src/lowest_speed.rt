@@ -59,8 +59,8 @@ pub fn constrain(
     ensures denial { IfErr result (IsConstrainDenial (plan_of tasks.now machine.now Edf) (slice_index deadlines.now)) }
     ensures shown { IfErr result ShowsCause }
 {
-    let _tasks = tasks.as_slice();
-    let _entries = machine.as_slice();
+    let _task_limits = tasks.as_slice();
+    let _machine_limits = machine.as_slice();
     if let Some(task) = tasks.first_offset() {
         return Err(ConstrainFault::Offset { task });
     }

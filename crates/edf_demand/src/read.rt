@@ -120,7 +120,7 @@ fn all_deadlines(
     ensures deadlines { IfOk result (λ v. v.items ≡ all_deadlines tasks.now given.now) }
     ensures for_tasks { IfOk result (λ v. AreFor tasks.now v.items) }
 {
-    let _tasks = tasks.as_slice();
+    let _task_limits = tasks.as_slice();
     let mut deadlines = Vec::new(alloc);
     for i in 0..tasks.count() {
         let deadline = given[i as usize].unwrap_or(tasks.task(i).period);

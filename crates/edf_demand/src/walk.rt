@@ -101,8 +101,8 @@ fn take_due(next: &mut Queue<ByDue>, tasks: &TaskSet, machine: &Machine, now: u6
     ensures work { result ≡ (let p = plan_of tasks.now machine.now Edf in
         sum_where (length tasks.now) (λ i. nat_eq (due_of next.old.entries i) now) (worst p)) }
 {
-    let _tasks = tasks.as_slice();
-    let _entries = machine.as_slice();
+    let _task_limits = tasks.as_slice();
+    let _machine_limits = machine.as_slice();
     let mut work = 0;
     while earliest(next) == now {
         work += u128::from(take_first(next, tasks, machine));
@@ -122,8 +122,8 @@ pub(crate) fn constrained_demand(
     requires few { hyper_jobs tasks.now ≤ MOST_JOBS }
     ensures { IfOk result (λ d. IsConstrainedDemand (plan_of tasks.now machine.now Edf) (slice_index deadlines.now) d) }
 {
-    let _tasks = tasks.as_slice();
-    let _entries = machine.as_slice();
+    let _task_limits = tasks.as_slice();
+    let _machine_limits = machine.as_slice();
     let mut next = first_deadlines(alloc, tasks, deadlines)?;
     let mut work = 0;
     let mut busiest = Frac { num: 0, den: 1 };

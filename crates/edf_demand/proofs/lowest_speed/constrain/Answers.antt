@@ -42,7 +42,7 @@ returns-clause-answer c =
 pub returns-then-pick-clause-speed : goal.returns-then-pick-clause-speed
 returns-then-pick-clause-speed c =
     let p : Plan = plan_of c.args.tasks.now c.args.machine.now Edf in
-    let lim = within_limits p c.as_slice-tasks.ensures.limits c.as_slice-entries.ensures.limits in
+    let lim = within_limits p c.as_slice-task_limits.ensures.limits c.as_slice-machine_limits.ensures.limits in
     let deadlines = c.args.deadlines.now in
     let con = constrained_of c.args.tasks.now c.args.machine.now deadlines c.requires c.in_default.ensures.finds in
     let demand = c.in-Ok.demand in
@@ -56,7 +56,7 @@ returns-then-pick-clause-speed c =
 pub returns-clause-denial : goal.returns-clause-denial
 returns-clause-denial c =
     let p : Plan = plan_of c.args.tasks.now c.args.machine.now Edf in
-    let lim = within_limits p c.as_slice-tasks.ensures.limits c.as_slice-entries.ensures.limits in
+    let lim = within_limits p c.as_slice-task_limits.ensures.limits c.as_slice-machine_limits.ensures.limits in
     let deadlines = c.args.deadlines.now in
     let con = constrained_of c.args.tasks.now c.args.machine.now deadlines c.requires c.in_default.ensures.finds in
     let demand = c.in-Ok.demand in

@@ -13,4 +13,4 @@ returns-clause-for_tasks c =
     omega (arith, c.loop-i-test.false, c.loop-i.auto.i-end, c.count-i-end.ensures.count) in
     let all : c.loop-i.deadlines.items ≡ all_deadlines tasks given =
     c.loop-i.invariant ∙ ap (λ (n : ℕ). list_below n (relative_deadline tasks given)) whole in
-    subst (AreFor tasks) (sym all) (all-for tasks c.as_slice-tasks.ensures.limits given c.requires)
+    subst (AreFor tasks) (sym all) (all-for tasks c.as_slice-task_limits.ensures.limits given c.requires)

@@ -15,7 +15,7 @@ use Rattle.edf_demand.proofs.walk.constrained_demand.Goals.{then-greater, else-g
 pub loop-now-init : goal.loop-now-init
 loop-now-init c =
     let p : Plan = plan_of c.args.tasks.now c.args.machine.now Edf in
-    let lim = within_limits p c.as_slice-tasks.ensures.limits c.as_slice-entries.ensures.limits in
+    let lim = within_limits p c.as_slice-task_limits.ensures.limits c.as_slice-machine_limits.ensures.limits in
     let relative = slice_index c.args.deadlines.now in
     let made = c.in_ok-next.ensures in
     let next = due_of c.in_ok-next.next.entries in
@@ -31,7 +31,7 @@ loop-now-init c =
 pub overflow_add-work : goal.overflow_add-work
 overflow_add-work c =
     let p : Plan = plan_of c.args.tasks.now c.args.machine.now Edf in
-    let lim = within_limits p c.as_slice-tasks.ensures.limits c.as_slice-entries.ensures.limits in
+    let lim = within_limits p c.as_slice-task_limits.ensures.limits c.as_slice-machine_limits.ensures.limits in
     let con = c.requires.deadlines in
     let relative = slice_index c.args.deadlines.now in
     let l = c.loop-now in
@@ -42,7 +42,7 @@ overflow_add-work c =
 pub greater-requires-clause-left_den : goal.greater-requires-clause-left_den
 greater-requires-clause-left_den c =
     let p : Plan = plan_of c.args.tasks.now c.args.machine.now Edf in
-    let lim = within_limits p c.as_slice-tasks.ensures.limits c.as_slice-entries.ensures.limits in
+    let lim = within_limits p c.as_slice-task_limits.ensures.limits c.as_slice-machine_limits.ensures.limits in
     let relative = slice_index c.args.deadlines.now in
     let l = c.loop-now in
     let later =
@@ -52,7 +52,7 @@ greater-requires-clause-left_den c =
 pub greater-requires-clause-left_fits : goal.greater-requires-clause-left_fits
 greater-requires-clause-left_fits c =
     let p : Plan = plan_of c.args.tasks.now c.args.machine.now Edf in
-    let lim = within_limits p c.as_slice-tasks.ensures.limits c.as_slice-entries.ensures.limits in
+    let lim = within_limits p c.as_slice-task_limits.ensures.limits c.as_slice-machine_limits.ensures.limits in
     let con = c.requires.deadlines in
     let relative = slice_index c.args.deadlines.now in
     let l = c.loop-now in
@@ -66,7 +66,7 @@ greater-requires-clause-left_fits c =
 pub loop-now-smaller : goal.loop-now-smaller
 loop-now-smaller c =
     let p : Plan = plan_of c.args.tasks.now c.args.machine.now Edf in
-    let lim = within_limits p c.as_slice-tasks.ensures.limits c.as_slice-entries.ensures.limits in
+    let lim = within_limits p c.as_slice-task_limits.ensures.limits c.as_slice-machine_limits.ensures.limits in
     let relative = slice_index c.args.deadlines.now in
     let l = c.loop-now in
     let taken = c.take_due-work in
@@ -81,7 +81,7 @@ loop-now-smaller c =
 pub loop-now-preserved : goal.loop-now-preserved
 loop-now-preserved c =
     let p : Plan = plan_of c.args.tasks.now c.args.machine.now Edf in
-    let lim = within_limits p c.as_slice-tasks.ensures.limits c.as_slice-entries.ensures.limits in
+    let lim = within_limits p c.as_slice-task_limits.ensures.limits c.as_slice-machine_limits.ensures.limits in
     let con = c.requires.deadlines in
     let relative = slice_index c.args.deadlines.now in
     let l = c.loop-now in
@@ -111,7 +111,7 @@ loop-now-preserved c =
 pub returns : goal.returns
 returns c =
     let p : Plan = plan_of c.args.tasks.now c.args.machine.now Edf in
-    let lim = within_limits p c.as_slice-tasks.ensures.limits c.as_slice-entries.ensures.limits in
+    let lim = within_limits p c.as_slice-task_limits.ensures.limits c.as_slice-machine_limits.ensures.limits in
     let relative = slice_index c.args.deadlines.now in
     let l = c.loop-now in
     walk-ends p lim relative c.requires.deadlines (due_of l.next.entries) l.now l.work l.busiest l.invariant.walking

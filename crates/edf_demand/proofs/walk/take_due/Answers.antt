@@ -20,14 +20,14 @@ loop-next-init c =
 pub overflow_add-work : goal.overflow_add-work
 overflow_add-work c =
     let p : Plan = plan_of c.args.tasks.now c.args.machine.now Edf in
-    let lim = within_limits p c.as_slice-tasks.ensures.limits c.as_slice-entries.ensures.limits in
+    let lim = within_limits p c.as_slice-task_limits.ensures.limits c.as_slice-machine_limits.ensures.limits in
     let work = c.loop-next.invariant.taken.work_is in
     omega (arith, work, low-due p lim (due_of c.args.next.now.entries) c.args.now, c.from-work.ensures)
 
 pub loop-next-preserved : goal.loop-next-preserved
 loop-next-preserved c =
     let p : Plan = plan_of c.args.tasks.now c.args.machine.now Edf in
-    let lim = within_limits p c.as_slice-tasks.ensures.limits c.as_slice-entries.ensures.limits in
+    let lim = within_limits p c.as_slice-task_limits.ensures.limits c.as_slice-machine_limits.ensures.limits in
     let l = c.loop-next in
     let next = due_of l.next.entries in
     let old = due_of c.args.next.now.entries in
@@ -45,7 +45,7 @@ loop-next-preserved c =
 pub loop-next-smaller : goal.loop-next-smaller
 loop-next-smaller c =
     let p : Plan = plan_of c.args.tasks.now c.args.machine.now Edf in
-    let lim = within_limits p c.as_slice-tasks.ensures.limits c.as_slice-entries.ensures.limits in
+    let lim = within_limits p c.as_slice-task_limits.ensures.limits c.as_slice-machine_limits.ensures.limits in
     let l = c.loop-next in
     let next = due_of l.next.entries in
     let is : least_below (count p) next ≡ c.args.now =
@@ -56,7 +56,7 @@ loop-next-smaller c =
 pub returns : goal.returns
 returns c =
     let p : Plan = plan_of c.args.tasks.now c.args.machine.now Edf in
-    let lim = within_limits p c.as_slice-tasks.ensures.limits c.as_slice-entries.ensures.limits in
+    let lim = within_limits p c.as_slice-task_limits.ensures.limits c.as_slice-machine_limits.ensures.limits in
     let l = c.loop-next in
     let next = due_of l.next.entries in
     let old = due_of c.args.next.now.entries in
