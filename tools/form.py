@@ -38,7 +38,7 @@ def relations():
         for m in re.finditer(r"^(abbrev pub|pub record|abbrev|record|pub data|data) (\w+)((?:.|\n(?=[ \t]))*)", text, re.M):
             kind, name, body = m.groups()
             if "record" in kind or "data" in kind:
-                relation = "(" in body.split(": Type")[0]
+                relation = re.search(r"[({]", body.split(" where")[0]) is not None
             else:
                 relation = body.split("\n")[0].rstrip().endswith("Type 0")
             if relation:

@@ -11,12 +11,6 @@ use Rattle.task_model.specs.Tasks.{names_of}
 use Rattle.rtdvs_top.specs.Meanings.{tasks_at, machine_at}
 use Rattle.rtdvs_top.specs.Poll.{server_at}
 
--- A load failed, the `place`-th since the old shelf. The files are known and lack the name, and the count of failed
--- loads stayed; or the count rose, and the shelf was sure of fewer than `place` loads.
-abbrev pub LoadFails : ShelfView → ShelfView → ℕ → List ℕ → Type 0
-LoadFails old new place name =
-    (Lacks old.held name × (new.faults ≡ old.faults)) ⊎ (Rose old.faults new.faults × (old.sure < place))
-
 -- at most `most` loads were made: the files stay, the count never falls, and stays where the shelf was sure of `most`
 pub record MakesLoads (most : ℕ) (old new : ShelfView) : Type 0 where
   pub held : new.held ≡ old.held
@@ -84,12 +78,14 @@ files_needed held (f ∷ fs) = held
 abbrev pub files_for : Option Files → CommandOf → Option Files
 files_for held c = files_needed held (files_of c)
 
--- the load of one of these files, which is of this kind, failed, and those before it are passed; the first of them is
--- the `place`-th load
+-- The load of one of these files, which is of this kind, failed, and those before it are passed; the first of them is
+-- the `place`-th load. The files are known and lack its name, and the count of failed loads stayed; or the count rose,
+-- and the shelf was sure of fewer loads.
 abbrev pub FailsFrom : (NamedFile → Bool) → ShelfView → ShelfView → ℕ → List NamedFile → FileKind → Type 0
 FailsFrom passed old new place [] kind = ⊥
 FailsFrom passed old new place (f ∷ fs) kind =
-    ((kind ≡ f.kind) × LoadFails old new place f.name)
+    ((kind ≡ f.kind)
+    × ((Lacks old.held f.name × (new.faults ≡ old.faults)) ⊎ (Rose old.faults new.faults × (old.sure < place))))
     ⊎ (IsTrue (passed f) × FailsFrom passed old new (place + 1) fs kind)
 
 -- the name of a file, where it is one of tasks

@@ -1,5 +1,4 @@
-use Rattle.dvs_base.proofs.TextPuts.{wrote-some-more}
-use Rattle.statuses.proofs.Texts.{writes-then, writes-part}
+use Rattle.dvs_base.proofs.TextPuts.{wrote-some-more, writes-then, writes-part}
 use Rattle.rtdvs_top.proofs.generated.put_totals.Goals as goal
 
 pub returns-in_err-put_governors : goal.returns-in_err-put_governors

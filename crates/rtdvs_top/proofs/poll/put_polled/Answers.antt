@@ -1,7 +1,6 @@
 use Rattle.std.proofs.Common.{List, ℕ, ◌∙◌, ap₂, subst}
 use Rattle.dvs_base.specs.WritesText.{WritesText}
-use Rattle.dvs_base.proofs.TextPuts.{wrote-some-more}
-use Rattle.statuses.proofs.Texts.{writes-then, writes-part}
+use Rattle.dvs_base.proofs.TextPuts.{wrote-some-more, writes-then, writes-part}
 use Rattle.rtdvs_top.specs.Poll.{polled_line}
 use Rattle.rtdvs_top.proofs.poll.put_polled.Goals as goal
 

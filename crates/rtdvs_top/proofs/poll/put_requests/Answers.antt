@@ -3,7 +3,7 @@ use Rattle.poll_server.specs.Serving.{request_count}
 use Rattle.poll_server.specs.Outcomes.{outcome_at}
 use Rattle.rtdvs_top.specs.Poll.{outcome_text, request_lines}
 use Rattle.statuses.proofs.NumberedPuts.{part-put}
-use Rattle.statuses.proofs.Texts.{writes-part}
+use Rattle.dvs_base.proofs.TextPuts.{writes-part}
 use Rattle.rtdvs_top.proofs.poll.put_requests.Goals as goal
 
 pub returns-in_err-put_line-clause-wrote : goal.returns-in_err-put_line-clause-wrote

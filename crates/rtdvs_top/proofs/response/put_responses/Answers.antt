@@ -4,7 +4,7 @@ use Rattle.grid_fraction.specs.Numbers.{list_below}
 use Rattle.rtdvs_top.specs.Response.{response_text}
 use Rattle.statuses.proofs.NumberedPuts.{next-put, part-put}
 use Rattle.rtdvs_top.proofs.JoinedLines.{joined-below}
-use Rattle.statuses.proofs.Texts.{writes-part}
+use Rattle.dvs_base.proofs.TextPuts.{writes-part}
 use Rattle.rtdvs_top.proofs.response.put_responses.Goals as goal
 
 pub loop-i-preserved : goal.loop-i-preserved

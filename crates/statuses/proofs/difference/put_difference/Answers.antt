@@ -1,5 +1,4 @@
-use Rattle.dvs_base.proofs.TextPuts.{wrote-some-more}
-use Rattle.statuses.proofs.Texts.{writes-then, writes-part}
+use Rattle.dvs_base.proofs.TextPuts.{wrote-some-more, writes-then, writes-part}
 use Rattle.statuses.proofs.difference.put_difference.Goals as goal
 
 pub returns-in_err-put_line : goal.returns-in_err-put_line
