@@ -220,7 +220,8 @@ count-most test (t ∷ told) = omega (arith, count-append test (t.0 ∷ []) (not
 
 -- there is room for a note where the sum of all energies and the number of notes are low
 pub has-room : (tasks points : ℕ) (told : List Told) (note : Note) (e : ℕ) → HasTask (books_of tasks points told) note → e < points
-    → length told + 1 < 2 ^ 64 → sum_by run_energy_told (noted told) + sum_by idle_energy_told (noted told) + (run_energy_told note + idle_energy_told note) < 2 ^ 128
+    → length told + 1 < 2 ^ 64
+    → sum_by run_energy_told (noted told) + sum_by idle_energy_told (noted told) + (run_energy_told note + idle_energy_told note) < 2 ^ 128
     → HasRoom (books_of tasks points told) note e
 has-room tasks points told note e task lt few low = go note task low
   where

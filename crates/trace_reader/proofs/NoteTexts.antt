@@ -81,7 +81,8 @@ ends-told : (n : Note) → ends (Told n) ≡ is_end n
 ends-told (End t run idle) = refl
 ends-told _ = refl
 
-order-told : (energies_read w : ℕ) (n : Note) (b : Bool) → is_end n ≡ b → is_in_order energies_read w (Told n) ≡ (if b then nat_le w energies_read else energies_read == 0)
+order-told : (energies_read w : ℕ) (n : Note) (b : Bool) → is_end n ≡ b
+    → is_in_order energies_read w (Told n) ≡ (if b then nat_le w energies_read else energies_read == 0)
 order-told energies_read w (End t run idle) b e = ap (λ (c : Bool). if c then nat_le w energies_read else energies_read == 0) e
 order-told energies_read w _ b e = ap (λ (c : Bool). if c then nat_le w energies_read else energies_read == 0) e
 
@@ -152,7 +153,8 @@ share-facts : (v : Version) (names : List (List ℕ)) (notes : List Note) (energ
 share-facts v names notes energies_read e lt = rw e (refl, shares-next names notes energies_read lt)
 
 -- the energy of task j is below 2^128, where that of task `energies_read` is and those after it are
-share-widths : (notes body : List Note) (energies_read j energy : ℕ) → body ≡ [] → energy ≡ task_energy notes energies_read → energy < 2 ^ 128 → energies_read ≤ j
+share-widths : (notes body : List Note) (energies_read j energy : ℕ) → body ≡ []
+    → energy ≡ task_energy notes energies_read → energy < 2 ^ 128 → energies_read ≤ j
     → (energies_read + 1 ≤ j → task_energy (notes ++ body) j < 2 ^ 128) → task_energy (notes ++ []) j < 2 ^ 128
 share-widths notes body energies_read j energy none sum fits low later = by (nat_lt energies_read j) refl
   where
@@ -166,7 +168,8 @@ share-widths notes body energies_read j energy none sum fits low later = by (nat
 -- reading the energy of a task
 read-share : (v : Version) (names : List (List ℕ)) (n : ℕ) (s : SoFar) (text : List ℕ) (rest : List (List ℕ)) (i energy : ℕ) (all : List Note)
     → IsLineOf n (text ∷ rest) text rest → IsNextItem v names s (parts 32 text) (Share i energy)
-    → (s.energies_read < wanted v names → Reads v names (n + 1) (record { notes = s.notes; energies_read = s.energies_read + 1 }) rest all) → Reads v names n s (text ∷ rest) all
+    → (s.energies_read < wanted v names → Reads v names (n + 1) (record { notes = s.notes; energies_read = s.energies_read + 1 }) rest all)
+    → Reads v names n s (text ∷ rest) all
 read-share v names n s text rest i energy all read item next =
     let found = item-found v names text (Share i energy) item.read in
     let place : i ≡ s.energies_read = eqb-true i s.energies_read item.order in
@@ -190,7 +193,8 @@ read-share v names n s text rest i energy all read item next =
       each = subst (λ b. AllByRecursion (IsNoteOf (length names)) (b ++ more.last ∷ [])) none more.each;
       none = λ _. refl;
       text = line ∙ (ap₂ (λ t u. t ++ u) here (more.text ∙ ap (λ b. rest_text v names (s.energies_read + 1) s.notes b more.last) none)
-          ∙ (sym (append_assoc (share_text (name_of names s.energies_read) (task_energy (s.notes ++ []) s.energies_read)) (joined left) (note_text names more.last))
+          ∙ (sym (append_assoc (share_text (name_of names s.energies_read) (task_energy (s.notes ++ []) s.energies_read)) (joined left)
+          (note_text names more.last))
           ∙ ap (λ ls. joined ls ++ note_text names more.last) (sym facts.1)));
       widths = λ j low high. share-widths s.notes more.body s.energies_read j energy none (sum ∙ ap (task_energy s.notes) place) found.1.2 low
           (λ later. more.widths j later high);
@@ -266,11 +270,13 @@ module _ (v : Version) (names : List (List ℕ)) (named : AreNames names) (apart
   end-after n s last more end = rw (ends-told last ∙ end) refl
 
   -- the text of the last note is read
-  last-text : (n : ℕ) (s : SoFar) (last : Note) (more : List ℕ) → is_end last ≡ true → IsNoteOf (length names) last → wanted v names ≤ s.energies_read → n ≤ MOST_LINES
+  last-text : (n : ℕ) (s : SoFar) (last : Note) (more : List ℕ) → is_end last ≡ true → IsNoteOf (length names) last
+      → wanted v names ≤ s.energies_read → n ≤ MOST_LINES
       → notes_from v names n s (parts 10 (note_text names last ++ more)) ≡ answer (n + 1) (s.notes ++ last ∷ []) more
   last-text n s last more end fits energies_read few =
       ap (λ t. notes_from v names n s (parts 10 (t ++ more))) (note-line names last)
-      ∙ (item-next n s (Told last) more fits few (order-told s.energies_read (wanted v names) last true end ∙ le-leb (wanted v names) s.energies_read energies_read) refl
+      ∙ (item-next n s (Told last) more fits few
+      (order-told s.energies_read (wanted v names) last true end ∙ le-leb (wanted v names) s.energies_read energies_read) refl
       ∙ end-after n s last more end)
 
   -- the text of the energies that are left and the last note is read
@@ -330,7 +336,8 @@ module _ (v : Version) (names : List (List ℕ)) (named : AreNames names) (apart
       ≡ item_text names (Told note) ++ (rest_text v names s.energies_read next.notes body last ++ more) =
       ap (λ t. t ++ more) (append_assoc (note_text names note) front tail)
       ∙ (append_assoc (note_text names note) (front ++ tail) more
-      ∙ ap₂ (λ t ns. t ++ ((front ++ (joined (drop s.energies_read (shares v names ns)) ++ note_text names last)) ++ more)) (note-line names note) (sym regrouped)) in
+      ∙ ap₂ (λ t ns. t ++ ((front ++ (joined (drop s.energies_read (shares v names ns)) ++ note_text names last)) ++ more))
+      (note-line names note) (sym regrouped)) in
       let later = notes_from-text (n + 1) next body last more none no_end.1 end each.1
       (λ i high. subst (λ ns. task_energy ns i < 2 ^ 128) (sym regrouped) (widths i high)) (omega arith) in
       let here : n + 1 + (length body + wanted v names) + 1 ≡ n + (suc (length body) + wanted v names) + 1 = omega arith in

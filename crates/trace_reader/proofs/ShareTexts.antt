@@ -36,7 +36,8 @@ shares-same a b i [] same = refl
 shares-same a b i (name ∷ names) same = ap₂ (λ e rest. share_text name e ∷ rest) (same i) (shares-same a b (i + 1) names same)
 
 -- once all energies were read, no energy line is left
-pub shares-told : (v : Version) (names : List (List ℕ)) (notes : List Note) (energies_read : ℕ) → wanted v names ≤ energies_read → drop energies_read (shares v names notes) ≡ []
+pub shares-told : (v : Version) (names : List (List ℕ)) (notes : List Note) (energies_read : ℕ) → wanted v names ≤ energies_read
+    → drop energies_read (shares v names notes) ≡ []
 shares-told v names notes energies_read h = drop_all energies_read (shares v names notes) (omega (arith, length-shares v names notes, h))
 
 drop-from : (notes : List Note) (i j : ℕ) (names : List (List ℕ)) → j < length names
@@ -49,11 +50,13 @@ drop-from notes i (suc j) (name ∷ names) lt =
 
 -- the next energy line is that of task `energies_read`
 pub shares-next : (names : List (List ℕ)) (notes : List Note) (energies_read : ℕ) → energies_read < length names
-    → drop energies_read (shares_from notes 0 names) ≡ share_text (name_of names energies_read) (task_energy notes energies_read) ∷ drop (energies_read + 1) (shares_from notes 0 names)
+    → drop energies_read (shares_from notes 0 names)
+    ≡ share_text (name_of names energies_read) (task_energy notes energies_read) ∷ drop (energies_read + 1) (shares_from notes 0 names)
 shares-next names notes energies_read lt =
     let here : 0 + energies_read ≡ energies_read = omega arith in
     let next : suc energies_read ≡ energies_read + 1 = omega arith in
-    drop-from notes 0 energies_read names lt ∙ ap₂ (λ i k. share_text (name_of names energies_read) (task_energy notes i) ∷ drop k (shares_from notes 0 names)) here next
+    drop-from notes 0 energies_read names lt
+    ∙ ap₂ (λ i k. share_text (name_of names energies_read) (task_energy notes i) ∷ drop k (shares_from notes 0 names)) here next
 
 -- the text of notes that don't end the run, before others, is their lines and then the others' text
 told-body : (v : Version) (names : List (List ℕ)) (all body last : List Note) → AllByRecursion (λ n. is_end n ≡ false) body

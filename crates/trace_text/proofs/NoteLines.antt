@@ -55,11 +55,14 @@ note-fields ns n = refl
 pub unspaced-fields : (ns : List (List ℕ)) → ((i : ℕ) → AreUnspaced (name_of ns i)) → (n : Note) → AllByRecursion AreUnspaced (fields_of ns n)
 unspaced-fields ns named (Release t i k) = (unspaced-word (codes "release") refl, (unspaced-decimal t, (named i, (unspaced-decimal k, tt))))
 unspaced-fields ns named (Speed t f num den) = (unspaced-word (codes "speed") refl, (unspaced-decimal t, (unspaced-decimal f, (unspaced-fraction num den, tt))))
-unspaced-fields ns named (Run from to i k units energy) =
-    (unspaced-word (codes "run") refl, (unspaced-position from, (unspaced-position to, (named i, (unspaced-decimal k, (unspaced-decimal units, (unspaced-decimal energy, tt)))))))
+unspaced-fields ns named (Run from to i k units energy) = (
+  unspaced-word (codes "run") refl,
+  (unspaced-position from, (unspaced-position to, (named i, (unspaced-decimal k, (unspaced-decimal units, (unspaced-decimal energy, tt)))))),
+)
 unspaced-fields ns named (Idle from to units energy) =
     (unspaced-word (codes "idle") refl, (unspaced-position from, (unspaced-position to, (unspaced-decimal units, (unspaced-decimal energy, tt)))))
-unspaced-fields ns named (Done q i k used) = (unspaced-word (codes "done") refl, (unspaced-position q, (named i, (unspaced-decimal k, (unspaced-decimal used, tt)))))
+unspaced-fields ns named (Done q i k used) =
+    (unspaced-word (codes "done") refl, (unspaced-position q, (named i, (unspaced-decimal k, (unspaced-decimal used, tt)))))
 unspaced-fields ns named (End t run idle) = (unspaced-word (codes "end") refl, (unspaced-decimal t, (unspaced-decimal run, (unspaced-decimal idle, tt))))
 
 -- the line of a completion says which job it is
