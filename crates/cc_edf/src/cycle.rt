@@ -5,7 +5,7 @@ ghost use Rattle.freq_table.specs.Tables.{lowest_entry, lowest_pick};
 ghost use Rattle.sched_model.specs.Plan.{count};
 ghost use Rattle.sched_model.specs.CycleDemand.{rate_for};
 ghost use Rattle.sched_model.specs.States.{opening, row_at, IsOfPlan};
-ghost use Rattle.governor.specs.Serving.{ServesEdf};
+ghost use Rattle.governor.specs.ServedSchedulers.{ServesEdf};
 ghost use Rattle.cc_edf_laws.specs.Cycle.{edf_cycle_demand, sum_charged, Counts};
 ghost use Rattle.cc_edf_laws.specs.Conditions.{CycleCalm, CycleSafe};
 ghost use Rattle.cc_edf_laws.proofs.CycleLaws.{cycle_laws};

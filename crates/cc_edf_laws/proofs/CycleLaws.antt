@@ -17,7 +17,7 @@ use Rattle.sched_model.specs.Priority.{stands_before, sum_before, SharesOut}
 use Rattle.sched_model.specs.States.{StateOf, row_at, key_in, opening, IsOfPlan, no_row, released_row, after_release, after_run, after_finish}
 use Rattle.sched_model.proofs.Allotments.{due_by_gets}
 use Rattle.sched_model.proofs.LevelSums.{sum_where-tight, sum_below-times, sum_where-term, sum_where-zero, sum_below-term}
-use Rattle.governor.specs.Serving.{ServesEdf}
+use Rattle.governor.specs.ServedSchedulers.{ServesEdf}
 use Rattle.governor.specs.Steps.{share_in, left_in, IsLegalIn, after_tick, Belongs, after_boundary, wleft_at, IsBeforeAll}
 use Rattle.governor.proofs.StatesOfDemands.{legal_most, unborn_done, opening_at, boundary_at, tick_at, due_soon}
 use Rattle.governor.proofs.Ticks.{tick-closes, demand_most}

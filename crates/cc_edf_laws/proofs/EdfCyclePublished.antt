@@ -15,7 +15,7 @@ use Rattle.sched_model.specs.States.{row_at, state_of}
 use Rattle.sched_model.proofs.Schedules.{exec-most}
 use Rattle.sched_model.proofs.States.{row_at-state_of}
 use Rattle.governor.specs.Schedule.{Publishes, PublishingLaws}
-use Rattle.governor.specs.Serving.{ServesEdf}
+use Rattle.governor.specs.ServedSchedulers.{ServesEdf}
 use Rattle.governor.proofs.Course.{publishing_laws}
 use Rattle.cc_edf_laws.specs.Cycle.{charged_of, charged_rate_in, edf_cycle_demand}
 

@@ -5,7 +5,7 @@ use Rattle.sched_model.specs.declared.state.Row.{Row}
 use Rattle.sched_model.specs.Plan.{Plan, count}
 use Rattle.sched_model.specs.CycleDemand.{rate_for, edf_cycle_of}
 use Rattle.sched_model.specs.States.{StateOf, row_at}
-use Rattle.governor.specs.Serving.{ServesEdf}
+use Rattle.governor.specs.ServedSchedulers.{ServesEdf}
 
 -- the units that a row's task is charged with: what its job had where it is complete, and otherwise its worst case
 abbrev pub charged_of : Row → ℕ

@@ -3,7 +3,7 @@ use Rattle.std.specs.Prelude.{◌≡◌, ℕ, ◌-◌, ◌<◌, ◌≤◌, List,
 use Rattle.sched_model.specs.Plan.{Plan, count}
 use Rattle.sched_model.specs.StaticDemand.{static_speed}
 use Rattle.sched_model.specs.States.{StateOf, earliest_in}
-use Rattle.governor.specs.Serving.{ServesRm}
+use Rattle.governor.specs.ServedSchedulers.{ServesRm}
 use Rattle.governor.specs.Steps.{wleft_at}
 use Rattle.cc_rm_laws.specs.Allotments.{base_of, allotment_left_in, rm_cycle_demand}
 use Rattle.cc_rm.specs.declared.counters.Allotments.{Allotments}

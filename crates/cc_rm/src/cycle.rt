@@ -7,7 +7,7 @@ ghost use Rattle.freq_table.specs.Tables.{lowest_entry, lowest_pick};
 ghost use Rattle.sched_model.specs.StaticDemand.{static_speed};
 ghost use Rattle.sched_model.specs.States.{opening, IsOfPlan};
 ghost use Rattle.governor.specs.Steps.{IsAtDecision};
-ghost use Rattle.governor.specs.Serving.{ServesRm};
+ghost use Rattle.governor.specs.ServedSchedulers.{ServesRm};
 ghost use Rattle.governor.specs.Worst.{MeetsAtWorst};
 ghost use Rattle.cc_rm_laws.specs.Allotments.{rm_cycle_demand};
 ghost use Rattle.cc_rm_laws.specs.Conditions.{CcRmCalm, CcRmSafe};

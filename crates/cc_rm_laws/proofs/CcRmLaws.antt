@@ -34,7 +34,7 @@ use Rattle.freq_table.specs.Tables.{speed_at, lowest_entry, lowest_pick}
 use Rattle.freq_table.proofs.Chosen.{speeds_rise, below_highest, lowest_within, lowest-most, picked_meets, picked_met}
 use Rattle.sched_model.proofs.Limits.{some_task}
 use Rattle.governor.specs.Laws.{GovernorLaws}
-use Rattle.governor.specs.Serving.{ServesRm}
+use Rattle.governor.specs.ServedSchedulers.{ServesRm}
 
 -- what is left still fits into the rest of the time, where it is 0 or fell by the speed
 room_falls : (left_in left' f x y : ℕ) → x ≡ y + 1

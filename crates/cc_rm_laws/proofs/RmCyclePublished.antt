@@ -27,7 +27,7 @@ use Rattle.sched_model.proofs.Schedules.{exec-drop}
 use Rattle.sched_model.proofs.Allotments.{allotment-same}
 use Rattle.governor.specs.Steps.{wleft_at}
 use Rattle.governor.specs.Schedule.{Publishes, PublishingLaws}
-use Rattle.governor.specs.Serving.{ServesRm}
+use Rattle.governor.specs.ServedSchedulers.{ServesRm}
 use Rattle.governor.proofs.Course.{publishing_laws}
 use Rattle.cc_rm_laws.specs.Allotments.{base_of, allotted_in, had_since_mark, allotment_left_in, rm_cycle_demand}
 

@@ -35,7 +35,7 @@ pub record IsBusiest (p : Plan) (relative : ℕ → ℕ) (t : ℕ) (best : Frac)
 
 -- the state of the walk: each task's next deadline, the earliest of them, the work due before it, and the greatest
 -- demand per tick so far
-pub record Walking (p : Plan) (relative : ℕ → ℕ) (next : ℕ → ℕ) (now work : ℕ) (best : Frac) : Type 0 where
+pub record IsWalkedTo (p : Plan) (relative : ℕ → ℕ) (next : ℕ → ℕ) (now work : ℕ) (best : Frac) : Type 0 where
   pub taken : ℕ
   pub nexts : (i : ℕ) → i < count p → next i ≡ next_deadline p relative taken i
   pub now_is : now ≡ least_below (count p) next
@@ -118,7 +118,7 @@ module _ (p : Plan) (lim : IsWithinLimits p) (relative : ℕ → ℕ) (con : IsC
 
   -- at the start each task is at its first deadline, and no work is due before it
   pub walk-start : (next : ℕ → ℕ) → ((i : ℕ) → i < count p → next i ≡ relative i)
-      → Walking p relative next (least_below (count p) next) 0 (record { num = 0; den = 1 })
+      → IsWalkedTo p relative next (least_below (count p) next) 0 (record { num = 0; den = 1 })
   walk-start next same = record {
     taken = 0;
     nexts = λ i lt.
@@ -133,7 +133,7 @@ module _ (p : Plan) (lim : IsWithinLimits p) (relative : ℕ → ℕ) (con : IsC
     within = omega arith;
   }
 
-  module _ (next : ℕ → ℕ) (now work : ℕ) (best : Frac) (w : Walking p relative next now work best) where
+  module _ (next : ℕ → ℕ) (now work : ℕ) (best : Frac) (w : IsWalkedTo p relative next now work best) where
     now-first : (i : ℕ) → i < count p → now ≤ next_deadline p relative w.taken i
     now-first i lt = omega (arith, w.now_is, w.nexts i lt, least-below (count p) next i lt)
 
@@ -264,7 +264,7 @@ module _ (p : Plan) (lim : IsWithinLimits p) (relative : ℕ → ℕ) (con : IsC
     -- with the jobs of the tick taken, the walk is at the next deadline
     pub walk-on : (after : ℕ → ℕ) (then-best : Frac) → now ≤ hyper p → Moved p next now after
         → IsBusiest p relative now then-best
-        → Walking p relative after (least_below (count p) after) (h now) then-best
+        → IsWalkedTo p relative after (least_below (count p) after) (h now) then-best
     walk-on after then-best le moved is = record {
       taken = now;
       nexts = λ i lt. moved i lt ∙ follows i lt (nat_eq (next i) now) refl;
@@ -306,17 +306,17 @@ module _ (p : Plan) (lim : IsWithinLimits p) (relative : ℕ → ℕ) (con : IsC
         (moved : Moved p next now after) (then_is : then_now ≡ least_below (count p) after) (sum_is : sum ≡ h now)
         (den_is : den ≡ now) where
       here-is : (then-best : Frac) → IsBusiest p relative now then-best
-          → Walking p relative after then_now sum then-best
+          → IsWalkedTo p relative after then_now sum then-best
       here-is then-best is =
           let least : ℕ = least_below (count p) after in
-          subst (λ (n : ℕ). Walking p relative after n sum then-best) (sym then_is)
-          (subst (λ (n : ℕ). Walking p relative after least n then-best) (sym sum_is)
+          subst (λ (n : ℕ). IsWalkedTo p relative after n sum then-best) (sym then_is)
+          (subst (λ (n : ℕ). IsWalkedTo p relative after least n then-best) (sym sum_is)
           (walk-on after then-best le moved is))
 
       abbrev here : Frac
       here = record { num = sum; den = den }
 
-      pub walk-takes : is_greater here best ≡ true → Walking p relative after then_now sum here
+      pub walk-takes : is_greater here best ≡ true → IsWalkedTo p relative after then_now sum here
       walk-takes more =
           let over : best.num * den < sum * best.den = ltb-true (best.num * den) (sum * best.den) more in
           let over' : best.num * now < h now * best.den =
@@ -327,7 +327,7 @@ module _ (p : Plan) (lim : IsWithinLimits p) (relative : ℕ → ℕ) (con : IsC
           (subst (λ (n : ℕ). IsBusiest p relative now (record { num = h now; den = n })) (sym den_is)
           (busiest-taken few le over')))
 
-      pub walk-keeps : is_greater here best ≡ false → Walking p relative after then_now sum best
+      pub walk-keeps : is_greater here best ≡ false → IsWalkedTo p relative after then_now sum best
       walk-keeps less =
           let under : sum * best.den ≤ best.num * den = ltb-false (best.num * den) (sum * best.den) less in
           let under' : h now * best.den ≤ best.num * now =

@@ -9,7 +9,7 @@ use Rattle.task_model.specs.declared.task.Task.{Task}
 use Rattle.task_model.specs.Tasks.{hyper_of, task_at, NoneOffset, IsFirstOffset, first_offset}
 use Rattle.sched_model.specs.Plan.{Plan, count, offset, top_speed}
 use Rattle.edf_demand_laws.specs.ProcessorDemand.{IsConstrainedDemand, constrained_demand}
-use Rattle.edf_demand_laws.specs.Deciding.{MeetsAlways, MissesAtWorst}
+use Rattle.edf_demand_laws.specs.MetOrMissed.{MeetsAlways, MissesAtWorst}
 use Rattle.edf_demand.specs.declared.lowest_speed.Constrained.{Constrained}
 use Rattle.edf_demand.specs.declared.lowest_speed.ConstrainFault.{ConstrainFault}
 use Rattle.edf_demand.specs.declared.lowest_speed.ConstrainFault.TheVariants.{Offset, TooManyJobs, Denied, NoMemory}

@@ -14,7 +14,7 @@ use Rattle.sched_model.specs.Admission.{IsWithinLimits}
 use Rattle.sched_model.proofs.Limits.{every_period}
 use Rattle.edf_demand_laws.specs.Constrained.{IsConstrained, absolute, schedule_at}
 use Rattle.edf_demand_laws.specs.ProcessorDemand.{IsDeadline, IsConstrainedDemand, processor_demand, is_deadline, is_busiest, constrained_demand}
-use Rattle.edf_demand_laws.specs.Deciding.{MeetsAlways, MissesAtWorst}
+use Rattle.edf_demand_laws.specs.MetOrMissed.{MeetsAlways, MissesAtWorst}
 use Rattle.edf_demand_laws.proofs.AllSpans.{demand-greatest}
 use Rattle.edf_demand_laws.proofs.Enough.{enough, needed}
 use Rattle.edf_demand_laws.proofs.ConstrainedSchedules.{schedule-exists, schedule-only}

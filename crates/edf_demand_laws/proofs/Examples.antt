@@ -7,7 +7,7 @@ use Rattle.sched_model.specs.Jobs.{release, due, latest, worst_demand, IsWithin}
 use Rattle.sched_model.specs.Ticks.{exec}
 use Rattle.sched_model.proofs.Examples.{task_of, entry_of}
 use Rattle.edf_demand_laws.specs.Constrained.{schedule_at}
-use Rattle.edf_demand_laws.specs.Deciding.{MeetsAlways}
+use Rattle.edf_demand_laws.specs.MetOrMissed.{MeetsAlways}
 use Rattle.edf_demand_laws.specs.ProcessorDemand.{processor_demand, constrained_demand}
 use Rattle.edf_demand_laws.proofs.ConstrainedSchedules.{schedule-exists}
 use Rattle.sched_model.proofs.JobLaws.{worst_demand-le}

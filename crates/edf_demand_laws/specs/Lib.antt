@@ -1,3 +1,3 @@
 pub mod Constrained
 pub mod ProcessorDemand
-pub mod Deciding
+pub mod MetOrMissed

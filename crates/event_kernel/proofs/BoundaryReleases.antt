@@ -60,11 +60,11 @@ abbrev pub any_upto : Plan → List Tick → ℕ → Bool
 any_upto p past m = any_below m (λ i. releases_at p i (length past))
 
 -- the first m rows are released, and `any` says whether a job was
-pub record Releasing (p : Plan) (dem : JobDemands) (past : List Tick) (m : ℕ) (any : Bool) (st : StateOf) : Type 0 where
+pub record HasReleased (p : Plan) (dem : JobDemands) (past : List Tick) (m : ℕ) (any : Bool) (st : StateOf) : Type 0 where
   pub state : st ≡ with_rows p dem past (list_below (count p) (mixed p dem past m))
   pub any_is : any ≡ any_upto p past m
 
-pub releasing-start : (p : Plan) (dem : JobDemands) (past : List Tick) → Releasing p dem past 0 false (prior_state p dem past)
+pub releasing-start : (p : Plan) (dem : JobDemands) (past : List Tick) → HasReleased p dem past 0 false (prior_state p dem past)
 releasing-start p dem past = record {
   state = ap (with_rows p dem past)
       (table-same (count p) (prior_row p dem past) (mixed p dem past 0)
@@ -112,7 +112,7 @@ module _ (p : Plan) (dem : JobDemands) (past : List Tick) (periods : (i : ℕ) �
       )
 
 module _ {p : Plan} {dem : JobDemands} {past : List Tick} (periods : (i : ℕ) → 0 < period p i) where
-  module _ {m : ℕ} {any : Bool} {st : StateOf} (r : Releasing p dem past m any st) where
+  module _ {m : ℕ} {any : Bool} {st : StateOf} (r : HasReleased p dem past m any st) where
     now-is : st.now ≡ length past
     now-is = ap (λ (s : StateOf). s.now) r.state
 
@@ -134,7 +134,7 @@ module _ {p : Plan} {dem : JobDemands} {past : List Tick} (periods : (i : ℕ) �
 
     -- rows that are not due may be counted as released
     pub skips : (i : ℕ) → ((i : ℕ) → dem i 0 ≡ 0) → m ≤ i → i ≤ count p → ((k : ℕ) → m ≤ k → k < i → (row_at st k).deadline ≢ st.now)
-        → Releasing p dem past i any st × (notes_upto p dem past m ≡ notes_upto p dem past i)
+        → HasReleased p dem past i any st × (notes_upto p dem past m ≡ notes_upto p dem past i)
     skips i unneeded lo hi early =
         let there : m + (i - m) ≡ i = omega (arith, lo) in
         let same = nothing p dem past periods (i - m) m (λ k l h. due_released p dem periods past k false (not_due k l (omega (arith, h, lo)))) in (
@@ -155,7 +155,7 @@ module _ {p : Plan} {dem : JobDemands} {past : List Tick} (periods : (i : ℕ) �
 
     -- the rows before the first one that is due may be counted as released
     pub at-due : ((i : ℕ) → dem i 0 ≡ 0) → {i : ℕ} → IsFirstDue p st i
-        → Releasing p dem past i any st × (notes_upto p dem past m ≡ notes_upto p dem past i)
+        → HasReleased p dem past i any st × (notes_upto p dem past m ≡ notes_upto p dem past i)
     at-due unneeded {i} d = skips i unneeded (go (cases_lt i m)) (omega (arith, d.below)) (λ k lo hi. d.first k hi)
       where
         go : (i < m) ⊎ (m ≤ i) → m ≤ i
@@ -169,7 +169,7 @@ module _ {p : Plan} {dem : JobDemands} {past : List Tick} (periods : (i : ℕ) �
         ))
 
     pub at-end : ((i : ℕ) → dem i 0 ≡ 0) → m ≤ count p → ((k : ℕ) → k < count p → (row_at st k).deadline ≢ st.now)
-        → Releasing p dem past (count p) any st × (notes_upto p dem past m ≡ notes_upto p dem past (count p))
+        → HasReleased p dem past (count p) any st × (notes_upto p dem past m ≡ notes_upto p dem past (count p))
     at-end unneeded le none = skips (count p) unneeded le (omega arith) (λ k lo hi. none k hi)
 
     -- the release of a row that is due
@@ -189,7 +189,7 @@ module _ {p : Plan} {dem : JobDemands} {past : List Tick} (periods : (i : ℕ) �
           ap₂ notes now-is (ap (λ (q : Row). q.job + 1) row ∙ sym (next_job p dem periods past m due_there))
           ∙ sym (ap (λ b. if b then notes (length past) (latest p m (length past)) else []) released_there)
 
-      pub opens : (next : StateOf) → next ≡ opened p st m (needs_nothing dem st m) → Releasing p dem past (m + 1) true next
+      pub opens : (next : StateOf) → next ≡ opened p st m (needs_nothing dem st m) → HasReleased p dem past (m + 1) true next
       opens next is = record {
         state = is ∙ (ap (λ (s : StateOf). opened p s m (needs_nothing dem s m)) r.state ∙ ap (with_rows p dem past)
             (set-table (count p) (mixed p dem past m) (mixed p dem past (m + 1)) m _ lt here there));
@@ -240,16 +240,16 @@ module _ {p : Plan} {dem : JobDemands} {past : List Tick} (periods : (i : ℕ) �
       }
 
   -- with all rows released, the state is that after the boundary
-  all-rows : {any : Bool} {st : StateOf} → Releasing p dem past (count p) any st
+  all-rows : {any : Bool} {st : StateOf} → HasReleased p dem past (count p) any st
       → st ≡ with_rows p dem past (list_below (count p) (row_of p dem past))
   all-rows r = r.state ∙ ap (with_rows p dem past)
       (table-same (count p) (mixed p dem past (count p)) (row_of p dem past)
       (λ i lt. mixed-done p dem past (count p) i lt))
 
-  pub released-marked : {any : Bool} {st : StateOf} → any ≡ true → Releasing p dem past (count p) any st → after_mark st ≡ state_of p dem past
+  pub released-marked : {any : Bool} {st : StateOf} → any ≡ true → HasReleased p dem past (count p) any st → after_mark st ≡ state_of p dem past
   released-marked some r = ap after_mark (all-rows r) ∙ state-marked p dem periods past (sym r.any_is ∙ some)
 
-  pub released-unmarked : {any : Bool} {st : StateOf} → ((i : ℕ) → dem i 0 ≡ 0) → any ≡ false → Releasing p dem past (count p) any st
+  pub released-unmarked : {any : Bool} {st : StateOf} → ((i : ℕ) → dem i 0 ≡ 0) → any ≡ false → HasReleased p dem past (count p) any st
       → st ≡ state_of p dem past
   released-unmarked unneeded none r = all-rows r ∙ state-unmarked p dem periods past unneeded (sym r.any_is ∙ none)
 

@@ -120,7 +120,7 @@ module _ (p : Plan) (dem : JobDemands) (past : List Tick) where
   abbrev pub ends_in : (ℕ → ℕ) → ℕ → Bool
   ends_in given i = not (nat_le (dem i (job i)) (had i)) && nat_le (dem i (job i)) (had i + given i)
 
-  pub record Handing (f : ℕ) (given : ℕ → ℕ) (rest : ℕ) (completed : Bool) (st : StateOf) : Type 0 where
+  pub record HasHanded (f : ℕ) (given : ℕ → ℕ) (rest : ℕ) (completed : Bool) (st : StateOf) : Type 0 where
     pub handed : IsHandedOut (count p) key f (left p dem past) given rest
     pub state : st ≡ given_state given
     pub sum : sum_below (count p) given + rest ≡ f
@@ -137,7 +137,7 @@ module _ (p : Plan) (dem : JobDemands) (past : List Tick) where
   none_ends : (i : ℕ) → ends_in (λ _. 0) i ≡ false
   none_ends i = let z : had i + 0 ≡ had i = omega arith in rw z (not-and_self (nat_le (dem i (job i)) (had i)))
 
-  pub start : (f : ℕ) → Handing f (λ _. 0) f false (state_of p dem past)
+  pub start : (f : ℕ) → HasHanded f (λ _. 0) f false (state_of p dem past)
   start f = record {
     handed = handed-start (count p) key f (left p dem past);
     state = start-state;
@@ -152,7 +152,7 @@ module _ (p : Plan) (dem : JobDemands) (past : List Tick) where
   pub start-units : units_by (λ _. 0) ≡ []
   start-units = laid_none (in_order key (count p))
 
-  module _ {f rest : ℕ} {given : ℕ → ℕ} {completed : Bool} {st : StateOf} (h : Handing f given rest completed st) where
+  module _ {f rest : ℕ} {given : ℕ → ℕ} {completed : Bool} {st : StateOf} (h : HasHanded f given rest completed st) where
     -- each row of the state after some units
     pub row-is : (i : ℕ) → i < count p → row_at st i ≡ given_row given i
     row-is i lt = ap (λ (s : StateOf). row_at s i) h.state ∙ get-table (count p) (given_row given) i no_row lt
@@ -200,7 +200,7 @@ module _ (p : Plan) (dem : JobDemands) (past : List Tick) where
         → whole ≡ nat_eq share (dem i (job i) - (had i + given i))
         → next ≡ served st i share whole
         → now ≡ (completed || whole)
-        → Handing f (raised given i share) (rest - share) now next
+        → HasHanded f (raised given i share) (rest - share) now next
     gives next i share whole now pos within o se we ne ce = record {
       handed = subst (λ v. IsHandedOut (count p) key f (left p dem past) (raised given i share) (rest - v)) (sym short)
           (handed-step (count p) key f (left p dem past) given (raised given i share) rest i h.handed pos o

@@ -15,7 +15,7 @@ use Rattle.governor.specs.Schedule.{ask_of}
 use Rattle.governor.specs.Laws.{GovernorLaws}
 use Rattle.governor.proofs.Course.{course-met, demand-met}
 use Rattle.event_kernel.specs.Runs.{Run, demands_of, run_ticks, notes_of_run, IsListOf}
-use Rattle.event_kernel.specs.Meeting.{IsMetRun}
+use Rattle.event_kernel.specs.MetRun.{IsMetRun}
 use Rattle.event_kernel.proofs.ListedDemands.{demand-within}
 
 pub run-met : (kind : GovernorKind) (serves : Scheduler → Type 0) (demand : OwnDemand) (calm : Plan → StateOf → Type 0)

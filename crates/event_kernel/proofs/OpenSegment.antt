@@ -20,7 +20,7 @@ use Rattle.event_kernel.specs.Segment.{grown, notes_with, IsOpen, holder_notes, 
 use Rattle.event_kernel.specs.SpanNotes.{kept_notes}
 use Rattle.event_kernel.proofs.SpanBuffer.{kept_notes-then}
 use Rattle.grid_fraction.proofs.Counts.{count-append}
-use Rattle.event_kernel.specs.Writing.{HeldNow, Writing}
+use Rattle.event_kernel.specs.SpanTraces.{HeldNow, HoldsSpan}
 use Rattle.event_kernel.proofs.Pieces.{pieces_of-more, pieces_of-other, total-append, pieces_notes-append, pieces_notes-grown}
 
 -- the rows of a state show what the latest jobs have had
@@ -83,10 +83,10 @@ module _ (p : Plan) (dem : JobDemands) (ask : PublishedDemand) (t : ℕ) where
 
   -- the trace after units of a holder holds the longer span
   pub enters : (s : Span) (used used' : ℕ → ℕ) (most : ℕ) (st : StateOf) (h : Holder) (n : ℕ) (trace : SpanTrace) → 0 < n
-      → Writing p dem ask t s used most trace → Shows p dem t st used
+      → HoldsSpan p dem ask t s used most trace → Shows p dem t st used
       → HeldNow p t h
       → ((i : ℕ) → i < count p → used i + count_by (same_holder (Held i (latest p i t))) (replicate n h) ≡ used' i)
-      → Writing p dem ask t (grown s (replicate n h)) used' (most + n) (entered p st (length s.past) s.entry h n trace)
+      → HoldsSpan p dem ask t (grown s (replicate n h)) used' (most + n) (entered p st (length s.past) s.entry h n trace)
   enters s used used' most st h zero trace some w shows now more = absurd (omega arith)
   enters s used used' most st h (suc m) trace some w shows now more = go w.segments
     where
@@ -114,8 +114,8 @@ module _ (p : Plan) (dem : JobDemands) (ask : PublishedDemand) (t : ℕ) where
 
       -- the holder of the open segment has the units: the segment grows
       grows : is_turn trace h ≡ false → pieces_of longer.units ≡ w.done ++ piece h (trace.segment.units + n) ∷ [] → total w.done ≤ length s.units
-          → Writing p dem ask t longer used' (most + n) (entered p st (length s.past) s.entry h n trace)
-      grows is e le = subst (λ b. Writing p dem ask t longer used' (most + n) (turned b)) (sym is) (record {
+          → HoldsSpan p dem ask t longer used' (most + n) (entered p st (length s.past) s.entry h n trace)
+      grows is e le = subst (λ b. HoldsSpan p dem ask t longer used' (most + n) (turned b)) (sym is) (record {
         done = w.done;
         segments = inr (omega arith, e);
         place = omega (arith, w.place, long);
@@ -127,7 +127,7 @@ module _ (p : Plan) (dem : JobDemands) (ask : PublishedDemand) (t : ℕ) where
 
       -- another holder has the units: the open segment ends
       turns : 0 < trace.segment.units → pieces_of s.units ≡ w.done ++ piece trace.segment.holder trace.segment.units ∷ []
-          → (b : Bool) → same_holder trace.segment.holder h ≡ b → Writing p dem ask t longer used' (most + n) (entered p st (length s.past) s.entry h n trace)
+          → (b : Bool) → same_holder trace.segment.holder h ≡ b → HoldsSpan p dem ask t longer used' (most + n) (entered p st (length s.past) s.entry h n trace)
       turns pos e true same =
           let like : trace.segment.holder ≡ h = same_holder-eq trace.segment.holder h same in
           let some_units : nat_lt 0 trace.segment.units ≡ true = grind (arith, nat_tests) in
@@ -139,7 +139,7 @@ module _ (p : Plan) (dem : JobDemands) (ask : PublishedDemand) (t : ℕ) where
           let some_units : nat_lt 0 trace.segment.units ≡ true = grind (arith, nat_tests) in
           let r : Piece = piece trace.segment.holder trace.segment.units in
           let start = open-start trace.segment w.done s.units pos e w.place in
-          subst (λ b. Writing p dem ask t longer used' (most + n) (turned b)) (sym (ap₂ (λ a b. a && not b) some_units other)) (record {
+          subst (λ b. HoldsSpan p dem ask t longer used' (most + n) (turned b)) (sym (ap₂ (λ a b. a && not b) some_units other)) (record {
             done = w.done ++ r ∷ [];
             segments = inr (
               omega arith,
@@ -157,7 +157,7 @@ module _ (p : Plan) (dem : JobDemands) (ask : PublishedDemand) (t : ℕ) where
                 ∙ tells s used st trace.segment.start trace.segment.units trace.segment.holder w.taken w.place w.had shows))));
           })
 
-      go : IsOpen trace.segment w.done s.units → Writing p dem ask t longer used' (most + n) (entered p st (length s.past) s.entry h n trace)
+      go : IsOpen trace.segment w.done s.units → HoldsSpan p dem ask t longer used' (most + n) (entered p st (length s.past) s.entry h n trace)
       go (inl q) =
           grows (ap (λ u. nat_lt 0 u && not (same_holder trace.segment.holder h)) q.2)
           (let same : n ≡ trace.segment.units + n = omega (arith, q.2) in

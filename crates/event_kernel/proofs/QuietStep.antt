@@ -25,7 +25,7 @@ use Rattle.event_kernel.specs.declared.in_force.InForce.{InForce}
 use Rattle.event_kernel.specs.Runs.{demands_of}
 use Rattle.event_kernel.specs.Settings.{IsSetting, AreQuiet, IsInSpan, HasWorked}
 use Rattle.event_kernel.proofs.Bounds.{Bounds, bounds}
-use Rattle.event_kernel.proofs.UnitLoop.{Working, entry-there, begin, rows-there, turned, idled, full, finished}
+use Rattle.event_kernel.proofs.UnitLoop.{HoldsHanded, entry-there, begin, rows-there, turned, idled, full, finished}
 use Rattle.event_kernel.proofs.SpanSteps.{goes-on}
 
 -- the units of a tick and of n more
@@ -123,7 +123,7 @@ module _ {set : Setting} (ok : IsSetting set) (force : InForce) where
       some_units : 0 < f
       some_units = adm.some_speed force.index (entry-there ok here)
 
-      w0 : Working demand p dem t f false st trace
+      w0 : HoldsHanded demand p dem t f false st trace
       w0 = begin ok here f refl
 
       -- the next tick belongs to the span
@@ -143,7 +143,7 @@ module _ {set : Setting} (ok : IsSetting set) (force : InForce) where
           let part : f < dem i (row_at st i).job - (row_at st i).used = omega (arith, short) in
           let not_whole : false ≡ nat_eq f (dem i (row_at st i).job - (row_at st i).used) = grind (arith, nat_tests, part) in
           let after : SpanTrace = entered p st force.from force.index (Held i (row_at st i).job) f trace in
-          let w1 : Working demand p dem t (f - f) false (served st i f false) after =
+          let w1 : HoldsHanded demand p dem t (f - f) false (served st i f false) after =
           turned ok here w0 i f first all false false (served st i f false) after some_units not_whole refl refl refl in
           next_tick (run_on st i f (t + 1)) after lt quiet refl (λ k. due-served st i in_rows f k)
           (finished ok here w1 (inl (omega arith)) after (run_on st i f (t + 1)) (full ok here w1 (omega arith)) refl)

@@ -31,11 +31,11 @@ use Rattle.event_kernel.specs.declared.in_force.InForce.{InForce}
 use Rattle.event_kernel.specs.Runs.{demands_of}
 use Rattle.event_kernel.specs.Settings.{IsSetting, AreQuiet, IsInSpan, IsLastTick, IsLastAfter, HasWorked, HasWalked}
 use Rattle.event_kernel.proofs.Bounds.{Bounds, bounds}
-use Rattle.event_kernel.proofs.GivenUnits.{Handing, key, start, first-open}
+use Rattle.event_kernel.proofs.GivenUnits.{HasHanded, key, start, first-open}
 use Rattle.event_kernel.proofs.Ofplan.{of-state}
 use Rattle.event_kernel.proofs.DecisionStates.{at-decision}
 use Rattle.event_kernel.proofs.Courses.{course-next, course-len, low-exec}
-use Rattle.event_kernel.proofs.UnitLoop.{Working, entry-there, begin, can, ready}
+use Rattle.event_kernel.proofs.UnitLoop.{HoldsHanded, entry-there, begin, can, ready}
 use Rattle.event_kernel.proofs.SpanSteps.{ends-span}
 use Rattle.event_kernel.proofs.QuietStep.{run_on, row-served, due-served, first-served}
 
@@ -62,7 +62,7 @@ module _ {set : Setting} (ok : IsSetting set) where
     pub some-speed : 0 < f
     some-speed = adm.some_speed force.index (entry-there ok here)
 
-    w0 : Working demand p dem st.now f false st trace
+    w0 : HoldsHanded demand p dem st.now f false st trace
     w0 = begin ok here f refl
 
     pub of-plan : IsOfPlan p st
@@ -237,7 +237,7 @@ module _ {set : Setting} (ok : IsSetting set) where
         o : IsFirstOpen (count p) (key p dem past) (left p dem past) (λ _. 0) i
         o =
             let f = (point p force.index).speed in
-            first-open p dem past (subst (λ (v : StateOf). Handing p dem past f (λ _. 0) f false v) (sym here.state) (start p dem past f)) i first
+            first-open p dem past (subst (λ (v : StateOf). HasHanded p dem past f (λ _. 0) f false v) (sym here.state) (start p dem past f)) i first
 
         none : 0 ≡ sum_before (count p) (key p dem past) (left p dem past) i
         none = (let b = (handed_before (count p) (key p dem past) (point p force.index).speed (left p dem past) (λ _. 0) (point p force.index).speed

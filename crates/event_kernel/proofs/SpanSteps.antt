@@ -29,7 +29,7 @@ use Rattle.event_kernel.specs.Segment.{first_span, notes_with, IsOpen, holder_no
 use Rattle.event_kernel.specs.declared.notes.TheConstants.{MOST_NOTES}
 use Rattle.event_kernel.specs.SpanNotes.{kept_notes}
 use Rattle.event_kernel.proofs.SpanBuffer.{kept_notes-then, kept_notes-all}
-use Rattle.event_kernel.specs.Writing.{HeldNow, Writing}
+use Rattle.event_kernel.specs.SpanTraces.{HeldNow, HoldsSpan}
 use Rattle.event_kernel.specs.Tickwork.{had_at, span_at, tick_at, whole_span, notes_before, most_units}
 use Rattle.event_kernel.specs.Boundary.{some_due, speed_note}
 use Rattle.event_kernel.specs.declared.progress.Setting.{Setting}
@@ -204,8 +204,8 @@ module _ {set : Setting} (ok : IsSetting set) where
       began = ap (λ (x : Span). x.past) new ∙ ap (course demand p dem) (sym from);
       entry = in_force ∙ sym (ap (λ (x : Span). x.entry) new);
       in_force = in_force;
-      writing = subst (λ x. Writing p dem (ask_of demand p dem) t x (had_at p (course demand p dem t)) (most_units t) trace) (sym new)
-          (subst (λ q. Writing p dem (ask_of demand p dem) t fresh (had_at p (course demand p dem t)) (most_units t) q) (sym pe) (record {
+      writing = subst (λ x. HoldsSpan p dem (ask_of demand p dem) t x (had_at p (course demand p dem t)) (most_units t) trace) (sym new)
+          (subst (λ q. HoldsSpan p dem (ask_of demand p dem) t fresh (had_at p (course demand p dem t)) (most_units t) q) (sym pe) (record {
             done = [];
             segments = inl (refl, refl, refl);
             place = omega arith;
@@ -248,7 +248,7 @@ module _ {set : Setting} (ok : IsSetting set) where
       began = ap (λ (x : Span). x.past) on ∙ i.began;
       entry = i.entry ∙ sym (ap (λ (x : Span). x.entry) on);
       in_force = i.in_force ∙ sym still;
-      writing = subst (λ x. Writing p dem (ask_of demand p dem) (t + 1) x (had_at p (course demand p dem (t + 1))) (most_units (t + 1)) trace)
+      writing = subst (λ x. HoldsSpan p dem (ask_of demand p dem) (t + 1) x (had_at p (course demand p dem (t + 1))) (most_units (t + 1)) trace)
           (sym on) (record {
             done = h.writing.done;
             segments = h.writing.segments;
@@ -356,7 +356,7 @@ module _ {set : Setting} (ok : IsSetting set) where
       from_is : force.from ≡ length whole.past
       from_is = sym (ap length h.began ∙ course-len demand p dem force.from)
 
-      w : Writing p dem (ask_of demand p dem) last whole (λ i. exec p (course demand p dem (last + 1)) i (latest p i last)) (most_units (last + 1)) trace
+      w : HoldsSpan p dem (ask_of demand p dem) last whole (λ i. exec p (course demand p dem (last + 1)) i (latest p i last)) (most_units (last + 1)) trace
       w = h.worked.writing
 
       row-last : (i : ℕ) → i < count p → row_at s i ≡ prior_row p dem (tick_at demand p dem last ∷ course demand p dem last) i

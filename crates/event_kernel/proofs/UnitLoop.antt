@@ -30,7 +30,7 @@ use Rattle.governor.specs.Meanings.{OwnDemand}
 use Rattle.governor.specs.Schedule.{ask_of, course}
 use Rattle.event_kernel.specs.declared.span_trace.SpanTrace.{SpanTrace}
 use Rattle.event_kernel.specs.Segment.{entered, CanAdd, HeldIn}
-use Rattle.event_kernel.specs.Writing.{HeldNow, Writing}
+use Rattle.event_kernel.specs.SpanTraces.{HeldNow, HoldsSpan}
 use Rattle.event_kernel.specs.Tickwork.{served, span_at, tick_at, whole_span, most_units}
 use Rattle.event_kernel.specs.declared.progress.Setting.{Setting}
 use Rattle.event_kernel.specs.declared.in_force.InForce.{InForce}
@@ -39,7 +39,7 @@ use Rattle.event_kernel.specs.Settings.{IsSetting, IsInSpan, HasWorked}
 use Rattle.event_kernel.proofs.Bounds.{Bounds, bounds}
 use Rattle.event_kernel.proofs.Courses.{course-next, course-len, exec-within}
 use Rattle.event_kernel.proofs.OpenSegment.{Shows, enters}
-use Rattle.event_kernel.proofs.GivenUnits.{raised, sum-raised, key, job, had, units_by, given_units-same, given_row, ends_in, Handing, start, start-units, row-is, shows, first-open, none-open, gives, gives-units, gives-had, count_idle}
+use Rattle.event_kernel.proofs.GivenUnits.{raised, sum-raised, key, job, had, units_by, given_units-same, given_row, ends_in, HasHanded, start, start-units, row-is, shows, first-open, none-open, gives, gives-units, gives-had, count_idle}
 
 module _ (demand : OwnDemand) (p : Plan) (dem : JobDemands) (t : ℕ) where
   abbrev pub past : List Tick
@@ -52,14 +52,14 @@ module _ (demand : OwnDemand) (p : Plan) (dem : JobDemands) (t : ℕ) where
   -- the trace holds the span with the units `us` of the tick behind it; `given` is the units that each task got
   abbrev pub Wrote : (ℕ → ℕ) → List Holder → ℕ → SpanTrace → Type 0
   Wrote given us more trace =
-      Writing p dem (ask_of demand p dem) (length past)
+      HoldsSpan p dem (ask_of demand p dem) (length past)
       (record { past = (span_at demand p dem t).past; entry = (span_at demand p dem t).entry; units = (span_at demand p dem t).units ++ us })
       (λ i. had p dem past i + given i) (most_units (length past) + more) trace
 
   -- the units of the tick are handed out but for `rest`, and the trace holds those
-  pub record Working (rest : ℕ) (completed : Bool) (st : StateOf) (trace : SpanTrace) : Type 0 where
+  pub record HoldsHanded (rest : ℕ) (completed : Bool) (st : StateOf) (trace : SpanTrace) : Type 0 where
     pub given : ℕ → ℕ
-    pub hand : Handing p dem past fast given rest completed st
+    pub hand : HasHanded p dem past fast given rest completed st
     pub writing : Wrote given (units_by p dem past given) (sum_below (count p) given) trace
 
   -- the trace after n more units of one holder
@@ -73,9 +73,9 @@ module _ (demand : OwnDemand) (p : Plan) (dem : JobDemands) (t : ℕ) where
       let e = enters p dem (ask_of demand p dem) (length past) (record { past = s0.past; entry = s0.entry; units = s0.units ++ us })
       (λ i. had p dem past i + given i) (λ i. had p dem past i + given' i) (most_units (length past) + more) st h n trace some w sh now had_is in
       let all : most_units (length past) + more + n ≡ most_units (length past) + more' = omega (arith, much) in
-      subst (λ m. Writing p dem (ask_of demand p dem) (length past) (record { past = s0.past; entry = s0.entry; units = s0.units ++ vs })
+      subst (λ m. HoldsSpan p dem (ask_of demand p dem) (length past) (record { past = s0.past; entry = s0.entry; units = s0.units ++ vs })
       (λ i. had p dem past i + given' i) m (entered p st (length s0.past) s0.entry h n trace)) all
-      (subst (λ ls. Writing p dem (ask_of demand p dem) (length past) (record { past = s0.past; entry = s0.entry; units = ls })
+      (subst (λ ls. HoldsSpan p dem (ask_of demand p dem) (length past) (record { past = s0.past; entry = s0.entry; units = ls })
       (λ i. had p dem past i + given' i) (most_units (length past) + more + n) (entered p st (length s0.past) s0.entry h n trace))
       (append_assoc s0.units us (replicate n h) ∙ ap (λ ls. s0.units ++ ls) units) e)
 
@@ -113,21 +113,21 @@ module _ {demand : OwnDemand} {set : Setting} (ok : IsSetting set) {force : InFo
     pub speed-in : {q : Point} → q ≡ point_at m force.index → q.speed ≡ (point p force.index).speed
     speed-in e = ap (λ (q : Point). q.speed) e ∙ ap (λ (x : Table). speed_at x force.index) is
 
-  pub begin : (speed : ℕ) → speed ≡ (point p force.index).speed → Working demand p dem t speed false st0 trace0
+  pub begin : (speed : ℕ) → speed ≡ (point p force.index).speed → HoldsHanded demand p dem t speed false st0 trace0
   begin speed is =
-      subst (λ f. Working demand p dem t f false st0 trace0) (sym (is ∙ ap (λ m. (point p m).speed) at.in_force))
-      (subst (λ s. Working demand p dem t (fast demand p dem t) false s trace0) (sym at.state) (record {
+      subst (λ f. HoldsHanded demand p dem t f false st0 trace0) (sym (is ∙ ap (λ m. (point p m).speed) at.in_force))
+      (subst (λ s. HoldsHanded demand p dem t (fast demand p dem t) false s trace0) (sym at.state) (record {
         given = λ _. 0;
         hand = start p dem so_far (fast demand p dem t);
         writing = subst (λ us. Wrote demand p dem t (λ _. 0) us (sum_below (count p) (λ _. 0)) trace0) (sym (start-units p dem so_far)) none;
       }))
     where
-      w0 : Writing p dem (ask_of demand p dem) (length so_far) (record { past = s0.past; entry = s0.entry; units = s0.units ++ [] }) (had p dem so_far)
+      w0 : HoldsSpan p dem (ask_of demand p dem) (length so_far) (record { past = s0.past; entry = s0.entry; units = s0.units ++ [] }) (had p dem so_far)
           (most_units (length so_far)) trace0
       w0 =
-          subst (λ ls. Writing p dem (ask_of demand p dem) (length so_far) (record { past = s0.past; entry = s0.entry; units = ls }) (had p dem so_far)
+          subst (λ ls. HoldsSpan p dem (ask_of demand p dem) (length so_far) (record { past = s0.past; entry = s0.entry; units = ls }) (had p dem so_far)
           (most_units (length so_far)) trace0) (sym (append-nil s0.units))
-          (subst (λ n. Writing p dem (ask_of demand p dem) n s0 (had p dem so_far) (most_units n) trace0) (sym long) at.writing)
+          (subst (λ n. HoldsSpan p dem (ask_of demand p dem) n s0 (had p dem so_far) (most_units n) trace0) (sym long) at.writing)
 
       none : Wrote demand p dem t (λ _. 0) [] (sum_below (count p) (λ _. 0)) trace0
       none = record {
@@ -140,7 +140,7 @@ module _ {demand : OwnDemand} {set : Setting} (ok : IsSetting set) {force : InFo
         notes = w0.notes;
       }
 
-  module _ {rest : ℕ} {completed : Bool} {st : StateOf} {trace : SpanTrace} (w : Working demand p dem t rest completed st trace) where
+  module _ {rest : ℕ} {completed : Bool} {st : StateOf} {trace : SpanTrace} (w : HoldsHanded demand p dem t rest completed st trace) where
     pub rows-there : length st.rows ≡ count p
     rows-there = ap (λ (s : StateOf). length s.rows) w.hand.state ∙ length-list_below (count p) (given_row p dem so_far w.given)
 
@@ -194,7 +194,7 @@ module _ {demand : OwnDemand} {set : Setting} (ok : IsSetting set) {force : InFo
 
       pub turned : (whole now : Bool) (st' : StateOf) (trace' : SpanTrace) → 0 < rest → whole ≡ nat_eq share (dem i (row_at st i).job - (row_at st i).used)
           → now ≡ (completed || whole) → st' ≡ served st i share whole → trace' ≡ entered p st force.from force.index (Held i (row_at st i).job) share trace
-          → Working demand p dem t (rest - share) now st' trace'
+          → HoldsHanded demand p dem t (rest - share) now st' trace'
       turned whole now st' trace' pos we ne sis pis = record {
         given = raised w.given i share;
         hand = gives p dem so_far w.hand st' i share whole now pos within o
@@ -271,12 +271,12 @@ module _ {demand : OwnDemand} {set : Setting} (ok : IsSetting set) {force : InFo
           any_below-same (count p) (ends_in p dem so_far w.given) (completes_in p dem x so_far) (λ i lt.
           ap (λ u. not (nat_le (dem i (job p dem so_far i)) (had p dem so_far i)) && nat_le (dem i (job p dem so_far i)) u) (had-next i lt))
 
-      done : (trace' : SpanTrace) → HasIdled trace' → Writing p dem (ask_of demand p dem) t (whole_span demand p dem t)
+      done : (trace' : SpanTrace) → HasIdled trace' → HoldsSpan p dem (ask_of demand p dem) t (whole_span demand p dem t)
           (λ i. exec p (x ∷ so_far) i (latest p i t)) (most_units (t + 1)) trace'
       done trace' d =
-          subst (λ n. Writing p dem (ask_of demand p dem) n (whole_span demand p dem t) (λ i. exec p (x ∷ so_far) i (latest p i n))
+          subst (λ n. HoldsSpan p dem (ask_of demand p dem) n (whole_span demand p dem t) (λ i. exec p (x ∷ so_far) i (latest p i n))
           (most_units (n + 1)) trace') long
-          (subst (λ us. Writing p dem (ask_of demand p dem) (length so_far) (record { past = s0.past; entry = s0.entry; units = s0.units ++ us })
+          (subst (λ us. HoldsSpan p dem (ask_of demand p dem) (length so_far) (record { past = s0.past; entry = s0.entry; units = s0.units ++ us })
           (λ i. exec p (x ∷ so_far) i (job p dem so_far i)) (most_units (length so_far + 1)) trace') units (record {
             done = d.done;
             segments = d.segments;
@@ -292,7 +292,7 @@ module _ {demand : OwnDemand} {set : Setting} (ok : IsSetting set) {force : InFo
           let later : x ∷ so_far ≡ course demand p dem (t + 1) = sym (course-next demand p dem t) in
           record {
             state = is ∙ (ap (λ n. after_advance st (n + 1)) (sym long) ∙ (state ∙ ap (λ ps. prior_state p dem ps) later));
-            writing = subst (λ (ps : List Tick). Writing p dem (ask_of demand p dem) t (whole_span demand p dem t) (λ i. exec p ps i (latest p i t))
+            writing = subst (λ (ps : List Tick). HoldsSpan p dem (ask_of demand p dem) t (whole_span demand p dem t) (λ i. exec p ps i (latest p i t))
                 (most_units (t + 1)) trace') later (done trace' d);
             completes = w.hand.ends ∙ completes;
           }

@@ -1,11 +1,11 @@
 pub mod Heard
 pub mod Runs
-pub mod Meeting
+pub mod MetRun
 pub mod SpanNotes
 pub mod Segment
 pub mod Lines
 pub mod UnnotedLines
-pub mod Writing
+pub mod SpanTraces
 pub mod Tickwork
 pub mod Boundary
 pub mod Settings

@@ -17,7 +17,7 @@ use Rattle.event_kernel.specs.declared.in_force.InForce.{InForce}
 use Rattle.event_kernel.specs.declared.span_trace.SpanTrace.{SpanTrace}
 use Rattle.event_kernel.specs.Runs.{demands_of, IsListOf}
 use Rattle.event_kernel.specs.Tickwork.{had_at, span_at, tick_at, whole_span, most_units}
-use Rattle.event_kernel.specs.Writing.{Writing}
+use Rattle.event_kernel.specs.SpanTraces.{HoldsSpan}
 
 module _ (set : Setting) where
   abbrev p : Plan
@@ -86,12 +86,12 @@ module _ (set : Setting) where
       pub began : (span_at demand p dem t).past ≡ course demand p dem force.from
       pub entry : force.index ≡ (span_at demand p dem t).entry
       pub in_force : force.index ≡ entry_in_force p dem (ask_of demand p dem) (course demand p dem t)
-      pub writing : Writing p dem (ask_of demand p dem) t (span_at demand p dem t) (had_at p (course demand p dem t)) (most_units t) trace
+      pub writing : HoldsSpan p dem (ask_of demand p dem) t (span_at demand p dem t) (had_at p (course demand p dem t)) (most_units t) trace
 
     -- the state is after the units of tick t, the trace holds them, and `completed` says whether a job completed in it
     pub record HasWorked (t : ℕ) (s : StateOf) (trace : SpanTrace) (completed : Bool) : Type 0 where
       pub state : s ≡ prior_state p dem (course demand p dem (t + 1))
-      pub writing : Writing p dem (ask_of demand p dem) t (whole_span demand p dem t)
+      pub writing : HoldsSpan p dem (ask_of demand p dem) t (whole_span demand p dem t)
           (λ i. exec p (course demand p dem (t + 1)) i (latest p i t)) (most_units (t + 1)) trace
       pub completes : completed ≡ any_below (count p) (completes_in p dem (tick_at demand p dem t) (course demand p dem t))
 

@@ -8,7 +8,7 @@ use Rattle.governor.specs.Meanings.{OwnDemand}
 use Rattle.event_kernel.specs.declared.progress.Setting.{Setting}
 use Rattle.event_kernel.specs.declared.progress.Progress.{Progress}
 use Rattle.event_kernel.specs.Current.{IsCurrent}
-use Rattle.event_kernel.specs.Meeting.{IsMetRun}
+use Rattle.event_kernel.specs.MetRun.{IsMetRun}
 use Rattle.event_kernel.specs.Runs.{Run}
 use Rattle.event_kernel.specs.Settings.{IsSetting}
 use Rattle.event_kernel.specs.SpanNotes.{HasBooked}

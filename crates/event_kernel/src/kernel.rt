@@ -10,7 +10,7 @@ ghost use Rattle.sched_model.specs.Jobs.{released_jobs};
 ghost use Rattle.dvs_base.specs.declared.limits.TheConstants.{MOST_JOBS, MOST_TICKS};
 ghost use Rattle.note_laws.specs.LineCounts.{AreFew};
 ghost use Rattle.event_kernel.specs.Runs.{IsListOf, notes_of_run, MeetsDeadlines, MeetsDemands};
-ghost use Rattle.event_kernel.specs.Meeting.{IsMetRun};
+ghost use Rattle.event_kernel.specs.MetRun.{IsMetRun};
 ghost use Rattle.dvs_base.specs.Outside.{Rose};
 
 use crate::ending::ending;

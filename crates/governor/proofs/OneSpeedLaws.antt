@@ -20,7 +20,7 @@ use Rattle.governor.specs.Worst.{level_work_in}
 use Rattle.governor.specs.Rm.{StretchCalm}
 use Rattle.governor.proofs.RmLevels.{level_opens, level_completes, level_releases, level_ticks}
 use Rattle.governor.specs.Laws.{GovernorLaws, HasLowDen}
-use Rattle.governor.specs.Serving.{ServesBoth}
+use Rattle.governor.specs.ServedSchedulers.{ServesBoth}
 use Rattle.governor.specs.Speeds.{unchanging, fixed_speed}
 use Rattle.governor.specs.OneSpeed.{CalmBy, SafeBy, CalmAt, SafeAt}
 use Rattle.governor.proofs.Fits.{IsEnough, full_enough, full_speed, full_met, static_enough, static_met}

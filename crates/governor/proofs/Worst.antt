@@ -18,7 +18,7 @@ use Rattle.sched_model.specs.Admission.{IsAdmitted}
 use Rattle.sched_model.proofs.Limits.{some_period}
 use Rattle.sched_model.proofs.Schedules.{schedule_exists}
 use Rattle.sched_model.proofs.JobLaws.{latest-is, release-due, worst_demand-le}
-use Rattle.governor.specs.Serving.{ServesBoth}
+use Rattle.governor.specs.ServedSchedulers.{ServesBoth}
 use Rattle.governor.specs.Speeds.{unchanging, fixed_speed}
 use Rattle.governor.specs.Schedule.{PublishingLaws, ask_of, course}
 use Rattle.governor.proofs.Course.{publishing_laws, course-met, at-schedule}

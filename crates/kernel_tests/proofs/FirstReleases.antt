@@ -8,7 +8,7 @@ use Rattle.sched_model.specs.Admission.{IsAdmitted}
 use Rattle.sched_model.specs.States.{StateOf, opening, state_of, after_release, after_mark, no_row, row_at, released_row, IsOfPlan, CanRelease}
 use Rattle.governor.specs.Steps.{IsAtDecision}
 use Rattle.event_kernel.proofs.Bounds.{Bounds, bounds}
-use Rattle.event_kernel.proofs.BoundaryReleases.{Releasing, releasing-start, row-there, skips, opens, can-release, released-marked, released-unmarked}
+use Rattle.event_kernel.proofs.BoundaryReleases.{HasReleased, releasing-start, row-there, skips, opens, can-release, released-marked, released-unmarked}
 use Rattle.event_kernel.proofs.DecisionStates.{at-decision}
 use Rattle.event_kernel.proofs.Ofplan.{of-prior, of-state}
 
@@ -63,7 +63,7 @@ needed i k = rw (add-one k) refl
 
 -- of the first m tasks, those without an offset are released; `any` says whether there are any
 pub record HasReleased (p : Plan) (m : ℕ) (any : Bool) (s : StateOf) : Type 0 where
-  pub rows : Releasing p one_unit [] m any s
+  pub rows : HasReleased p one_unit [] m any s
   pub of : IsOfPlan p s
 
 pub none-released : (p : Plan) (s : StateOf) → s ≡ opening p → HasReleased p 0 false s
@@ -113,10 +113,10 @@ module _ (p : Plan) (adm : IsAdmitted p) where
   -- all tasks without an offset are released, and the tick is marked where there are any
   module _ (m : ℕ) (s : StateOf) (all : m ≡ count p) where
     marked-is : HasReleased p m true s → after_mark s ≡ state_of p one_unit []
-    marked-is h = released-marked b.some_period refl (subst (λ n. Releasing p one_unit [] n true s) all h.rows)
+    marked-is h = released-marked b.some_period refl (subst (λ n. HasReleased p one_unit [] n true s) all h.rows)
 
     unmarked-is : HasReleased p m false s → s ≡ state_of p one_unit []
-    unmarked-is h = released-unmarked b.some_period (λ i. refl) refl (subst (λ n. Releasing p one_unit [] n false s) all h.rows)
+    unmarked-is h = released-unmarked b.some_period (λ i. refl) refl (subst (λ n. HasReleased p one_unit [] n false s) all h.rows)
 
     pub marked-of : HasReleased p m true s → IsOfPlan p (after_mark s)
     marked-of h = subst (IsOfPlan p) (sym (marked-is h)) (of-state p one_unit [] (λ i k lt. omega arith))

@@ -2,7 +2,7 @@
 // three agree, under each pair of a scheduler and a governor.
 ghost use Rattle.std.specs.Prelude.{◌≡◌};
 ghost use Rattle.sched_model.specs.States.{opening};
-ghost use Rattle.governor.specs.Serving.{ServesEdf, ServesRm};
+ghost use Rattle.governor.specs.ServedSchedulers.{ServesEdf, ServesRm};
 ghost use Rattle.event_kernel.specs.Runs.{IsListOf};
 
 use crate::case::Case;

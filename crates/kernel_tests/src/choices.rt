@@ -2,7 +2,7 @@
 // millisecond at full speed. The demands are computed by hand.
 ghost use Rattle.std.specs.Prelude.{◌≡◌};
 ghost use Rattle.sched_model.specs.States.{opening, IsOfPlan};
-ghost use Rattle.governor.specs.Serving.{ServesEdf, ServesRm};
+ghost use Rattle.governor.specs.ServedSchedulers.{ServesEdf, ServesRm};
 ghost use Rattle.governor.specs.Steps.{IsAtDecision};
 
 use crate::plans::{edf_plan, paper_tasks, rm_plan};

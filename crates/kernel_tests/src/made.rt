@@ -1,7 +1,7 @@
 // Plans, their opening states, and the governors for them.
 ghost use Rattle.std.specs.Prelude.{◌≤◌};
 ghost use Rattle.dvs_base.specs.declared.limits.TheConstants.{MOST_TICKS};
-ghost use Rattle.governor.specs.Serving.{ServesEdf, ServesRm};
+ghost use Rattle.governor.specs.ServedSchedulers.{ServesEdf, ServesRm};
 
 use crate::plans::{edf_plan, paper_tasks, rm_plan};
 use cc_edf::CcEdf;

@@ -1,6 +1,6 @@
 // Plans of the example of Pillai and Shin 2001, and of cases.
 ghost use Rattle.std.specs.Prelude.{◌≡◌, IfOk, IfSome};
-ghost use Rattle.governor.specs.Serving.{ServesEdf, ServesRm};
+ghost use Rattle.governor.specs.ServedSchedulers.{ServesEdf, ServesRm};
 ghost use Rattle.event_kernel.specs.Runs.{IsListOf};
 
 use crate::case::Case;

@@ -11,7 +11,7 @@ use Rattle.sched_model.specs.States.{StateOf, no_row, row_at, row_wleft, release
 use Rattle.sched_model.proofs.Orders.{in_order-same}
 use Rattle.sched_model.proofs.States.{left-opening, left-set, left-run}
 use Rattle.sched_model.proofs.Tables.{get-table, length-list_below}
-use Rattle.governor.specs.Serving.{ServesEdf}
+use Rattle.governor.specs.ServedSchedulers.{ServesEdf}
 use Rattle.governor.proofs.StatesOfDemands.{opening_at}
 use Rattle.look_ahead_laws.specs.Ahead.{deadline_at, edf_order}
 use Rattle.look_ahead.specs.Counters.{Keeps, stands_before_due}

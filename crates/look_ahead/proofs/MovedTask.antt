@@ -235,13 +235,13 @@ module _ (key key' : ℕ → ℕ) (i : ℕ) (same : (j : ℕ) → j ≢ i → ke
       ∙ (ap (reinserted key' i) (sym parts ∙ e) ∙ reinserted-in_order n lt)
 
 -- the first k numbers are in place, and the one that may go back is next
-pub record Passing (test : ℕ → Bool) (i : ℕ) (old order : List ℕ) (k : ℕ) : Type 0 where
+pub record IsInPlace (test : ℕ → Bool) (i : ℕ) (old order : List ℕ) (k : ℕ) : Type 0 where
   pub long : length order ≡ length old
   pub made : moved_back test i (get_or old 0 0) (drop 1 old)
       ≡ take k order ++ moved_back test i (get_or order k 0) (drop (k + 1) order)
 
 module _ (test : ℕ → Bool) (i : ℕ) (old order : List ℕ) (k : ℕ)
-    (lt : k + 1 < length order) (was : Passing test i old order k) where
+    (lt : k + 1 < length order) (was : IsInPlace test i old order k) where
   abbrev here : ℕ
   here = get_or order k 0
 
@@ -254,7 +254,7 @@ module _ (test : ℕ → Bool) (i : ℕ) (old order : List ℕ) (k : ℕ)
   next_is : moved_back test i (get_or old 0 0) (drop 1 old) ≡ take k order ++ moved_back test i here (next ∷ rest)
   next_is = was.made ∙ ap (λ (ds : List ℕ). take k order ++ moved_back test i here ds) (drop_more order (k + 1) 0 lt)
 
-  pub passing_stays : (nat_eq here i && test next) ≡ false → Passing test i old order (k + 1)
+  pub passing_stays : (nat_eq here i && test next) ≡ false → IsInPlace test i old order (k + 1)
   passing_stays stays =
       let stay : moved_back test i here (next ∷ rest) ≡ here ∷ moved_back test i next rest = rw stays refl in
       record {
@@ -266,7 +266,7 @@ module _ (test : ℕ → Bool) (i : ℕ) (old order : List ℕ) (k : ℕ)
       }
 
   pub passing_moves : here ≡ i → test next ≡ true
-      → Passing test i old (slice_set (slice_set order k next) (k + 1) i) (k + 1)
+      → IsInPlace test i old (slice_set (slice_set order k next) (k + 1) i) (k + 1)
   passing_moves own moves =
       let self : nat_eq here i ≡ true = grind (arith, nat_tests) in
       let set_next = slice_set order k next in
@@ -300,7 +300,7 @@ written_back len old new long same =
 
 -- when the loop reaches the last place, all numbers are in place
 pub passing_end : (test : ℕ → Bool) (i : ℕ) (old order : List ℕ) (k : ℕ) → k + 1 ≡ length order
-    → Passing test i old order k → order ≡ moved_back test i (get_or old 0 0) (drop 1 old)
+    → IsInPlace test i old order k → order ≡ moved_back test i (get_or old 0 0) (drop 1 old)
 passing_end test i old order k last was =
     let none : drop (k + 1) order ≡ [] = drop_of_length-le order (omega arith) in
     sym (was.made

@@ -21,7 +21,7 @@ use Rattle.freq_table.specs.Tables.{last_entry}
 use Rattle.sched_model.specs.Tests.{total_rate}
 use Rattle.sched_model.specs.Admission.{IsWithinLimits, IsAdmitted}
 use Rattle.sched_model.proofs.Limits.{low_hyper, some_task}
-use Rattle.governor.specs.Serving.{ServesEdf}
+use Rattle.governor.specs.ServedSchedulers.{ServesEdf}
 use Rattle.governor.proofs.StatesOfDemands.{wleft-most}
 use Rattle.look_ahead_laws.proofs.AheadLaws.{rates_fit, total_is}
 use Rattle.look_ahead.specs.Walk.{not_put_off, next_spare, next_first}

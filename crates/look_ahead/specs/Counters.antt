@@ -3,7 +3,7 @@ use Rattle.std.specs.Prelude.{◌≡◌, ℕ, ◌||◌, ◌&&◌, nat_eq, nat_lt
 use Rattle.grid_fraction.specs.Numbers.{list_below}
 use Rattle.sched_model.specs.Plan.{Plan, count, rate}
 use Rattle.sched_model.specs.States.{StateOf, row_wleft}
-use Rattle.governor.specs.Serving.{ServesEdf}
+use Rattle.governor.specs.ServedSchedulers.{ServesEdf}
 use Rattle.look_ahead_laws.specs.Ahead.{edf_order}
 
 -- the counters are right for a state: the plan is under EDF, `left` is what each job may still need at most, `order`

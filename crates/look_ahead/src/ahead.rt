@@ -4,7 +4,7 @@ ghost use Rattle.dvs_base.specs.declared.kind.GovernorKind.TheVariants.{Ahead};
 ghost use Rattle.freq_table.specs.Tables.{lowest_entry, lowest_pick};
 ghost use Rattle.sched_model.specs.States.{opening, IsOfPlan};
 ghost use Rattle.governor.specs.Steps.{IsAtDecision};
-ghost use Rattle.governor.specs.Serving.{ServesEdf};
+ghost use Rattle.governor.specs.ServedSchedulers.{ServesEdf};
 ghost use Rattle.look_ahead_laws.specs.Ahead.{ahead_demand, AheadCalm, AheadSafe};
 ghost use Rattle.look_ahead_laws.specs.Whole.{HasSpread, IsDemandOfSpread, RatesFit};
 ghost use Rattle.look_ahead.specs.Counters.{Keeps};

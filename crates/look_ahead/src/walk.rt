@@ -6,7 +6,7 @@ ghost use Rattle.sched_model.specs.Plan.{count, hyper, rate, top_speed};
 ghost use Rattle.sched_model.specs.AheadDemand.{slack};
 ghost use Rattle.sched_model.specs.States.{IsOfPlan, earliest_in};
 ghost use Rattle.sched_model.specs.Tests.{total_rate};
-ghost use Rattle.governor.specs.Serving.{ServesEdf};
+ghost use Rattle.governor.specs.ServedSchedulers.{ServesEdf};
 ghost use Rattle.governor.specs.Steps.{wleft_at, IsAtDecision};
 ghost use Rattle.look_ahead_laws.specs.Ahead.{ahead_demand, deadline_at};
 ghost use Rattle.look_ahead.specs.Counters.{Keeps};

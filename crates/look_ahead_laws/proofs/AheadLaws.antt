@@ -20,7 +20,7 @@ use Rattle.sched_model.specs.States.{StateOf, earliest_in}
 use Rattle.sched_model.proofs.Limits.{some_task, some_hyper}
 use Rattle.sched_model.proofs.Orders.{sum_list, sum_list-in_order, in_order-below, sum_list-append}
 use Rattle.governor.specs.Steps.{wleft_at, IsAtDecision, Belongs}
-use Rattle.governor.specs.Serving.{ServesEdf}
+use Rattle.governor.specs.ServedSchedulers.{ServesEdf}
 use Rattle.governor.specs.Laws.{GovernorLaws}
 use Rattle.governor.proofs.StatesOfDemands.{earliest-later}
 use Rattle.governor.specs.Edf.{load}

@@ -15,7 +15,7 @@ use Rattle.sched_model.proofs.Orders.{AreBelow, in_order-below, in_order-same, s
 use Rattle.sched_model.proofs.States.{row_at-state_of}
 use Rattle.governor.specs.Steps.{wleft_at}
 use Rattle.governor.specs.Schedule.{Publishes, PublishingLaws}
-use Rattle.governor.specs.Serving.{ServesEdf}
+use Rattle.governor.specs.ServedSchedulers.{ServesEdf}
 use Rattle.governor.proofs.Course.{publishing_laws}
 use Rattle.look_ahead_laws.specs.Ahead.{deadline_at, ahead_demand}
 

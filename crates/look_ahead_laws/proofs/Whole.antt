@@ -11,7 +11,7 @@ use Rattle.sched_model.specs.Admission.{IsAdmitted}
 use Rattle.sched_model.specs.States.{StateOf}
 use Rattle.sched_model.proofs.Orders.{before-self, sum_list, sum_list-in_order, IsOrdered, in_order-ordered, AreBelow, in_order-below, below-from, stands-in_order, first_ahead}
 use Rattle.governor.specs.Steps.{wleft_at}
-use Rattle.governor.specs.Serving.{ServesEdf}
+use Rattle.governor.specs.ServedSchedulers.{ServesEdf}
 use Rattle.look_ahead_laws.specs.Ahead.{deadline_at, edf_order, ahead_demand}
 use Rattle.look_ahead_laws.specs.Whole.{rates_before, rates_after, IsSpreadIn, HasSpread, IsDemandOfSpread, RatesFit}
 use Rattle.look_ahead_laws.proofs.PutOffWork.{sum_after-suffix}

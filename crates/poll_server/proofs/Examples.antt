@@ -7,7 +7,7 @@ use Rattle.request_list.specs.declared.requests.Request.{Request}
 use Rattle.sched_model.specs.Plan.{Plan, plan_of}
 use Rattle.sched_model.specs.Jobs.{release, due}
 use Rattle.task_model.specs.declared.task.Task.{Task}
-use Rattle.poll_server.specs.Serving.{ServerOf, server_of, taken_up_to, taken, polled_demand}
+use Rattle.poll_server.specs.ServerJobs.{ServerOf, server_of, taken_up_to, taken, polled_demand}
 use Rattle.poll_server.specs.declared.served.Outcome.{Outcome}
 use Rattle.poll_server.specs.declared.served.Outcome.TheVariants.{Served, Pending}
 use Rattle.poll_server.specs.Outcomes.{ServedOf, outcome_at}

@@ -22,7 +22,7 @@ use Rattle.dvs_base.proofs.Options.{or-none, or-assoc}
 use Rattle.event_kernel.specs.Heard.{HasHeard}
 use Rattle.poll_server.specs.Outcomes.{done_position, done_at}
 use Rattle.poll_server.specs.declared.ends.Ends.{Ends}
-use Rattle.poll_server.specs.Walking.{Hears, end_at}
+use Rattle.poll_server.specs.Walks.{Hears, end_at}
 
 -- the job is done, at a position not after tick t
 abbrev pub IsEndBy : ℕ → Option Pos → Type 0

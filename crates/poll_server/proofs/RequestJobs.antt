@@ -11,14 +11,14 @@ use Rattle.request_list.specs.Requests.{AreRequests}
 use Rattle.sched_model.specs.Plan.{period}
 use Rattle.dvs_base.specs.declared.note.Note.{Note}
 use Rattle.dvs_base.specs.declared.note.Pos.{Pos}
-use Rattle.poll_server.specs.Serving.{ServerOf, budget, request_count, arrival, units, asked_with, taken_up_to, asked_below}
+use Rattle.poll_server.specs.ServerJobs.{ServerOf, budget, request_count, arrival, units, asked_with, taken_up_to, asked_below}
 use Rattle.poll_server.specs.Outcomes.{BelongsTo, done_at}
 use Rattle.poll_server.specs.Bound.{jobs_before, request_backlog, latest_job, HaveJobs}
 use Rattle.poll_server.specs.EachOutcome.{job_of, outcome_by, outcome_of}
 use Rattle.poll_server.proofs.Takings.{taken-none, arrived-all, before-released, released-before, reach, taken-up}
 use Rattle.poll_server.specs.declared.served.Outcome.TheVariants.{Pending}
 use Rattle.poll_server.specs.declared.outcomes.Reached.{Reached}
-use Rattle.poll_server.specs.Walking.{AreEnds, HasReached, end_at}
+use Rattle.poll_server.specs.Walks.{AreEnds, HasReached, end_at}
 
 -- more requests ask for no fewer units
 pub asked-up : (s : ServerOf) (m n : ℕ) → m ≤ n → asked_with s m ≤ asked_with s n

@@ -11,10 +11,10 @@ use Rattle.sched_model.specs.Ticks.{Tick}
 use Rattle.governor.specs.Meanings.{OwnDemand}
 use Rattle.governor.specs.Schedule.{ask_of}
 use Rattle.replay_laws.specs.OwnList.{ticks_by, notes_by, TellSame, LooksAtNone}
-use Rattle.poll_server.specs.Serving.{ServerOf, budget, taken, polled_demand, job_release}
+use Rattle.poll_server.specs.ServerJobs.{ServerOf, budget, taken, polled_demand, job_release}
 use Rattle.poll_server.specs.Bound.{jobs_before}
 use Rattle.poll_server.specs.Polled.{polled_notes}
-use Rattle.poll_server.specs.Walking.{AreTaken}
+use Rattle.poll_server.specs.Walks.{AreTaken}
 use Rattle.poll_server.proofs.Takings.{before-released}
 
 module _ (s : ServerOf) where

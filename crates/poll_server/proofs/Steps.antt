@@ -14,8 +14,8 @@ use Rattle.sched_model.specs.Admission.{IsAdmitted}
 use Rattle.sched_model.proofs.Limits.{every_period}
 use Rattle.poll_server.specs.declared.taking.Waiting.{Waiting}
 use Rattle.poll_server.specs.declared.outcomes.Reached.{Reached}
-use Rattle.poll_server.specs.Serving.{ServerOf, budget, job_release, request_count, arrival, units, arrived, taken_up_to, taken, asked_below}
-use Rattle.poll_server.specs.Walking.{HasPassed, StandsAfter, AreTaken, IsServable, HasReached}
+use Rattle.poll_server.specs.ServerJobs.{ServerOf, budget, job_release, request_count, arrival, units, arrived, taken_up_to, taken, asked_below}
+use Rattle.poll_server.specs.Walks.{HasPassed, StandsAfter, AreTaken, IsServable, HasReached}
 use Rattle.poll_server.proofs.Takings.{taken-none, taken-more, taken-low, asked_below-low, arrived-counted}
 
 -- the server has some budget and some period

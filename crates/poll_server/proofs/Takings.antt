@@ -9,7 +9,7 @@ use Rattle.request_list.specs.declared.limits.TheConstants.{MOST_REQUEST_UNITS}
 use Rattle.request_list.specs.Requests.{AreRequests}
 use Rattle.sched_model.specs.Plan.{period, offset}
 use Rattle.sched_model.specs.Jobs.{release}
-use Rattle.poll_server.specs.Serving.{ServerOf, budget, job_release, request_count, arrival, units, arrived, taken_up_to, taken, asked_below, asked_with}
+use Rattle.poll_server.specs.ServerJobs.{ServerOf, budget, job_release, request_count, arrival, units, arrived, taken_up_to, taken, asked_below, asked_with}
 use Rattle.poll_server.specs.Bound.{jobs_before}
 
 -- a sum whose terms from n on are 0 is the sum of its first n terms

@@ -12,7 +12,7 @@ use Rattle.sched_model.proofs.Schedules.{length-list_below, schedule_exists}
 use Rattle.sched_model.proofs.Tables.{get-table}
 use Rattle.note_laws.specs.DoneLines.{IsBy}
 use Rattle.poll_server.specs.declared.served.Outcome.TheVariants.{Pending}
-use Rattle.poll_server.specs.Serving.{ServerOf, budget, request_count, server_of, polled_demand, job_release}
+use Rattle.poll_server.specs.ServerJobs.{ServerOf, budget, request_count, server_of, polled_demand, job_release}
 use Rattle.poll_server.specs.Outcomes.{done_at, IsOutcome, ServedOf}
 use Rattle.poll_server.specs.Bound.{latest_job, latest_end, IsServedBy, KeepsBound, jobs_before, HaveJobs}
 use Rattle.poll_server.specs.Polled.{IsPolled, polled_notes}
@@ -37,7 +37,7 @@ use Rattle.replay_laws.specs.OwnList.{ticks_by}
 use Rattle.replay_laws.proofs.SameLists.{own-lists}
 use Rattle.poll_server.specs.declared.ends.Ends.{Ends}
 use Rattle.poll_server.specs.declared.served.Outcome.{Outcome}
-use Rattle.poll_server.specs.Walking.{IsServable, AreTaken, AreEnds, Hears, end_at}
+use Rattle.poll_server.specs.Walks.{IsServable, AreTaken, AreEnds, Hears, end_at}
 use Rattle.poll_server.proofs.Takings.{before-released}
 use Rattle.poll_server.proofs.ServerRuns.{same-notes}
 use Rattle.poll_server.proofs.Steps.{some-budget, some-period}

@@ -6,7 +6,7 @@ use Rattle.sched_model.specs.Jobs.{due}
 use Rattle.note_laws.specs.DoneLines.{IsBy}
 use Rattle.poll_server.specs.declared.served.Outcome.{Outcome}
 use Rattle.poll_server.specs.declared.served.Outcome.TheVariants.{Served, Pending}
-use Rattle.poll_server.specs.Serving.{ServerOf, budget, job_release, request_count, arrival, asked_with, taken_up_to}
+use Rattle.poll_server.specs.ServerJobs.{ServerOf, budget, job_release, request_count, arrival, asked_with, taken_up_to}
 use Rattle.poll_server.specs.Outcomes.{BelongsTo, ServedOf, outcome_at}
 
 -- how many jobs of the server are released before tick t: one for each period that begins between its offset and there

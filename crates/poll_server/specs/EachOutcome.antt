@@ -7,7 +7,7 @@ use Rattle.sched_model.specs.Totals.{totals_of}
 use Rattle.governor.specs.Meanings.{OwnDemand}
 use Rattle.poll_server.specs.declared.served.Outcome.{Outcome}
 use Rattle.poll_server.specs.declared.served.Outcome.TheVariants.{Served, Pending}
-use Rattle.poll_server.specs.Serving.{ServerOf, request_count, asked_with, taken_up_to}
+use Rattle.poll_server.specs.ServerJobs.{ServerOf, request_count, asked_with, taken_up_to}
 use Rattle.poll_server.specs.Outcomes.{ServedOf, done_at}
 use Rattle.poll_server.specs.Bound.{latest_job}
 use Rattle.poll_server.specs.Polled.{polled_notes}

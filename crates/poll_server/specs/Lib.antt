@@ -1,7 +1,7 @@
-pub mod Serving
+pub mod ServerJobs
 pub mod Outcomes
 pub mod Bound
 pub mod Polled
 pub mod EachOutcome
 pub mod Refusals
-pub mod Walking
+pub mod Walks

@@ -8,7 +8,7 @@ use Rattle.dvs_base.specs.declared.note.Pos.{Pos}
 use Rattle.dvs_base.specs.declared.note.Totals.{Totals}
 use Rattle.poll_server.specs.declared.served.Outcome.{Outcome}
 use Rattle.poll_server.specs.declared.served.Outcome.TheVariants.{Served, Pending}
-use Rattle.poll_server.specs.Serving.{ServerOf, asked_with, taken_up_to}
+use Rattle.poll_server.specs.ServerJobs.{ServerOf, asked_with, taken_up_to}
 
 -- Request m belongs to job k: the first one such that it and the jobs before it take at least the units up to and
 -- including the request.

@@ -5,7 +5,7 @@ use Rattle.sched_model.specs.Totals.{totals_of}
 use Rattle.governor.specs.Meanings.{OwnDemand}
 use Rattle.governor.specs.Schedule.{ask_of}
 use Rattle.replay_laws.specs.OwnList.{notes_by}
-use Rattle.poll_server.specs.Serving.{ServerOf, request_count, polled_demand}
+use Rattle.poll_server.specs.ServerJobs.{ServerOf, request_count, polled_demand}
 use Rattle.poll_server.specs.Outcomes.{ServedOf, IsOutcome, outcome_at}
 
 -- the notes of the governor's schedule of `ticks` ticks, in which the server's jobs need what they take

@@ -2,7 +2,7 @@
 ghost use Rattle.std.specs.Prelude.{◌≡◌, ◌≤◌, ◌-◌, ℕ, IfOk, None, length, replicate};
 ghost use Rattle.dvs_base.specs.declared.limits.TheConstants.{MOST_JOBS};
 ghost use Rattle.dvs_base.specs.declared.note.Note.TheVariants.{Done};
-ghost use Rattle.poll_server.specs.Walking.{Hears, end_at};
+ghost use Rattle.poll_server.specs.Walks.{Hears, end_at};
 
 use dvs_base::{NoMemory, Note, Pos};
 use event_kernel::{Listener, Stopped};

@@ -2,8 +2,8 @@
 ghost use Rattle.std.specs.Prelude.{◌≡◌, ◌+◌, ◌<◌, ◌≤◌, ℕ, List, length, IfOk};
 ghost use Rattle.dvs_base.specs.declared.note.Note.{Note as NoteOf};
 ghost use Rattle.poll_server.specs.EachOutcome.{outcome_of, outcomes_of};
-ghost use Rattle.poll_server.specs.Serving.{request_count};
-ghost use Rattle.poll_server.specs.Walking.{IsServable, AreEnds, HasReached};
+ghost use Rattle.poll_server.specs.ServerJobs.{request_count};
+ghost use Rattle.poll_server.specs.Walks.{IsServable, AreEnds, HasReached};
 
 use crate::Outcome;
 use crate::ends::Ends;

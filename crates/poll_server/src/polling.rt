@@ -4,7 +4,7 @@ ghost use Rattle.dvs_base.specs.declared.limits.TheConstants.{MOST_JOBS, MOST_TI
 ghost use Rattle.sched_model.specs.Plan.{count};
 ghost use Rattle.sched_model.specs.Jobs.{released_jobs};
 ghost use Rattle.sched_model.specs.States.{opening};
-ghost use Rattle.poll_server.specs.Serving.{server_of};
+ghost use Rattle.poll_server.specs.ServerJobs.{server_of};
 ghost use Rattle.poll_server.specs.Bound.{HaveJobs, KeepsBound};
 ghost use Rattle.poll_server.specs.Polled.{IsPolled, polled_notes};
 ghost use Rattle.poll_server.specs.EachOutcome.{served_of};

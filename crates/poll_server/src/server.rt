@@ -3,7 +3,7 @@ ghost use Rattle.std.specs.Prelude.{◌≡◌, ◌+◌, ◌<◌, ◌≤◌};
 ghost use Rattle.dvs_base.specs.declared.limits.TheConstants.{MOST_JOBS};
 ghost use Rattle.sched_model.specs.Plan.{count};
 ghost use Rattle.task_model.specs.declared.limits.TheConstants.{MOST_WORK};
-ghost use Rattle.poll_server.specs.Serving.{budget, job_release};
+ghost use Rattle.poll_server.specs.ServerJobs.{budget, job_release};
 
 use request_list::Request;
 use sched_model::Admitted;
@@ -18,7 +18,7 @@ pub(crate) struct Server<'a> {
 }
 
 impl<'a> Model for Server<'a> {
-    ghost use Rattle.poll_server.specs.Serving.{ServerOf, server_of};
+    ghost use Rattle.poll_server.specs.ServerJobs.{ServerOf, server_of};
 
     ghost Value = { ServerOf };
 

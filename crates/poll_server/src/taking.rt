@@ -3,8 +3,8 @@ ghost use Rattle.std.specs.Prelude.{◌≡◌, ◌+◌, ◌<◌, ◌≤◌, IfOk
 ghost use Rattle.dvs_base.specs.declared.limits.TheConstants.{MOST_JOBS};
 ghost use Rattle.request_list.specs.Requests.{AreRequests};
 ghost use Rattle.sched_model.specs.Plan.{count};
-ghost use Rattle.poll_server.specs.Serving.{server_of, arrived, job_release, taken};
-ghost use Rattle.poll_server.specs.Walking.{HasPassed, StandsAfter, IsServable};
+ghost use Rattle.poll_server.specs.ServerJobs.{server_of, arrived, job_release, taken};
+ghost use Rattle.poll_server.specs.Walks.{HasPassed, StandsAfter, IsServable};
 
 use crate::server::Server;
 use demand_list::Demands;

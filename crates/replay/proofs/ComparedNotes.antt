@@ -7,7 +7,7 @@ use Rattle.sched_model.specs.Totals.{totals_of}
 use Rattle.event_kernel.specs.Heard.{HasHeard, HasBalked}
 use Rattle.trace_reader.specs.Traces.{TraceOf, is_end, IsEnded}
 use Rattle.note_laws.proofs.OneEnd.{whole-prefix, schedule-ended}
-use Rattle.replay.specs.Comparing.{same_note, IsOther, first_unequal, differs, unless_unequal, compared}
+use Rattle.replay.specs.Comparison.{same_note, IsOther, first_unequal, differs, unless_unequal, compared}
 use Rattle.replay.specs.declared.fault.ReplayFault.{ReplayFault}
 use Rattle.governor.specs.Meanings.{OwnDemand}
 use Rattle.governor.specs.Schedule.{ask_of}

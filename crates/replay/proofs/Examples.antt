@@ -18,7 +18,7 @@ use Rattle.trace_reader.specs.Traces.{TraceOf, IsTrace}
 use Rattle.note_laws.specs.RunText.{task_texts}
 use Rattle.replay_laws.specs.OwnList.{Asking, notes_by}
 use Rattle.replay.specs.declared.fault.ReplayFault.TheVariants.{OverWorst, TooManyJobs, Differs}
-use Rattle.replay.specs.Comparing.{compared}
+use Rattle.replay.specs.Comparison.{compared}
 use Rattle.replay.specs.Replays.{replay_of}
 use Rattle.replay.specs.SameTexts.{HasTextFor}
 

@@ -1,3 +1,3 @@
-pub mod Comparing
+pub mod Comparison
 pub mod Replays
 pub mod SameTexts

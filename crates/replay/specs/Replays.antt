@@ -15,7 +15,7 @@ use Rattle.event_kernel.specs.declared.kernel.KernelFault.TheVariants as kernel
 use Rattle.trace_reader.specs.Traces.{TraceOf}
 use Rattle.replay_laws.specs.FixedDemands.{fixed_of, fixed_list}
 use Rattle.replay_laws.specs.OwnList.{Asking, notes_by, AreNotesFor}
-use Rattle.replay.specs.Comparing.{compared, line_of, FirstUnequal}
+use Rattle.replay.specs.Comparison.{compared, line_of, FirstUnequal}
 use Rattle.replay.specs.declared.fault.ReplayFault.{ReplayFault}
 use Rattle.replay.specs.declared.fault.ReplayFault.TheVariants as fault
 

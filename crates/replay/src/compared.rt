@@ -1,6 +1,6 @@
 // A listener that compares notes with those of a trace.
 ghost use Rattle.std.specs.Prelude.{◌≡◌, ◌∷◌, Some};
-ghost use Rattle.replay.specs.Comparing.{IsOther};
+ghost use Rattle.replay.specs.Comparison.{IsOther};
 
 use dvs_base::Note;
 use event_kernel::{Listener, Stopped};

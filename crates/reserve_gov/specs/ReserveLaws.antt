@@ -11,7 +11,7 @@ use Rattle.sched_model.specs.StaticDemand.{static_demand}
 use Rattle.sched_model.specs.Admission.{IsAdmitted}
 use Rattle.sched_model.proofs.StaticShare.{static_den}
 use Rattle.governor.specs.Laws.{GovernorLaws, HasLowDen}
-use Rattle.governor.specs.Serving.{ServesBoth}
+use Rattle.governor.specs.ServedSchedulers.{ServesBoth}
 use Rattle.governor.specs.Speeds.{unchanging}
 use Rattle.governor.specs.OneSpeed.{CalmAt, SafeAt}
 use Rattle.governor.proofs.Fits.{below_top, enough_at}

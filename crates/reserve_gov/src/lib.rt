@@ -13,7 +13,7 @@ ghost use Rattle.freq_table.specs.Tables.{lowest_entry, lowest_pick};
 ghost use Rattle.sched_model.specs.StaticDemand.{static_demand};
 ghost use Rattle.sched_model.specs.States.{opening, IsOfPlan};
 ghost use Rattle.governor.specs.Steps.{IsAtDecision};
-ghost use Rattle.governor.specs.Serving.{ServesBoth};
+ghost use Rattle.governor.specs.ServedSchedulers.{ServesBoth};
 ghost use Rattle.governor.specs.Speeds.{unchanging};
 ghost use Rattle.governor.specs.OneSpeed.{CalmAt, SafeAt};
 ghost use Rattle.reserve_gov.specs.Reserved.{reserved_demand, reserved_speed};

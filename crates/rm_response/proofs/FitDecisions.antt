@@ -11,7 +11,7 @@ use Rattle.rm_response_laws.specs.Bounds.{spare, rest_work, IsUnservedFrom, held
 use Rattle.rm_response_laws.proofs.RateBounds.{unserved-beside, unserved-full}
 use Rattle.grid_fraction.proofs.Searches.{below_suc}
 use Rattle.sched_model.proofs.Orders.{before-self, before-not}
-use Rattle.rm_response_laws.specs.Fitting.{IsLastBefore, work_beside, NoneFits, FindsFit}
+use Rattle.rm_response_laws.specs.WorkBeside.{IsLastBefore, work_beside, NoneFits, FindsFit}
 use Rattle.sched_model.proofs.Limits.{some_period}
 use Rattle.sched_model.proofs.Allotments.{sum_where-none}
 use Rattle.rm_response_laws.specs.Responses.{EarlierRespond}

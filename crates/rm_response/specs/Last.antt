@@ -1,7 +1,7 @@
 -- The last task before a task.
 use Rattle.std.specs.Prelude.{ℕ, ◌≡◌, ◌<◌, false, Option, Some, None, MatchOption, if◌then◌else◌}
 use Rattle.sched_model.specs.Priority.{stands_before}
-use Rattle.rm_response_laws.specs.Fitting.{IsLastBefore}
+use Rattle.rm_response_laws.specs.WorkBeside.{IsLastBefore}
 
 -- none of the tasks below n comes before task k in the order of the key
 abbrev pub NoneBefore : (ℕ → ℕ) → ℕ → ℕ → Type 0

@@ -6,7 +6,7 @@ ghost use Rattle.task_model.specs.Tasks.{task_at};
 ghost use Rattle.freq_table.specs.Tables.{highest_speed};
 ghost use Rattle.sched_model.specs.Plan.{plan_of};
 ghost use Rattle.rm_response_laws.specs.Responses.{response, EarlierRespond, IsUnserved};
-ghost use Rattle.rm_response_laws.specs.Fitting.{NoneFits, FindsFit};
+ghost use Rattle.rm_response_laws.specs.WorkBeside.{NoneFits, FindsFit};
 
 use crate::bound::ticks_beside;
 use crate::last::last_before;

@@ -13,7 +13,7 @@ use Rattle.sched_model.proofs.Orders.{before-trans}
 use Rattle.governor.specs.Worst.{level_work_in}
 use Rattle.rm_response_laws.specs.Responses.{response, HasResponse, EarlierRespond, IsUnserved}
 use Rattle.rm_response_laws.specs.Bounds.{held_work, spare}
-use Rattle.rm_response_laws.specs.Fitting.{work_beside, Fits, NoneFits, IsLastBefore}
+use Rattle.rm_response_laws.specs.WorkBeside.{work_beside, Fits, NoneFits, IsLastBefore}
 use Rattle.rm_response_laws.proofs.Ceilings.{ceil-after, ceil-sum, ceil-within}
 use Rattle.rm_response_laws.proofs.ResponseSearch.{response-bound}
 use Rattle.rm_response_laws.proofs.RateBounds.{held-later, rates-held, spare-does, spare-none}

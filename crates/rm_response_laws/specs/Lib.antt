@@ -1,3 +1,3 @@
 pub mod Responses
 pub mod Bounds
-pub mod Fitting
+pub mod WorkBeside

@@ -5,7 +5,7 @@ use Rattle.dvs_base.specs.Checks.{and_then}
 use Rattle.sched_model.specs.Plan.{Plan, plan_of}
 use Rattle.sched_model.specs.Jobs.{demand_of, released_jobs}
 use Rattle.note_laws.specs.RunText.{run_text_in}
-use Rattle.poll_server.specs.Serving.{server_of}
+use Rattle.poll_server.specs.ServerJobs.{server_of}
 use Rattle.words.specs.Commands.{RunOf, AdmitOf, TracedOf, PollOf, CommandOf, run, admit, traced, poll}
 use Rattle.rtdvs_top.specs.Meanings.{tasks_at, machine_at, demands_at}
 use Rattle.rtdvs_top.specs.Admit.{admission, admitted_text, admit_answer}

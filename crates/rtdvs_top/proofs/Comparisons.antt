@@ -16,7 +16,7 @@ use Rattle.trace_reader.specs.Traces.{TraceOf}
 use Rattle.replay_laws.specs.FixedDemands.{fixed_of}
 use Rattle.replay_laws.specs.OwnList.{ticks_by, notes_by}
 use Rattle.replay_laws.proofs.OwnDemands.{fixed-within}
-use Rattle.replay.specs.Comparing.{compared}
+use Rattle.replay.specs.Comparison.{compared}
 use Rattle.replay.specs.Replays.{first_over, too_many, unless, own_notes, replay_of}
 use Rattle.replay.specs.declared.fault.ReplayFault.{ReplayFault}
 use Rattle.replay.specs.declared.fault.ReplayFault.TheVariants as replay_fault

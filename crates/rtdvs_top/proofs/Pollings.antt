@@ -6,7 +6,7 @@ use Rattle.dvs_base.specs.declared.note.Note.{Note}
 use Rattle.sched_model.specs.Jobs.{IsWithin}
 use Rattle.governor.specs.Meanings.{OwnDemand}
 use Rattle.governor.specs.Schedule.{Publishes}
-use Rattle.poll_server.specs.Serving.{ServerOf, polled_demand}
+use Rattle.poll_server.specs.ServerJobs.{ServerOf, polled_demand}
 use Rattle.poll_server.specs.Outcomes.{ServedOf}
 use Rattle.poll_server.specs.Bound.{HaveJobs, KeepsBound}
 use Rattle.poll_server.specs.Polled.{IsPolled, polled_notes}

@@ -21,7 +21,7 @@ use Rattle.sched_model.specs.Decision.{is_decision}
 use Rattle.freq_table.specs.Tables.{lowest_pick}
 use Rattle.sched_model.specs.Jobs.{JobDemands, released_jobs, demand_of, IsWithin}
 use Rattle.event_kernel.specs.Runs.{Run, IsListOf, notes_of_run}
-use Rattle.event_kernel.specs.Meeting.{IsMetRun}
+use Rattle.event_kernel.specs.MetRun.{IsMetRun}
 use Rattle.event_kernel.specs.Lines.{WroteLines, StoppedIn}
 use Rattle.event_kernel.proofs.WrittenLines.{all-as, some-as, stopped-some}
 use Rattle.event_kernel.proofs.ListedDemands.{demand-within}

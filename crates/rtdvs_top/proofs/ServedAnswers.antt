@@ -4,7 +4,7 @@ use Rattle.std.specs.Prelude.{IfOk}
 use Rattle.dvs_base.specs.declared.kind.GovernorKind.{GovernorKind}
 use Rattle.dvs_base.specs.declared.limits.TheConstants.{MOST_JOBS}
 use Rattle.sched_model.specs.Jobs.{released_jobs}
-use Rattle.poll_server.specs.Serving.{ServerOf}
+use Rattle.poll_server.specs.ServerJobs.{ServerOf}
 use Rattle.poll_server.specs.Outcomes.{ServedOf}
 use Rattle.statuses.specs.declared.status.Status.{Status}
 use Rattle.statuses.specs.Steps.{TestStep}

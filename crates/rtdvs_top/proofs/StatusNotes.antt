@@ -9,7 +9,7 @@ use Rattle.rtdvs_top.specs.Files.{names_by}
 use Rattle.rtdvs_top.specs.Prepared.{Named}
 use Rattle.statuses.specs.ProbeLines.{probe_lines}
 use Rattle.statuses.specs.Noted.{NotedAs, noted_text}
-use Rattle.rtdvs_top.specs.Probing.{IfAsked}
+use Rattle.rtdvs_top.specs.ToldRuns.{IfAsked}
 use Rattle.rtdvs_top.specs.Promises.{Notes}
 use Rattle.statuses.specs.declared.status.Status.{Status}
 use Rattle.statuses.specs.declared.status.Status.TheVariants as status

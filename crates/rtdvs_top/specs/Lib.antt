@@ -1,7 +1,7 @@
 pub mod Meanings
 pub mod Admit
 pub mod Generated
-pub mod Probing
+pub mod ToldRuns
 pub mod Run
 pub mod Poll
 pub mod Files

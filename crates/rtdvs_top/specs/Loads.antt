@@ -9,17 +9,17 @@ use Rattle.statuses.specs.Steps.{Gives, Refuses, CountsStep}
 use Rattle.rtdvs_top.specs.Files.{NamedFile, named_file, files_of, passes, loads_while, FailsFrom, MakesLoads}
 
 -- what a step loads: these files, one after another as long as each is passed, and what they mean
-pub record Loading (A : Type 0) : Type 0 where
+pub record LoadOf (A : Type 0) : Type 0 where
   pub files : List NamedFile
   pub passed : NamedFile → Bool
   pub means : Files → Result A Status
 
 -- the load of one file, or of none
-abbrev pub each_of : {A : Type 0} → List NamedFile → (Files → Result A Status) → Loading A
+abbrev pub each_of : {A : Type 0} → List NamedFile → (Files → Result A Status) → LoadOf A
 each_of files means = record { files = files; passed = λ f. true; means = means }
 
 -- the load of the file of this kind and this name
-abbrev pub one_file : {A : Type 0} → FileKind → List ℕ → (Files → Result A Status) → Loading A
+abbrev pub one_file : {A : Type 0} → FileKind → List ℕ → (Files → Result A Status) → LoadOf A
 one_file kind name means = each_of (named_file kind name ∷ []) means
 
 -- these files without the first
@@ -28,11 +28,11 @@ but_first [] = []
 but_first (f ∷ fs) = fs
 
 -- the loads of a command after its first file, where these files may be known
-abbrev pub later_files : {A : Type 0} → Option Files → CommandOf → (Files → Result A Status) → Loading A
+abbrev pub later_files : {A : Type 0} → Option Files → CommandOf → (Files → Result A Status) → LoadOf A
 later_files held c means = record { files = but_first (files_of c); passed = passes held c; means = means }
 
 -- What a step that loads files gives: the value that they mean, or a refusal. The value is seen through `see`.
-pub record LoadStep {T A : Type 0} (l : Loading A) (old new : ShelfView) (r : Result T Status) (see : T → A) : Type 0 where
+pub record LoadStep {T A : Type 0} (l : LoadOf A) (old new : ShelfView) (r : Result T Status) (see : T → A) : Type 0 where
   -- a value is the one that the known files mean
   pub read : IfOk r (λ v. Gives old.held l.means (see v))
   -- a status is the refusal of the known files, unless the outside or memory explains it

@@ -16,7 +16,7 @@ use Rattle.sched_model.specs.Jobs.{released_jobs}
 use Rattle.sched_model.specs.RunNotes.{run_notes}
 use Rattle.request_list.specs.declared.requests.Request.{Request}
 use Rattle.request_list.specs.RequestFile.{request_file}
-use Rattle.poll_server.specs.Serving.{ServerOf, server_of, polled_demand, arrival, units, request_count}
+use Rattle.poll_server.specs.ServerJobs.{ServerOf, server_of, polled_demand, arrival, units, request_count}
 use Rattle.poll_server.specs.Outcomes.{ServedOf, outcome_at}
 use Rattle.poll_server.specs.EachOutcome.{served_by}
 use Rattle.poll_server.specs.declared.served.Outcome.{Outcome}

@@ -17,7 +17,7 @@ use Rattle.trace_reader.specs.Traces.{TraceOf, IsEnded}
 use Rattle.dvs_base.specs.WritesText.{Wrote, WroteSome}
 use Rattle.energy_bound.specs.declared.least.Least.{Least}
 use Rattle.dvs_base.specs.PlanWords.{IsPair}
-use Rattle.poll_server.specs.Serving.{ServerOf, request_count}
+use Rattle.poll_server.specs.ServerJobs.{ServerOf, request_count}
 use Rattle.probes.specs.Tallies.{ProbeOf}
 use Rattle.rtdvs_top.specs.declared.prepared.Prepared.{Prepared}
 use Rattle.rtdvs_top.specs.declared.prepared.Prepared.TheVariants as prepared
@@ -29,7 +29,7 @@ use Rattle.statuses.specs.Steps.{EndsWith, Gives, Refuses, CountsStep}
 use Rattle.rtdvs_top.specs.Files.{files_for, names_by, loads_needed, MakesLoads}
 use Rattle.statuses.specs.Status.{CountsLoads, Leaves, LeavesProbes, IsShown}
 use Rattle.statuses.specs.StatusLines.{status_text}
-use Rattle.rtdvs_top.specs.Probing.{IfAsked, RunTold}
+use Rattle.rtdvs_top.specs.ToldRuns.{IfAsked, RunTold}
 use Rattle.rtdvs_top.specs.Run.{answer_of_plan, run_with, prepared_of}
 use Rattle.rtdvs_top.specs.Promises.{OfTests, Tells, LoadFailed, answer_of_command}
 use Rattle.rtdvs_top.specs.Constrain.{FailsToKeep}

@@ -26,7 +26,7 @@ use Rattle.dvs_base.specs.declared.limits.TheConstants.{MOST_JOBS}
 use Rattle.words.specs.Reading.{command_of}
 use Rattle.energy_bound.specs.declared.least.Least.{Least}
 use Rattle.probes.specs.Tallies.{ProbeOf}
-use Rattle.poll_server.specs.Serving.{ServerOf}
+use Rattle.poll_server.specs.ServerJobs.{ServerOf}
 use Rattle.statuses.specs.declared.status.Denied.TheVariants as denied
 use Rattle.rtdvs_top.specs.Meanings.{tasks_at, machine_at, demands_at}
 use Rattle.rtdvs_top.specs.Trace.{trace_at, trace_answer}

@@ -23,7 +23,7 @@ use Rattle.note_laws.specs.DoneLines.{TellsDeadlines}
 use Rattle.rtdvs_top.specs.Admit.{admission}
 use Rattle.statuses.specs.Steps.{Gives}
 use Rattle.rtdvs_top.specs.Meanings.{demands_at, machine_at, tasks_at}
-use Rattle.rtdvs_top.specs.Probing.{IfAsked, RunTold}
+use Rattle.rtdvs_top.specs.ToldRuns.{IfAsked, RunTold}
 
 -- the text, where the run doesn't release too many jobs
 abbrev pub within_jobs : ℕ → List ℕ → Result (List ℕ) Status

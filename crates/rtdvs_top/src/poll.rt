@@ -2,7 +2,7 @@
 ghost use Rattle.std.specs.Prelude.{◌≡◌, ◌<◌, Ok, IfOk, length, if◌then◌else◌};
 ghost use Rattle.dvs_base.specs.WritesText.{WritesText};
 ghost use Rattle.sched_model.specs.Plan.{count};
-ghost use Rattle.poll_server.specs.Serving.{request_count};
+ghost use Rattle.poll_server.specs.ServerJobs.{request_count};
 ghost use Rattle.words.specs.Commands.{poll as poll_of, IsReadyCommand};
 ghost use Rattle.words.specs.Shown.{shown_poll};
 ghost use Rattle.statuses.specs.Steps.{TestStep};

@@ -32,7 +32,7 @@ pub(crate) struct Polling {
 }
 
 impl Model for Polling {
-    ghost use Rattle.poll_server.specs.Serving.{ServerOf, server_of};
+    ghost use Rattle.poll_server.specs.ServerJobs.{ServerOf, server_of};
 
     ghost Value = { ServerOf };
 

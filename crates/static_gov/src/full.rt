@@ -6,7 +6,7 @@ ghost use Rattle.sched_model.specs.Plan.{top_speed};
 ghost use Rattle.sched_model.specs.StaticDemand.{full_demand};
 ghost use Rattle.sched_model.specs.States.{opening, IsOfPlan};
 ghost use Rattle.governor.specs.Steps.{IsAtDecision};
-ghost use Rattle.governor.specs.Serving.{ServesBoth};
+ghost use Rattle.governor.specs.ServedSchedulers.{ServesBoth};
 ghost use Rattle.governor.specs.Speeds.{unchanging};
 ghost use Rattle.governor.specs.OneSpeed.{CalmAt, SafeAt};
 ghost use Rattle.governor.proofs.OneSpeedLaws.{pairs_plain, full_laws};

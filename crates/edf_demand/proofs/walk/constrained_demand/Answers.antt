@@ -8,7 +8,7 @@ use Rattle.sched_model.specs.Plan.{Plan, plan_of, count, hyper}
 use Rattle.edf_demand_laws.specs.ProcessorDemand.{processor_demand}
 use Rattle.edf_demand.specs.Walk.{due_of}
 use Rattle.edf_demand.proofs.LowestEntry.{within_limits}
-use Rattle.edf_demand.proofs.DemandWalk.{Walking, walk-start, walk-takes, walk-keeps, walk-ends, work-next, low-demand, now-later, goes-on}
+use Rattle.edf_demand.proofs.DemandWalk.{IsWalkedTo, walk-start, walk-takes, walk-keeps, walk-ends, work-next, low-demand, now-later, goes-on}
 use Rattle.edf_demand.proofs.walk.constrained_demand.Goals as goal
 use Rattle.edf_demand.proofs.walk.constrained_demand.Goals.{then-greater, else-greater}
 
@@ -25,7 +25,7 @@ loop-now-init c =
     record {
       one_each = made.one_each;
       calendar = made.calendar;
-      walking = subst (λ (n : ℕ). Walking p relative next n 0 (record { num = 0; den = 1 })) (sym now) start;
+      walking = subst (λ (n : ℕ). IsWalkedTo p relative next n 0 (record { num = 0; den = 1 })) (sym now) start;
     }
 
 pub overflow_add-work : goal.overflow_add-work
@@ -94,14 +94,14 @@ loop-now-preserved c =
     let within : l.now ≤ hyper p = omega (arith, c.loop-now-test.true, c.hyper.ensures.hyper) in
     let next = work-next p lim relative con (due_of l.next.entries) l.now l.work l.busiest l.invariant.walking in
     let work : sum ≡ processor_demand p relative l.now = ap (λ (n : ℕ). l.work + n) taken.ensures.work ∙ next in
-    let walking : Walking p relative after then_now sum c.if-greater.busiest = (elim c.if-greater.branch [
+    let walking : IsWalkedTo p relative after then_now sum c.if-greater.busiest = (elim c.if-greater.branch [
       | then-greater w ↦
-          subst (λ (b : Frac). Walking p relative after then_now sum b) (sym w.busiest-is)
+          subst (λ (b : Frac). IsWalkedTo p relative after then_now sum b) (sym w.busiest-is)
           (walk-takes p lim relative con (due_of l.next.entries) l.now l.work l.busiest l.invariant.walking
           c.requires.few within after then_now sum c.from.result taken.ensures.later then_is work c.from.ensures
           (sym c.greater.ensures ∙ w.if-greater.true))
       | else-greater w ↦
-          subst (λ (b : Frac). Walking p relative after then_now sum b) (sym w.busiest-is)
+          subst (λ (b : Frac). IsWalkedTo p relative after then_now sum b) (sym w.busiest-is)
           (walk-keeps p lim relative con (due_of l.next.entries) l.now l.work l.busiest l.invariant.walking
           c.requires.few within after then_now sum c.from.result taken.ensures.later then_is work c.from.ensures
           (sym c.greater.ensures ∙ w.if-greater.false))

@@ -3,14 +3,14 @@ use Rattle.dvs_base.specs.declared.kind.Scheduler.TheVariants.{Edf}
 use Rattle.task_model.specs.Tasks.{hyper_of}
 use Rattle.sched_model.specs.Plan.{plan_of, count}
 use Rattle.edf_demand.specs.Walk.{due_of, IsCalendar}
-use Rattle.edf_demand.proofs.DemandWalk.{Walking}
+use Rattle.edf_demand.proofs.DemandWalk.{IsWalkedTo}
 use Rattle.edf_demand.proofs.walk.constrained_demand.Given as goal
 
 abbrev pub invariant-loop-now : goal.invariant-loop-now
 invariant-loop-now l = record {
   one_each : l.next.limit ≡ count (plan_of l.tasks l.machine Edf);
   calendar : IsCalendar l.next;
-  walking : Walking (plan_of l.tasks l.machine Edf) (slice_index l.deadlines) (due_of l.next.entries) l.now l.work
+  walking : IsWalkedTo (plan_of l.tasks l.machine Edf) (slice_index l.deadlines) (due_of l.next.entries) l.now l.work
       l.busiest;
 }
 

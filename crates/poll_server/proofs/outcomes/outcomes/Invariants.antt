@@ -2,7 +2,7 @@ use Rattle.std.proofs.Common.{◌≡◌, List}
 use Rattle.dvs_base.specs.declared.note.Note.{Note}
 use Rattle.grid_fraction.specs.Numbers.{list_below}
 use Rattle.poll_server.specs.EachOutcome.{outcome_of}
-use Rattle.poll_server.specs.Walking.{HasReached, AreEnds}
+use Rattle.poll_server.specs.Walks.{HasReached, AreEnds}
 use Rattle.poll_server.proofs.outcomes.outcomes.Given as goal
 
 abbrev pub invariant-loop-m : goal.invariant-loop-m

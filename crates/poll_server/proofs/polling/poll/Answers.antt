@@ -3,7 +3,7 @@ use Rattle.std.proofs.lemmas.List.{length-replicate}
 use Rattle.std.specs.Prelude.{None}
 use Rattle.event_kernel.specs.Runs.{notes_of_run}
 use Rattle.request_list.specs.declared.requests.Request.{Request}
-use Rattle.poll_server.specs.Serving.{server_of}
+use Rattle.poll_server.specs.ServerJobs.{server_of}
 use Rattle.poll_server.proofs.JobEnds.{hears-all}
 use Rattle.poll_server.proofs.Whole.{Answered, answered, jobs-within, server-jobs}
 use Rattle.poll_server.proofs.polling.poll.Goals as goal

@@ -1,6 +1,6 @@
 use Rattle.std.proofs.Common.{subst}
 use Rattle.event_kernel.specs.Runs.{IsListOf}
-use Rattle.poll_server.specs.Serving.{ServerOf}
+use Rattle.poll_server.specs.ServerJobs.{ServerOf}
 use Rattle.poll_server.proofs.Steps.{stands-first, taken-first}
 use Rattle.poll_server.proofs.taking.polled_demands.Goals as goal
 

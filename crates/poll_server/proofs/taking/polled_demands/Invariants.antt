@@ -1,5 +1,5 @@
 use Rattle.event_kernel.specs.Runs.{IsListOf}
-use Rattle.poll_server.specs.Walking.{StandsAfter, AreTaken}
+use Rattle.poll_server.specs.Walks.{StandsAfter, AreTaken}
 use Rattle.poll_server.proofs.taking.polled_demands.Given as goal
 
 abbrev pub invariant-loop-job : goal.invariant-loop-job

@@ -5,7 +5,7 @@ use Rattle.dvs_base.specs.declared.note.Totals.{Totals}
 use Rattle.sched_model.specs.Plan.{count}
 use Rattle.event_kernel.specs.Runs.{notes_of_run}
 use Rattle.trace_reader.specs.Traces.{TraceOf}
-use Rattle.replay.specs.Comparing.{differs}
+use Rattle.replay.specs.Comparison.{differs}
 use Rattle.replay.specs.declared.compared.Compared.{Compared}
 use Rattle.replay.proofs.ComparedNotes.{stopped-compared, compared-same, run-same, run-stopped}
 use Rattle.replay.proofs.check.compare.Goals as goal

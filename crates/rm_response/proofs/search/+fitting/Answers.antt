@@ -5,7 +5,7 @@ use Rattle.task_model.specs.declared.task.Task.{Task}
 use Rattle.sched_model.specs.Plan.{Plan, plan_of, count, period}
 use Rattle.sched_model.specs.Admission.{IsWithinLimits}
 use Rattle.rm_response_laws.specs.Bounds.{held_work}
-use Rattle.rm_response_laws.specs.Fitting.{FindsFit, IsLastBefore}
+use Rattle.rm_response_laws.specs.WorkBeside.{FindsFit, IsLastBefore}
 use Rattle.rm_response_laws.proofs.WorkFits.{earlier-last}
 use Rattle.rm_response.proofs.FitDecisions.{rank-last, multiple_below, alone, found-in, found-before}
 use Rattle.rm_response.proofs.search.+fitting.Goals.{then-is_some-via-then-is_some, then-is_some-via-else-is_some+then-release-span}

@@ -3,7 +3,7 @@ use Rattle.dvs_base.specs.declared.kind.Scheduler.TheVariants.{Rm}
 use Rattle.task_model.specs.declared.task.Task.{Task}
 use Rattle.sched_model.specs.Plan.{Plan, plan_of, period, worst}
 use Rattle.sched_model.specs.Admission.{IsWithinLimits}
-use Rattle.rm_response_laws.specs.Fitting.{Fits, NoneFits}
+use Rattle.rm_response_laws.specs.WorkBeside.{Fits, NoneFits}
 use Rattle.rm_response_laws.proofs.ResponseSearch.{response-is, response-none}
 use Rattle.rm_response_laws.proofs.WorkFits.{serves-fit, unserved-none}
 use Rattle.rm_response.proofs.search.searched.Goals as goal

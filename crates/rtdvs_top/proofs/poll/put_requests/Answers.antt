@@ -1,5 +1,5 @@
 use Rattle.std.proofs.Common.{◌≡◌, ◌∙◌, ap, arith, refl}
-use Rattle.poll_server.specs.Serving.{request_count}
+use Rattle.poll_server.specs.ServerJobs.{request_count}
 use Rattle.poll_server.specs.Outcomes.{outcome_at}
 use Rattle.rtdvs_top.specs.Poll.{outcome_text, request_lines}
 use Rattle.statuses.proofs.NumberedPuts.{part-put}

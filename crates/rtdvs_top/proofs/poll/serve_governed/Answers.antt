@@ -2,7 +2,7 @@ use Rattle.std.proofs.Common.{◌≡◌, ◌≤◌, ◌∙◌, subst}
 use Rattle.dvs_base.specs.declared.limits.TheConstants.{MOST_JOBS}
 use Rattle.sched_model.specs.Jobs.{released_jobs}
 use Rattle.sched_model.specs.Admission.{IsAdmitted}
-use Rattle.poll_server.specs.Serving.{ServerOf}
+use Rattle.poll_server.specs.ServerJobs.{ServerOf}
 use Rattle.poll_server.specs.Bound.{HaveJobs, KeepsBound}
 use Rattle.poll_server.specs.Polled.{IsPolled, polled_notes}
 use Rattle.poll_server.specs.EachOutcome.{served_of}

@@ -17,12 +17,12 @@ use Rattle.event_kernel.proofs.Bounds.{bounds}
 use Rattle.event_kernel.proofs.Courses.{low-exec, course-len}
 use Rattle.event_kernel.proofs.SpanBuffer.{with-none}
 use Rattle.event_kernel.proofs.Ofplan.{of-prior}
-use Rattle.event_kernel.proofs.BoundaryReleases.{Releasing, notes_upto, releasing-start, none-past, at-due, at-end, opens, opens-trace, can-release, released-marked, released-unmarked, prior-done}
+use Rattle.event_kernel.proofs.BoundaryReleases.{HasReleased, notes_upto, releasing-start, none-past, at-due, at-end, opens, opens-trace, can-release, released-marked, released-unmarked, prior-done}
 use Rattle.event_kernel.proofs.progress.Progress.release_all.Goals as goal
 
 -- the rows of the first m tasks are released
 module _ {demand : OwnDemand} {set : Setting} (ok : IsSetting set) {s0 : StateOf} (here : IsAtBoundary set demand s0)
-    {m : ℕ} {any : Bool} {st : StateOf} (r : Releasing set.plan.now (demands_of set.plan.now set.demands.now)
+    {m : ℕ} {any : Bool} {st : StateOf} (r : HasReleased set.plan.now (demands_of set.plan.now set.demands.now)
     (course demand set.plan.now (demands_of set.plan.now set.demands.now) s0.now) m any st) where
   abbrev p : Plan
   p = set.plan.now
@@ -38,7 +38,7 @@ module _ {demand : OwnDemand} {set : Setting} (ok : IsSetting set) {s0 : StateOf
 
   -- the step to the next task that is due
   module _ {i : ℕ} (d : IsFirstDue p st i) where
-    at : Releasing p dem past i any st × (notes_upto p dem past m ≡ notes_upto p dem past i)
+    at : HasReleased p dem past i any st × (notes_upto p dem past m ≡ notes_upto p dem past i)
     at = at-due periods r ok.within.none d
 
     can : CanRelease p st i
@@ -48,7 +48,7 @@ module _ {demand : OwnDemand} {set : Setting} (ok : IsSetting set) {s0 : StateOf
 
   -- the end, where no task is due
   module _ (le : m ≤ count p) (none : (k : ℕ) → k < count p → (row_at st k).deadline ≢ st.now) where
-    end : Releasing p dem past (count p) any st × (notes_upto p dem past m ≡ notes_upto p dem past (count p))
+    end : HasReleased p dem past (count p) any st × (notes_upto p dem past m ≡ notes_upto p dem past (count p))
     end = at-end periods r ok.within.none le none
 
     all-notes : (trace0 : SpanTrace) {trace : SpanTrace} → trace ≡ with_notes trace0 (notes_upto p dem past m)
@@ -72,7 +72,7 @@ loop-task-init g c =
     let past = course m p dem t in record {
       released = 0;
       within = omega arith;
-      so_far = subst (λ (s : StateOf). Releasing p dem past 0 false s) (sym here.state) (releasing-start p dem past);
+      so_far = subst (λ (s : StateOf). HasReleased p dem past 0 false s) (sym here.state) (releasing-start p dem past);
       current = c.requires.current;
       of = subst (λ (s : StateOf). IsOfPlan p s) (sym here.state) (of-prior p dem past (low-exec m p dem t c.requires.set.within));
       trace = with-none c.args.self.now.trace c.requires.none;

@@ -6,7 +6,7 @@ use Rattle.agenda.specs.Agenda.{due_left}
 use Rattle.event_kernel.specs.Current.{IsCurrent}
 use Rattle.event_kernel.specs.Segment.{with_notes}
 use Rattle.event_kernel.specs.Runs.{demands_of}
-use Rattle.event_kernel.proofs.BoundaryReleases.{Releasing, notes_upto}
+use Rattle.event_kernel.proofs.BoundaryReleases.{HasReleased, notes_upto}
 use Rattle.event_kernel.proofs.progress.Progress.release_all.Given as goal
 
 -- the rows of the first `released` tasks are released
@@ -18,7 +18,7 @@ invariant-loop-task g l =
     record {
       released : ℕ;
       within : released ≤ count p;
-      so_far : Releasing p dem past released l.any l.self.state;
+      so_far : HasReleased p dem past released l.any l.self.state;
       current : IsCurrent g.G.Governor.stands p l.self;
       of : IsOfPlan p l.self.state;
       trace : l.self.trace ≡ with_notes l.fn.self.trace (notes_upto p dem past released);

@@ -1,7 +1,7 @@
 use Rattle.std.proofs.Common.{ℕ, ap, ◌∙◌, sym, subst}
 use Rattle.dvs_base.specs.declared.note.Note.{Note}
 use Rattle.dvs_base.specs.declared.note.Note.TheVariants.{Done}
-use Rattle.poll_server.specs.Walking.{Hears}
+use Rattle.poll_server.specs.Walks.{Hears}
 use Rattle.poll_server.proofs.ends.EndsListener.hear.Goals as goal
 
 pub returns-then-task-self-clause-heard : goal.returns-then-task-self-clause-heard

@@ -1,6 +1,6 @@
 use Rattle.std.proofs.Common.{◌≡◌, ◌+◌, ap, ◌∙◌, arith}
 use Rattle.demand_list.specs.Demands.{units_of}
-use Rattle.poll_server.specs.Serving.{ServerOf, units, taken}
+use Rattle.poll_server.specs.ServerJobs.{ServerOf, units, taken}
 use Rattle.poll_server.proofs.Steps.{asked_below-fits, taken-fits, units-taken, reached-next}
 use Rattle.poll_server.proofs.outcomes.Reached.add.Goals as goal
 

@@ -1,5 +1,5 @@
 use Rattle.std.proofs.Common.{◌+◌, ◌-◌, ◌≤◌}
-use Rattle.poll_server.specs.Walking.{HasReached}
+use Rattle.poll_server.specs.Walks.{HasReached}
 use Rattle.poll_server.proofs.outcomes.Reached.add.Given as goal
 
 abbrev pub invariant-loop-self : goal.invariant-loop-self

@@ -1,7 +1,7 @@
 use Rattle.std.proofs.Common.{◌≡◌, ℕ, ◌+◌, ◌-◌, ◌*◌, ap, ap₂, ◌∙◌, sym, arith}
 use Rattle.sched_model.specs.Plan.{period, offset}
 use Rattle.sched_model.specs.Jobs.{release}
-use Rattle.poll_server.specs.Serving.{ServerOf}
+use Rattle.poll_server.specs.ServerJobs.{ServerOf}
 use Rattle.poll_server.proofs.server.Server.release_after.Goals as goal
 
 pub returns : goal.returns

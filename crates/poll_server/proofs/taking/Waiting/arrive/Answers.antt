@@ -1,5 +1,5 @@
 use Rattle.std.proofs.Common.{◌≡◌, ◌<◌, ap, ◌∙◌, subst, arith}
-use Rattle.poll_server.specs.Serving.{ServerOf, units, arrival, request_count}
+use Rattle.poll_server.specs.ServerJobs.{ServerOf, units, arrival, request_count}
 use Rattle.poll_server.proofs.Steps.{asked_below-fits, passed-arrived}
 use Rattle.poll_server.proofs.taking.Waiting.arrive.Goals as goal
 

@@ -1,6 +1,6 @@
 use Rattle.std.proofs.Common.{◌≡◌, ◌-◌}
-use Rattle.poll_server.specs.Walking.{HasPassed}
-use Rattle.poll_server.specs.Serving.{request_count}
+use Rattle.poll_server.specs.Walks.{HasPassed}
+use Rattle.poll_server.specs.ServerJobs.{request_count}
 use Rattle.poll_server.proofs.taking.Waiting.arrive.Given as goal
 
 abbrev pub invariant-loop-self : goal.invariant-loop-self

@@ -1,5 +1,5 @@
 use Rattle.std.proofs.Common.{◌≡◌, ℕ, ◌+◌, ◌-◌, min, ap, ◌∙◌}
-use Rattle.poll_server.specs.Serving.{arrived, taken}
+use Rattle.poll_server.specs.ServerJobs.{arrived, taken}
 use Rattle.poll_server.proofs.Steps.{takes-is, stands-next}
 use Rattle.poll_server.proofs.taking.Waiting.take.Goals as goal
 

@@ -17,7 +17,7 @@ HeldNow p t (Held i k) = (i < count p) × (k ≡ latest p i t)
 
 -- The trace holds the open segment of a span's units, and the notes of the span before it. `used` is the units that the
 -- latest job of each task has had, and `most` bounds the units so far.
-pub record Writing (p : Plan) (dem : JobDemands) (ask : PublishedDemand) (t : ℕ) (s : Span) (used : ℕ → ℕ) (most : ℕ) (trace : SpanTrace) : Type 0 where
+pub record HoldsSpan (p : Plan) (dem : JobDemands) (ask : PublishedDemand) (t : ℕ) (s : Span) (used : ℕ → ℕ) (most : ℕ) (trace : SpanTrace) : Type 0 where
   pub done : List Piece
   pub segments : IsOpen trace.segment done s.units
   pub place : trace.segment.start + trace.segment.units ≡ length s.units

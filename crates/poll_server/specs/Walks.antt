@@ -13,7 +13,7 @@ use Rattle.task_model.specs.DemandRows.{DemandRow, named}
 use Rattle.poll_server.specs.declared.taking.Waiting.{Waiting}
 use Rattle.poll_server.specs.declared.ends.Ends.{Ends}
 use Rattle.poll_server.specs.declared.outcomes.Reached.{Reached}
-use Rattle.poll_server.specs.Serving.{ServerOf, request_count, arrival, asked_below, job_release, taken, taken_up_to}
+use Rattle.poll_server.specs.ServerJobs.{ServerOf, request_count, arrival, asked_below, job_release, taken, taken_up_to}
 use Rattle.poll_server.specs.Outcomes.{done_position, done_at}
 
 -- the requests passed have arrived by tick t, and their units are counted
