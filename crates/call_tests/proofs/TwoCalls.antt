@@ -37,25 +37,25 @@ module _ {loads puts more_loads more_puts : Type 0} (of_loads : loads → more_l
   answers-as (Some files) (Err why) s answers = answers
   answers-as (Some files) (Ok c) s answers = is-answer (answer_of_command c files) s answers
 
--- the first call's answer, where the counts are taken after the second
-pub first-answers : (old mid new : ShelfView) (out_old out_mid out_new : SinkView) (c : Result CommandOf WordFault)
-    (s : Status) → mid.faults ≤ new.faults → out_mid.faults ≤ out_new.faults
-    → Answers (known_files old.held c) c (Rose old.faults mid.faults) (Rose out_old.faults out_mid.faults) s
-    → Answers (known_files old.held c) c (Rose old.faults new.faults) (Rose out_old.faults out_new.faults) s
-first-answers old mid new out_old out_mid out_new c s loads puts answers =
-    answers-as (rose-until old.faults mid.faults new.faults loads)
-    (rose-until out_old.faults out_mid.faults out_new.faults puts) (known_files old.held c) c s answers
+-- two calls over one shelf and one sink: both are seen before, between and after the calls
+module _ (old mid new : ShelfView) (out_old out_mid out_new : SinkView) (c : Result CommandOf WordFault) (s : Status) where
+  -- the first call's answer, where the counts are taken after the second
+  pub first-answers : mid.faults ≤ new.faults → out_mid.faults ≤ out_new.faults
+      → Answers (known_files old.held c) c (Rose old.faults mid.faults) (Rose out_old.faults out_mid.faults) s
+      → Answers (known_files old.held c) c (Rose old.faults new.faults) (Rose out_old.faults out_new.faults) s
+  first-answers loads puts answers =
+      answers-as (rose-until old.faults mid.faults new.faults loads)
+      (rose-until out_old.faults out_mid.faults out_new.faults puts) (known_files old.held c) c s answers
 
--- the second call's answer, over the files known before the first, where the counts are taken from before it
-pub second-answers : (old mid new : ShelfView) (out_old out_mid out_new : SinkView) (c : Result CommandOf WordFault)
-    (s : Status) → mid.held ≡ old.held → old.faults ≤ mid.faults → out_old.faults ≤ out_mid.faults
-    → Answers (known_files mid.held c) c (Rose mid.faults new.faults) (Rose out_mid.faults out_new.faults) s
-    → Answers (known_files old.held c) c (Rose old.faults new.faults) (Rose out_old.faults out_new.faults) s
-second-answers old mid new out_old out_mid out_new c s held loads puts answers =
-    answers-as (rose-since old.faults mid.faults new.faults loads)
-    (rose-since out_old.faults out_mid.faults out_new.faults puts) (known_files old.held c) c s
-    (subst (λ (files : Option Files). Answers (known_files files c) c (Rose mid.faults new.faults)
-    (Rose out_mid.faults out_new.faults) s) held answers)
+  -- the second call's answer, over the files known before the first, where the counts are taken from before it
+  pub second-answers : mid.held ≡ old.held → old.faults ≤ mid.faults → out_old.faults ≤ out_mid.faults
+      → Answers (known_files mid.held c) c (Rose mid.faults new.faults) (Rose out_mid.faults out_new.faults) s
+      → Answers (known_files old.held c) c (Rose old.faults new.faults) (Rose out_old.faults out_new.faults) s
+  second-answers held loads puts answers =
+      answers-as (rose-since old.faults mid.faults new.faults loads)
+      (rose-since out_old.faults out_mid.faults out_new.faults puts) (known_files old.held c) c s
+      (subst (λ (files : Option Files). Answers (known_files files c) c (Rose mid.faults new.faults)
+      (Rose out_mid.faults out_new.faults) s) held answers)
 
 -- an answer needs no more loads than the words name files
 while-few : (passed : NamedFile → Bool) (fs : List NamedFile) → loads_while passed fs ≤ length fs

@@ -79,12 +79,12 @@ module _ (p : Plan) (lim : IsWithinLimits p) (rm : p.scheduler ≡ Rm) (which : 
   state past = state_of p dem past
 
   -- before the releases the state belongs to the demands, and each level of `which` is calm
-  record Kept (past : List Tick) : Type 0 where
+  record AreKept (past : List Tick) : Type 0 where
     pub belongs : Belongs p dem (prior past)
     pub calm : AreCalm (prior past)
 
   -- each job of a task of `which` that is due is complete
-  completes : (past : List Tick) → Kept past → (i : ℕ) → i < count p → which i ≡ true
+  completes : (past : List Tick) → AreKept past → (i : ℕ) → i < count p → which i ≡ true
       → (row_at (prior past) i).deadline ≡ length past → (row_at (prior past) i).done ≡ true
   completes past k i h on =
       level_completes F (span i) p lim i h dem (prior past) k.belongs (bound i h on).within (k.calm i h on)
@@ -93,16 +93,16 @@ module _ (p : Plan) (lim : IsWithinLimits p) (rm : p.scheduler ≡ Rm) (which : 
   released : (past : List Tick) → after_boundary p dem (prior past) ≡ state past
   released past = boundary-is p dem (every_period p lim) within.none past
 
-  belongs-state : (past : List Tick) → Kept past → Belongs p dem (state past)
+  belongs-state : (past : List Tick) → AreKept past → Belongs p dem (state past)
   belongs-state past k = subst (Belongs p dem) (released past) (belongs_boundary p dem (prior past) k.belongs)
 
-  calm-state : (past : List Tick) → Kept past → AreCalm (state past)
+  calm-state : (past : List Tick) → AreKept past → AreCalm (state past)
   calm-state past k i h on =
       subst (λ (s : StateOf). LevelCalm F (span i) p s i) (released past)
       (level_releases F (span i) p lim i h dem (prior past) k.belongs (bound i h on).some
       (λ j hj lv e. completes past k j hj (down i j h hj lv on) e) (k.calm i h on))
 
-  at-decision : (past : List Tick) → Kept past → IsAtDecision p (state past)
+  at-decision : (past : List Tick) → AreKept past → IsAtDecision p (state past)
   at-decision past k =
       subst (IsAtDecision p) (released past) (decision_boundary p dem (prior past) lim k.belongs)
 
@@ -120,7 +120,7 @@ module _ (p : Plan) (lim : IsWithinLimits p) (rm : p.scheduler ≡ Rm) (which : 
       tick-is p dem (every_period p lim) within.none (tick past) past
       (share-legal p dem past F (tick past) (full-legal p lim dem past))
 
-  kept-next : (past : List Tick) → Kept past → Kept (tick past ∷ past)
+  kept-next : (past : List Tick) → AreKept past → AreKept (tick past ∷ past)
   kept-next past k =
       let belongs = belongs-state past k in
       let before = (at-decision past k).before in
@@ -134,15 +134,15 @@ module _ (p : Plan) (lim : IsWithinLimits p) (rm : p.scheduler ≡ Rm) (which : 
             (calm-state past k i h on));
       }
 
-  kept-none : Kept []
+  kept-none : AreKept []
   kept-none = record {
     belongs = belongs_opening p dem within;
     calm = λ i h on. level_opens F (span i) p lim i h;
   }
 
-  kept : (t : ℕ) → Kept (schedule p Plain dem t)
-  kept zero = subst Kept (sym (schedule-none p dem (full_ask p dem))) kept-none
-  kept (suc t) = subst Kept (sym (schedule-suc p dem (full_ask p dem) t)) (kept-next (schedule p Plain dem t) (kept t))
+  kept : (t : ℕ) → AreKept (schedule p Plain dem t)
+  kept zero = subst AreKept (sym (schedule-none p dem (full_ask p dem))) kept-none
+  kept (suc t) = subst AreKept (sym (schedule-suc p dem (full_ask p dem) t)) (kept-next (schedule p Plain dem t) (kept t))
 
   -- each deadline of a task of `which` is met
   pub bounded-met : (t i k : ℕ) → i < count p → which i ≡ true → 1 ≤ k → due p i k ≤ t
