@@ -1,5 +1,2 @@
-pub mod Deadlines
-pub mod DeadlineFile
-pub mod FaultLines
 pub mod Walk
 pub mod Answers

@@ -7,14 +7,8 @@
 //! runs out: `Offset`, then `TooManyJobs`, then `Denied`.
 #![tactic(auto)]
 
-mod deadlines;
-mod fault;
-mod fault_line;
 mod lowest_speed;
-mod read;
 mod walk;
 
-pub use deadlines::Deadlines;
-pub use fault::DeadlineFault;
-pub use fault_line::deadline_fault_line;
+pub use deadline_list::{DeadlineFault, Deadlines};
 pub use lowest_speed::{ConstrainFault, Constrained, constrain};

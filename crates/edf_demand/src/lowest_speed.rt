@@ -4,12 +4,12 @@ ghost use Rattle.dvs_base.specs.declared.kind.Scheduler.TheVariants.{Edf};
 ghost use Rattle.freq_table.specs.Tables.{lowest_pick};
 ghost use Rattle.sched_model.specs.Plan.{plan_of};
 ghost use Rattle.edf_demand_laws.specs.ProcessorDemand.{IsConstrainedDemand};
-ghost use Rattle.edf_demand.specs.Deadlines.{AreFor};
+ghost use Rattle.deadline_list.specs.Deadlines.{AreFor};
 ghost use Rattle.dvs_base.specs.Checks.{IsUnlessMemory};
 ghost use Rattle.edf_demand.specs.Answers.{LooksAtDemand, IsLowestSpeed, IsConstrainDenial, ShowsCause, tested_answer};
 
-use crate::Deadlines;
 use crate::walk::{constrained_demand, hyper_jobs};
+use deadline_list::Deadlines;
 use dvs_base::MOST_JOBS;
 use freq_table::Machine;
 use grid_fraction::Frac;

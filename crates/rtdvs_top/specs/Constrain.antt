@@ -9,7 +9,7 @@ use Rattle.task_model.specs.declared.task.Task.{Task}
 use Rattle.freq_table.specs.Tables.{Table, speed_at}
 use Rattle.sched_model.specs.Plan.{plan_of, Plan, count, offset}
 use Rattle.edf_demand.specs.Answers.{tested_answer, LooksAtDemand, IsLowestSpeed, IsOverload, IsTooLong}
-use Rattle.edf_demand.specs.DeadlineFile.{deadline_file}
+use Rattle.deadline_list.specs.DeadlineFile.{deadline_file}
 use Rattle.edf_demand.specs.declared.lowest_speed.Constrained.{Constrained}
 use Rattle.edf_demand.specs.declared.lowest_speed.ConstrainFault.{ConstrainFault}
 use Rattle.edf_demand.specs.declared.lowest_speed.ConstrainFault.TheVariants as constrain_fault

@@ -2,7 +2,7 @@
 ghost use Rattle.std.specs.Prelude.{◌≡◌, ◌<◌, length, slice_index, IfOk, OnOk, IfErr};
 ghost use Rattle.dvs_base.specs.declared.kind.Scheduler.TheVariants.{Edf};
 ghost use Rattle.sched_model.specs.Plan.{plan_of};
-ghost use Rattle.edf_demand.specs.Deadlines.{AreFor};
+ghost use Rattle.deadline_list.specs.Deadlines.{AreFor};
 ghost use Rattle.words.specs.Commands.{constrain as constrain_of};
 ghost use Rattle.words.specs.Shown.{shown_constrain};
 ghost use Rattle.statuses.specs.Status.{IsOfFile};

@@ -8,8 +8,8 @@ use Rattle.demand_list.specs.declared.fault.DemandFault.{DemandFault}
 use Rattle.demand_list.specs.declared.fault.DemandFault.TheVariants as demand_fault
 use Rattle.trace_reader.specs.declared.trace.TraceFault.{TraceFault}
 use Rattle.trace_reader.specs.declared.trace.TraceFault.TheVariants as trace_fault
-use Rattle.edf_demand.specs.declared.fault.DeadlineFault.{DeadlineFault}
-use Rattle.edf_demand.specs.declared.fault.DeadlineFault.TheVariants as deadline_fault
+use Rattle.deadline_list.specs.declared.fault.DeadlineFault.{DeadlineFault}
+use Rattle.deadline_list.specs.declared.fault.DeadlineFault.TheVariants as deadline_fault
 use Rattle.request_list.specs.declared.fault.RequestFault.{RequestFault}
 use Rattle.request_list.specs.declared.fault.RequestFault.TheVariants as request_fault
 use Rattle.statuses.specs.declared.status.TextFault.TheVariants as text

@@ -12,7 +12,7 @@ use Rattle.task_model.specs.declared.fault.TaskFault.TheVariants as task_fault
 use Rattle.freq_table.specs.declared.fault.MachineFault.TheVariants as machine_fault
 use Rattle.demand_list.specs.declared.fault.DemandFault.TheVariants as demand_fault
 use Rattle.trace_reader.specs.declared.trace.TraceFault.TheVariants as trace_fault
-use Rattle.edf_demand.specs.declared.fault.DeadlineFault.TheVariants as deadline_fault
+use Rattle.deadline_list.specs.declared.fault.DeadlineFault.TheVariants as deadline_fault
 use Rattle.request_list.specs.declared.fault.RequestFault.TheVariants as request_fault
 use Rattle.dvs_base.specs.Outside.{Rose}
 

@@ -14,7 +14,7 @@ use Rattle.words.specs.FaultLines.{word_fault_text}
 use Rattle.trace_reader.specs.FaultLines.{trace_fault_text}
 use Rattle.demand_list.specs.FaultLines.{demand_fault_text, over_worst_text}
 use Rattle.request_list.specs.FaultLines.{request_fault_text}
-use Rattle.edf_demand.specs.FaultLines.{deadline_fault_text}
+use Rattle.deadline_list.specs.FaultLines.{deadline_fault_text}
 use Rattle.statuses.specs.declared.status.FileKind.{FileKind}
 use Rattle.statuses.specs.declared.status.FileKind.TheVariants as file
 use Rattle.statuses.specs.declared.status.TextFault.{TextFault}

@@ -8,7 +8,7 @@ ghost use Rattle.statuses.specs.StatusLines.{file_word, text_fault_text, numbers
 use crate::{Denied, FileKind, Status, TextFault};
 use demand_list::{demand_fault_line, over_worst_line};
 use dvs_base::{Line, MOST_JOBS, Name, Part, Short, line_of, name_part, too_many_line};
-use edf_demand::deadline_fault_line;
+use deadline_list::deadline_fault_line;
 use freq_table::machine_fault_line;
 use request_list::request_fault_line;
 use task_model::{TaskSet, task_fault_line, task_name};

@@ -6,7 +6,7 @@ ghost use Rattle.statuses.specs.declared.status.Status.TheVariants as status;
 use crate::{Status, TextFault};
 use demand_list::DemandFault;
 use dvs_base::NoMemory;
-use edf_demand::DeadlineFault;
+use deadline_list::DeadlineFault;
 use freq_table::MachineFault;
 use request_list::RequestFault;
 use task_model::TaskFault;

@@ -4,7 +4,7 @@ ghost use Rattle.statuses.specs.Status.{code_of};
 
 use demand_list::DemandFault;
 use dvs_base::{Note, Short};
-use edf_demand::DeadlineFault;
+use deadline_list::DeadlineFault;
 use freq_table::MachineFault;
 use request_list::RequestFault;
 use task_model::TaskFault;

@@ -1,9 +1,9 @@
 use Rattle.std.proofs.Common.{◌≡◌, ℕ, length, sym, ◌∙◌, ap, subst, arith}
 use Rattle.grid_fraction.specs.Numbers.{list_below}
-use Rattle.edf_demand.specs.Deadlines.{AreFor}
-use Rattle.edf_demand.specs.DeadlineFile.{relative_deadline, all_deadlines}
-use Rattle.edf_demand.proofs.LowestEntry.{all-for}
-use Rattle.edf_demand.proofs.read.all_deadlines.Goals as goal
+use Rattle.deadline_list.specs.Deadlines.{AreFor}
+use Rattle.deadline_list.specs.DeadlineFile.{relative_deadline, all_deadlines}
+use Rattle.deadline_list.proofs.GivenDeadlines.{all-for}
+use Rattle.deadline_list.proofs.read.all_deadlines.Goals as goal
 
 pub returns-clause-for_tasks : goal.returns-clause-for_tasks
 returns-clause-for_tasks c =

@@ -1,8 +1,8 @@
 use Rattle.std.proofs.Common.{◌≡◌, ℕ, None, length, sym, ◌∙◌, ap, subst, arith}
 use Rattle.grid_fraction.specs.Numbers.{list_below}
-use Rattle.edf_demand.specs.DeadlineFile.{none_given, AreGiven}
-use Rattle.edf_demand.proofs.LowestEntry.{none-are}
-use Rattle.edf_demand.proofs.read.none_given.Goals as goal
+use Rattle.deadline_list.specs.DeadlineFile.{none_given, AreGiven}
+use Rattle.deadline_list.proofs.GivenDeadlines.{none-are}
+use Rattle.deadline_list.proofs.read.none_given.Goals as goal
 
 pub returns-clause-given : goal.returns-clause-given
 returns-clause-given c =

@@ -1,6 +1,6 @@
 // The refusals of a deadline file.
 ghost use Rattle.std.specs.Prelude.{◌≡◌};
-ghost use Rattle.edf_demand.specs.declared.fault.DeadlineFault.TheVariants as fault;
+ghost use Rattle.deadline_list.specs.declared.fault.DeadlineFault.TheVariants as fault;
 
 use dvs_base::{NoMemory, Short};
 

@@ -26,8 +26,8 @@ impl Deadlines {
         self.ticks[task as usize]
     }
 
-    // The relative deadlines in ticks, in the tasks' order.
-    pub(crate) fn ticks(&self) -> &[u64]
+    /// The relative deadlines in ticks, in the tasks' order.
+    pub fn ticks(&self) -> &[u64]
         ensures { result.now ≡ self.now }
     {
         &self.ticks

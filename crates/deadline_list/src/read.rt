@@ -4,8 +4,8 @@ ghost use Rattle.csv.specs.Records.{fields_of};
 ghost use Rattle.csv_text.specs.Rows.{IsDefault, AreCountedFrom, records_left};
 ghost use Rattle.dvs_base.specs.Checks.{IsUnlessMemory};
 ghost use Rattle.task_model.specs.Tasks.{task_at};
-ghost use Rattle.edf_demand.specs.Deadlines.{AreFor};
-ghost use Rattle.edf_demand.specs.DeadlineFile.{deadline_of_row, with_deadline, given_from, none_given, all_deadlines, given_in, deadline_file, AreGiven};
+ghost use Rattle.deadline_list.specs.Deadlines.{AreFor};
+ghost use Rattle.deadline_list.specs.DeadlineFile.{deadline_of_row, with_deadline, given_from, none_given, all_deadlines, given_in, deadline_file, AreGiven};
 
 use crate::{DeadlineFault, Deadlines};
 use csv::{ByteRecord, Reader};

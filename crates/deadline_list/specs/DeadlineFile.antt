@@ -10,8 +10,8 @@ use Rattle.grid_fraction.specs.Numbers.{list_below}
 use Rattle.task_model.specs.declared.task.Task.{Task}
 use Rattle.task_model.specs.Tasks.{task_at}
 use Rattle.task_model.specs.TaskFile.{place_of}
-use Rattle.edf_demand.specs.declared.fault.DeadlineFault.{DeadlineFault}
-use Rattle.edf_demand.specs.declared.fault.DeadlineFault.TheVariants as fault
+use Rattle.deadline_list.specs.declared.fault.DeadlineFault.{DeadlineFault}
+use Rattle.deadline_list.specs.declared.fault.DeadlineFault.TheVariants as fault
 
 -- the deadline n of a row, from 1 to the period, or the refusal
 abbrev pub deadline_from : ℕ → ℕ → ℕ → Result ℕ DeadlineFault

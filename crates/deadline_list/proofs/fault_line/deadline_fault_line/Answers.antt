@@ -1,5 +1,5 @@
 use Rattle.std.proofs.Common.{refl}
-use Rattle.edf_demand.proofs.fault_line.deadline_fault_line.Goals as goal
+use Rattle.deadline_list.proofs.fault_line.deadline_fault_line.Goals as goal
 
 pub returns-in-UnknownTask : goal.returns-in-UnknownTask
 returns-in-UnknownTask c = rw (c.in-UnknownTask.is, c.row_line-in-UnknownTask.ensures) refl

@@ -2,8 +2,8 @@
 use Rattle.std.specs.Prelude.{ℕ, List, [], ◌∷◌, codes}
 use Rattle.std.specs.Fmt.{decimal}
 use Rattle.dvs_base.specs.Parts.{joined, name_of}
-use Rattle.edf_demand.specs.declared.fault.DeadlineFault.{DeadlineFault}
-use Rattle.edf_demand.specs.declared.fault.DeadlineFault.TheVariants as fault
+use Rattle.deadline_list.specs.declared.fault.DeadlineFault.{DeadlineFault}
+use Rattle.deadline_list.specs.declared.fault.DeadlineFault.TheVariants as fault
 
 -- the line of a refused row of a deadline file
 abbrev pub at_deadline : ℕ → List (List ℕ) → List ℕ

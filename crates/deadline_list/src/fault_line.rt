@@ -3,7 +3,7 @@ ghost use Rattle.std.specs.Prelude.{◌≡◌, ◌≤◌, [], ◌∷◌, codes, 
 ghost use Rattle.std.specs.Option.{option_copied};
 ghost use Rattle.dvs_base.specs.Parts.{part_text, most_of, name_text};
 ghost use Rattle.task_model.specs.Tasks.{names_of};
-ghost use Rattle.edf_demand.specs.FaultLines.{at_deadline, deadline_fault_text};
+ghost use Rattle.deadline_list.specs.FaultLines.{at_deadline, deadline_fault_text};
 
 use crate::DeadlineFault;
 use dvs_base::{Line, Name, Part, line_of, name_part, push_number, push_parts, push_word};

@@ -1,7 +1,7 @@
 use Rattle.std.proofs.Common.{◌≡◌, length}
 use Rattle.csv_text.specs.Rows.{IsDefault, AreCountedFrom, records_left}
-use Rattle.edf_demand.specs.DeadlineFile.{given_from, AreGiven}
-use Rattle.edf_demand.proofs.read.read_rows.Given as goal
+use Rattle.deadline_list.specs.DeadlineFile.{given_from, AreGiven}
+use Rattle.deadline_list.proofs.read.read_rows.Given as goal
 
 -- what the rows so far give, with the records that are left, gives what all records give
 abbrev pub invariant-loop-given : goal.invariant-loop-given

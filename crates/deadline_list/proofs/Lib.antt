@@ -1,0 +1,2 @@
+pub mod GivenDeadlines
+pub mod Examples

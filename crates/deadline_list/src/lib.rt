@@ -1,0 +1,13 @@
+//! Relative deadlines of tasks, and their file.
+//!
+//! Callers may rely on every list to have one deadline for each task of its set, from 1 to the task's period.
+#![tactic(auto)]
+
+mod deadlines;
+mod fault;
+mod fault_line;
+mod read;
+
+pub use deadlines::Deadlines;
+pub use fault::DeadlineFault;
+pub use fault_line::deadline_fault_line;
