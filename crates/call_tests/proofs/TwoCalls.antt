@@ -5,7 +5,7 @@ use Rattle.dvs_base.specs.Outside.{Files, ShelfView, SinkView, Rose}
 use Rattle.words.specs.Commands.{CommandOf}
 use Rattle.words.specs.declared.command.WordFault.{WordFault}
 use Rattle.rtdvs_top.specs.Promises.{answer_of_command, Answers, IsAnswer, known_files, loads_asked, loads_wanted}
-use Rattle.rtdvs_top.specs.Files.{MakesLoads, passes, loads_while, NamedFile, files_of}
+use Rattle.command_files.specs.Files.{MakesLoads, passes, loads_while, NamedFile, files_of}
 use Rattle.statuses.specs.Status.{CountsPuts}
 use Rattle.statuses.specs.declared.status.Status.{Status}
 use Rattle.statuses.specs.declared.status.Status.TheVariants as status

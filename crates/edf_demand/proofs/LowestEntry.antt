@@ -1,7 +1,5 @@
 -- Relative deadlines within the limits, and what the lowest entry that meets the constrained demand does.
-use Rattle.std.proofs.Common.{ℕ, List, length, slice_index, ◌≡◌, ◌<◌, ◌≤◌, Option, Some, None, refl, sym, ◌∙◌, subst, arith, inl, inr, ◌*◌, nat_lt, Bool, true, false, Ok, Err, ap, true≢false}
-use Rattle.std.proofs.lemmas.Option.{none-some}
-use Rattle.std.specs.Prelude.{unwrap_or}
+use Rattle.std.proofs.Common.{ℕ, List, length, slice_index, ◌≡◌, ◌<◌, ◌≤◌, refl, sym, ◌∙◌, subst, arith, inl, inr, ◌*◌, nat_lt, Bool, true, false, Ok, Err, ap, true≢false}
 use Rattle.std.proofs.Math.Nat.{mul-le-mul_right}
 use Rattle.std.proofs.lemmas.Bool.{cases_lt, le-leb, leb-true, false_from_ne_true}
 use Rattle.std.proofs.lemmas.Bool.Decides.{nat_tests}
@@ -12,7 +10,6 @@ use Rattle.freq_table.specs.Tables.{Table, IsTable, speed_at, last_entry, highes
 use Rattle.sched_model.specs.Plan.{Plan, plan_of, count, offset, top_speed}
 use Rattle.sched_model.specs.Admission.{IsWithinLimits}
 use Rattle.edf_demand_laws.specs.Constrained.{IsConstrained}
-use Rattle.sched_model.proofs.Tables.{length-list_below, get-table}
 use Rattle.dvs_base.specs.declared.limits.TheConstants.{MOST_JOBS}
 use Rattle.task_model.proofs.FirstOffset.{none-found}
 use Rattle.grid_fraction.specs.declared.Frac.{Frac}
@@ -23,7 +20,6 @@ use Rattle.freq_table.proofs.Chosen.{below_highest, lowest_within, lowest-most, 
 use Rattle.edf_demand_laws.specs.ProcessorDemand.{IsConstrainedDemand, constrained_demand}
 use Rattle.edf_demand_laws.proofs.DemandDecides.{meets-always, misses-at-worst}
 use Rattle.deadline_list.specs.Deadlines.{AreFor}
-use Rattle.deadline_list.specs.DeadlineFile.{given_to, none_given, relative_deadline, all_deadlines, AreGiven}
 use Rattle.edf_demand.specs.declared.lowest_speed.ConstrainFault.TheVariants.{Denied}
 use Rattle.edf_demand.specs.Answers.{LooksAtDemand, IsLowestSpeed, IsOverload, hyper_jobs, pick_answer, demand_answer, tested_answer_from, tested_answer}
 

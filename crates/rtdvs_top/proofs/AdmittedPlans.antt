@@ -7,11 +7,12 @@ use Rattle.sched_model.specs.Jobs.{demand_of, released_jobs}
 use Rattle.note_laws.specs.RunText.{run_text_in}
 use Rattle.poll_server.specs.ServerJobs.{server_of}
 use Rattle.words.specs.Commands.{RunOf, AdmitOf, TracedOf, PollOf, CommandOf, run, admit, traced, poll}
-use Rattle.rtdvs_top.specs.Meanings.{tasks_at, machine_at, demands_at}
-use Rattle.rtdvs_top.specs.Admit.{admission, admitted_text, admit_answer}
+use Rattle.command_files.specs.Meanings.{tasks_at, machine_at, demands_at, server_at}
+use Rattle.rtdvs_top.specs.Admit.{admitted_text, admit_answer}
+use Rattle.command_files.specs.Admissions.{admission}
 use Rattle.rtdvs_top.specs.Run.{answer_of_prepared, run_answer}
 use Rattle.rtdvs_top.specs.Trace.{trace_at, answer_of_traced, trace_answer}
-use Rattle.rtdvs_top.specs.Poll.{server_at, requests_at, polling_served, polled_text, answer_of_polling, poll_answer}
+use Rattle.rtdvs_top.specs.Poll.{requests_at, polling_served, polled_text, answer_of_polling, poll_answer}
 use Rattle.rtdvs_top.specs.Promises.{answer_of_command, run_plan, admit_plan, traced_plan, poll_plan, Passes, Denies, AdmitsOrDenies, OfAdmission}
 use Rattle.rtdvs_top.specs.Prepared.{EndsAs}
 use Rattle.statuses.specs.declared.status.Denied.{Denied}

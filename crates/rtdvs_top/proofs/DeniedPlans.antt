@@ -31,12 +31,12 @@ use Rattle.sched_model.specs.Plan.{Plan, hyper, top_speed}
 use Rattle.sched_model.specs.Tests.{total_rate}
 use Rattle.sched_model.specs.Admission.{PassesTest}
 use Rattle.dvs_base.specs.declared.limits.TheConstants.{MOST_JOBS}
-use Rattle.rtdvs_top.specs.Meanings.{bytes_from, bytes_at, tasks_at, machine_at, demands_at, longest}
+use Rattle.command_files.specs.Meanings.{bytes_from, bytes_at, tasks_at, machine_at, demands_at, longest, server_from, server_at}
 use Rattle.statuses.specs.Refused.{or_status, task_status, machine_status, demand_status, trace_status, request_status}
-use Rattle.rtdvs_top.specs.Admit.{admission, admission_by, admission_from, first_overloaded}
+use Rattle.command_files.specs.Admissions.{admission, admission_by, admission_from, first_overloaded}
 use Rattle.rtdvs_top.specs.Run.{within_jobs}
 use Rattle.rtdvs_top.specs.Trace.{replay_status, trace_of, trace_at, totals_at, printed, answer_of_traced}
-use Rattle.rtdvs_top.specs.Poll.{server_from, server_at, requests_at}
+use Rattle.rtdvs_top.specs.Poll.{requests_at}
 use Rattle.rtdvs_top.specs.Promises.{IsDenial, DeniedPlan}
 use Rattle.statuses.specs.declared.status.Denied.{Denied}
 use Rattle.statuses.specs.declared.status.Denied.TheVariants as denied
@@ -45,7 +45,7 @@ use Rattle.statuses.specs.declared.status.FileKind.TheVariants as file
 use Rattle.statuses.specs.declared.status.TextFault.TheVariants as text
 use Rattle.statuses.specs.declared.status.Status.{Status}
 use Rattle.statuses.specs.declared.status.Status.TheVariants as status
-use Rattle.rtdvs_top.proofs.Overloads.{overloaded-none, none-overloaded, first-overloaded}
+use Rattle.command_files.proofs.Overloads.{overloaded-none, none-overloaded, first-overloaded}
 
 -- whether a status is a denial
 abbrev pub is_denial : Status → Bool

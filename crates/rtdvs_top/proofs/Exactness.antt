@@ -40,8 +40,8 @@ use Rattle.note_laws.specs.RunTraces.{trace_of_run, IsLimitedRun}
 use Rattle.note_laws.proofs.TraceLimits.{keeps-limits}
 use Rattle.replay.proofs.Texts.{names-distinct, names-named}
 use Rattle.words.specs.Commands.{TracedOf, CommandOf, traced}
-use Rattle.rtdvs_top.specs.Meanings.{longest, bytes_from, bytes_at, tasks_at, machine_at}
-use Rattle.rtdvs_top.specs.Admit.{admission}
+use Rattle.command_files.specs.Meanings.{longest, bytes_from, bytes_at, tasks_at, machine_at}
+use Rattle.command_files.specs.Admissions.{admission}
 use Rattle.rtdvs_top.specs.Promises.{IsAnswer, Answers}
 use Rattle.statuses.specs.declared.status.FileKind.{FileKind}
 use Rattle.statuses.specs.declared.status.FileKind.TheVariants as file
@@ -49,7 +49,7 @@ use Rattle.statuses.specs.declared.status.Status.{Status}
 use Rattle.statuses.specs.declared.status.Status.TheVariants as status
 use Rattle.statuses.specs.declared.status.TextFault.TheVariants as text_fault
 use Rattle.statuses.specs.Refused.{or_status, trace_status}
-use Rattle.rtdvs_top.proofs.FileLoads.{short_file}
+use Rattle.command_files.proofs.FileLoads.{short_file}
 use Rattle.event_kernel.proofs.Wholes.{below-first}
 use Rattle.rtdvs_top.specs.Prepared.{MetIn, IsComparable}
 

@@ -14,9 +14,9 @@ use Rattle.freq_table.specs.Tables.{Table}
 use Rattle.words.specs.Commands.{ConstrainOf, CommandOf, run, admit, traced, workload, response, constrain, poll, least}
 use Rattle.words.specs.declared.command.TraceUse.{TraceUse}
 use Rattle.words.specs.declared.command.TraceUse.TheVariants.{Replay, Migrate}
-use Rattle.rtdvs_top.specs.Meanings.{tasks_at, machine_at}
+use Rattle.command_files.specs.Meanings.{tasks_at, machine_at}
 use Rattle.rtdvs_top.specs.Constrain.{deadlines_at, constrain_answer}
-use Rattle.rtdvs_top.specs.Files.{loads_needed}
+use Rattle.command_files.specs.Files.{loads_needed}
 use Rattle.rtdvs_top.specs.Promises.{LoadFailed}
 use Rattle.statuses.specs.Status.{CountsLoads, CountsPuts, LeavesProbes, Leaves}
 use Rattle.statuses.specs.StatusLines.{status_text}

@@ -12,11 +12,12 @@ use Rattle.note_laws.specs.RunText.{run_text_in}
 use Rattle.dvs_base.specs.declared.limits.TheConstants.{MOST_JOBS}
 use Rattle.words.specs.declared.command.WordFault.{WordFault}
 use Rattle.words.specs.Commands.{RunOf, CommandOf, run, response}
-use Rattle.rtdvs_top.specs.Meanings.{tasks_at, machine_at, demands_at}
-use Rattle.rtdvs_top.specs.Admit.{admission}
-use Rattle.rtdvs_top.specs.Run.{within_jobs, prepared_of, answer_of_prepared, run_after_tasks, run_with}
+use Rattle.command_files.specs.Meanings.{tasks_at, machine_at, demands_at}
+use Rattle.command_files.specs.Admissions.{admission}
+use Rattle.rtdvs_top.specs.Run.{within_jobs, answer_of_prepared, run_after_tasks}
+use Rattle.command_files.specs.PlannedRuns.{prepared_of, run_with, IsReadyRun}
 use Rattle.rtdvs_top.specs.Promises.{answer_of_command, MeansRun, DoneRun, DeniedPlan, OfRun, OfTests, RunsOrIsDenied, Answers, Headline}
-use Rattle.rtdvs_top.specs.Prepared.{EndsAs, IsReadyRun, MetIn}
+use Rattle.rtdvs_top.specs.Prepared.{EndsAs, MetIn}
 use Rattle.statuses.specs.declared.status.Denied.{Denied}
 use Rattle.statuses.specs.declared.status.Status.{Status}
 use Rattle.statuses.specs.declared.status.Status.TheVariants as status

@@ -9,7 +9,7 @@ use Rattle.energy_bound.specs.declared.least.Least.{Least}
 use Rattle.energy_bound.specs.Certificates.{least_of}
 use Rattle.energy_bound.specs.FirstPairs.{low_corner, high_corner, least_energy_of}
 use Rattle.words.specs.Commands.{LeastOf, CommandOf, least}
-use Rattle.rtdvs_top.specs.Meanings.{machine_at}
+use Rattle.command_files.specs.Meanings.{machine_at}
 use Rattle.rtdvs_top.specs.Least.{least_text, least_from, least_on, AreTooMany}
 use Rattle.rtdvs_top.specs.Promises.{answer_of_command, OfLeast}
 use Rattle.rtdvs_top.specs.Prepared.{EndsAs, MetIn}

@@ -1,6 +1,3 @@
-pub mod FileLoads
-pub mod RefusedSteps
-pub mod Overloads
 pub mod LineNotes
 pub mod JoinedLines
 pub mod StatusNotes
@@ -12,7 +9,6 @@ pub mod DeniedPlans
 pub mod Responses
 pub mod Headlines
 pub mod StepAnswers
-pub mod Shows
 pub mod FewJobs
 pub mod Comparisons
 pub mod Exactness

@@ -6,13 +6,13 @@ use Rattle.probes.specs.Tallies.{ProbeOf}
 use Rattle.words.specs.Commands.{CommandOf, run, traced, poll, least}
 use Rattle.rtdvs_top.specs.Promises.{LoadFailed, Tells, answer_of_command}
 use Rattle.statuses.specs.Steps.{IsRefusal, Refuses}
-use Rattle.rtdvs_top.specs.Files.{files_for}
+use Rattle.command_files.specs.Files.{files_for}
 use Rattle.statuses.specs.Status.{CountsLoads, LeavesProbes}
 use Rattle.rtdvs_top.specs.Prepared.{Ends, EndsAs, PutEnds, Named, HasAnswer, PutStep, PrepareStep, Seen, seen, IsAnswered, MetIn, answer_of}
 use Rattle.rtdvs_top.specs.declared.prepared.Prepared.{Prepared}
 use Rattle.statuses.specs.declared.status.Status.{Status}
 use Rattle.statuses.specs.declared.status.Status.TheVariants as status
-use Rattle.rtdvs_top.proofs.RefusedSteps.{ends-refusal}
+use Rattle.command_files.proofs.RefusedSteps.{ends-refusal}
 
 -- the put of an answer ends as a command with this answer does
 put-ends : (files : Option Files) (c : CommandOf) (old new : SinkView) (answer : Result (List ℕ) Status) (s : Status)

@@ -5,7 +5,7 @@ use Rattle.task_model.specs.declared.task.Task.{Task}
 use Rattle.probes.specs.Tallies.{ProbeOf}
 use Rattle.words.specs.Commands.{CommandOf, asks_probes}
 use Rattle.task_model.specs.Tasks.{names_of}
-use Rattle.rtdvs_top.specs.Files.{names_by}
+use Rattle.command_files.specs.Files.{names_by}
 use Rattle.rtdvs_top.specs.Prepared.{Named}
 use Rattle.statuses.specs.ProbeLines.{probe_lines}
 use Rattle.statuses.specs.Noted.{NotedAs, noted_text}

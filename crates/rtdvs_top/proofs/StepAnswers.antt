@@ -4,7 +4,7 @@ use Rattle.dvs_base.specs.Outside.{Files, ShelfView, SinkView, Rose, Lacks, file
 use Rattle.words.specs.declared.command.WordFault.{WordFault}
 use Rattle.words.specs.Commands.{CommandOf, run, admit, traced, workload, response, constrain, poll, least}
 use Rattle.rtdvs_top.specs.Promises.{answer_of_command, Answers, Writes, WritesPart, IsSureOf, LoadFailed}
-use Rattle.rtdvs_top.specs.Files.{NamedFile, files_of, files_needed, files_for, is_passed, passes, FailsFrom}
+use Rattle.command_files.specs.Files.{NamedFile, files_of, files_needed, files_for, is_passed, passes, FailsFrom}
 use Rattle.statuses.specs.Status.{CountsPuts, Leaves}
 use Rattle.rtdvs_top.specs.Prepared.{EndsAs}
 use Rattle.statuses.specs.declared.status.FileKind.{FileKind}

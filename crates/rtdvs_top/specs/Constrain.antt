@@ -21,7 +21,7 @@ use Rattle.statuses.specs.declared.status.Status.TheVariants as status
 use Rattle.task_model.specs.Tasks.{IsFirstOffset}
 use Rattle.edf_demand_laws.specs.ProcessorDemand.{IsConstrainedDemand}
 use Rattle.statuses.specs.declared.status.Denied.{Denied}
-use Rattle.rtdvs_top.specs.Meanings.{bytes_at, machine_at, tasks_at}
+use Rattle.command_files.specs.Meanings.{bytes_at, machine_at, tasks_at}
 use Rattle.statuses.specs.Refused.{or_status, deadline_status}
 
 -- the relative deadlines that a named file gives these tasks

@@ -14,7 +14,7 @@ use Rattle.statuses.specs.declared.status.Denied.{Denied}
 use Rattle.statuses.specs.declared.status.Denied.TheVariants as denied
 use Rattle.statuses.specs.declared.status.Status.{Status}
 use Rattle.statuses.specs.declared.status.Status.TheVariants as status
-use Rattle.rtdvs_top.specs.Meanings.{machine_at}
+use Rattle.command_files.specs.Meanings.{machine_at}
 
 -- the first line: the repetitions, the two corners by their speeds, each with its ticks, and what these cost
 abbrev pub corners_text : Least → List ℕ

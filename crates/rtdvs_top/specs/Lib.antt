@@ -1,11 +1,8 @@
-pub mod Meanings
 pub mod Admit
 pub mod Generated
 pub mod ToldRuns
 pub mod Run
 pub mod Poll
-pub mod Files
-pub mod Loads
 pub mod Least
 pub mod Trace
 pub mod Response

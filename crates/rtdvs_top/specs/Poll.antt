@@ -1,16 +1,14 @@
 -- The answer of `poll`, and what a run of its server has kept.
-use Rattle.std.specs.Prelude.{ℕ, List, Option, Some, None, Result, Ok, Err, ◌+◌, [], ◌∷◌, codes, decimal, zero, suc, ◌++◌, Bool, true, false}
+use Rattle.std.specs.Prelude.{ℕ, List, Result, Ok, ◌+◌, [], ◌∷◌, codes, decimal, zero, suc, ◌++◌, Bool, true, false}
 use Rattle.dvs_base.specs.Checks.{◌>>=◌}
 use Rattle.dvs_base.specs.Outside.{Files}
 use Rattle.dvs_base.specs.Parts.{position_text}
-use Rattle.dvs_base.specs.Text.{short_of}
 use Rattle.dvs_base.specs.declared.kind.GovernorKind.{GovernorKind}
 use Rattle.dvs_base.specs.declared.note.Note.{Note}
 use Rattle.dvs_base.specs.declared.note.Totals.{Totals}
 use Rattle.grid_fraction.specs.Numbers.{sum_where}
 use Rattle.trace_text.specs.TraceLines.{line}
 use Rattle.task_model.specs.declared.task.Task.{Task}
-use Rattle.task_model.specs.TaskFile.{place_of}
 use Rattle.sched_model.specs.Plan.{plan_of}
 use Rattle.sched_model.specs.Jobs.{released_jobs}
 use Rattle.sched_model.specs.RunNotes.{run_notes}
@@ -23,24 +21,13 @@ use Rattle.poll_server.specs.declared.served.Outcome.{Outcome}
 use Rattle.poll_server.specs.declared.served.Outcome.TheVariants.{Served, Pending}
 use Rattle.words.specs.Commands.{PollOf}
 use Rattle.statuses.specs.declared.status.FileKind.TheVariants as file
-use Rattle.statuses.specs.declared.status.TextFault.TheVariants as text
 use Rattle.statuses.specs.declared.status.Status.{Status}
-use Rattle.statuses.specs.declared.status.Status.TheVariants as status
 use Rattle.poll_server.specs.Bound.{HaveJobs, KeepsBound}
 use Rattle.poll_server.specs.Polled.{IsPolled}
-use Rattle.rtdvs_top.specs.Meanings.{bytes_at, machine_at, tasks_at}
-use Rattle.rtdvs_top.specs.Admit.{admission}
+use Rattle.command_files.specs.Meanings.{bytes_at, machine_at, tasks_at}
+use Rattle.command_files.specs.Admissions.{admission}
 use Rattle.rtdvs_top.specs.Run.{within_jobs}
 use Rattle.statuses.specs.Refused.{or_status, request_status}
-
--- the place of the server, where a task has its name
-abbrev pub server_from : List ℕ → Option ℕ → Result ℕ Status
-server_from name None = Err (status.Text (text.Server (short_of name)))
-server_from name (Some i) = Ok i
-
--- the place of the task of this name
-abbrev pub server_at : List ℕ → List Task → Result ℕ Status
-server_at name tasks = server_from name (place_of tasks name)
 
 -- the requests of a named file
 abbrev pub requests_at : List ℕ → Files → Result (List Request) Status

@@ -5,7 +5,7 @@ use Rattle.dvs_base.specs.declared.kind.GovernorKind.{GovernorKind}
 use Rattle.dvs_base.specs.declared.kind.Version.{Version}
 use Rattle.task_model.specs.declared.task.Task.{Task}
 use Rattle.sched_model.specs.Plan.{Plan, count, plan_of}
-use Rattle.event_kernel.specs.Runs.{Run, IsListOf}
+use Rattle.event_kernel.specs.Runs.{Run}
 use Rattle.dvs_base.specs.declared.limits.TheConstants.{MOST_TICKS}
 use Rattle.words.specs.Commands.{CommandOf, asks_probes, run, traced, poll, least, ResponseOf}
 use Rattle.statuses.specs.declared.status.Status.{Status}
@@ -26,11 +26,12 @@ use Rattle.replay.specs.Replays.{NamesTask}
 use Rattle.rtdvs_top.specs.declared.generated.PlannedRun.{PlannedRun}
 use Rattle.rtdvs_top.specs.declared.prepared.ReadyRun.{ReadyRun}
 use Rattle.statuses.specs.Steps.{EndsWith, Gives, Refuses, CountsStep}
-use Rattle.rtdvs_top.specs.Files.{files_for, names_by, loads_needed, MakesLoads}
+use Rattle.command_files.specs.Files.{files_for, names_by, loads_needed, MakesLoads}
 use Rattle.statuses.specs.Status.{CountsLoads, Leaves, LeavesProbes, IsShown}
 use Rattle.statuses.specs.StatusLines.{status_text}
 use Rattle.rtdvs_top.specs.ToldRuns.{IfAsked, RunTold}
-use Rattle.rtdvs_top.specs.Run.{answer_of_plan, run_with, prepared_of}
+use Rattle.rtdvs_top.specs.Run.{answer_of_plan}
+use Rattle.command_files.specs.PlannedRuns.{run_with, prepared_of}
 use Rattle.rtdvs_top.specs.Promises.{OfTests, Tells, LoadFailed, answer_of_command}
 use Rattle.rtdvs_top.specs.Constrain.{FailsToKeep}
 use Rattle.rtdvs_top.specs.Generated.{workload_tasks, workload_ticks, workload_totals, workload_text}
@@ -38,9 +39,9 @@ use Rattle.rtdvs_top.specs.Trace.{traced_of, migrated_text, IsMigratable}
 use Rattle.rtdvs_top.specs.Least.{least_text, IsLeastOn}
 use Rattle.rtdvs_top.specs.Poll.{polled_text, polling_of, HasServed}
 use Rattle.rtdvs_top.specs.Response.{responses_text, FailsToRespond, Responds}
-use Rattle.demand_list.specs.Demands.{IsWithinWorsts, DemandsOf}
+use Rattle.demand_list.specs.Demands.{DemandsOf}
 use Rattle.sched_model.specs.Admission.{IsAdmitted}
-use Rattle.rtdvs_top.specs.Meanings.{machine_at, tasks_at}
+use Rattle.command_files.specs.Meanings.{machine_at, tasks_at}
 use Rattle.freq_table.specs.Tables.{Table}
 use Rattle.dvs_base.specs.declared.kind.Scheduler.TheVariants.{Rm}
 
@@ -69,20 +70,6 @@ abbrev pub EndsAs : SinkView → SinkView → Option Files → (Files → Result
 EndsAs old new files answer status.Done = (text : List ℕ) × Gives files answer text × Wrote old new text
 EndsAs old new files answer status.Write = (text : List ℕ) × Gives files answer text × WroteSome old new text
 EndsAs old new files answer s = Refuses files answer s
-
--- the demands of a run are those of its plan's tasks, and its number of ticks is within the limits
-pub record IsRunnable (r : Run) : Type 0 where
-  pub list : IsListOf r.plan r.demands
-  pub some_ticks : 1 ≤ r.ticks
-  pub low_ticks : r.ticks ≤ MOST_TICKS
-
--- A run that the governor of a kind is made for: the plan is admitted and its scheduler makes a pair with the kind, and
--- no listed demand exceeds its worst case.
-pub record IsReadyRun (kind : GovernorKind) (r : Run) : Type 0 where
-  pub admitted : IsAdmitted r.plan
-  pub pair : IsPair r.plan.scheduler kind
-  pub worsts : IsWithinWorsts r.demands
-  pub runnable : IsRunnable r
 
 -- What is known of a command that is done, with the tasks of its file. A run is of the plan and the demands that were
 -- prepared; a replay or a migration has compared a trace with the schedule of an admitted plan; a `poll` run has kept the

@@ -28,16 +28,18 @@ use Rattle.energy_bound.specs.declared.least.Least.{Least}
 use Rattle.probes.specs.Tallies.{ProbeOf}
 use Rattle.poll_server.specs.ServerJobs.{ServerOf}
 use Rattle.statuses.specs.declared.status.Denied.TheVariants as denied
-use Rattle.rtdvs_top.specs.Meanings.{tasks_at, machine_at, demands_at}
+use Rattle.command_files.specs.Meanings.{tasks_at, machine_at, demands_at, server_at}
 use Rattle.rtdvs_top.specs.Trace.{trace_at, trace_answer}
-use Rattle.rtdvs_top.specs.Poll.{server_at, requests_at, poll_answer, polling_of, HasServed}
-use Rattle.rtdvs_top.specs.Run.{run_answer, HasMet, FileTold, text_under, prepared_of, run_with}
-use Rattle.rtdvs_top.specs.Admit.{admit_answer, admission}
+use Rattle.rtdvs_top.specs.Poll.{requests_at, poll_answer, polling_of, HasServed}
+use Rattle.rtdvs_top.specs.Run.{run_answer, HasMet, FileTold, text_under}
+use Rattle.command_files.specs.PlannedRuns.{prepared_of, run_with}
+use Rattle.rtdvs_top.specs.Admit.{admit_answer}
+use Rattle.command_files.specs.Admissions.{admission}
 use Rattle.rtdvs_top.specs.Generated.{workload_answer}
 use Rattle.rtdvs_top.specs.Response.{response_answer, MeansPlan, RespondsOrIsDenied, OfTest}
 use Rattle.rtdvs_top.specs.Constrain.{constrain_answer, OfConstrain}
 use Rattle.rtdvs_top.specs.Least.{least_answer, least_text, IsLeastOn, AreTooMany}
-use Rattle.rtdvs_top.specs.Files.{files_for, files_of, passes, FailsFrom, loads_of, loads_needed, names_by}
+use Rattle.command_files.specs.Files.{files_for, files_of, passes, FailsFrom, loads_of, loads_needed, names_by}
 use Rattle.statuses.specs.Status.{OfLoad}
 use Rattle.statuses.specs.StatusLines.{status_text}
 use Rattle.statuses.specs.Noted.{NotedAs, noted_text}

@@ -19,7 +19,7 @@ use Rattle.dvs_base.specs.Parts.{joined}
 use Rattle.trace_text.specs.TraceLines.{line}
 use Rattle.rm_response.specs.declared.response.ResponseFault.{ResponseFault}
 use Rattle.rm_response.specs.declared.response.ResponseFault.TheVariants as response_fault
-use Rattle.rtdvs_top.specs.Meanings.{tasks_at, machine_at}
+use Rattle.command_files.specs.Meanings.{tasks_at, machine_at}
 use Rattle.statuses.specs.Refused.{or_status}
 
 -- what holds of a plan whose tasks all have responses

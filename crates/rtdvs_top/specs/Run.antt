@@ -7,7 +7,7 @@ use Rattle.dvs_base.specs.declared.kind.Version.{Version}
 use Rattle.task_model.specs.declared.task.Task.{Task}
 use Rattle.demand_list.specs.Demands.{DemandsOf}
 use Rattle.sched_model.specs.Demand.{IsAlwaysMet}
-use Rattle.sched_model.specs.Plan.{Plan, plan_of}
+use Rattle.sched_model.specs.Plan.{Plan}
 use Rattle.sched_model.specs.Jobs.{demand_of, released_jobs, JobDemands}
 use Rattle.note_laws.specs.RunText.{run_text_in}
 use Rattle.event_kernel.specs.Runs.{Run, demands_of}
@@ -20,9 +20,8 @@ use Rattle.sched_model.specs.Ticks.{Tick, IsMet}
 use Rattle.sched_model.specs.Admission.{PassesTest}
 use Rattle.sched_model.specs.Schedule.{schedule, AlwaysMeets, HasSchedule, HasNoOther, IsTheSchedule}
 use Rattle.note_laws.specs.DoneLines.{TellsDeadlines}
-use Rattle.rtdvs_top.specs.Admit.{admission}
 use Rattle.statuses.specs.Steps.{Gives}
-use Rattle.rtdvs_top.specs.Meanings.{demands_at, machine_at, tasks_at}
+use Rattle.command_files.specs.Meanings.{tasks_at}
 use Rattle.rtdvs_top.specs.ToldRuns.{IfAsked, RunTold}
 
 -- the text, where the run doesn't release too many jobs
@@ -33,14 +32,6 @@ within_jobs jobs bytes = if nat_lt MOST_JOBS jobs then Err (status.Limit jobs) e
 abbrev pub answer_of_plan : Version → GovernorKind → DemandsOf → ℕ → Plan → Result (List ℕ) Status
 answer_of_plan v g demands ticks p =
     within_jobs (released_jobs p ticks) (run_text_in v p g (demand_of p demands.rows) ticks)
-
--- the admitted plan and the demands of `run`, after its tasks were read
-abbrev pub prepared_of : RunOf → List Task → Files → Result (Plan × DemandsOf) Status
-prepared_of r tasks files = do
-  machine ← machine_at r.machine files
-  demands ← demands_at tasks r.demands files
-  p ← admission (plan_of tasks machine r.scheduler)
-  Ok (p, demands)
 
 -- the answer of `run` for the plan and the demands that were prepared
 abbrev pub answer_of_prepared : RunOf → Plan × DemandsOf → Result (List ℕ) Status
@@ -86,10 +77,6 @@ pub record HasMet (v : Version) (kind : GovernorKind) (r : Run) : Type 0 where
   -- for any published demand, the plan has one schedule of each length
   pub exists : HasSchedule r.plan
   pub unique : HasNoOther r.plan
-
--- the run of a plan and demands that the words of a run ask for
-abbrev pub run_with : RunOf → Plan → DemandsOf → Run
-run_with r p d = record { plan = p; demands = d; ticks = r.ticks }
 
 -- a run of its file's tasks told probes the notes of the plan and the demands that were prepared, if the words ask for
 -- probes

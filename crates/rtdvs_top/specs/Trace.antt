@@ -32,8 +32,8 @@ use Rattle.replay.specs.declared.fault.ReplayFault.TheVariants as replay_fault
 use Rattle.words.specs.declared.command.TraceUse.{TraceUse}
 use Rattle.words.specs.declared.command.TraceUse.TheVariants.{Replay, Migrate}
 use Rattle.statuses.specs.declared.status.FileKind.TheVariants as file
-use Rattle.rtdvs_top.specs.Meanings.{tasks_at, machine_at, bytes_at}
-use Rattle.rtdvs_top.specs.Admit.{admission}
+use Rattle.command_files.specs.Meanings.{tasks_at, machine_at, bytes_at}
+use Rattle.command_files.specs.Admissions.{admission}
 use Rattle.statuses.specs.Refused.{or_status, trace_status}
 
 -- the bytes are the text, in a version, of the schedule of an admitted plan for the demand list of these rows, by the

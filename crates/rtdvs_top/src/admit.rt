@@ -1,65 +1,21 @@
-// Admission, and what `admit` prepares.
-ghost use Rattle.std.specs.Prelude.{◌≡◌, ◌<◌, length, IfOk};
-ghost use Rattle.sched_model.specs.Plan.{plan_of};
+// What `admit` prepares.
+ghost use Rattle.std.specs.Prelude.{◌≡◌, ◌<◌, length};
 ghost use Rattle.words.specs.Commands.{admit as admit_of};
 ghost use Rattle.words.specs.Shown.{shown_admit};
-ghost use Rattle.statuses.specs.Steps.{TestStep};
-ghost use Rattle.rtdvs_top.specs.Admit.{admission, admitted_text, admitted_of};
-ghost use Rattle.rtdvs_top.specs.Loads.{LoadStep, later_files};
+ghost use Rattle.rtdvs_top.specs.Admit.{admitted_text, admitted_of};
+ghost use Rattle.command_files.specs.Admissions.{admission};
+ghost use Rattle.command_files.specs.Loads.{LoadStep, later_files};
 ghost use Rattle.rtdvs_top.specs.Prepared.{PrepareStep};
 
-use crate::files::{load_machine, load_tasks};
+use crate::Status;
 use crate::prepared::Prepared;
-use crate::{Denied, Status};
-use dvs_base::{Line, NoMemory, Part, Scheduler, Shelf, line_of};
-use edf_admit::{EdfFault, edf_admit};
-use freq_table::Machine;
-use rm_admit::{RmFault, rm_admit};
+use command_files::{admit, load_machine, load_tasks};
+use dvs_base::{Line, Part, Shelf, line_of};
 use sched_model::Admitted;
 use std::alloc::Global;
 use task_model::TaskSet;
 use trace_text::scheduler_word;
 use words::command::AdmitWords;
-
-fn admit_edf(alloc: Global, tasks: &TaskSet, machine: &Machine) -> Result<Admitted, Status>
-    ensures { TestStep (admission (plan_of tasks.now machine.now Scheduler.Edf)) result (λ p. p) }
-{
-    match edf_admit(alloc, tasks, machine) {
-        Ok(plan) => Ok(plan),
-        Err(EdfFault::Denied { num, cap }) => Err(Status::NotAdmitted(Denied::Edf { num, cap })),
-        Err(EdfFault::NoMemory) => Err(Status::NoMemory),
-    }
-}
-
-fn admit_rm(alloc: Global, tasks: &TaskSet, machine: &Machine) -> Result<Admitted, Status>
-    ensures { TestStep (admission (plan_of tasks.now machine.now Scheduler.Rm)) result (λ p. p) }
-{
-    match rm_admit(alloc, tasks, machine) {
-        Ok(plan) => Ok(plan),
-        Err(RmFault::Denied { task, num, cap }) => Err(Status::NotAdmitted(Denied::Rm {
-            task,
-            num,
-            cap,
-        })),
-        Err(RmFault::NoMemory) => Err(Status::NoMemory),
-    }
-}
-
-/// The plan, where its scheduler's test passes, else the denial.
-pub(crate) fn admit(
-    alloc: Global,
-    scheduler: Scheduler,
-    tasks: &TaskSet,
-    machine: &Machine,
-) -> Result<Admitted, Status>
-    ensures step { TestStep (admission (plan_of tasks.now machine.now scheduler)) result (λ p. p) }
-    ensures same { IfOk result (λ p. p ≡ plan_of tasks.now machine.now scheduler) }
-{
-    match scheduler {
-        Scheduler::Edf => admit_edf(alloc, tasks, machine),
-        Scheduler::Rm => admit_rm(alloc, tasks, machine),
-    }
-}
 
 // The admitted plan of `admit`, after its tasks were read.
 fn load_admitted<S: Shelf>(

@@ -8,12 +8,12 @@ ghost use Rattle.words.specs.Shown.{shown_constrain};
 ghost use Rattle.statuses.specs.Status.{IsOfFile};
 ghost use Rattle.statuses.specs.Steps.{TestStep};
 ghost use Rattle.rtdvs_top.specs.Constrain.{deadlines_at, constrained_text, constrain_with, constrain_after_tasks, KeepsDeadlines, IsKept};
-ghost use Rattle.rtdvs_top.specs.Loads.{LoadStep, one_file, later_files};
+ghost use Rattle.command_files.specs.Loads.{LoadStep, one_file, later_files};
 ghost use Rattle.rtdvs_top.specs.Prepared.{RefusesBy, PrepareStep};
 
-use crate::files::{load_file, load_machine, load_tasks};
 use crate::prepared::Prepared;
 use crate::{Denied, FileKind, Status};
+use command_files::{load_file, load_machine, load_tasks};
 use dvs_base::{Line, Part, Shelf, line_of};
 use edf_demand::{ConstrainFault, Constrained, Deadlines, constrain};
 use freq_table::Machine;

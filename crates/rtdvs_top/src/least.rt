@@ -7,9 +7,9 @@ ghost use Rattle.statuses.specs.Steps.{TestStep};
 ghost use Rattle.rtdvs_top.specs.Least.{corners_text, sign_word, prices_text, least_text, least_on, IsLeastOn};
 ghost use Rattle.rtdvs_top.specs.Prepared.{PrepareStep};
 
-use crate::files::load_machine;
 use crate::prepared::Prepared;
 use crate::{Denied, Status};
+use command_files::load_machine;
 use dvs_base::{Failed, Line, Part, Shelf, Sink, line_of, put_two};
 use energy_bound::{Least, Over, least_energy};
 use freq_table::Machine;

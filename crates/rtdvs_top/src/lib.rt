@@ -9,7 +9,6 @@ mod admit;
 mod answer;
 mod at_pair;
 mod constrain;
-mod files;
 mod generated;
 mod least;
 mod poll;

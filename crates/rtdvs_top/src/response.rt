@@ -7,13 +7,13 @@ ghost use Rattle.words.specs.Commands.{response as response_of};
 ghost use Rattle.words.specs.Shown.{shown_response};
 ghost use Rattle.statuses.specs.Steps.{TestStep};
 ghost use Rattle.statuses.specs.declared.status.Denied.{Denied};
-ghost use Rattle.rtdvs_top.specs.Loads.{LoadStep, later_files};
+ghost use Rattle.command_files.specs.Loads.{LoadStep, later_files};
 ghost use Rattle.rtdvs_top.specs.Prepared.{IsTested, PrepareStep};
 ghost use Rattle.rtdvs_top.specs.Response.{responses_on, responses_at, response_text, responses_text, Responds, FailsToRespond};
 
-use crate::files::{load_machine, load_tasks};
 use crate::prepared::Prepared;
 use crate::{Denied, Status};
+use command_files::{load_machine, load_tasks};
 use dvs_base::{Failed, Line, Part, Scheduler, Shelf, Sink, line_of, put_line};
 use freq_table::Machine;
 use rm_response::{Response, ResponseFault, rm_response};

@@ -1,20 +1,17 @@
 // The run of an admitted plan, and what `run` prepares.
-ghost use Rattle.std.specs.Prelude.{map, IfOk};
+ghost use Rattle.std.specs.Prelude.{map};
 ghost use Rattle.dvs_base.specs.PlanWords.{IsPair};
 ghost use Rattle.words.specs.Commands.{IsReady, run as run_of};
 ghost use Rattle.words.specs.Shown.{shown_run};
-ghost use Rattle.rtdvs_top.specs.Loads.{LoadStep, later_files};
-ghost use Rattle.rtdvs_top.specs.Prepared.{PrepareStep, PutStep, ready_run, told_run, IsRunnable, IsReadyRun};
-ghost use Rattle.rtdvs_top.specs.Run.{prepared_of, run_with};
+ghost use Rattle.rtdvs_top.specs.Prepared.{PrepareStep, PutStep, ready_run, told_run};
+ghost use Rattle.command_files.specs.PlannedRuns.{IsRunnable};
 ghost use Rattle.rtdvs_top.specs.declared.prepared.Prepared.TheVariants as prepared;
 
 use crate::Status;
-use crate::admit::admit;
 use crate::at_pair::at_pair;
-use crate::files::{load_demands, load_machine, load_tasks};
 use crate::prepared::{Prepared, ReadyRun};
-use demand_list::Demands;
-use dvs_base::{GovernorKind, NoMemory, Shelf, Sink, Version};
+use command_files::{load_planned, load_tasks};
+use dvs_base::{NoMemory, Shelf, Sink};
 use event_kernel::{Kernel, KernelFault, WriteFault};
 use governor::Publishing;
 use probes::Probe;
@@ -22,26 +19,6 @@ use sched_model::Admitted;
 use std::alloc::Global;
 use task_model::TaskSet;
 use words::command::RunWords;
-
-// The admitted plan and the demands of `run`, after its tasks were read.
-fn load_planned<S: Shelf>(
-    alloc: Global,
-    words: &RunWords<'_>,
-    tasks: &TaskSet,
-    shelf: &mut S,
-) -> Result<(Admitted, Demands), Status>
-    requires { IsReady (shown_run words.now) }
-    ensures step { LoadStep (later_files (S.shows shelf.old).held (run_of (shown_run words.now))
-        (prepared_of (shown_run words.now) tasks.now)) (S.shows shelf.old) (S.shows shelf.new) result (λ x. (x.0, x.1)) }
-    ensures ready { IfOk result (λ x. IsReadyRun words.now.governor (run_with (shown_run words.now) x.0 x.1)) }
-{
-    let machine = load_machine(alloc, words.machine, shelf)?;
-    let demands = load_demands(alloc, words.demands, tasks, shelf)?;
-    let plan = admit(alloc, words.scheduler, tasks, &machine)?;
-    let _admitted = plan.scheduler();
-    let _worsts = demands.worsts();
-    Ok((plan, demands))
-}
 
 /// What `run` prepares, and the tasks where they were read.
 pub(crate) fn prepare_run<S: Shelf>(

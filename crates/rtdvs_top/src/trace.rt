@@ -7,15 +7,14 @@ ghost use Rattle.words.specs.Commands.{traced as traced_command, traced};
 ghost use Rattle.words.specs.Shown.{shown_trace};
 ghost use Rattle.statuses.specs.Status.{OfLoad, IsShown};
 ghost use Rattle.statuses.specs.Steps.{TestStep, EndsWith};
-ghost use Rattle.rtdvs_top.specs.Loads.{LoadStep, one_file, later_files};
+ghost use Rattle.command_files.specs.Loads.{LoadStep, one_file, later_files};
 ghost use Rattle.rtdvs_top.specs.Trace.{task_names, task_line, lines_of_tasks, trace_of, trace_at, traced_of, replay_status, totals_at, replayed_text, answer_of_traced};
 ghost use Rattle.rtdvs_top.specs.Prepared.{IsComparable, IsPuttable, PrepareStep, answer_of, tells_probes};
 
-use crate::admit::admit;
 use crate::at_pair::at_pair;
-use crate::files::{load_file, load_machine, load_tasks};
 use crate::prepared::Prepared;
 use crate::{FileKind, Status};
+use command_files::{admit, load_file, load_machine, load_tasks};
 use dvs_base::{Line, Name, NoMemory, Part, Shelf, Totals, line_of};
 use governor::Publishing;
 use replay::{ReplayFault, replay};

@@ -6,9 +6,9 @@ ghost use Rattle.task_model.specs.Tasks.{names_of};
 ghost use Rattle.statuses.specs.StatusLines.{file_word, text_fault_text, numbers_text, demand_text, denied_text, HasOneLine, status_text};
 
 use crate::{Denied, FileKind, Status, TextFault};
+use deadline_list::deadline_fault_line;
 use demand_list::{demand_fault_line, over_worst_line};
 use dvs_base::{Line, MOST_JOBS, Name, Part, Short, line_of, name_part, too_many_line};
-use deadline_list::deadline_fault_line;
 use freq_table::machine_fault_line;
 use request_list::request_fault_line;
 use task_model::{TaskSet, task_fault_line, task_name};

@@ -4,9 +4,9 @@ ghost use Rattle.statuses.specs.Refused.{IsRefusedAs, task_status, machine_statu
 ghost use Rattle.statuses.specs.declared.status.Status.TheVariants as status;
 
 use crate::{Status, TextFault};
+use deadline_list::DeadlineFault;
 use demand_list::DemandFault;
 use dvs_base::NoMemory;
-use deadline_list::DeadlineFault;
 use freq_table::MachineFault;
 use request_list::RequestFault;
 use task_model::TaskFault;

@@ -2,9 +2,9 @@
 ghost use Rattle.std.specs.Prelude.{◌≡◌};
 ghost use Rattle.statuses.specs.Status.{code_of};
 
+use deadline_list::DeadlineFault;
 use demand_list::DemandFault;
 use dvs_base::{Note, Short};
-use deadline_list::DeadlineFault;
 use freq_table::MachineFault;
 use request_list::RequestFault;
 use task_model::TaskFault;

@@ -6,7 +6,7 @@ use Rattle.statuses.specs.declared.status.FileKind.{FileKind}
 use Rattle.statuses.specs.declared.status.Status.{Status}
 use Rattle.statuses.specs.Status.{OfLoad, IsShown}
 use Rattle.statuses.specs.Steps.{Gives, Refuses, CountsStep}
-use Rattle.rtdvs_top.specs.Files.{NamedFile, named_file, files_of, passes, loads_while, FailsFrom, MakesLoads}
+use Rattle.command_files.specs.Files.{NamedFile, named_file, files_of, passes, loads_while, FailsFrom, MakesLoads}
 
 -- what a step loads: these files, one after another as long as each is passed, and what they mean
 pub record LoadOf (A : Type 0) : Type 0 where

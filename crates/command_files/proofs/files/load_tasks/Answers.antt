@@ -1,8 +1,8 @@
 use Rattle.statuses.specs.declared.status.FileKind.TheVariants as file
 use Rattle.statuses.specs.Refused.{task_status}
-use Rattle.rtdvs_top.specs.Meanings.{tasks_at}
-use Rattle.rtdvs_top.proofs.RefusedSteps.{tasks-refused, file-refused}
-use Rattle.rtdvs_top.proofs.files.load_tasks.Goals as goal
+use Rattle.command_files.specs.Meanings.{tasks_at}
+use Rattle.command_files.proofs.RefusedSteps.{tasks-refused, file-refused}
+use Rattle.command_files.proofs.files.load_tasks.Goals as goal
 
 pub returns-in_err-read : goal.returns-in_err-read
 returns-in_err-read g c =

@@ -8,8 +8,7 @@ use Rattle.statuses.specs.declared.status.FileKind.TheVariants as file
 use Rattle.statuses.specs.declared.status.Status.{Status}
 use Rattle.task_model.specs.declared.task.Task.{Task}
 use Rattle.task_model.specs.Tasks.{names_of}
-use Rattle.rtdvs_top.specs.Meanings.{tasks_at, machine_at}
-use Rattle.rtdvs_top.specs.Poll.{server_at}
+use Rattle.command_files.specs.Meanings.{tasks_at, machine_at, server_at}
 
 -- at most `most` loads were made: the files stay, the count never falls, and stays where the shelf was sure of `most`
 pub record MakesLoads (most : ℕ) (old new : ShelfView) : Type 0 where

@@ -1,8 +1,8 @@
 use Rattle.statuses.specs.declared.status.FileKind.TheVariants as file
 use Rattle.statuses.specs.Refused.{machine_status}
-use Rattle.rtdvs_top.specs.Meanings.{machine_at}
-use Rattle.rtdvs_top.proofs.RefusedSteps.{machine-refused, file-refused}
-use Rattle.rtdvs_top.proofs.files.load_machine.Goals as goal
+use Rattle.command_files.specs.Meanings.{machine_at}
+use Rattle.command_files.proofs.RefusedSteps.{machine-refused, file-refused}
+use Rattle.command_files.proofs.files.load_machine.Goals as goal
 
 pub returns-in_err-read-clause-step : goal.returns-in_err-read-clause-step
 returns-in_err-read-clause-step g c =

@@ -1,14 +1,14 @@
 // The files that the words name: loaded, and read.
 ghost use Rattle.std.specs.Prelude.{◌≡◌, ◌<◌, ◌^◌, Some, map, option_map, IfOk, IfErr};
-ghost use Rattle.rtdvs_top.specs.Meanings.{longest, bytes_at, tasks_at, machine_at, demands_at};
-ghost use Rattle.rtdvs_top.specs.Files.{if_named};
-ghost use Rattle.rtdvs_top.specs.Loads.{LoadStep, one_file, each_of};
+ghost use Rattle.command_files.specs.Meanings.{longest, bytes_at, tasks_at, machine_at, demands_at};
+ghost use Rattle.command_files.specs.Files.{if_named};
+ghost use Rattle.command_files.specs.Loads.{LoadStep, one_file, each_of};
 ghost use Rattle.statuses.specs.Status.{IsOfFile};
 
-use crate::{FileKind, Status, TextFault};
 use demand_list::{Demands, worst_list};
 use dvs_base::{LONGEST_FILE, LONGEST_TRACE, LoadFault, Shelf};
 use freq_table::Machine;
+use statuses::{FileKind, Status, TextFault};
 use std::alloc::Global;
 use task_model::TaskSet;
 
@@ -28,7 +28,7 @@ fn longest(file: FileKind) -> u64
 }
 
 /// The bytes of a file that is not too long.
-pub(crate) fn load_file<S: Shelf>(
+pub fn load_file<S: Shelf>(
     alloc: Global,
     file: FileKind,
     name: &str,
@@ -52,11 +52,7 @@ pub(crate) fn load_file<S: Shelf>(
 }
 
 /// The tasks of a file.
-pub(crate) fn load_tasks<S: Shelf>(
-    alloc: Global,
-    name: &str,
-    shelf: &mut S,
-) -> Result<TaskSet, Status>
+pub fn load_tasks<S: Shelf>(alloc: Global, name: &str, shelf: &mut S) -> Result<TaskSet, Status>
     ensures { LoadStep (one_file FileKind.Tasks name.now (tasks_at name.now)) (S.shows shelf.old) (S.shows shelf.new)
         result (λ v. v) }
 {
@@ -65,11 +61,7 @@ pub(crate) fn load_tasks<S: Shelf>(
 }
 
 /// The machine of a file.
-pub(crate) fn load_machine<S: Shelf>(
-    alloc: Global,
-    name: &str,
-    shelf: &mut S,
-) -> Result<Machine, Status>
+pub fn load_machine<S: Shelf>(alloc: Global, name: &str, shelf: &mut S) -> Result<Machine, Status>
     ensures step { LoadStep (one_file FileKind.Machine name.now (machine_at name.now)) (S.shows shelf.old)
         (S.shows shelf.new) result (λ v. v) }
     ensures of_file { IfErr result IsOfFile }
@@ -94,7 +86,7 @@ fn load_named_demands<S: Shelf>(
 }
 
 /// The demands of a file, or every job's worst case where none is named.
-pub(crate) fn load_demands<S: Shelf>(
+pub fn load_demands<S: Shelf>(
     alloc: Global,
     name: Option<&str>,
     tasks: &TaskSet,

@@ -1,9 +1,9 @@
 use Rattle.std.proofs.Common.{Some}
 use Rattle.statuses.specs.declared.status.FileKind.TheVariants as file
-use Rattle.rtdvs_top.specs.Meanings.{demands_at}
-use Rattle.rtdvs_top.proofs.RefusedSteps.{demands-refused, demand-file-refused}
-use Rattle.rtdvs_top.proofs.Shows.{demand-shown}
-use Rattle.rtdvs_top.proofs.files.load_named_demands.Goals as goal
+use Rattle.command_files.specs.Meanings.{demands_at}
+use Rattle.command_files.proofs.RefusedSteps.{demands-refused, demand-file-refused}
+use Rattle.command_files.proofs.Shows.{demand-shown}
+use Rattle.command_files.proofs.files.load_named_demands.Goals as goal
 
 pub returns-in_err-read-clause-step : goal.returns-in_err-read-clause-step
 returns-in_err-read-clause-step g c =

@@ -7,7 +7,7 @@ use Rattle.dvs_base.specs.Outside.{Files, LoadsFrom, file_of}
 use Rattle.statuses.specs.declared.status.FileKind.{FileKind}
 use Rattle.statuses.specs.declared.status.TextFault.TheVariants as text
 use Rattle.statuses.specs.declared.status.Status.TheVariants as status
-use Rattle.rtdvs_top.specs.Meanings.{longest, bytes_from, bytes_at}
+use Rattle.command_files.specs.Meanings.{longest, bytes_from, bytes_at}
 use Rattle.statuses.specs.Steps.{Gives, Refuses}
 
 whole_file : (f : Option (List ℕ)) (m : ℕ) (v : List ℕ) → option_map (take (m + 1)) f ≡ Some v → length v ≤ m

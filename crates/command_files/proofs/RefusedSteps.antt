@@ -16,11 +16,11 @@ use Rattle.statuses.specs.declared.status.FileKind.{FileKind}
 use Rattle.statuses.specs.declared.status.FileKind.TheVariants as file
 use Rattle.statuses.specs.declared.status.Status.{Status}
 use Rattle.statuses.specs.declared.status.Status.TheVariants as status
-use Rattle.rtdvs_top.specs.Meanings.{bytes_at, tasks_at, machine_at, demands_at}
+use Rattle.command_files.specs.Meanings.{bytes_at, tasks_at, machine_at, demands_at}
 use Rattle.statuses.specs.Refused.{IsRefusedAs, task_status, machine_status, demand_status}
 use Rattle.statuses.specs.Status.{OfLoad, CountsLoads, IsShown}
-use Rattle.rtdvs_top.specs.Files.{FailsFrom, MakesLoads}
-use Rattle.rtdvs_top.specs.Loads.{LoadStep, one_file}
+use Rattle.command_files.specs.Files.{FailsFrom, MakesLoads}
+use Rattle.command_files.specs.Loads.{LoadStep, one_file}
 use Rattle.statuses.specs.Steps.{Gives, Refuses, EndsWith, IsRefusal}
 
 -- a step that ended with a status

@@ -1,7 +1,7 @@
 use Rattle.std.proofs.Common.{ℕ, ◌+◌, subst, arith, rules}
 use Rattle.dvs_base.specs.Outside.{LoadsFrom}
-use Rattle.rtdvs_top.proofs.FileLoads.{too_long, gives_bytes}
-use Rattle.rtdvs_top.proofs.files.load_file.Goals as goal
+use Rattle.command_files.proofs.FileLoads.{too_long, gives_bytes}
+use Rattle.command_files.proofs.files.load_file.Goals as goal
 
 pub returns-then-len-most-clause-step : goal.returns-then-len-most-clause-step
 returns-then-len-most-clause-step g c =

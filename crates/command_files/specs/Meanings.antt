@@ -2,8 +2,9 @@
 use Rattle.std.specs.Prelude.{ℕ, List, length, nat_lt, Option, Some, None, Result, Ok, Err, if◌then◌else◌}
 use Rattle.dvs_base.specs.Checks.{◌>>=◌}
 use Rattle.dvs_base.specs.Outside.{Files, file_of}
+use Rattle.dvs_base.specs.Text.{short_of}
 use Rattle.task_model.specs.declared.task.Task.{Task}
-use Rattle.task_model.specs.TaskFile.{task_file}
+use Rattle.task_model.specs.TaskFile.{task_file, place_of}
 use Rattle.freq_table.specs.Tables.{Table}
 use Rattle.freq_table.specs.MachineFile.{machine_file}
 use Rattle.demand_list.specs.Demands.{DemandsOf}
@@ -52,3 +53,12 @@ demands_at tasks None files = Ok (worst_list tasks)
 demands_at tasks (Some name) files = do
   bytes ← bytes_at file.Demands name files
   or_status demand_status (demand_file tasks bytes)
+
+-- the place of the server, where a task has its name
+abbrev pub server_from : List ℕ → Option ℕ → Result ℕ Status
+server_from name None = Err (status.Text (text.Server (short_of name)))
+server_from name (Some i) = Ok i
+
+-- the place of the task of this name
+abbrev pub server_at : List ℕ → List Task → Result ℕ Status
+server_at name tasks = server_from name (place_of tasks name)

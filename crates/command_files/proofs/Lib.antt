@@ -1,0 +1,5 @@
+pub mod FirstInOrder
+pub mod FileLoads
+pub mod RefusedSteps
+pub mod Overloads
+pub mod Shows

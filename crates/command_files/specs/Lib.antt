@@ -1,0 +1,5 @@
+pub mod Meanings
+pub mod Files
+pub mod Loads
+pub mod Admissions
+pub mod PlannedRuns

@@ -1,0 +1,54 @@
+// Admission of a plan.
+ghost use Rattle.std.specs.Prelude.{◌≡◌, IfOk};
+ghost use Rattle.sched_model.specs.Plan.{plan_of};
+ghost use Rattle.statuses.specs.Steps.{TestStep};
+ghost use Rattle.command_files.specs.Admissions.{admission};
+
+use dvs_base::Scheduler;
+use edf_admit::{EdfFault, edf_admit};
+use freq_table::Machine;
+use rm_admit::{RmFault, rm_admit};
+use sched_model::Admitted;
+use statuses::{Denied, Status};
+use std::alloc::Global;
+use task_model::TaskSet;
+
+fn admit_edf(alloc: Global, tasks: &TaskSet, machine: &Machine) -> Result<Admitted, Status>
+    ensures { TestStep (admission (plan_of tasks.now machine.now Scheduler.Edf)) result (λ p. p) }
+{
+    match edf_admit(alloc, tasks, machine) {
+        Ok(plan) => Ok(plan),
+        Err(EdfFault::Denied { num, cap }) => Err(Status::NotAdmitted(Denied::Edf { num, cap })),
+        Err(EdfFault::NoMemory) => Err(Status::NoMemory),
+    }
+}
+
+fn admit_rm(alloc: Global, tasks: &TaskSet, machine: &Machine) -> Result<Admitted, Status>
+    ensures { TestStep (admission (plan_of tasks.now machine.now Scheduler.Rm)) result (λ p. p) }
+{
+    match rm_admit(alloc, tasks, machine) {
+        Ok(plan) => Ok(plan),
+        Err(RmFault::Denied { task, num, cap }) => Err(Status::NotAdmitted(Denied::Rm {
+            task,
+            num,
+            cap,
+        })),
+        Err(RmFault::NoMemory) => Err(Status::NoMemory),
+    }
+}
+
+/// The plan, where its scheduler's test passes, else the denial.
+pub fn admit(
+    alloc: Global,
+    scheduler: Scheduler,
+    tasks: &TaskSet,
+    machine: &Machine,
+) -> Result<Admitted, Status>
+    ensures step { TestStep (admission (plan_of tasks.now machine.now scheduler)) result (λ p. p) }
+    ensures same { IfOk result (λ p. p ≡ plan_of tasks.now machine.now scheduler) }
+{
+    match scheduler {
+        Scheduler::Edf => admit_edf(alloc, tasks, machine),
+        Scheduler::Rm => admit_rm(alloc, tasks, machine),
+    }
+}

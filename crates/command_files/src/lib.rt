@@ -1,0 +1,13 @@
+//! The files that a command names: loaded, read, and their plan admitted.
+//!
+//! Callers may rely on each load to give what the shelf's file means, or the status that ends the command, and to show
+//! which loads were made.
+#![tactic(auto)]
+
+mod admit;
+mod files;
+mod planned;
+
+pub use admit::admit;
+pub use files::{load_demands, load_file, load_machine, load_tasks};
+pub use planned::load_planned;

@@ -1,0 +1,36 @@
+// What the run that the words ask for is made of.
+ghost use Rattle.std.specs.Prelude.{IfOk};
+ghost use Rattle.words.specs.Commands.{IsReady, run as run_of};
+ghost use Rattle.words.specs.Shown.{shown_run};
+ghost use Rattle.command_files.specs.Loads.{LoadStep, later_files};
+ghost use Rattle.command_files.specs.PlannedRuns.{prepared_of, run_with, IsReadyRun};
+
+use crate::admit::admit;
+use crate::files::{load_demands, load_machine};
+use demand_list::Demands;
+use dvs_base::Shelf;
+use sched_model::Admitted;
+use statuses::Status;
+use std::alloc::Global;
+use task_model::TaskSet;
+use words::command::RunWords;
+
+/// The admitted plan and the demands of `run`, after its tasks were read.
+pub fn load_planned<S: Shelf>(
+    alloc: Global,
+    words: &RunWords<'_>,
+    tasks: &TaskSet,
+    shelf: &mut S,
+) -> Result<(Admitted, Demands), Status>
+    requires { IsReady (shown_run words.now) }
+    ensures step { LoadStep (later_files (S.shows shelf.old).held (run_of (shown_run words.now))
+        (prepared_of (shown_run words.now) tasks.now)) (S.shows shelf.old) (S.shows shelf.new) result (λ x. (x.0, x.1)) }
+    ensures ready { IfOk result (λ x. IsReadyRun words.now.governor (run_with (shown_run words.now) x.0 x.1)) }
+{
+    let machine = load_machine(alloc, words.machine, shelf)?;
+    let demands = load_demands(alloc, words.demands, tasks, shelf)?;
+    let plan = admit(alloc, words.scheduler, tasks, &machine)?;
+    let _admitted = plan.scheduler();
+    let _worsts = demands.worsts();
+    Ok((plan, demands))
+}
