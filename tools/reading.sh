@@ -33,18 +33,18 @@ function read_sections() {
     section("headline", "The model", "sched_model")
     section("headline", "The text of a run", "trace_text trace_reader sched_model/RunNotes note_laws")
     section("headline", "The tests under RM", "rm_admit governor rm_response_laws rm_response")
-    section("headline", "The promise", "event_kernel statuses rtdvs_top")
+    section("headline", "The promise", "event_kernel statuses command_files rtdvs_top")
     section("others", "Writing and probes", "dvs_base sched_model energy probes event_kernel")
     section("others", "Replay and migration", "trace_reader replay_laws replay " \
         "rtdvs_top/Trace")
-    section("others", "Deadlines below the periods", "edf_demand_laws edf_demand " \
+    section("others", "Deadlines below the periods", "edf_demand_laws deadline_list edf_demand " \
         "rtdvs_top/Constrain")
     section("others", "A polling server", "request_list poll_server rtdvs_top/Poll")
     section("others", "The least energy", "energy_bound rtdvs_top/Least")
     section("others", "Generated workloads", "workload rtdvs_top/Generated")
     section("others", "The lines of faults", "dvs_base/FaultLines task_model/FaultLines freq_table/FaultLines " \
-        "words/FaultLines trace_reader/FaultLines demand_list/FaultLines request_list/FaultLines edf_demand/FaultLines")
-    section("others", "Every answer and every refusal", "words statuses rtdvs_top")
+        "words/FaultLines trace_reader/FaultLines demand_list/FaultLines request_list/FaultLines deadline_list/FaultLines")
+    section("others", "Every answer and every refusal", "words statuses command_files rtdvs_top")
 }
 
 function indent(line) { match(line, /[^ ]/); return RSTART - 1 }

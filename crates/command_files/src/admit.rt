@@ -13,6 +13,7 @@ use statuses::{Denied, Status};
 use std::alloc::Global;
 use task_model::TaskSet;
 
+// The plan under EDF, where its test passes.
 fn admit_edf(alloc: Global, tasks: &TaskSet, machine: &Machine) -> Result<Admitted, Status>
     ensures { TestStep (admission (plan_of tasks.now machine.now Scheduler.Edf)) result (λ p. p) }
 {
@@ -23,6 +24,7 @@ fn admit_edf(alloc: Global, tasks: &TaskSet, machine: &Machine) -> Result<Admitt
     }
 }
 
+// The plan under RM, where its test passes.
 fn admit_rm(alloc: Global, tasks: &TaskSet, machine: &Machine) -> Result<Admitted, Status>
     ensures { TestStep (admission (plan_of tasks.now machine.now Scheduler.Rm)) result (λ p. p) }
 {
@@ -37,7 +39,8 @@ fn admit_rm(alloc: Global, tasks: &TaskSet, machine: &Machine) -> Result<Admitte
     }
 }
 
-/// The plan, where its scheduler's test passes, else the denial.
+/// The plan of these tasks and this machine under a scheduler. `NotAdmitted` exactly where the scheduler's test fails,
+/// with the two numbers that show it, unless memory runs out.
 pub fn admit(
     alloc: Global,
     scheduler: Scheduler,

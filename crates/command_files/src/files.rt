@@ -1,4 +1,4 @@
-// The files that the words name: loaded, and read.
+// The files that the words name: loaded and read.
 ghost use Rattle.std.specs.Prelude.{◌≡◌, ◌<◌, ◌^◌, Some, map, option_map, IfOk, IfErr};
 ghost use Rattle.command_files.specs.Meanings.{longest, bytes_at, tasks_at, machine_at, demands_at};
 ghost use Rattle.command_files.specs.Files.{if_named};
@@ -27,7 +27,8 @@ fn longest(file: FileKind) -> u64
     }
 }
 
-/// The bytes of a file that is not too long.
+/// The bytes of a file of a kind. `Load` where the shelf lacks the name or its load failed, `Text` where the file is
+/// longer than its kind may be, in bytes.
 pub fn load_file<S: Shelf>(
     alloc: Global,
     file: FileKind,
@@ -51,7 +52,7 @@ pub fn load_file<S: Shelf>(
     Ok(bytes)
 }
 
-/// The tasks of a file.
+/// The tasks of a file. `Load` and `Text` as for its bytes; `Text` where it is no task file, with its first fault.
 pub fn load_tasks<S: Shelf>(alloc: Global, name: &str, shelf: &mut S) -> Result<TaskSet, Status>
     ensures { LoadStep (one_file FileKind.Tasks name.now (tasks_at name.now)) (S.shows shelf.old) (S.shows shelf.new)
         result (λ v. v) }
@@ -60,7 +61,7 @@ pub fn load_tasks<S: Shelf>(alloc: Global, name: &str, shelf: &mut S) -> Result<
     Ok(TaskSet::read(alloc, &bytes)?)
 }
 
-/// The machine of a file.
+/// The machine of a file. `Load` and `Text` as for its bytes; `Text` where it is no machine file, with its first fault.
 pub fn load_machine<S: Shelf>(alloc: Global, name: &str, shelf: &mut S) -> Result<Machine, Status>
     ensures step { LoadStep (one_file FileKind.Machine name.now (machine_at name.now)) (S.shows shelf.old)
         (S.shows shelf.new) result (λ v. v) }
@@ -85,7 +86,8 @@ fn load_named_demands<S: Shelf>(
     Ok(Demands::read(alloc, &bytes, tasks)?)
 }
 
-/// The demands of a file, or every job's worst case where none is named.
+/// The demands of a file, or every job's worst case where none is named. `Load` and `Text` as for its bytes; `Text` or
+/// `OverWorst` where it is no demand file of these tasks, with its first fault.
 pub fn load_demands<S: Shelf>(
     alloc: Global,
     name: Option<&str>,

@@ -15,7 +15,8 @@ use std::alloc::Global;
 use task_model::TaskSet;
 use words::command::RunWords;
 
-/// The admitted plan and the demands of `run`, after its tasks were read.
+/// The admitted plan and the demands of `run`, after its tasks were read: the machine is loaded and read, then the
+/// demands, and the plan is tested. The status is that of the first of these steps that fails.
 pub fn load_planned<S: Shelf>(
     alloc: Global,
     words: &RunWords<'_>,
