@@ -3,7 +3,6 @@ use Rattle.std.proofs.Common.{◌≡◌, ◌≢◌, ℕ, ◌+◌, ◌-◌, ◌*�
 use Rattle.std.specs.Prelude.{slice_set, slice_index, Option, None, Some, IfSome}
 use Rattle.std.proofs.lemmas.Bool.{cases_eq}
 use Rattle.std.proofs.lemmas.List.{get_or-map}
-use Rattle.std.proofs.lemmas.Option.{IfSome_then}
 use Rattle.grid_fraction.specs.Numbers.{sum_below}
 use Rattle.grid_fraction.proofs.Sums.{sum_below-change}
 use Rattle.grid_fraction.proofs.Least.{least-same}
@@ -12,7 +11,6 @@ use Rattle.sched_model.specs.Plan.{Plan, count, period}
 use Rattle.sched_model.specs.Priority.{allotment}
 use Rattle.sched_model.specs.StaticDemand.{static_speed}
 use Rattle.sched_model.specs.States.{StateOf, no_row, row_at, row_wleft, after_run, after_finish, after_mark, IsOfPlan, earliest_in}
-use Rattle.sched_model.proofs.LevelSums.{sum_below-term}
 use Rattle.governor.specs.Steps.{wleft_at}
 use Rattle.cc_rm_laws.specs.Allotments.{base_of, allotted_in, allotment_left_in}
 use Rattle.cc_rm.specs.declared.counters.Allotments.{Allotments}
@@ -22,14 +20,6 @@ use Rattle.cc_rm.specs.Counters.{AreOf, AreCounters, lowered}
 sum_below-fall : (n : ℕ) (f g : ℕ → ℕ) (i by : ℕ) → i < n → g i + by ≡ f i → ((k : ℕ) → k ≢ i → g k ≡ f k)
     → sum_below n g ≡ sum_below n f - by
 sum_below-fall n f g i by lt own other = omega (arith, own, sum_below-change n f g i lt (λ k l ne. other k ne))
-
--- what is left of one allotment is at most what is left of all
-pub rest-most : (speed : ℕ) (rests : List ℕ) (kept : Option Allotments) (plan : Plan) (s : StateOf) (i : ℕ)
-    → i < count plan
-    → AreCounters speed rests kept plan s → IfSome kept (λ all. slice_index rests i ≤ all.left)
-rest-most speed rests kept plan s i h counts =
-    IfSome_then kept counts.allotted
-    (λ all of. omega (arith, of.rests_are i h, of.left_is, sum_below-term (count plan) (allotment_left_in plan s) i h))
 
 -- right after a mark the base of a task is what its job may still need
 pub marked-base : (s : StateOf) (i : ℕ) → i < length s.rows → base_of (after_mark s) i ≡ wleft_at s i

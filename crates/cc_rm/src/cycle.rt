@@ -1,5 +1,5 @@
 // Cycle-conserving RM.
-ghost use Rattle.std.specs.Prelude.{◌≡◌, ◌-◌, ◌<◌, ◌≤◌, true, IfOk, IfSome, slice_index, slice_set, length};
+ghost use Rattle.std.specs.Prelude.{◌≡◌, ◌-◌, ◌<◌, ◌≤◌, true, IfOk, slice_index, slice_set, length};
 ghost use Rattle.std.proofs.lemmas.Option.{IfSome_then};
 ghost use Rattle.dvs_base.specs.declared.kind.Scheduler.TheVariants.{Rm};
 ghost use Rattle.dvs_base.specs.declared.kind.GovernorKind.TheVariants.{Cycle};
@@ -57,7 +57,6 @@ impl CcRm {
     fn lower(&mut self, task: u32, rest: u128)
         requires task { task < length self.old.rests.items }
         requires less { rest ≤ slice_index self.old.rests.items task }
-        requires part { IfSome self.old.allotments (λ all. slice_index self.old.rests.items task ≤ all.left) }
         ensures speed { self.new.static_speed ≡ self.old.static_speed }
         ensures rests { self.new.rests.items ≡ slice_set self.old.rests.items task rest }
         ensures left { self.new.allotments ≡
@@ -67,7 +66,7 @@ impl CcRm {
         self.rests[task as usize] = rest;
         if let Some(all) = self.allotments {
             self.allotments = Some(Allotments {
-                left: all.left - used,
+                left: all.left.saturating_sub(used),
                 ..all
             });
         }

@@ -5,7 +5,7 @@ use Rattle.dvs_base.specs.Widths.{u64_end}
 use Rattle.dvs_base.specs.Checks.{and_then}
 use Rattle.dvs_base.specs.Text.{number_below, short_of}
 use Rattle.dvs_base.specs.Parts.{two_of}
-use Rattle.csv_text.specs.Rows.{text_rows}
+use Rattle.csv_text.specs.Rows.{TextReader, IsDefault, AreCountedFrom, text_rows}
 use Rattle.grid_fraction.specs.Numbers.{list_below}
 use Rattle.task_model.specs.declared.task.Task.{Task}
 use Rattle.task_model.specs.Tasks.{task_at}
@@ -71,6 +71,11 @@ given_in tasks bytes =
 -- the meaning of a deadline file for these tasks
 abbrev pub deadline_file : List Task → List ℕ → Result (List ℕ) DeadlineFault
 deadline_file tasks bytes = and_then (given_in tasks bytes) (λ given. Ok (all_deadlines tasks given))
+
+-- the reader can go on, with the default settings, and its next record is the row with this number
+pub record IsAtRow (row : ℕ) (reader : TextReader) : Type 0 where
+  pub default_reader : IsDefault reader
+  pub few : AreCountedFrom row reader
 
 -- one place for each task, and each given deadline from 1 to the task's period
 pub record AreGiven (tasks : List Task) (given : List (Option ℕ)) : Type 0 where

@@ -6,7 +6,7 @@ ghost use Rattle.task_model.specs.Tasks.{names_of};
 ghost use Rattle.deadline_list.specs.FaultLines.{at_deadline, deadline_fault_text};
 
 use crate::DeadlineFault;
-use dvs_base::{Line, Name, Part, line_of, name_part, push_number, push_parts, push_word};
+use dvs_base::{Line, Name, Part, Short, line_of, name_part, push_number, push_parts, push_word};
 use task_model::{TaskSet, task_name};
 
 // The line of a refused row.
@@ -20,6 +20,19 @@ fn row_line(row: u64, what: &[Part<'_>]) -> Line
     push_word(&mut line, b": ");
     push_parts(&mut line, what);
     line
+}
+
+fn unknown_task_line(row: u64, name: &Short) -> Line
+    ensures { result ≡ at_deadline row (codes "unknown task " ∷ name.now ∷ codes "\n" ∷ []) }
+{
+    row_line(
+        row,
+        &[
+            Part::Word(b"unknown task "),
+            Part::Shown(name),
+            Part::Word(b"\n"),
+        ],
+    )
 }
 
 fn repeated_line(row: u64, name: &Option<Name>) -> Line
@@ -44,14 +57,7 @@ pub fn deadline_fault_line(why: &DeadlineFault, tasks: Option<&TaskSet>) -> Line
         DeadlineFault::Fields { row, count } => {
             row_line(*row, &[Part::Number(*count), Part::Word(b" fields\n")])
         }
-        DeadlineFault::UnknownTask { row, name } => row_line(
-            *row,
-            &[
-                Part::Word(b"unknown task "),
-                Part::Shown(name),
-                Part::Word(b"\n"),
-            ],
-        ),
+        DeadlineFault::UnknownTask { row, name } => unknown_task_line(*row, name),
         DeadlineFault::BadNumber { row } => row_line(*row, &[Part::Word(b"bad deadline\n")]),
         DeadlineFault::Range { row } => row_line(*row, &[Part::Word(b"deadline out of range\n")]),
         DeadlineFault::Repeated { row, task } => repeated_line(*row, &task_name(tasks, *task)),

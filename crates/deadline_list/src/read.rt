@@ -1,11 +1,11 @@
 // Deadline files.
 ghost use Rattle.std.specs.Prelude.{◌≡◌, ◌≤◌, ◌<◌, length, IfOk};
 ghost use Rattle.csv.specs.Records.{fields_of};
-ghost use Rattle.csv_text.specs.Rows.{IsDefault, AreCountedFrom, records_left};
+ghost use Rattle.csv_text.specs.Rows.{records_left};
 ghost use Rattle.dvs_base.specs.Checks.{IsUnlessMemory};
 ghost use Rattle.task_model.specs.Tasks.{task_at};
 ghost use Rattle.deadline_list.specs.Deadlines.{AreFor};
-ghost use Rattle.deadline_list.specs.DeadlineFile.{deadline_of_row, with_deadline, given_from, none_given, all_deadlines, given_in, deadline_file, AreGiven};
+ghost use Rattle.deadline_list.specs.DeadlineFile.{deadline_of_row, with_deadline, given_from, none_given, all_deadlines, given_in, deadline_file, IsAtRow, AreGiven};
 
 use crate::{DeadlineFault, Deadlines};
 use csv::{ByteRecord, Reader};
@@ -78,8 +78,7 @@ fn read_rows(
     tasks: &TaskSet,
     mut given: Vec<Option<u64>>,
 ) -> Result<Vec<Option<u64>>, DeadlineFault>
-    requires default_reader { IsDefault reader.old }
-    requires few { AreCountedFrom 1 reader.old }
+    requires first { IsAtRow 1 reader.old }
     requires given { AreGiven tasks.now given.items }
     ensures rows { IsUnlessMemory DeadlineFault.NoMemory (λ v. v.items) result
         (given_from tasks.now 1 given.items (records_left reader.old)) }

@@ -1,7 +1,8 @@
 -- The walk from absolute deadline to absolute deadline.
-use Rattle.std.specs.Prelude.{◌≡◌, ℕ, ◌+◌, ◌*◌, ◌<◌, ◌≤◌, List, [], ◌∷◌, nat_eq, if◌then◌else◌}
+use Rattle.std.specs.Prelude.{◌≡◌, ℕ, ◌+◌, ◌*◌, ◌<◌, ◌≤◌, List, [], ◌∷◌, length, nat_eq, if◌then◌else◌}
 use Rattle.std.specs.List.{AllByRecursion}
 use Rattle.grid_fraction.specs.Numbers.{least_below}
+use Rattle.task_model.specs.declared.task.Task.{Task}
 use Rattle.sched_model.specs.Plan.{Plan, count, period, worst}
 use Rattle.ready_queue.specs.declared.entry.Entry.{Entry}
 use Rattle.ready_queue.specs.Entries.{QueueOf}
@@ -21,6 +22,11 @@ pub record IsCalendar (q : QueueOf) : Type 0 where
   pub some : 1 ≤ q.limit
   pub below : AllByRecursion (λ e. e.task < q.limit) q.entries
   pub each : (i : ℕ) → i < q.limit → 1 ≤ due_of q.entries i
+
+-- the queue has an entry for each of these tasks, at least one, with its next absolute deadline from 1 on
+pub record IsQueueOf (tasks : List Task) (q : QueueOf) : Type 0 where
+  pub one_each : q.limit ≡ length tasks
+  pub calendar : IsCalendar q
 
 -- a job with the earliest deadline is taken: its task's next deadline is a period later, and `work` is its work
 pub record TakesFirst (p : Plan) (next after : ℕ → ℕ) (work : ℕ) : Type 0 where

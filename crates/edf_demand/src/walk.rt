@@ -8,7 +8,7 @@ ghost use Rattle.task_model.specs.declared.limits.TheConstants.{LONGEST_HYPERPER
 ghost use Rattle.edf_demand_laws.specs.Constrained.{IsConstrained};
 ghost use Rattle.edf_demand_laws.specs.ProcessorDemand.{IsConstrainedDemand};
 ghost use Rattle.edf_demand.specs.Answers.{hyper_jobs};
-ghost use Rattle.edf_demand.specs.Walk.{due_of, IsCalendar, Moved, TakesFirst};
+ghost use Rattle.edf_demand.specs.Walk.{due_of, IsCalendar, IsQueueOf, Moved, TakesFirst};
 
 use dvs_base::NoMemory;
 use freq_table::Machine;
@@ -37,8 +37,7 @@ fn first_deadlines(
 ) -> Result<Queue<ByDue>, NoMemory>
     requires one_each { length deadlines.now ≡ length tasks.now }
     requires some { (i : ℕ) → i < length tasks.now → 1 ≤ slice_index deadlines.now i }
-    ensures one_each { IfOk result (λ q. q.limit ≡ length tasks.now) }
-    ensures calendar { IfOk result IsCalendar }
+    ensures queue { IfOk result (IsQueueOf tasks.now) }
     ensures deadlines { IfOk result (λ q.
         (i : ℕ) → i < length tasks.now → due_of q.entries i ≡ slice_index deadlines.now i) }
 {
@@ -66,11 +65,9 @@ fn earliest(next: &Queue<ByDue>) -> u64
 
 // Takes the first job: its task's next deadline is a period later. Returns its work in work units.
 fn take_first(next: &mut Queue<ByDue>, tasks: &TaskSet, machine: &Machine) -> u64
-    requires one_each { next.old.limit ≡ length tasks.now }
-    requires calendar { IsCalendar next.old }
+    requires queue { IsQueueOf tasks.now next.old }
     requires low { least_below next.old.limit (due_of next.old.entries) ≤ LONGEST_HYPERPERIOD }
-    ensures one_each { next.new.limit ≡ length tasks.now }
-    ensures calendar { IsCalendar next.new }
+    ensures queue { IsQueueOf tasks.now next.new }
     ensures taken { TakesFirst (plan_of tasks.now machine.now Edf) (due_of next.old.entries) (due_of next.new.entries)
         result }
 {
@@ -91,12 +88,10 @@ fn take_first(next: &mut Queue<ByDue>, tasks: &TaskSet, machine: &Machine) -> u6
 // Takes the jobs that are due at `now`: the next deadline of each of their tasks is a period later.
 // Returns their work in work units.
 fn take_due(next: &mut Queue<ByDue>, tasks: &TaskSet, machine: &Machine, now: u64) -> u128
-    requires one_each { next.old.limit ≡ length tasks.now }
-    requires calendar { IsCalendar next.old }
+    requires queue { IsQueueOf tasks.now next.old }
     requires first { now ≡ least_below next.old.limit (due_of next.old.entries) }
     requires low { now ≤ LONGEST_HYPERPERIOD }
-    ensures one_each { next.new.limit ≡ length tasks.now }
-    ensures calendar { IsCalendar next.new }
+    ensures queue { IsQueueOf tasks.now next.new }
     ensures later { Moved (plan_of tasks.now machine.now Edf) (due_of next.old.entries) now (due_of next.new.entries) }
     ensures work { result ≡ (let p = plan_of tasks.now machine.now Edf in
         sum_where (length tasks.now) (λ i. nat_eq (due_of next.old.entries i) now) (worst p)) }

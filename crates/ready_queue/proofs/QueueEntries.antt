@@ -6,7 +6,7 @@ use Rattle.std.proofs.lemmas.List.Sorted.{IsPermutation-sym, IsPermutation-trans
 use Rattle.ready_queue.specs.declared.entry.Entry.{Entry}
 use Rattle.ready_queue.specs.Orders.{OrderLaws}
 use Rattle.ready_queue.specs.Entries.{QueueOf, IsAbsent, IsOfFirst, AreApart, placed, sorted, ComesFirst}
-use Rattle.ready_queue.specs.Heaps.{entry_at, IsHeap, IsRising, IsSinking, HoldsQueue}
+use Rattle.ready_queue.specs.Heaps.{entry_at, IsHeap, IsRising, CanSink, HoldsQueue}
 use Rattle.ready_queue.proofs.Apart.{AreApart-permutation, length-apart}
 use Rattle.ready_queue.proofs.EntryOrder.{Has, All-at, All-of, Has-permutation, Contains-has, placed-first, sorted-All, Has-in_order, sorted-permutation}
 use Rattle.ready_queue.proofs.HeapSteps.{heap_first}
@@ -135,16 +135,16 @@ module _ (before : Entry → Entry → Bool) where
       parts : IsPermutation xs (x ∷ rest)
       parts = subst (λ (l : List Entry). IsPermutation xs (x ∷ l)) (sym left) (IsPermutation-swap_remove xs 0 x some top)
 
-      pub apart_taken : AreApart rest
-      apart_taken = let a : AreApart (x ∷ rest) = AreApart-permutation xs (x ∷ rest) parts h.apart in a.1
-
-      pub taken_sinks : ((k : ℕ) → k ≢ 0 → k + 1 < length xs → entry_at rest k ≡ entry_at xs k) → IsSinking before rest 0
+      pub taken_sinks : ((k : ℕ) → k ≢ 0 → k + 1 < length xs → entry_at rest k ≡ entry_at xs k) → CanSink before rest 0
       unfolding IsHeap
       taken_sinks same = record {
-        others = λ p k child in' ne.
-            let long : length (x ∷ rest) ≡ length xs = length_permutation xs (x ∷ rest) parts in
-            ap₂ before (same p ne (omega (arith, child))) (same k (omega (arith, child)) (omega arith)) ∙ h.heap p k child (omega arith);
-        around = record { over = λ p k up child in'. absurd (omega (arith, up)) };
+        apart = let a : AreApart (x ∷ rest) = AreApart-permutation xs (x ∷ rest) parts h.apart in a.1;
+        sinking = record {
+          others = λ p k child in' ne.
+              let long : length (x ∷ rest) ≡ length xs = length_permutation xs (x ∷ rest) parts in
+              ap₂ before (same p ne (omega (arith, child))) (same k (omega (arith, child)) (omega arith)) ∙ h.heap p k child (omega arith);
+          around = record { over = λ p k up child in'. absurd (omega (arith, up)) };
+        };
       }
 
       -- the entry that was put at the top has sunk
@@ -229,17 +229,16 @@ module _ (before : Entry → Entry → Bool) where
       some_held [] h f = absurd f
       some_held (x ∷ xs) h f = omega arith
 
-      pub apart_replaced : (xs : List Entry) → HoldsQueue before limit xs → IsOfFirst e.task (sorted before xs) → AreApart (slice_set xs 0 e)
-      apart_replaced [] h f = absurd f
-      apart_replaced (x ∷ xs) h f = apart_top_replaced x xs (first_is x xs h f) h.apart
-
-      pub replaced_sinks : (xs : List Entry) → HoldsQueue before limit xs → IsOfFirst e.task (sorted before xs) → IsSinking before (slice_set xs 0 e) 0
+      pub replaced_sinks : (xs : List Entry) → HoldsQueue before limit xs → IsOfFirst e.task (sorted before xs) → CanSink before (slice_set xs 0 e) 0
       unfolding IsHeap
       replaced_sinks [] h f = absurd f
       replaced_sinks (x ∷ xs) h f = record {
-        others = λ p k child in' ne.
-            ap₂ before (below_top x e xs p ne) (below_top x e xs k (omega (arith, child))) ∙ h.heap p k child in';
-        around = record { over = λ p k up child in'. absurd (omega (arith, up)) };
+        apart = apart_top_replaced x xs (first_is x xs h f) h.apart;
+        sinking = record {
+          others = λ p k child in' ne.
+              ap₂ before (below_top x e xs p ne) (below_top x e xs k (omega (arith, child))) ∙ h.heap p k child in';
+          around = record { over = λ p k up child in'. absurd (omega (arith, up)) };
+        };
       }
 
       -- the queue after `replace_first`

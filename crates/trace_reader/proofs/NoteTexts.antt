@@ -30,7 +30,7 @@ use Rattle.dvs_base.proofs.Checks.{step-ok, ok-is}
 use Rattle.trace_reader.proofs.Lined.{spaced}
 use Rattle.trace_reader.proofs.ItemTexts.{item_fields, IsItemOf, item_of-text}
 use Rattle.trace_reader.proofs.LineTexts.{AreNames, IsLineOf, line_at-found, join-line, item_text, item-found, unspaced-item, cut-line, read-line, parts-fields, lengths-item}
-use Rattle.trace_reader.proofs.ShareTexts.{shares, rest_text, shares-told, shares-next}
+use Rattle.trace_reader.proofs.ShareTexts.{shares, rest_text, shares-told, shares-next, HaveNoEnd}
 
 pub at_line-ok : {A : Type 0} (n : ℕ) (r : Result A TraceKind) (x : A) → at_line n r ≡ Ok x → r ≡ Ok x
 at_line-ok n (Ok y) x e = ap Ok (ok-is {F = TraceFault} y x e)
@@ -60,7 +60,7 @@ pub record Reads (v : Version) (names : List (List ℕ)) (n : ℕ) (s : SoFar) (
   pub body : List Note
   pub last : Note
   pub whole : all ≡ s.notes ++ (body ++ last ∷ [])
-  pub no_end : AllByRecursion (λ m. is_end m ≡ false) body
+  pub no_end : HaveNoEnd body
   pub end : is_end last ≡ true
   pub each : AllByRecursion (IsNoteOf (length names)) (body ++ last ∷ [])
   pub none : 0 < s.energies_read → body ≡ []
@@ -315,7 +315,7 @@ module _ (v : Version) (names : List (List ℕ)) (named : AreNames names) (apart
 
   -- the text of the notes, the energies and the last note is read
   pub notes_from-text : (n : ℕ) (s : SoFar) (body : List Note) (last : Note) (more : List ℕ) → s.energies_read ≡ 0
-      → AllByRecursion (λ m. is_end m ≡ false) body → is_end last ≡ true
+      → HaveNoEnd body → is_end last ≡ true
       → AllByRecursion (IsNoteOf (length names)) (body ++ last ∷ [])
       → ((i : ℕ) → i < wanted v names → task_energy (s.notes ++ body) i < 2 ^ 128) → n + (length body + wanted v names) ≤ MOST_LINES
       → notes_from v names n s (parts 10 (rest_text v names s.energies_read s.notes body last ++ more)) ≡ answer

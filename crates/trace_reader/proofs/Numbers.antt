@@ -8,6 +8,7 @@ use Rattle.std.proofs.lemmas.Bool.Decides.{nat_tests}
 use Rattle.std.proofs.Math.Nat.{pow-suc, pow-le-pow_right}
 use Rattle.trace_reader.specs.Fields.{starts_number}
 use Rattle.dvs_base.specs.Text.{is_spelled, number_below, read_on}
+use Rattle.dvs_base.proofs.Numbers.{is_spelled-digits}
 
 -- a number of fewer than 19 digits is below 10^18
 pub few-digits : (v i n : ℕ) → v < 10 ^ i → i < n → n ≤ 19 → v < 10 ^ 18
@@ -31,11 +32,6 @@ read_on-below v i (c ∷ cs) low h =
     subst (λ (k : ℕ). read_on next cs < 10 ^ k) longer
     (read_on-below next (i + 1) cs (one-digit v i c low (digit-most c parts.0)) parts.1)
 
-spelled-digits : (cs : List ℕ) → is_spelled cs ≡ true → list_all is_ascii_digit cs ≡ true
-spelled-digits [] h = absurd (cc)
-spelled-digits (c ∷ []) h = rw h refl
-spelled-digits (c ∷ d ∷ cs) h = (and_parts _ (list_all is_ascii_digit (c ∷ d ∷ cs)) h).1
-
 -- a text is spelled where it can start a number and has digits alone
 spelled-by : {A : Type 0} (cs : List ℕ) (x y : A)
     → (if starts_number cs then (if list_all is_ascii_digit cs then x else y) else y) ≡ (if is_spelled cs then x else y)
@@ -58,7 +54,7 @@ short-below limit cs above short = by (is_spelled cs) refl
   where
     by : (b : Bool) → is_spelled cs ≡ b → (if b then Some (read_on 0 cs) else None) ≡ (if b && nat_lt (read_on 0 cs) limit then Some (read_on 0 cs) else None)
     by true e =
-        let small : read_on 0 cs < 10 ^ (0 + length cs) = read_on-below 0 0 cs (omega arith) (spelled-digits cs e) in
+        let small : read_on 0 cs < 10 ^ (0 + length cs) = read_on-below 0 0 cs (omega arith) (is_spelled-digits cs e) in
         let bound : 10 ^ (0 + length cs) ≤ 10 ^ 19 = pow-le-pow_right {n = 10} (omega arith) {i = 0 + length cs} {j = 19} (omega arith) in
         let below : nat_lt (read_on 0 cs) limit ≡ true = grind (arith, nat_tests, small, bound, above) in
         rw below refl

@@ -58,8 +58,12 @@ shares-next names notes energies_read lt =
     drop-from notes 0 energies_read names lt
     ∙ ap₂ (λ i k. share_text (name_of names energies_read) (task_energy notes i) ∷ drop k (shares_from notes 0 names)) here next
 
+-- none of the notes ends the run
+abbrev pub HaveNoEnd : List Note → Type 0
+HaveNoEnd = AllByRecursion (λ n. is_end n ≡ false)
+
 -- the text of notes that don't end the run, before others, is their lines and then the others' text
-told-body : (v : Version) (names : List (List ℕ)) (all body last : List Note) → AllByRecursion (λ n. is_end n ≡ false) body
+told-body : (v : Version) (names : List (List ℕ)) (all body last : List Note) → HaveNoEnd body
     → text_of_lines (flat_map (lines_of_note v names all) (body ++ last))
     ≡ flat_map (note_text names) body ++ text_of_lines (flat_map (lines_of_note v names all) last)
 told-body v names all [] last h = refl
@@ -76,7 +80,7 @@ told-last v names all last e =
     ∙ ap₂ (λ a b. a ++ b) (text-for v (shares_from all 0 names)) (append-nil (note_text names last)))
 
 -- the notes of a whole trace have the text of the notes from its beginning
-pub told-notes : (v : Version) (names : List (List ℕ)) (body : List Note) (last : Note) → AllByRecursion (λ n. is_end n ≡ false) body → is_end last ≡ true
+pub told-notes : (v : Version) (names : List (List ℕ)) (body : List Note) (last : Note) → HaveNoEnd body → is_end last ≡ true
     → text_of_lines (note_lines v names (body ++ last ∷ [])) ≡ rest_text v names 0 [] body last
 told-notes v names body last h e =
     let all : List Note = body ++ last ∷ [] in

@@ -25,7 +25,7 @@ use Rattle.trace_reader.proofs.WholeText.{lines-wanted, text-parts}
 use Rattle.trace_reader.proofs.FieldTexts.{AreApart}
 use Rattle.dvs_base.proofs.Checks.{step-ok, ok-is}
 use Rattle.trace_reader.proofs.LineTexts.{AreNames, line_at-found, join-line}
-use Rattle.trace_reader.proofs.ShareTexts.{rest_text, energy-end, told-notes}
+use Rattle.trace_reader.proofs.ShareTexts.{rest_text, energy-end, HaveNoEnd, told-notes}
 use Rattle.trace_reader.proofs.NoteTexts.{Reads, wanted-some, notes_from-found, answer, notes_from-text, at_line-ok}
 use Rattle.trace_reader.proofs.HeadTexts.{IsUpTo, version-found, version-text, version-line, version-read, IsPlan, plan-found, plan-text, AreLines, TasksRead, tasks-found, tasks-text}
 
@@ -34,7 +34,7 @@ record EndsWith (notes : List Note) : Type 0 where
   body : List Note
   last : Note
   whole : notes ≡ body ++ last ∷ []
-  no_end : AllByRecursion (λ n. is_end n ≡ false) body
+  no_end : HaveNoEnd body
   end : is_end last ≡ true
 
 ends-with : (notes : List Note) → IsEnded notes → EndsWith notes
@@ -44,7 +44,7 @@ ends-with (n ∷ m ∷ notes) h =
     let more = ends-with (m ∷ notes) h.1 in
     record { body = n ∷ more.body; last = more.last; whole = ap (λ ns. n ∷ ns) more.whole; no_end = (h.0, more.no_end); end = more.end }
 
-pub is-ended : (body : List Note) (last : Note) → AllByRecursion (λ n. is_end n ≡ false) body → is_end last ≡ true → IsEnded (body ++ last ∷ [])
+pub is-ended : (body : List Note) (last : Note) → HaveNoEnd body → is_end last ≡ true → IsEnded (body ++ last ∷ [])
 is-ended [] last h end = end
 is-ended (n ∷ []) last h end = (h.0, end)
 is-ended (n ∷ m ∷ body) last h end = (h.0, is-ended (m ∷ body) last h.1 end)

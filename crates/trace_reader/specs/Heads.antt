@@ -1,5 +1,5 @@
 -- The lines before the notes: the version, the plan, and the tasks in a version that has lines for them.
-use Rattle.std.specs.Prelude.{ℕ, List, ◌∷◌, length, nat_lt, Result, Ok, Err, if◌then◌else◌, codes, ◌&&◌, ◌+◌, [], ◌++◌}
+use Rattle.std.specs.Prelude.{ℕ, List, ◌∷◌, length, nat_lt, Result, Ok, Err, if◌then◌else◌, codes, ◌&&◌, ◌+◌, ◌≤◌, [], ◌++◌}
 use Rattle.std.specs.Option.{ok_or}
 use Rattle.std.specs.Str.{bytes_eq}
 use Rattle.dvs_base.specs.PlanWords.{scheduler_of, governor_of, ticks_of, is_pair}
@@ -22,6 +22,10 @@ line_at n (line ∷ next ∷ rest) =
     else (if nat_lt LONGEST_LINE (length line) then Err (Refused n kind.TooLong)
     else Ok (line, next ∷ rest))
 line_at n _ = Err (Refused n kind.NoEnd)
+
+-- a number that the next line may have, where the lines before it were read
+abbrev pub MayBeNext : ℕ → Type 0
+MayBeNext n = n ≤ MOST_LINES + 1
 
 -- the version that the first line names, if it is not above the newest that is read
 abbrev pub version_in : Version → List ℕ → Result Version TraceKind

@@ -1,11 +1,10 @@
 // The lines before the notes.
-ghost use Rattle.std.specs.Prelude.{◌≡◌, ◌≤◌, ◌+◌, ◌++◌, ◌∷◌, [], length, IfOk, true};
+ghost use Rattle.std.specs.Prelude.{◌≡◌, ◌++◌, ◌∷◌, [], length, IfOk, true};
 ghost use Rattle.std.specs.Str.{bytes_eq};
 ghost use Rattle.dvs_base.specs.Checks.{IsUnlessMemory};
-ghost use Rattle.dvs_base.specs.declared.limits.TheConstants.{MOST_LINES};
 ghost use Rattle.trace_reader.specs.TraceText.{task_text, has_task_lines};
 ghost use Rattle.trace_reader.specs.Fields.{parts};
-ghost use Rattle.trace_reader.specs.Heads.{version_in, plan_line_of, parts_after_tasks, version_task_lines};
+ghost use Rattle.trace_reader.specs.Heads.{MayBeNext, version_in, plan_line_of, parts_after_tasks, version_task_lines};
 ghost use Rattle.trace_reader.specs.Traces.{task_lines};
 
 use crate::parts::four;
@@ -67,7 +66,7 @@ fn read_task_lines<'a>(
     requires { length tasks.now ≡ length names.now }
     ensures read { IsUnlessMemory TraceFault.NoMemory (λ p. (p.0, parts 10 p.1.now)) result
         (parts_after_tasks 3 (task_lines names.now tasks.now) (parts 10 bytes.now)) }
-    ensures few { IfOk result (λ p. p.0 ≤ MOST_LINES + 1) }
+    ensures few { IfOk result (λ p. MayBeNext p.0) }
 {
     let mut number = 3;
     let mut rest = bytes;
@@ -96,7 +95,7 @@ pub(crate) fn read_tasks<'a>(
     requires { has_task_lines version ≡ true → length tasks.now ≡ length names.now }
     ensures read { IsUnlessMemory TraceFault.NoMemory (λ p. (p.0, parts 10 p.1.now)) result
         (parts_after_tasks 3 (version_task_lines version (task_lines names.now tasks.now)) (parts 10 bytes.now)) }
-    ensures few { IfOk result (λ p. p.0 ≤ MOST_LINES + 1) }
+    ensures few { IfOk result (λ p. MayBeNext p.0) }
 {
     if has_task_lines(version) {
         read_task_lines(names, tasks, bytes)

@@ -1,15 +1,16 @@
 // Reading a trace, line by line.
-ghost use Rattle.std.specs.Prelude.{◌≡◌, ◌≢◌, ℕ, ◌≤◌, ◌<◌, ◌+◌, ◌∷◌, [], List, length, IfOk, Ok, Err, true, if◌then◌else◌};
+ghost use Rattle.std.specs.Prelude.{◌≡◌, ◌≢◌, ℕ, ◌≤◌, ◌<◌, ◌∷◌, [], List, length, IfOk, Ok, Err, true, if◌then◌else◌};
 ghost use Rattle.std.specs.List.{AllPairs};
 ghost use Rattle.dvs_base.specs.declared.note.Note.{Note};
 ghost use Rattle.dvs_base.specs.Checks.{IsUnlessMemory};
 ghost use Rattle.dvs_base.specs.Text.{is_name};
-ghost use Rattle.dvs_base.specs.declared.limits.TheConstants.{MOST_LINES, MOST_TASKS};
+ghost use Rattle.dvs_base.specs.declared.limits.TheConstants.{MOST_TASKS};
 ghost use Rattle.dvs_base.specs.Parts.{name_of};
 ghost use Rattle.trace_reader.specs.declared.trace.TraceFault.TheVariants as fault;
 ghost use Rattle.trace_reader.specs.declared.trace.TraceKind.TheVariants as kind;
 ghost use Rattle.trace_reader.specs.TraceText.{has_task_lines};
 ghost use Rattle.trace_reader.specs.Fields.{parts};
+ghost use Rattle.trace_reader.specs.Heads.{MayBeNext};
 ghost use Rattle.trace_reader.specs.Items.{HasTaskBelow};
 ghost use Rattle.trace_reader.specs.Sums.{HasSums};
 ghost use Rattle.trace_reader.specs.TraceFile.{is_in_order, is_right_share, wanted, next_item, nothing_yet, is_nothing, notes_from, trace_file};
@@ -103,7 +104,7 @@ fn read_notes(
     bytes: &[u8],
 ) -> Result<Vec<Note>, TraceFault>
     requires names { length names.now ≤ MOST_TASKS }
-    requires first { first ≤ MOST_LINES + 1 }
+    requires first { MayBeNext first }
     ensures { IsUnlessMemory TraceFault.NoMemory (λ v. v.items) result
         (notes_from version names.now first nothing_yet (parts 10 bytes.now)) }
 {

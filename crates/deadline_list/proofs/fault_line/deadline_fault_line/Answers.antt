@@ -1,9 +1,6 @@
 use Rattle.std.proofs.Common.{refl}
 use Rattle.deadline_list.proofs.fault_line.deadline_fault_line.Goals as goal
 
-pub returns-in-UnknownTask : goal.returns-in-UnknownTask
-returns-in-UnknownTask c = rw (c.in-UnknownTask.is, c.row_line-in-UnknownTask.ensures) refl
-
 pub returns-in-BadNumber : goal.returns-in-BadNumber
 returns-in-BadNumber c = rw (c.in-BadNumber.is, c.row_line-in-BadNumber.ensures) refl
 

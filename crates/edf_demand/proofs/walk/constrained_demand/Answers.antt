@@ -21,10 +21,9 @@ loop-now-init c =
     let next = due_of c.in_ok-next.next.entries in
     let start = walk-start p lim relative c.requires.deadlines next made.deadlines in
     let now : c.earliest-now.result ≡ least_below (count p) next =
-    c.earliest-now.ensures ∙ ap (λ (n : ℕ). least_below n next) made.one_each in
+    c.earliest-now.ensures ∙ ap (λ (n : ℕ). least_below n next) made.queue.one_each in
     record {
-      one_each = made.one_each;
-      calendar = made.calendar;
+      queue = made.queue;
       walking = subst (λ (n : ℕ). IsWalkedTo p relative next n 0 (record { num = 0; den = 1 })) (sym now) start;
     }
 
@@ -72,7 +71,7 @@ loop-now-smaller c =
     let taken = c.take_due-work in
     let after = due_of taken.new.next.entries in
     let then_is : c.earliest-now-in-loop-now.result ≡ least_below (count p) after =
-    c.earliest-now-in-loop-now.ensures ∙ ap (λ (n : ℕ). least_below n after) taken.ensures.one_each in
+    c.earliest-now-in-loop-now.ensures ∙ ap (λ (n : ℕ). least_below n after) taken.ensures.queue.one_each in
     let later : l.now < c.earliest-now-in-loop-now.result =
     goes-on p lim relative c.requires.deadlines (due_of l.next.entries) l.now l.work l.busiest l.invariant.walking
     after c.earliest-now-in-loop-now.result taken.ensures.later then_is in
@@ -89,7 +88,7 @@ loop-now-preserved c =
     let after = due_of taken.new.next.entries in
     let then_now = c.earliest-now-in-loop-now.result in
     let then_is : then_now ≡ least_below (count p) after =
-    c.earliest-now-in-loop-now.ensures ∙ ap (λ (n : ℕ). least_below n after) taken.ensures.one_each in
+    c.earliest-now-in-loop-now.ensures ∙ ap (λ (n : ℕ). least_below n after) taken.ensures.queue.one_each in
     let sum = l.work + taken.result in
     let within : l.now ≤ hyper p = omega (arith, c.loop-now-test.true, c.hyper.ensures.hyper) in
     let next = work-next p lim relative con (due_of l.next.entries) l.now l.work l.busiest l.invariant.walking in
@@ -106,7 +105,7 @@ loop-now-preserved c =
           c.requires.few within after then_now sum c.from.result taken.ensures.later then_is work c.from.ensures
           (sym c.greater.ensures ∙ w.if-greater.false))
     ]) in
-    record { one_each = taken.ensures.one_each; calendar = taken.ensures.calendar; walking = walking }
+    record { queue = taken.ensures.queue; walking = walking }
 
 pub returns : goal.returns
 returns c =

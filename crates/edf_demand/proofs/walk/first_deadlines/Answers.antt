@@ -23,8 +23,10 @@ returns c =
     let from : n ≤ l.task = omega (arith, c.loop-task-test.false, counted.count) in
     let to : l.task ≤ n = omega (arith, l.auto.task-end, counted.count) in
     record {
-      one_each = l.invariant.one_each;
-      calendar = all-in l.task n (slice_index c.args.deadlines.now) l.next (omega (arith, counted.some, counted.count))
-          from to l.invariant.one_each l.invariant.below l.invariant.due c.requires.some;
+      queue = record {
+        one_each = l.invariant.one_each;
+        calendar = all-in l.task n (slice_index c.args.deadlines.now) l.next (omega (arith, counted.some, counted.count))
+            from to l.invariant.one_each l.invariant.below l.invariant.due c.requires.some;
+      };
       deadlines = λ i lt. l.invariant.due i (omega (arith, lt, from));
     }

@@ -11,10 +11,9 @@ pub loop-next-init : goal.loop-next-init
 loop-next-init c =
     let p : Plan = plan_of c.args.tasks.now c.args.machine.now Edf in
     record {
-      one_each = c.requires.one_each;
-      calendar = c.requires.calendar;
+      queue = c.requires.queue;
       taken = taken-start p (due_of c.args.next.now.entries) c.args.now
-          (c.requires.first ∙ ap (λ (n : ℕ). least_below n (due_of c.args.next.now.entries)) c.requires.one_each);
+          (c.requires.first ∙ ap (λ (n : ℕ). least_below n (due_of c.args.next.now.entries)) c.requires.queue.one_each);
     }
 
 pub overflow_add-work : goal.overflow_add-work
@@ -33,12 +32,11 @@ loop-next-preserved c =
     let old = due_of c.args.next.now.entries in
     let after = due_of c.take_first.new.next.entries in
     let is : least_below (count p) next ≡ c.args.now =
-    ap (λ (n : ℕ). least_below n next) (sym l.invariant.one_each) ∙ sym c.earliest.ensures ∙ c.loop-next-test.true in
+    ap (λ (n : ℕ). least_below n next) (sym l.invariant.queue.one_each) ∙ sym c.earliest.ensures ∙ c.loop-next-test.true in
     let on = taken-on p lim old next after c.args.now l.work c.take_first.result l.invariant.taken
     c.take_first.ensures.taken is in
     record {
-      one_each = c.take_first.ensures.one_each;
-      calendar = c.take_first.ensures.calendar;
+      queue = c.take_first.ensures.queue;
       taken = subst (λ (n : ℕ). Taken p old after c.args.now (l.work + n)) (sym c.from-work.ensures) on;
     }
 
@@ -49,7 +47,7 @@ loop-next-smaller c =
     let l = c.loop-next in
     let next = due_of l.next.entries in
     let is : least_below (count p) next ≡ c.args.now =
-    ap (λ (n : ℕ). least_below n next) (sym l.invariant.one_each) ∙ sym c.earliest.ensures ∙ c.loop-next-test.true in
+    ap (λ (n : ℕ). least_below n next) (sym l.invariant.queue.one_each) ∙ sym c.earliest.ensures ∙ c.loop-next-test.true in
     falls p lim (due_of c.args.next.now.entries) next (due_of c.take_first.new.next.entries) c.args.now l.work
     c.take_first.result l.invariant.taken c.take_first.ensures.taken is
 
@@ -62,10 +60,9 @@ returns c =
     let old = due_of c.args.next.now.entries in
     let other : least_below (count p) next ≢ c.args.now =
     λ same. c.loop-next-test.false
-    (c.earliest.ensures ∙ ap (λ (n : ℕ). least_below n next) l.invariant.one_each ∙ same) in
+    (c.earliest.ensures ∙ ap (λ (n : ℕ). least_below n next) l.invariant.queue.one_each ∙ same) in
     record {
-      one_each = l.invariant.one_each;
-      calendar = l.invariant.calendar;
+      queue = l.invariant.queue;
       later = taken-moved p lim old next c.args.now l.work l.invariant.taken other;
       work = taken-work p lim old next c.args.now l.work l.invariant.taken other;
     }

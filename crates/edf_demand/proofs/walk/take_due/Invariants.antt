@@ -1,14 +1,12 @@
-use Rattle.std.proofs.Common.{◌≡◌}
 use Rattle.dvs_base.specs.declared.kind.Scheduler.TheVariants.{Edf}
-use Rattle.sched_model.specs.Plan.{plan_of, count}
-use Rattle.edf_demand.specs.Walk.{due_of, IsCalendar}
+use Rattle.sched_model.specs.Plan.{plan_of}
+use Rattle.edf_demand.specs.Walk.{due_of, IsQueueOf}
 use Rattle.edf_demand.proofs.Calendars.{Taken, due_at}
 use Rattle.edf_demand.proofs.walk.take_due.Given as goal
 
 abbrev pub invariant-loop-next : goal.invariant-loop-next
 invariant-loop-next l = record {
-  one_each : l.next.limit ≡ count (plan_of l.tasks l.machine Edf);
-  calendar : IsCalendar l.next;
+  queue : IsQueueOf l.tasks l.next;
   taken : Taken (plan_of l.tasks l.machine Edf) (due_of l.fn.next.entries) (due_of l.next.entries) l.fn.now l.work;
 }
 

@@ -9,22 +9,19 @@ use Rattle.trace_reader.proofs.HeadTexts.{task_lines-lines}
 use Rattle.trace_reader.proofs.TraceTexts.{clause-found, reads-found, reads-only, version-lines, one-text}
 use Rattle.trace_reader.proofs.read.read_any.Goals as goal
 
-pub returns-clause-found : goal.returns-clause-found
-returns-clause-found c =
-    let tasks = task_lines c.args.names.now c.args.tasks.now in
-    clause-found c.read.result (trace_file Two c.args.names.now tasks c.args.bytes.now) (IsTextOf c.args.names.now tasks c.args.bytes.now) c.read.ensures
-    (λ t e. (reads-found Two c.args.names.now tasks c.args.bytes.now t e).0)
-
-pub returns-clause-only : goal.returns-clause-only
-returns-clause-only c = λ t h.
-    let tasks = task_lines c.args.names.now c.args.tasks.now in
-    let named = names-each c.args.names.now c.known_names.ensures in
-    let lines = version-lines t.version tasks (task_lines-lines c.args.names.now c.args.tasks.now named) in
-    subst (λ meaning. IsUnlessMemory NoMemory (λ t. t) c.read.result meaning)
-    (reads-only Two c.args.names.now tasks c.args.bytes.now t named c.requires.distinct lines tt h) c.read.ensures
-
-pub returns-clause-one_text : goal.returns-clause-one_text
-returns-clause-one_text c =
-    let named = names-each c.args.names.now c.known_names.ensures in
-    one-text c.args.names.now (task_lines c.args.names.now c.args.tasks.now) named c.requires.distinct
-    (task_lines-lines c.args.names.now c.args.tasks.now named)
+pub returns : goal.returns
+returns c =
+    let names = c.args.names.now in
+    let tasks = task_lines names c.args.tasks.now in
+    let bytes = c.args.bytes.now in
+    let named = names-each names c.known_names.ensures in
+    let lines = task_lines-lines names c.args.tasks.now named in
+    record {
+      file = c.read.ensures;
+      found = clause-found c.read.result (trace_file Two names tasks bytes) (IsTextOf names tasks bytes) c.read.ensures
+          (λ t e. (reads-found Two names tasks bytes t e).0);
+      only = λ t h.
+          subst (λ meaning. IsUnlessMemory NoMemory (λ t. t) c.read.result meaning)
+          (reads-only Two names tasks bytes t named c.requires.distinct (version-lines t.version tasks lines) tt h) c.read.ensures;
+      one_text = one-text names tasks named c.requires.distinct lines;
+    }

@@ -1,14 +1,7 @@
 use Rattle.std.proofs.Common.{◌<◌, arith}
 use Rattle.sched_model.specs.Plan.{count}
-use Rattle.cc_rm.proofs.KeptCounters.{rest-most, counts-finished}
+use Rattle.cc_rm.proofs.KeptCounters.{counts-finished}
 use Rattle.cc_rm.proofs.cycle.CcRmGovernor.finished.Goals as goal
-
-pub lower-requires-clause-part : goal.lower-requires-clause-part
-lower-requires-clause-part c =
-    let g = c.args.self.now in
-    let below : c.args.task < count c.args._plan.now = omega (arith, c.requires.can.task, c.requires.of.rows) in
-    rest-most g.static_speed g.rests.items g.allotments c.args._plan.now
-    c.args._view.now c.args.task below c.requires.counters
 
 pub returns : goal.returns
 returns c =

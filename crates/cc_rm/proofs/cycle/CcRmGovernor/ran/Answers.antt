@@ -2,15 +2,8 @@ use Rattle.std.proofs.Common.{◌≡◌, ◌<◌, ◌-◌, ◌∙◌, ap₂, ℕ
 use Rattle.std.specs.Prelude.{slice_index}
 use Rattle.std.proofs.lemmas.List.{get_or_read}
 use Rattle.sched_model.specs.Plan.{count}
-use Rattle.cc_rm.proofs.KeptCounters.{rest-most, counts-ran}
+use Rattle.cc_rm.proofs.KeptCounters.{counts-ran}
 use Rattle.cc_rm.proofs.cycle.CcRmGovernor.ran.Goals as goal
-
-pub lower-requires-clause-part : goal.lower-requires-clause-part
-lower-requires-clause-part c =
-    let g = c.args.self.now in
-    let below : c.args.task < count c.args._plan.now = omega (arith, c.requires.can.task, c.requires.of.rows) in
-    rest-most g.static_speed g.rests.items g.allotments c.args._plan.now
-    c.args._view.now c.args.task below c.requires.counters
 
 pub returns : goal.returns
 returns c =
