@@ -1,8 +1,9 @@
 # named.sh: which files name a command, a governor's kind or a version of the trace, outside its own files.
 #   sh tools/named.sh           prints a table: names that are in the same files share a row
 #   sh tools/named.sh --check   ends with 1 where MAP.md has another table
-# A file names a command by its variant, its words or its module. Looked at are `src` and `specs` of `words` and of
-# `rtdvs_top`; a command's own files are the two of `rtdvs_top` that have its name, `generated` those of `workload`.
+# A file names a command by its variant, its words or its module. Looked at are `src` and `specs` of `words`, of
+# `command_files` and of `rtdvs_top`; a command's own files are those that have its name, `generated` those of `workload`
+# and `planned` those of `run`.
 # `replay` and `migrate` have the same two, `trace`, and one record of words. A file names a kind or a version by its
 # variant. Looked at are `src` and `specs` of all crates but those of tests and of examples; for kinds, of all but those
 # of governors too. Comments and imports don't count; exports and lists of modules do.
@@ -25,16 +26,17 @@ row() {
     echo "$1$list"
 }
 
-# command_row NAME VARIANTS RECORDS WORD MODULE: the row of a command; WORD begins what specs say of its words, as in (run r)
+# command_row NAME VARIANTS RECORDS WORD MODULE [CODE SPECS]: the row of a command; WORD begins what specs say of its words,
+# as in (run r); CODE and SPECS are two more files of its own
 command_row() {
     module=$(echo "$5" | tr '[:upper:]' '[:lower:]')
     row "$1" "(Command|CommandWords|Verb)::($2)|(command|words|verb)[.]($2)|($3)|[(]$4 [a-z]+|mod ($module|$5)" \
-        "$(echo "$words" | grep -v -e "/$module.rt\$" -e "/specs/$5.antt\$")"
+        "$(echo "$words" | grep -v -e "/$module.rt\$" -e "/specs/$5.antt\$" -e "/${6:-$module}.rt\$" -e "/specs/${7:-$5}.antt\$")"
 }
 
 rows() {
-    words=$(find crates/words/src crates/words/specs crates/rtdvs_top/src crates/rtdvs_top/specs -type f | sort)
-    command_row run Run 'RunOf|RunWords' run Run
+    words=$(for crate in words command_files rtdvs_top; do find crates/$crate/src crates/$crate/specs -type f; done | sort)
+    command_row run Run 'RunOf|RunWords' run Run planned PlannedRuns
     command_row admit Admit 'AdmitOf|AdmitWords' admit Admit
     command_row replay 'Replay|Traced' 'TracedOf|TraceWords|TraceUse' traced Trace
     command_row migrate 'Migrate|Traced' 'TracedOf|TraceWords|TraceUse' traced Trace

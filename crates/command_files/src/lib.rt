@@ -4,10 +4,10 @@
 //! which loads were made.
 #![tactic(auto)]
 
-mod admit;
+mod admission;
 mod files;
 mod planned;
 
-pub use admit::admit;
+pub use admission::admit;
 pub use files::{load_demands, load_file, load_machine, load_tasks};
 pub use planned::load_planned;

@@ -5,7 +5,7 @@ ghost use Rattle.words.specs.Shown.{shown_run};
 ghost use Rattle.command_files.specs.Loads.{LoadStep, later_files};
 ghost use Rattle.command_files.specs.PlannedRuns.{prepared_of, run_with, IsReadyRun};
 
-use crate::admit::admit;
+use crate::admission::admit;
 use crate::files::{load_demands, load_machine};
 use demand_list::Demands;
 use dvs_base::Shelf;

@@ -2,7 +2,7 @@ use Rattle.std.proofs.Common.{Ok, ap, sym, refl, rules}
 use Rattle.dvs_base.specs.declared.kind.Scheduler.TheVariants.{Rm}
 use Rattle.sched_model.specs.Plan.{plan_of}
 use Rattle.command_files.proofs.Overloads.{overloaded-first, overloaded-none}
-use Rattle.command_files.proofs.admit.admit_rm.Goals as goal
+use Rattle.command_files.proofs.admission.admit_rm.Goals as goal
 
 pub returns-in-Ok : goal.returns-in-Ok
 returns-in-Ok c = record {
