@@ -8,6 +8,7 @@ use Rattle.sched_model.specs.Plan.{Plan, count, plan_of}
 use Rattle.event_kernel.specs.Runs.{Run}
 use Rattle.dvs_base.specs.declared.limits.TheConstants.{MOST_TICKS}
 use Rattle.words.specs.Commands.{CommandOf, asks_probes, run, traced, poll, least, ResponseOf}
+use Rattle.words.specs.declared.command.TraceUse.{TraceUse}
 use Rattle.statuses.specs.declared.status.Status.{Status}
 use Rattle.statuses.specs.declared.status.Status.TheVariants as status
 use Rattle.task_model.specs.Tasks.{names_of}
@@ -27,7 +28,7 @@ use Rattle.rtdvs_top.specs.declared.generated.PlannedRun.{PlannedRun}
 use Rattle.rtdvs_top.specs.declared.prepared.ReadyRun.{ReadyRun}
 use Rattle.statuses.specs.Steps.{EndsWith, Gives, Refuses, CountsStep}
 use Rattle.command_files.specs.Files.{files_for, names_by, loads_needed, MakesLoads}
-use Rattle.statuses.specs.Status.{CountsLoads, Leaves, LeavesProbes, IsShown}
+use Rattle.statuses.specs.Status.{OfLoad, CountsLoads, Leaves, LeavesProbes, IsShown}
 use Rattle.statuses.specs.StatusLines.{status_text}
 use Rattle.rtdvs_top.specs.ToldRuns.{IfAsked, RunTold}
 use Rattle.rtdvs_top.specs.Run.{answer_of_plan}
@@ -35,7 +36,7 @@ use Rattle.command_files.specs.PlannedRuns.{run_with, prepared_of}
 use Rattle.rtdvs_top.specs.Promises.{OfTests, Tells, LoadFailed, answer_of_command}
 use Rattle.rtdvs_top.specs.Constrain.{FailsToKeep}
 use Rattle.rtdvs_top.specs.Generated.{workload_tasks, workload_ticks, workload_totals, workload_text}
-use Rattle.rtdvs_top.specs.Trace.{traced_of, migrated_text, IsMigratable}
+use Rattle.rtdvs_top.specs.Trace.{traced_of, migrated_text, IsMigratable, answer_of_traced}
 use Rattle.rtdvs_top.specs.Least.{least_text, IsLeastOn}
 use Rattle.rtdvs_top.specs.Poll.{polled_text, polling_of, HasServed}
 use Rattle.rtdvs_top.specs.Response.{responses_text, FailsToRespond, Responds}
@@ -257,6 +258,19 @@ pub record IsComparable (p : Plan) (t : TraceOf) : Type 0 where
   pub low_ticks : t.plan.ticks ≤ MOST_TICKS
   pub tasks : AllByRecursion (NamesTask (count p)) t.notes
   pub ended : IsEnded t.notes
+
+-- what is put for a trace of a plan, as `asked`, which is compared with its schedule first
+pub record CompareStep (asked : TraceUse) (x : Plan × TraceOf) (r : Result Prepared Status) : Type 0 where
+  -- its put gives the answer, and tells no probes
+  pub answer : IfOk r (λ p. answer_of_traced asked x ≡ answer_of p)
+  pub puttable : IfOk r IsPuttable
+  pub silent : IfOk r (λ p. tells_probes p ≡ false)
+  -- or the answer is refused, or memory ran out
+  pub refused : IfErr r (EndsWith (answer_of_traced asked x))
+  -- no load failed
+  pub loads : IfErr r (OfLoad (λ kind. ⊥))
+  -- what the status shows by itself
+  pub shown : IfErr r IsShown
 
 -- the run that was planned
 abbrev pub planned : PlannedRun → Run

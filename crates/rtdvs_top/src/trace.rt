@@ -1,15 +1,14 @@
 // A trace compared with the schedule for the demands that it fixes, and what `replay` and `migrate` prepare.
-ghost use Rattle.std.specs.Prelude.{◌≡◌, map, IfOk, IfErr, ◌<◌, false, length};
+ghost use Rattle.std.specs.Prelude.{◌≡◌, map, IfOk, ◌<◌, length};
 ghost use Rattle.dvs_base.specs.Checks.{IsUnlessMemory};
 ghost use Rattle.trace_reader.specs.Traces.{IsTrace};
 ghost use Rattle.sched_model.specs.Admission.{IsAdmitted};
 ghost use Rattle.words.specs.Commands.{traced as traced_command, traced};
 ghost use Rattle.words.specs.Shown.{shown_trace};
-ghost use Rattle.statuses.specs.Status.{OfLoad, IsShown};
-ghost use Rattle.statuses.specs.Steps.{TestStep, EndsWith};
+ghost use Rattle.statuses.specs.Steps.{TestStep};
 ghost use Rattle.command_files.specs.Loads.{LoadStep, one_file, later_files};
-ghost use Rattle.rtdvs_top.specs.Trace.{task_names, task_line, lines_of_tasks, trace_of, trace_at, traced_of, replay_status, totals_at, replayed_text, answer_of_traced};
-ghost use Rattle.rtdvs_top.specs.Prepared.{IsComparable, IsPuttable, PrepareStep, answer_of, tells_probes};
+ghost use Rattle.rtdvs_top.specs.Trace.{task_names, task_line, lines_of_tasks, trace_of, trace_at, traced_of, replay_status, totals_at, replayed_text};
+ghost use Rattle.rtdvs_top.specs.Prepared.{IsComparable, CompareStep, PrepareStep};
 
 use crate::at_pair::at_pair;
 use crate::prepared::Prepared;
@@ -200,12 +199,7 @@ fn prepare_compared(
     trace: Trace,
 ) -> Result<Prepared, Status>
     requires { IsComparable plan trace }
-    ensures answer { IfOk result (λ p. answer_of_traced asked (plan, trace) ≡ answer_of p) }
-    ensures puttable { IfOk result IsPuttable }
-    ensures silent { IfOk result (λ p. tells_probes p ≡ false) }
-    ensures refused { IfErr result (EndsWith (answer_of_traced asked (plan, trace))) }
-    ensures loads { IfErr result (OfLoad (λ kind. ⊥)) }
-    ensures shown { IfErr result IsShown }
+    ensures { CompareStep asked (plan, trace) result }
 {
     let _admitted = plan.scheduler();
     let totals = compare_pair(alloc, &plan, &trace)?;
