@@ -1,14 +1,15 @@
 -- How responses become known in RM order, up to the first task without one, and what they say about the plan.
-use Rattle.std.proofs.Common.{◌≡◌, ◌≢◌, ℕ, ◌<◌, ◌≤◌, Bool, true, false, List, length, length-set, get_or-set_same, get_or-set_other, refl, sym, ◌∙◌, ap, arith, ◌⊎◌, inl, inr, subst, nat_lt, Some, None, Ok, Err, ap₂}
+use Rattle.std.proofs.Common.{◌≡◌, ◌≢◌, ℕ, ◌+◌, ◌<◌, ◌≤◌, Bool, List, length, drop, length-set, get_or-set_same, get_or-set_other, sym, ◌∙◌, ap, arith, ◌⊎◌, inl, inr, subst, nat_lt, Option, None, ap₂}
 use Rattle.std.specs.Prelude.{slice_index, slice_set}
+use Rattle.std.specs.List.{find}
 use Rattle.std.proofs.lemmas.Bool.{cases_eq}
-use Rattle.std.proofs.lemmas.List.{ext_get_or}
 use Rattle.std.proofs.lemmas.Bool.Decides.{nat_tests}
+use Rattle.std.proofs.lemmas.List.{ext_get_or}
+use Rattle.grid_fraction.proofs.Searches.{below_suc}
 use Rattle.sched_model.specs.Plan.{Plan, count, period, offset}
-use Rattle.sched_model.specs.Priority.{stands_before}
-use Rattle.sched_model.proofs.Orders.{before-total}
+use Rattle.sched_model.specs.Priority.{in_order}
 use Rattle.sched_model.proofs.Tables.{get-table, length-list_below}
-use Rattle.rm_response_laws.specs.Responses.{response, HasResponse, IsUnserved, AllRespond, IsFirstDoneAt}
+use Rattle.rm_response_laws.specs.Responses.{response, HasResponse, EarlierRespond, IsUnserved, AllRespond, IsFirstDoneAt}
 use Rattle.rm_response_laws.proofs.ResponseSearch.{response-bound, before-response}
 use Rattle.rm_response_laws.proofs.RateBounds.{unserved-before}
 use Rattle.dvs_base.specs.declared.kind.Scheduler.TheVariants.{Rm}
@@ -17,89 +18,78 @@ use Rattle.sched_model.proofs.Limits.{some_period}
 use Rattle.task_model.specs.Tasks.{NoneOffset}
 use Rattle.task_model.proofs.FirstOffset.{none-found}
 use Rattle.rm_response_laws.proofs.ResponseMeaning.{first-at-response, first-misses}
-use Rattle.rm_response.specs.Denials.{NoneLate, IsFirstLate, responses, first_late, AreLeast, misses_at, IsMissedAtPeriod, IsShownMiss, exact_answer_from, exact_answer}
-use Rattle.rm_response.specs.Known.{AreAllKnown}
-use Rattle.rm_response.proofs.FirstInOrder.{first-in_order, none-in_order}
+use Rattle.rm_response.specs.Denials.{IsFirstLate, responses, AreLeast, misses_at, IsMissedAtPeriod, IsShownMiss, exact_answer_from, exact_answer}
+use Rattle.rm_response.specs.Known.{AreAllKnown, late_task}
+use Rattle.rm_response.proofs.Places.{at-below, at-ordered, at-all, at-earlier, find-behind}
 
--- Each entry within the task's period is its response. Fewer than `from` ticks, which are some, don't serve the level
--- of a task whose response isn't known.
-pub record AreKnown (p : Plan) (from : ℕ) (entries : List ℕ) : Type 0 where
+-- whether a task has no response
+abbrev pub is_late : Plan → ℕ → Bool
+is_late p i = nat_lt (period p i) (response p i)
+
+-- Of the tasks js the first k have responses, which are their entries, so none of them is the first task without one.
+-- Fewer than `from` ticks, which are some, don't serve the level of any of the others.
+pub record AreKnown (p : Plan) (js : List ℕ) (k from : ℕ) (entries : List ℕ) : Type 0 where
   pub one_each : length entries ≡ count p
-  pub known : (i : ℕ) → i < count p → slice_index entries i ≤ period p i → slice_index entries i ≡ response p i
+  pub known : (m : ℕ) → m < k → slice_index entries (slice_index js m) ≡ response p (slice_index js m)
+  pub timely : (m : ℕ) → m < k → HasResponse p (slice_index js m)
   pub some : 1 ≤ from
-  pub unserved : (i : ℕ) → i < count p → period p i < slice_index entries i → IsUnserved p i from
+  pub unserved : (m : ℕ) → k ≤ m → m < length js → IsUnserved p (slice_index js m) from
+  pub found : late_task p ≡ find (is_late p) (drop k js)
 
-module _ (p : Plan) where
-  -- task i is the first in RM order whose response isn't known
-  abbrev pub IsNext : List ℕ → ℕ → Type 0
-  IsNext entries i = IsFirstLate (period p) (slice_index entries) (count p) i
+module _ (p : Plan) (js : List ℕ) (is : js ≡ in_order (period p) (count p)) (k from : ℕ) (entries : List ℕ)
+    (are : AreKnown p js k from entries) where
+  abbrev task : ℕ
+  task = slice_index js k
+
+  pub earlier : EarlierRespond p task
+  earlier = at-earlier (period p) (count p) js is (HasResponse p) k are.timely
+
+  -- the next task is the first without a response where it has none
+  pub next-late : k < length js → period p task < response p task → IsFirstLate (period p) (response p) (count p) task
+  next-late h late = record { task = at-below (period p) (count p) js is k h; late = late; first = earlier }
 
   -- the response of the next task becomes known, and bounds the others from below
-  pub known-next : (from i : ℕ) (entries : List ℕ) → AreKnown p from entries → IsNext entries i → HasResponse p i
-      → AreKnown p (response p i) (slice_set entries i (response p i))
-  known-next from i entries are next has = record {
-    one_each = length-set entries i (response p i) ∙ are.one_each;
-    known = λ k h. known k h (cases_eq k i);
-    some = (response-bound p i has).some;
-    unserved = λ k h. unserved k h (cases_eq k i);
+  pub known-next : k < length js → HasResponse p task
+      → AreKnown p js (k + 1) (response p task) (slice_set entries task (response p task))
+  known-next h has = record {
+    one_each = length-set entries task (response p task) ∙ are.one_each;
+    known = λ m lt. known m lt (cases_eq (slice_index js m) task);
+    timely = λ m lt. below_suc (λ m. HasResponse p (slice_index js m)) k are.timely has m (omega arith);
+    some = (response-bound p task has).some;
+    unserved = λ m le lt.
+        unserved-before p (slice_index js m) task below (at-ordered (period p) (count p) js is k m (omega arith) lt);
+    found = are.found ∙ find-behind (is_late p) js k h (grind (arith, nat_tests));
   }
     where
-      new : List ℕ
-      new = slice_set entries i (response p i)
+      below : task < count p
+      below = at-below (period p) (count p) js is k h
 
-      own : slice_index new i ≡ response p i
-      own = get_or-set_same entries i (response p i) 0 (omega (arith, are.one_each, next.task))
+      known : (m : ℕ) → m < k + 1 → (slice_index js m ≡ task) ⊎ (slice_index js m ≢ task)
+          → slice_index (slice_set entries task (response p task)) (slice_index js m) ≡ response p (slice_index js m)
+      known m lt (inl same) =
+          subst (λ (i : ℕ). slice_index (slice_set entries task (response p task)) i ≡ response p i) (sym same)
+          (get_or-set_same entries task (response p task) 0 (omega (arith, are.one_each, below)))
+      known m lt (inr ne) =
+          let other : m ≢ k = λ q. ne (ap (slice_index js) q) in
+          get_or-set_other entries task (slice_index js m) (response p task) 0 ne ∙ are.known m (omega (arith, other))
 
-      known : (k : ℕ) → k < count p → (k ≡ i) ⊎ (k ≢ i) → slice_index new k ≤ period p k → slice_index new k ≡ response p k
-      known k h (inl same) le = subst (λ (m : ℕ). slice_index new m ≡ response p m) (sym same) own
-      known k h (inr ne) le =
-          let other = get_or-set_other entries i k (response p i) 0 ne in
-          other ∙ are.known k h (omega (arith, other, le))
-
-      unserved : (k : ℕ) → k < count p → (k ≡ i) ⊎ (k ≢ i) → period p k < slice_index new k → IsUnserved p k (response p i)
-      unserved k h (inl same) over = absurd (omega (arith, over, ap (slice_index new) same, own, ap (period p) same, has))
-      unserved k h (inr ne) over =
-          let other = get_or-set_other entries i k (response p i) 0 ne in
-          unserved-before p k i next.task (go (stands_before (period p) k i) refl (omega (arith, other, over)))
-        where
-          go : (b : Bool) → stands_before (period p) k i ≡ b → period p k < slice_index entries k
-              → stands_before (period p) i k ≡ true
-          go true before over' = absurd (omega (arith, next.first k h before))
-          go false before over' = before-total (period p) k i ne before
-
-  -- where no task is next, all responses are known
-  pub known-all : (from : ℕ) (entries : List ℕ) → AreKnown p from entries
-      → NoneLate (period p) (slice_index entries) (count p) → AreAllKnown p entries
-  known-all from entries are none = record {
-    all = λ i h. omega (arith, are.known i h (none i h), none i h);
+  -- at the end all responses are known
+  pub known-all : length js ≤ k → AreAllKnown p entries
+  known-all end = record {
+    all = at-all (period p) (count p) js is (HasResponse p) (λ m lt. are.timely m (omega (arith, lt, end)));
     are =
         ext_get_or 0 entries (responses p) (are.one_each ∙ sym (length-list_below (count p) (response p)))
         (λ i lt.
         let h : i < count p = omega (arith, are.one_each) in
-        are.known i h (none i h) ∙ sym (get-table (count p) (response p) i 0 h));
+        at-all (period p) (count p) js is (λ i. slice_index entries i ≡ response p i)
+        (λ m lt. are.known m (omega (arith, lt, end))) i h
+        ∙ sym (get-table (count p) (response p) i 0 h));
   }
 
-module _ (p : Plan) where
-  late-found : (i : ℕ) → IsFirstLate (period p) (response p) (count p) i
-      → first_late (period p) (response p) (count p) ≡ Some i
-  late-found i h =
-      first-in_order (λ k. nat_lt (period p k) (response p k)) (period p) (count p) i h.task
-      (let late = h.late in grind (arith, nat_tests))
-      (λ k lt before. let timely = h.first k lt before in grind (arith, nat_tests))
-
-  none-late-found : AllRespond p → first_late (period p) (response p) (count p) ≡ None
-  none-late-found all =
-      none-in_order (λ k. nat_lt (period p k) (response p k)) (period p) (count p)
-      (λ k lt. let timely = all k lt in grind (arith, nat_tests))
-
-  -- where no task has an offset, the answer is the first task that misses
-  pub answer-misses : NoneOffset (offset p) (count p) → (i : ℕ) → IsFirstLate (period p) (response p) (count p) i
-      → exact_answer p ≡ Err (misses_at p i)
-  answer-misses none i first = ap₂ (exact_answer_from p) (none-found (offset p) (count p) none) (late-found i first)
-
-  -- where no task has an offset and each has a response, the answer is the responses
-  pub answer-ok : NoneOffset (offset p) (count p) → AllRespond p → exact_answer p ≡ Ok (responses p)
-  answer-ok none all = ap₂ (exact_answer_from p) (none-found (offset p) (count p) none) (none-late-found all)
+-- where no task has an offset, the first task without a response decides the answer
+pub answer-by : (p : Plan) → NoneOffset (offset p) (count p) → (late : Option ℕ) → late_task p ≡ late
+    → exact_answer p ≡ exact_answer_from p None late
+answer-by p none late found = ap₂ (exact_answer_from p) (none-found (offset p) (count p) none) found
 
 module _ (p : Plan) (i : ℕ) (none : NoneOffset (offset p) (count p))
     (late : IsFirstLate (period p) (response p) (count p) i) where

@@ -1,4 +1,4 @@
-pub mod FirstInOrder
+pub mod Places
 pub mod KnownResponses
 pub mod Examples
 pub mod FitDecisions

@@ -1,5 +1,5 @@
 -- What the answers of exact admission under RM say, and the first task in RM order that is late.
-use Rattle.std.specs.Prelude.{ℕ, List, ◌<◌, slice_index, ◌*◌, ◌≡◌, false, ⊤, Option, Some, None, Result, Ok, Err, ◌≤◌, true, MatchOption, nat_lt}
+use Rattle.std.specs.Prelude.{ℕ, List, ◌<◌, slice_index, ◌*◌, ◌≡◌, false, ⊤, Option, Some, None, Result, Ok, Err, ◌≤◌, true, nat_lt}
 use Rattle.grid_fraction.specs.Numbers.{list_below}
 use Rattle.task_model.specs.Tasks.{NoneOffset, IsFirstOffset, first_offset}
 use Rattle.sched_model.specs.Plan.{Plan, count, period, top_speed, offset}
@@ -68,11 +68,3 @@ first_late period response n = find (λ i. nat_lt (period i) (response i)) (in_o
 -- without a response; and where there is neither, the responses.
 abbrev pub exact_answer : Plan → Result (List ℕ) ResponseFault
 exact_answer p = exact_answer_from p (first_offset (offset p) (count p)) (first_late (period p) (response p) (count p))
-
--- no task below n has a response that exceeds its period
-abbrev pub NoneLate : (ℕ → ℕ) → (ℕ → ℕ) → ℕ → Type 0
-NoneLate period response n = (k : ℕ) → k < n → response k ≤ period k
-
--- `found` is the first task below n in RM order whose response exceeds its period, or there is none
-abbrev pub FindsLate : (ℕ → ℕ) → (ℕ → ℕ) → ℕ → Option ℕ → Type 0
-FindsLate period response n found = MatchOption found (NoneLate period response n) (IsFirstLate period response n)

@@ -10,9 +10,9 @@
 mod bound;
 mod iteration;
 mod last;
+mod order;
 mod response;
 mod search;
-mod unknown;
 mod work;
 
 pub use response::{Response, ResponseFault, rm_response};

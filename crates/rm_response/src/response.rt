@@ -1,16 +1,17 @@
 // The responses of a task set on a machine.
-ghost use Rattle.std.specs.Prelude.{◌≡◌, ◌<◌, IfOk, OnOk, IfErr, length, slice_index, ℕ};
+ghost use Rattle.std.specs.Prelude.{◌≡◌, ◌<◌, IfOk, OnOk, IfErr, MatchResult, None, Some, length, slice_index, ℕ};
 ghost use Rattle.grid_fraction.specs.Numbers.{list_below};
 ghost use Rattle.dvs_base.specs.Checks.{IsUnlessMemory};
 ghost use Rattle.dvs_base.specs.declared.kind.Scheduler.TheVariants.{Rm};
 ghost use Rattle.task_model.specs.Tasks.{task_at, NoneOffset};
 ghost use Rattle.sched_model.specs.Plan.{plan_of, count, period};
+ghost use Rattle.sched_model.specs.Priority.{in_order};
 ghost use Rattle.rm_response_laws.specs.Responses.{response, AllRespond, MeetsAllDeadlines};
 ghost use Rattle.rm_response.specs.Denials.{IsFirstLate, responses, AreLeast, misses_at, IsResponseDenial, IsMissedAtPeriod, IsShownMiss, exact_answer};
-ghost use Rattle.rm_response.specs.Known.{NoneKnown, AreAllKnown};
+ghost use Rattle.rm_response.specs.Known.{AreAllKnown, late_task};
 
 use crate::iteration::response_of;
-use crate::unknown::{UNKNOWN, first_unknown};
+use crate::order::rm_order;
 use crate::work::level_work_in;
 use freq_table::Machine;
 use std::alloc::Global;
@@ -58,17 +59,24 @@ pub enum ResponseFault {
     NoMemory,
 }
 
-// The responses in file order, written over `entries`, of which none is known. They are computed in RM order, and the
-// error is the first task in it without a response.
-fn respond(mut entries: Vec<u64>, tasks: &TaskSet, machine: &Machine) -> Result<Vec<u64>, u32>
+// The responses in file order, written over `entries`. They are computed in RM order, and the error is the first task
+// in it without a response.
+fn respond(
+    mut entries: Vec<u64>,
+    order: &[u32],
+    tasks: &TaskSet,
+    machine: &Machine,
+) -> Result<Vec<u64>, u32>
     requires one_each { length entries.items ≡ length tasks.now }
-    requires none_known { NoneKnown (plan_of tasks.now machine.now Rm) entries.items }
+    requires order { let p = plan_of tasks.now machine.now Rm in order.now ≡ in_order (period p) (count p) }
     ensures known { IfOk result (λ v. AreAllKnown (plan_of tasks.now machine.now Rm) v.items) }
     ensures late { let p = plan_of tasks.now machine.now Rm in
         IfErr result (IsFirstLate (period p) (response p) (count p)) }
+    ensures found { let p = plan_of tasks.now machine.now Rm in
+        MatchResult result (λ v. late_task p ≡ None) (λ task. late_task p ≡ Some task) }
 {
     let mut from = 1;
-    while let Some(task) = first_unknown(tasks, &entries) {
+    for &task in order {
         let response = response_of(tasks, machine, from, task);
         if response > tasks.task(task).period {
             return Err(task);
@@ -118,10 +126,13 @@ pub fn rm_response(
     if let Some(task) = tasks.first_offset() {
         return Err(ResponseFault::Offset { task });
     }
-    let Ok(entries) = vec![in alloc; UNKNOWN; tasks.count() as usize] else {
+    let Ok(order) = rm_order(alloc, tasks) else {
         return Err(ResponseFault::NoMemory);
     };
-    match respond(entries, tasks, machine) {
+    let Ok(entries) = vec![in alloc; 0; tasks.count() as usize] else {
+        return Err(ResponseFault::NoMemory);
+    };
+    match respond(entries, &order, tasks, machine) {
         Ok(ticks) => Ok(Response { ticks }),
         Err(task) => Err(missing(tasks, machine, task)),
     }

@@ -1,4 +1,4 @@
-use Rattle.std.proofs.Common.{length, Err, Ok, refl, sym, ap, ◌∙◌, subst}
+use Rattle.std.proofs.Common.{length, Err, Ok, Some, None, refl, sym, ap, ◌∙◌, subst}
 use Rattle.dvs_base.specs.declared.kind.Scheduler.TheVariants.{Rm}
 use Rattle.sched_model.specs.Plan.{Plan, plan_of, count}
 use Rattle.sched_model.specs.Admission.{IsWithinLimits}
@@ -6,14 +6,13 @@ use Rattle.sched_model.proofs.Tables.{length-list_below}
 use Rattle.rm_response_laws.specs.Responses.{response}
 use Rattle.rm_response_laws.proofs.ResponseMeaning.{always-meets}
 use Rattle.rm_response.specs.Denials.{AreLeast, IsMissedAtPeriod, IsShownMiss}
-use Rattle.rm_response.proofs.KnownResponses.{answer-misses, answer-ok, missed-at, shown-at, are-least}
+use Rattle.rm_response.proofs.KnownResponses.{answer-by, missed-at, shown-at, are-least}
 use Rattle.rm_response.proofs.response.rm_response.Goals as goal
 
 pub returns-in-Ok-respond-clause-answer : goal.returns-in-Ok-respond-clause-answer
 returns-in-Ok-respond-clause-answer c =
     let p : Plan = plan_of c.args.tasks.now c.args.machine.now Rm in
-    let known = c.in-Ok-respond.ensures.known in
-    answer-ok p c.in_default.ensures.finds known.all ∙ ap Ok (sym known.are)
+    answer-by p c.in_default.ensures.finds None c.in-Ok-respond.ensures.found ∙ ap Ok (sym c.in-Ok-respond.ensures.known.are)
 
 pub returns-in-Ok-respond-clause-one_each : goal.returns-in-Ok-respond-clause-one_each
 returns-in-Ok-respond-clause-one_each c =
@@ -35,21 +34,21 @@ returns-in-Ok-respond-clause-least c =
     let known = c.in-Ok-respond.ensures.known in
     subst (AreLeast p) (sym known.are) (are-least p lim refl c.in_default.ensures.finds known.all)
 
-pub returns-in-Err-clause-answer : goal.returns-in-Err-clause-answer
-returns-in-Err-clause-answer c =
+pub returns-clause-answer : goal.returns-clause-answer
+returns-clause-answer c =
     let p : Plan = plan_of c.args.tasks.now c.args.machine.now Rm in
-    λ unless. answer-misses p c.in_default.ensures.finds c.in-Err.task c.in-Err.ensures.late ∙ ap Err (sym c.missing.ensures)
+    λ unless. answer-by p c.in_default.ensures.finds (Some c.in-Err.task) c.in-Err.ensures.found ∙ ap Err (sym c.missing.ensures)
 
-pub returns-in-Err-clause-missed : goal.returns-in-Err-clause-missed
-returns-in-Err-clause-missed c =
+pub returns-clause-missed : goal.returns-clause-missed
+returns-clause-missed c =
     let p : Plan = plan_of c.args.tasks.now c.args.machine.now Rm in
     let lim : IsWithinLimits p =
     record { tasks = c.as_slice-task_limits.ensures.limits; machine = c.as_slice-machine_limits.ensures.limits } in
     subst (IsMissedAtPeriod p) (sym c.missing.ensures)
     (missed-at p c.in-Err.task c.in_default.ensures.finds c.in-Err.ensures.late lim refl)
 
-pub returns-in-Err-clause-shown : goal.returns-in-Err-clause-shown
-returns-in-Err-clause-shown c =
+pub returns-clause-shown : goal.returns-clause-shown
+returns-clause-shown c =
     let p : Plan = plan_of c.args.tasks.now c.args.machine.now Rm in
     let lim : IsWithinLimits p =
     record { tasks = c.as_slice-task_limits.ensures.limits; machine = c.as_slice-machine_limits.ensures.limits } in
