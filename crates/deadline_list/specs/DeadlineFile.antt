@@ -72,7 +72,7 @@ given_in tasks bytes =
 abbrev pub deadline_file : List Task → List ℕ → Result (List ℕ) DeadlineFault
 deadline_file tasks bytes = and_then (given_in tasks bytes) (λ given. Ok (all_deadlines tasks given))
 
--- the reader can go on, with the default settings, and its next record is the row with this number
+-- the reader has the default settings and can go on, and the row numbers of the records left, from `row` on, fit in 64 bits
 pub record IsAtRow (row : ℕ) (reader : TextReader) : Type 0 where
   pub default_reader : IsDefault reader
   pub few : AreCountedFrom row reader
