@@ -10,7 +10,6 @@
 mod bound;
 mod iteration;
 mod last;
-mod order;
 mod response;
 mod search;
 mod work;

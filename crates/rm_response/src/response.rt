@@ -11,9 +11,9 @@ ghost use Rattle.rm_response.specs.Denials.{IsFirstLate, responses, AreLeast, mi
 ghost use Rattle.rm_response.specs.Known.{AreAllKnown, late_task};
 
 use crate::iteration::response_of;
-use crate::order::rm_order;
 use crate::work::level_work_in;
 use freq_table::Machine;
+use sched_model::rm_order;
 use std::alloc::Global;
 use std::marker::Model;
 use task_model::TaskSet;

@@ -13,7 +13,7 @@ mod static_demand;
 mod sums;
 
 pub use holder::Holder;
-pub use order::{earlier_of, numbers_in_order, stands_before};
+pub use order::{earlier_of, numbers_in_order, rm_order, stands_before};
 pub use plan::Admitted;
 pub use state::{Row, State};
 pub use sums::{level_work, rate, total_rate, worst};

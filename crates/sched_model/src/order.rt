@@ -64,8 +64,8 @@ pub fn numbers_in_order(alloc: Global, keys: Vec<(u128, u32)>) -> Result<Vec<u32
     numbers_of(alloc, &sorted)
 }
 
-// The tasks' numbers in RM order.
-pub(crate) fn rm_order(alloc: Global, tasks: &TaskSet) -> Result<Vec<u32>, NoMemory>
+/// The tasks' numbers in RM order: by period, and tasks of equal periods in file order. `NoMemory` where memory ran out.
+pub fn rm_order(alloc: Global, tasks: &TaskSet) -> Result<Vec<u32>, NoMemory>
     ensures { IfOk result (λ v. v.items ≡ in_order (λ i. (task_at tasks.now i).period) (length tasks.now)) }
 {
     let keys = keys_of(alloc, tasks)?;
