@@ -1,5 +1,5 @@
 -- How responses become known in RM order, up to the first task without one, and what they say about the plan.
-use Rattle.std.proofs.Common.{◌≡◌, ℕ, ◌+◌, ◌<◌, ◌≤◌, Bool, true, false, List, length, drop, length-set, get_or-set_same, get_or-set_other, refl, sym, ◌∙◌, arith, subst, nat_lt, Option, None, ap₂}
+use Rattle.std.proofs.Common.{◌≡◌, ℕ, ◌+◌, ◌<◌, ◌≤◌, Bool, true, false, List, length, drop, length-set, get_or-set_same, get_or-set_other, refl, sym, ◌∙◌, arith, subst, nat_lt}
 use Rattle.std.specs.Prelude.{slice_index, slice_set}
 use Rattle.std.specs.List.{find}
 use borrow.Author.Tests.{ltb-true, lt-ltb}
@@ -16,9 +16,8 @@ use Rattle.rm_response_laws.proofs.RateBounds.{unserved-before}
 use Rattle.dvs_base.specs.declared.kind.Scheduler.TheVariants.{Rm}
 use Rattle.sched_model.specs.Admission.{IsWithinLimits}
 use Rattle.task_model.specs.Tasks.{NoneOffset}
-use Rattle.task_model.proofs.FirstOffset.{none-found}
 use Rattle.rm_response_laws.proofs.ResponseMeaning.{first-at-response}
-use Rattle.rm_response.specs.Denials.{responses, AreLeast, exact_answer_from, exact_answer}
+use Rattle.rm_response.specs.Denials.{responses, AreLeast}
 use Rattle.rm_response.specs.Known.{AreAllKnown, late_task}
 use Rattle.rm_response.proofs.Places.{at-below, at-ordered, at-all}
 
@@ -74,11 +73,6 @@ module _ (p : Plan) (js : List ℕ) (is : js ≡ in_order (period p) (count p)) 
         (λ m lt. are.known m (omega (arith, lt, end))) i h
         ∙ sym (get-table (count p) (response p) i 0 h));
   }
-
--- where no task has an offset, the first task without a response decides the answer
-pub answer-by : (p : Plan) → NoneOffset (offset p) (count p) → (late : Option ℕ) → late_task p ≡ late
-    → exact_answer p ≡ exact_answer_from p None late
-answer-by p none late found = ap₂ (exact_answer_from p) (none-found (offset p) (count p) none) found
 
 -- where each task has a response, each is the least tick at which the task's first job is complete
 pub are-least : (p : Plan) → IsWithinLimits p → p.scheduler ≡ Rm → NoneOffset (offset p) (count p)

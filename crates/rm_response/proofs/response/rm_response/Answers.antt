@@ -1,4 +1,4 @@
-use Rattle.std.proofs.Common.{length, Err, Ok, Some, None, refl, sym, ap, ◌∙◌, subst}
+use Rattle.std.proofs.Common.{length, refl, sym, ap, ◌∙◌, subst}
 use Rattle.dvs_base.specs.declared.kind.Scheduler.TheVariants.{Rm}
 use Rattle.sched_model.specs.Plan.{Plan, plan_of, count, period}
 use Rattle.sched_model.specs.Admission.{IsWithinLimits}
@@ -8,13 +8,8 @@ use Rattle.rm_response_laws.specs.Responses.{response}
 use Rattle.rm_response_laws.proofs.ResponseMeaning.{always-meets, first-misses}
 use Rattle.rm_response_laws.proofs.ResponseSearch.{before-response}
 use Rattle.rm_response.specs.Denials.{AreLeast, IsMissedAtPeriod, IsShownMiss}
-use Rattle.rm_response.proofs.KnownResponses.{answer-by, are-least}
+use Rattle.rm_response.proofs.KnownResponses.{are-least}
 use Rattle.rm_response.proofs.response.rm_response.Goals as goal
-
-pub returns-in-Ok-respond-clause-answer : goal.returns-in-Ok-respond-clause-answer
-returns-in-Ok-respond-clause-answer c =
-    let p : Plan = plan_of c.args.tasks.now c.args.machine.now Rm in
-    answer-by p c.in_default.ensures.finds None c.in-Ok-respond.ensures.found ∙ ap Ok (sym c.in-Ok-respond.ensures.known.are)
 
 pub returns-in-Ok-respond-clause-one_each : goal.returns-in-Ok-respond-clause-one_each
 returns-in-Ok-respond-clause-one_each c =
@@ -33,11 +28,6 @@ returns-in-Ok-respond-clause-least c =
     let lim : IsWithinLimits p = record { tasks = c.as_slice-task_limits.ensures.limits; machine = c.as_slice-machine_limits.ensures.limits } in
     let known = c.in-Ok-respond.ensures.known in
     subst (AreLeast p) (sym known.are) (are-least p lim refl c.in_default.ensures.finds known.all)
-
-pub returns-clause-answer : goal.returns-clause-answer
-returns-clause-answer c =
-    let p : Plan = plan_of c.args.tasks.now c.args.machine.now Rm in
-    λ unless. answer-by p c.in_default.ensures.finds (Some c.in-Err.task) c.in-Err.ensures.found ∙ ap Err (sym c.missing.ensures)
 
 pub returns-clause-missed : goal.returns-clause-missed
 returns-clause-missed c =
