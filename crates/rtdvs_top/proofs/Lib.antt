@@ -1,5 +1,6 @@
 pub mod FileLoads
 pub mod RefusedSteps
+pub mod FirstInOrder
 pub mod Overloads
 pub mod LineNotes
 pub mod JoinedLines

@@ -7,7 +7,7 @@ use Rattle.sched_model.specs.Priority.{stands_before, in_order}
 use Rattle.sched_model.specs.Tests.{level_work, IsRmFeasible}
 use Rattle.sched_model.proofs.Orders.{before-self, before-not, IsAhead, IsOrdered, AreBelow, Stands, in_order-below, in_order-ordered, stands-in_order, first_ahead}
 use Rattle.rm_admit.specs.Denials.{IsFirstOverloaded}
-use Rattle.rm_response.proofs.FirstInOrder.{first-in_order, none-in_order}
+use Rattle.rtdvs_top.proofs.FirstInOrder.{first-in_order, none-in_order}
 use Rattle.rtdvs_top.specs.Admit.{first_overloaded}
 
 -- whether a task fails the test under RM
