@@ -88,7 +88,7 @@ pub(crate) fn fixed_demands(
     requires tasks { AllByRecursion (NamesTask (count plan.now)) notes.now }
     requires fit { first_over plan.now notes.now ≡ None }
     ensures list { IfOk result (IsListOf plan.now) }
-    ensures demands { IfOk result (λ d. demand_of plan.now d.rows ≡ demand_of plan.now (fixed_of plan.now notes.now)) }
+    ensures fixed { IfOk result (λ d. demand_of plan.now d.rows ≡ demand_of plan.now (fixed_of plan.now notes.now)) }
 {
     let mut demands = worst_demands(alloc, plan)?;
     for note in notes {

@@ -1,19 +1,19 @@
 -- Which demands the notes of a schedule fix: the list of these demands, computed note by note, has the same notes, and
 -- notes that fit fix a list within the worst cases.
 use Rattle.std.proofs.Common.{◌≡◌, max, ◌*◌, ◌-◌, ◌+◌, ◌≤◌, ℕ, zero, suc, Bool, true, false, ◌&&◌, List, [], ◌∷◌, refl, if◌then◌else◌, ap, ◌∙◌, nat_eq, arith, ◌<◌, length, sym, subst, ◌⊎◌, inl, inr}
-use Rattle.std.specs.Prelude.{Option, Some, None, unwrap_or, option_map, count_by, sum_by}
+use Rattle.std.specs.Prelude.{Option, Some, None, unwrap_or, option_map, count_by}
 use Rattle.std.specs.Option.{option_or}
 use Rattle.std.proofs.lemmas.Bool.Decides.{nat_tests}
 use Rattle.std.specs.List.{AllByRecursion}
 use Rattle.dvs_base.specs.declared.note.Note.{Note}
-use Rattle.dvs_base.specs.declared.note.Note.TheVariants.{Done, End}
+use Rattle.dvs_base.specs.declared.note.Note.TheVariants.{Done}
 use Rattle.task_model.specs.DemandRows.{named, DemandRow}
 use Rattle.sched_model.specs.Plan.{Plan, worst, count}
 use Rattle.sched_model.specs.Jobs.{JobDemands, latest, release, demand_of, IsWithin}
 use Rattle.sched_model.specs.Ticks.{PublishedDemand, Tick, exec, is_done}
 use Rattle.sched_model.specs.Schedule.{IsScheduleBy, schedule_by}
 use Rattle.sched_model.specs.Admission.{IsWithinLimits}
-use Rattle.sched_model.specs.Notes.{Span, had_by, notes_before_end, notes_of, run_energy_told, idle_energy_told}
+use Rattle.sched_model.specs.Notes.{Span, had_by, notes_before_end, notes_of}
 use Rattle.sched_model.proofs.NoteSums.{one_if, tells_done, same-numbers}
 use Rattle.sched_model.proofs.Spans.{IsLastSpan, IsNow}
 use Rattle.sched_model.proofs.Walk.{EachNote, AreFirst, each-note, IsBeforeEnd, notes-each}

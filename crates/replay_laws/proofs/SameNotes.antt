@@ -1,6 +1,6 @@
 -- Two demands that the ticks of a schedule don't distinguish: they have one state, the same decisions, one schedule and the
 -- same notes.
-use Rattle.std.proofs.Common.{◌≡◌, ◌<◌, ◌≤◌, ℕ, suc, Bool, true, false, List, ◌∷◌, length, refl, ap, ◌∙◌, nat_le, sym, arith, ◌-◌, [], if◌then◌else◌, ap₂, not, ◌&&◌, ◌||◌, length-drop, ◌+◌, min, ◌⊎◌, inl, inr, zero, ◌++◌, take, drop, flat_map, subst, nat_eq}
+use Rattle.std.proofs.Common.{◌≡◌, ◌<◌, ◌≤◌, ℕ, suc, Bool, true, false, List, ◌∷◌, length, refl, ap, ◌∙◌, nat_le, sym, arith, ◌-◌, [], if◌then◌else◌, ap₂, not, ◌&&◌, ◌||◌, length-drop, ◌+◌, min, ◌⊎◌, inl, inr, zero, ◌++◌, take, drop, flat_map, nat_eq}
 use Rattle.std.proofs.lemmas.Bool.Decides.{nat_tests}
 use Rattle.std.proofs.lemmas.Bool.{cases_lt}
 use Rattle.std.specs.Prelude.{count_by, sum_by}
@@ -91,11 +91,16 @@ pub alike-earlier : (p : Plan) (dem other : JobDemands) (x : Tick) (past : List 
 alike-earlier p dem other x past t s le h = alike-before p dem other (x ∷ past) past t s le (λ i k lt. omega arith) h
 
 module _ (p : Plan) (lim : IsWithinLimits p) (dem other : JobDemands) where
+  -- ticks that don't distinguish the demands of what is released by tick t don't distinguish those of the latest job there
+  latest-alike : (ticks : List Tick) (t : ℕ) → Alike p dem other ticks (suc t) → (i k : ℕ) → i < count p → k ≡ latest p i t
+      → Indistinct p dem other ticks i k
+  latest-alike ticks t h i k lt e = h i k lt (rw e (latest-early p lim i t lt))
+
   pub same-complete : (past : List Tick) → Alike p dem other past (suc (length past)) → (i : ℕ) → i < count p
       → is_complete p dem past i ≡ is_complete p other past i
   same-complete past h i lt =
       let k = latest p i (length past) in
-      same-done p dem other past i k (h i k lt (latest-early p lim i (length past) lt))
+      same-done p dem other past i k (latest-alike past (length past) h i k lt refl)
 
   -- a row depends on its job's demand only by whether the job is complete
   pub same-row : (past : List Tick) → Alike p dem other past (suc (length past)) → (i : ℕ) → i < count p → row_of p dem past i ≡ row_of p other past i
@@ -130,7 +135,7 @@ module _ (p : Plan) (lim : IsWithinLimits p) (dem other : JobDemands) where
       → i < count p → completes_in p dem x past i ≡ completes_in p other x past i
   same-completes x past h i lt =
       let k = latest p i (length past) in
-      let now : Indistinct p dem other (x ∷ past) i k = h i k lt (omega (arith, latest-early p lim i (length past) lt)) in
+      let now = latest-alike (x ∷ past) (length past) h i k lt refl in
       let before : Indistinct p dem other past i k = indistinct-before p dem other (x ∷ past) past i k (omega arith) now in
       ap₂ (λ a b. not a && b) (same-done p dem other past i k before) (same-done p dem other (x ∷ past) i k now)
 
@@ -203,21 +208,20 @@ module _ (p : Plan) (lim : IsWithinLimits p) (dem other : JobDemands) (none : (i
   -- the latest jobs need the same by both demands, or were given less than they need and no more than the other need
   needs-alike : (x : Tick) (past : List Tick) (f : ℕ) → SharesOut (count p) (key_of p.scheduler p (length past)) f (left p dem past) (share x)
       → Alike p dem other (x ∷ past) (length (x ∷ past)) → (i : ℕ) → i < count p → NeedsAlike (left p dem past) (left p other past) (share x) i
-  needs-alike x past f legal h i lt = go (is_done p dem (x ∷ past) i k) refl
+  needs-alike x past f legal h i lt =
+      go (is_done p dem (x ∷ past) i k) refl (latest-alike p lim dem other (x ∷ past) (length past) h i k lt refl)
     where
       k : ℕ
       k = latest p i (length past)
-
-      now : Indistinct p dem other (x ∷ past) i k
-      now = h i k lt (omega (arith, latest-early p lim i (length past) lt))
 
       had : exec p (x ∷ past) i k ≡ exec p past i k + share x i
       had = exec-legal p dem x past i (every_period p lim i) (none i)
           (share-legal p dem past f x legal i lt)
 
-      go : (b : Bool) → is_done p dem (x ∷ past) i k ≡ b → NeedsAlike (left p dem past) (left p other past) (share x) i
-      go true e = inl (ap (λ n. n - exec p past i k) (now.0 e))
-      go false e =
+      go : (b : Bool) → is_done p dem (x ∷ past) i k ≡ b → Indistinct p dem other (x ∷ past) i k
+          → NeedsAlike (left p dem past) (left p other past) (share x) i
+      go true e now = inl (ap (λ n. n - exec p past i k) (now.0 e))
+      go false e now =
           let more : exec p (x ∷ past) i k < dem i k = grind (arith, nat_tests, e) in
           let more_other : exec p (x ∷ past) i k < other i k = now.1 e in
           inr (omega (arith, had, more), omega (arith, had, more_other))
@@ -292,17 +296,15 @@ module _ (p : Plan) (lim : IsWithinLimits p) (dem other : JobDemands) where
       each : (i : ℕ) → i < count p → release_notes p dem t i ≡ release_notes p other t i
       each i lt = ap (λ (b : Bool). if releases_at p i t then Release t i k
           ∷ (if b then Done (record { tick = t; offset = 0 }) i k 0 ∷ [] else []) else [])
-          (go (is_done p dem past i k) refl)
+          (go (is_done p dem past i k) refl (latest-alike p lim dem other past t h i k lt refl))
         where
           k : ℕ
           k = latest p i t
 
-          now : Indistinct p dem other past i k
-          now = h i k lt (latest-early p lim i t lt)
-
-          go : (b : Bool) → is_done p dem past i k ≡ b → nat_eq (dem i k) 0 ≡ nat_eq (other i k) 0
-          go true e = ap (λ n. nat_eq n 0) (now.0 e)
-          go false e =
+          go : (b : Bool) → is_done p dem past i k ≡ b → Indistinct p dem other past i k
+              → nat_eq (dem i k) 0 ≡ nat_eq (other i k) 0
+          go true e now = ap (λ n. nat_eq n 0) (now.0 e)
+          go false e now =
               let more : exec p past i k < other i k = now.1 e in
               let off : nat_eq (dem i k) 0 ≡ false = grind (arith, nat_tests, e) in
               let off_other : nat_eq (other i k) 0 ≡ false = grind (arith, nat_tests, more) in
@@ -331,18 +333,17 @@ module _ (p : Plan) (lim : IsWithinLimits p) (dem other : JobDemands) where
 
       ends-alike : ((i : ℕ) → dem i 0 ≡ other i 0) → (holder : Holder) → IsNow p dem (length past) holder → EndsAlike p dem other s holder
       ends-alike none Nobody now = tt
-      ends-alike none (Held i k) now = go (is_done p dem (x ∷ past) i k) refl (had-now i k now.0 (none i))
+      ends-alike none (Held i k) now =
+          go (is_done p dem (x ∷ past) i k) refl (latest-alike p lim dem other (x ∷ past) (length past) h i k now.0 now.1)
+          (had-now i k now.0 (none i))
         where
-          indistinct : Indistinct p dem other (x ∷ past) i k
-          indistinct = h i k now.0 (subst (λ m. latest_since p i m < length (x ∷ past)) (sym now.1) (latest-early p lim i (length past) now.0))
-
-          go : (b : Bool) → is_done p dem (x ∷ past) i k ≡ b → (dem i k ≡ other i k)
-              ⊎ (had_in p s i k ≡ exec p (x ∷ past) i k) → EndsAlike p dem other s (Held i k)
-          go true e had = inl (indistinct.0 e)
-          go false e (inl same) = inl same
-          go false e (inr had) =
+          go : (b : Bool) → is_done p dem (x ∷ past) i k ≡ b → Indistinct p dem other (x ∷ past) i k
+              → (dem i k ≡ other i k) ⊎ (had_in p s i k ≡ exec p (x ∷ past) i k) → EndsAlike p dem other s (Held i k)
+          go true e alike had = inl (alike.0 e)
+          go false e alike (inl same) = inl same
+          go false e alike (inr had) =
               let more : exec p (x ∷ past) i k < dem i k = grind (arith, nat_tests, e) in
-              let more_other : exec p (x ∷ past) i k < other i k = indistinct.1 e in
+              let more_other : exec p (x ∷ past) i k < other i k = alike.1 e in
               inr (omega (arith, had, more), omega (arith, had, more_other))
 
       units-alike : ((i : ℕ) → dem i 0 ≡ other i 0) → AllByRecursion (EndsAlike p dem other s) s.units

@@ -1,26 +1,25 @@
 -- How responses become known in RM order, up to the first task without one, and what they say about the plan.
-use Rattle.std.proofs.Common.{◌≡◌, ◌≢◌, ℕ, ◌+◌, ◌<◌, ◌≤◌, Bool, List, length, drop, length-set, get_or-set_same, get_or-set_other, sym, ◌∙◌, ap, arith, ◌⊎◌, inl, inr, subst, nat_lt, Option, None, ap₂}
+use Rattle.std.proofs.Common.{◌≡◌, ℕ, ◌+◌, ◌<◌, ◌≤◌, Bool, true, false, List, length, drop, length-set, get_or-set_same, get_or-set_other, refl, sym, ◌∙◌, arith, subst, nat_lt}
 use Rattle.std.specs.Prelude.{slice_index, slice_set}
 use Rattle.std.specs.List.{find}
+use borrow.Author.Tests.{ltb-true, lt-ltb}
 use Rattle.std.proofs.lemmas.Bool.{cases_eq}
 use Rattle.std.proofs.lemmas.Bool.Decides.{nat_tests}
-use Rattle.std.proofs.lemmas.List.{ext_get_or}
+use Rattle.std.proofs.lemmas.List.{ext_get_or, at_drop_more}
 use Rattle.grid_fraction.proofs.Searches.{below_suc}
 use Rattle.sched_model.specs.Plan.{Plan, count, period, offset}
-use Rattle.sched_model.specs.Priority.{in_order}
+use Rattle.sched_model.specs.Priority.{stands_before, in_order}
 use Rattle.sched_model.proofs.Tables.{get-table, length-list_below}
 use Rattle.rm_response_laws.specs.Responses.{response, HasResponse, EarlierRespond, IsUnserved, AllRespond, IsFirstDoneAt}
-use Rattle.rm_response_laws.proofs.ResponseSearch.{response-bound, before-response}
+use Rattle.rm_response_laws.proofs.ResponseSearch.{response-bound}
 use Rattle.rm_response_laws.proofs.RateBounds.{unserved-before}
 use Rattle.dvs_base.specs.declared.kind.Scheduler.TheVariants.{Rm}
 use Rattle.sched_model.specs.Admission.{IsWithinLimits}
-use Rattle.sched_model.proofs.Limits.{some_period}
 use Rattle.task_model.specs.Tasks.{NoneOffset}
-use Rattle.task_model.proofs.FirstOffset.{none-found}
-use Rattle.rm_response_laws.proofs.ResponseMeaning.{first-at-response, first-misses}
-use Rattle.rm_response.specs.Denials.{IsFirstLate, responses, AreLeast, misses_at, IsMissedAtPeriod, IsShownMiss, exact_answer_from, exact_answer}
+use Rattle.rm_response_laws.proofs.ResponseMeaning.{first-at-response}
+use Rattle.rm_response.specs.Denials.{responses, AreLeast}
 use Rattle.rm_response.specs.Known.{AreAllKnown, late_task}
-use Rattle.rm_response.proofs.Places.{at-below, at-ordered, at-all, at-earlier, find-behind}
+use Rattle.rm_response.proofs.Places.{at-below, at-ordered, at-all}
 
 -- whether a task has no response
 abbrev pub is_late : Plan → ℕ → Bool
@@ -41,37 +40,26 @@ module _ (p : Plan) (js : List ℕ) (is : js ≡ in_order (period p) (count p)) 
   abbrev task : ℕ
   task = slice_index js k
 
-  pub earlier : EarlierRespond p task
-  earlier = at-earlier (period p) (count p) js is (HasResponse p) k are.timely
-
-  -- the next task is the first without a response where it has none
-  pub next-late : k < length js → period p task < response p task → IsFirstLate (period p) (response p) (count p) task
-  next-late h late = record { task = at-below (period p) (count p) js is k h; late = late; first = earlier }
+  pub earlier : k < length js → EarlierRespond p task
+  earlier h = at-all (period p) (count p) js is (λ i. stands_before (period p) i task ≡ true → HasResponse p i) (λ m g before.
+      are.timely m (ltb-true m k (sym (at-ordered (period p) (count p) js is m k g h) ∙ before)))
 
   -- the response of the next task becomes known, and bounds the others from below
   pub known-next : k < length js → HasResponse p task
       → AreKnown p js (k + 1) (response p task) (slice_set entries task (response p task))
-  known-next h has = record {
-    one_each = length-set entries task (response p task) ∙ are.one_each;
-    known = λ m lt. known m lt (cases_eq (slice_index js m) task);
-    timely = λ m lt. below_suc (λ m. HasResponse p (slice_index js m)) k are.timely has m (omega arith);
-    some = (response-bound p task has).some;
-    unserved = λ m le lt.
-        unserved-before p (slice_index js m) task below (at-ordered (period p) (count p) js is k m (omega arith) lt);
-    found = are.found ∙ find-behind (is_late p) js k h (grind (arith, nat_tests));
-  }
-    where
-      below : task < count p
-      below = at-below (period p) (count p) js is k h
-
-      known : (m : ℕ) → m < k + 1 → (slice_index js m ≡ task) ⊎ (slice_index js m ≢ task)
-          → slice_index (slice_set entries task (response p task)) (slice_index js m) ≡ response p (slice_index js m)
-      known m lt (inl same) =
-          subst (λ (i : ℕ). slice_index (slice_set entries task (response p task)) i ≡ response p i) (sym same)
-          (get_or-set_same entries task (response p task) 0 (omega (arith, are.one_each, below)))
-      known m lt (inr ne) =
-          let other : m ≢ k = λ q. ne (ap (slice_index js) q) in
-          get_or-set_other entries task (slice_index js m) (response p task) 0 ne ∙ are.known m (omega (arith, other))
+  known-next h has =
+      let below : task < count p = at-below (period p) (count p) js is k h in
+      let in_time : is_late p task ≡ false = grind (arith, nat_tests) in
+      record {
+        one_each = length-set entries task (response p task) ∙ are.one_each;
+        known = λ m lt. grind (arith, get_or-set_same, get_or-set_other, cases_eq (slice_index js m) task, are.known m, below);
+        timely = λ m lt. below_suc (λ m. HasResponse p (slice_index js m)) k are.timely has m (omega arith);
+        some = (response-bound p task has).some;
+        unserved = λ m le lt.
+            unserved-before p (slice_index js m) task below
+            (at-ordered (period p) (count p) js is k m h lt ∙ lt-ltb k m (omega arith));
+        found = are.found ∙ (at_drop_more (find (is_late p)) js k 0 h ∙ rw in_time refl);
+      }
 
   -- at the end all responses are known
   pub known-all : length js ≤ k → AreAllKnown p entries
@@ -85,20 +73,6 @@ module _ (p : Plan) (js : List ℕ) (is : js ≡ in_order (period p) (count p)) 
         (λ m lt. are.known m (omega (arith, lt, end))) i h
         ∙ sym (get-table (count p) (response p) i 0 h));
   }
-
--- where no task has an offset, the first task without a response decides the answer
-pub answer-by : (p : Plan) → NoneOffset (offset p) (count p) → (late : Option ℕ) → late_task p ≡ late
-    → exact_answer p ≡ exact_answer_from p None late
-answer-by p none late found = ap₂ (exact_answer_from p) (none-found (offset p) (count p) none) found
-
-module _ (p : Plan) (i : ℕ) (none : NoneOffset (offset p) (count p))
-    (late : IsFirstLate (period p) (response p) (count p) i) where
-  -- the work of a level that misses exceeds what the highest speed does in the period
-  pub shown-at : IsWithinLimits p → IsShownMiss (misses_at p i)
-  shown-at lim = before-response p i (period p i) (some_period p lim i late.task) late.late
-
-  pub missed-at : IsWithinLimits p → p.scheduler ≡ Rm → IsMissedAtPeriod p (misses_at p i)
-  missed-at lim rm = first-misses p lim rm i late.task none late.first late.late
 
 -- where each task has a response, each is the least tick at which the task's first job is complete
 pub are-least : (p : Plan) → IsWithinLimits p → p.scheduler ≡ Rm → NoneOffset (offset p) (count p)

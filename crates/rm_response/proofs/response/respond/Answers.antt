@@ -5,23 +5,21 @@ use Rattle.task_model.specs.declared.task.Task.{Task}
 use Rattle.sched_model.specs.Plan.{Plan, plan_of, count, period}
 use Rattle.rm_response_laws.specs.Responses.{HasResponse}
 use Rattle.rm_response.proofs.Places.{at-below}
-use Rattle.rm_response.proofs.KnownResponses.{AreKnown, earlier, next-late, known-next, known-all}
+use Rattle.rm_response.proofs.KnownResponses.{AreKnown, earlier, known-next, known-all}
 use Rattle.rm_response.proofs.response.respond.Goals as goal
 
-pub response_of-response-requires-clause-task : goal.response_of-response-requires-clause-task
-response_of-response-requires-clause-task c =
+pub response_of-response-requires : goal.response_of-response-requires
+response_of-response-requires c =
     let p : Plan = plan_of c.args.tasks.now c.args.machine.now Rm in
-    at-below (period p) (count p) c.args.order.now c.requires.order c.loop-task.task-index c.loop-task-test.true
-
-pub response_of-response-requires-clause-earlier : goal.response_of-response-requires-clause-earlier
-response_of-response-requires-clause-earlier c =
-    let p : Plan = plan_of c.args.tasks.now c.args.machine.now Rm in
-    earlier p c.args.order.now c.requires.order c.loop-task.task-index c.loop-task.from c.loop-task.entries.items
-    c.loop-task.invariant
-
-pub response_of-response-requires-clause-unserved : goal.response_of-response-requires-clause-unserved
-response_of-response-requires-clause-unserved c =
-    c.loop-task.invariant.unserved c.loop-task.task-index (omega arith) c.loop-task-test.true
+    let js = c.args.order.now in
+    let k = c.loop-task.task-index in
+    record {
+      task = at-below (period p) (count p) js c.requires.order k c.loop-task-test.true;
+      earlier = earlier p js c.requires.order k c.loop-task.from c.loop-task.entries.items c.loop-task.invariant
+          c.loop-task-test.true;
+      some = c.loop-task.invariant.some;
+      unserved = c.loop-task.invariant.unserved k (omega arith) c.loop-task-test.true;
+    }
 
 pub task-requires : goal.task-requires
 task-requires c =
@@ -31,10 +29,15 @@ task-requires c =
 pub returns-then-response-task-clause-late : goal.returns-then-response-task-clause-late
 returns-then-response-task-clause-late c =
     let p : Plan = plan_of c.args.tasks.now c.args.machine.now Rm in
-    let long = ap (λ (t : Task). t.period) c.task.ensures.task in
-    next-late p c.args.order.now c.requires.order c.loop-task.task-index c.loop-task.from c.loop-task.entries.items
-    c.loop-task.invariant c.loop-task-test.true
-    (omega (arith, c.if-response-task.true, c.response_of-response.ensures, long))
+    let js = c.args.order.now in
+    let k = c.loop-task.task-index in
+    record {
+      task = at-below (period p) (count p) js c.requires.order k c.loop-task-test.true;
+      late = (let long = ap (λ (t : Task). t.period) c.task.ensures.task in
+          omega (arith, c.if-response-task.true, c.response_of-response.ensures, long));
+      first = earlier p js c.requires.order k c.loop-task.from c.loop-task.entries.items c.loop-task.invariant
+          c.loop-task-test.true;
+    }
 
 pub loop-task-preserved : goal.loop-task-preserved
 loop-task-preserved c =

@@ -1,18 +1,15 @@
-use Rattle.std.proofs.Common.{length, Err, Ok, Some, None, refl, sym, ap, ◌∙◌, subst}
+use Rattle.std.proofs.Common.{length, refl, sym, ap, ◌∙◌, subst}
 use Rattle.dvs_base.specs.declared.kind.Scheduler.TheVariants.{Rm}
-use Rattle.sched_model.specs.Plan.{Plan, plan_of, count}
+use Rattle.sched_model.specs.Plan.{Plan, plan_of, count, period}
 use Rattle.sched_model.specs.Admission.{IsWithinLimits}
+use Rattle.sched_model.proofs.Limits.{some_period}
 use Rattle.sched_model.proofs.Tables.{length-list_below}
 use Rattle.rm_response_laws.specs.Responses.{response}
-use Rattle.rm_response_laws.proofs.ResponseMeaning.{always-meets}
+use Rattle.rm_response_laws.proofs.ResponseMeaning.{always-meets, first-misses}
+use Rattle.rm_response_laws.proofs.ResponseSearch.{before-response}
 use Rattle.rm_response.specs.Denials.{AreLeast, IsMissedAtPeriod, IsShownMiss}
-use Rattle.rm_response.proofs.KnownResponses.{answer-by, missed-at, shown-at, are-least}
+use Rattle.rm_response.proofs.KnownResponses.{are-least}
 use Rattle.rm_response.proofs.response.rm_response.Goals as goal
-
-pub returns-in-Ok-respond-clause-answer : goal.returns-in-Ok-respond-clause-answer
-returns-in-Ok-respond-clause-answer c =
-    let p : Plan = plan_of c.args.tasks.now c.args.machine.now Rm in
-    answer-by p c.in_default.ensures.finds None c.in-Ok-respond.ensures.found ∙ ap Ok (sym c.in-Ok-respond.ensures.known.are)
 
 pub returns-in-Ok-respond-clause-one_each : goal.returns-in-Ok-respond-clause-one_each
 returns-in-Ok-respond-clause-one_each c =
@@ -22,35 +19,28 @@ returns-in-Ok-respond-clause-one_each c =
 pub returns-in-Ok-respond-clause-deadlines : goal.returns-in-Ok-respond-clause-deadlines
 returns-in-Ok-respond-clause-deadlines c =
     let p : Plan = plan_of c.args.tasks.now c.args.machine.now Rm in
-    let lim : IsWithinLimits p =
-    record { tasks = c.as_slice-task_limits.ensures.limits; machine = c.as_slice-machine_limits.ensures.limits } in
+    let lim : IsWithinLimits p = record { tasks = c.as_slice-task_limits.ensures.limits; machine = c.as_slice-machine_limits.ensures.limits } in
     always-meets p lim refl c.in-Ok-respond.ensures.known.all
 
 pub returns-in-Ok-respond-clause-least : goal.returns-in-Ok-respond-clause-least
 returns-in-Ok-respond-clause-least c =
     let p : Plan = plan_of c.args.tasks.now c.args.machine.now Rm in
-    let lim : IsWithinLimits p =
-    record { tasks = c.as_slice-task_limits.ensures.limits; machine = c.as_slice-machine_limits.ensures.limits } in
+    let lim : IsWithinLimits p = record { tasks = c.as_slice-task_limits.ensures.limits; machine = c.as_slice-machine_limits.ensures.limits } in
     let known = c.in-Ok-respond.ensures.known in
     subst (AreLeast p) (sym known.are) (are-least p lim refl c.in_default.ensures.finds known.all)
-
-pub returns-clause-answer : goal.returns-clause-answer
-returns-clause-answer c =
-    let p : Plan = plan_of c.args.tasks.now c.args.machine.now Rm in
-    λ unless. answer-by p c.in_default.ensures.finds (Some c.in-Err.task) c.in-Err.ensures.found ∙ ap Err (sym c.missing.ensures)
 
 pub returns-clause-missed : goal.returns-clause-missed
 returns-clause-missed c =
     let p : Plan = plan_of c.args.tasks.now c.args.machine.now Rm in
-    let lim : IsWithinLimits p =
-    record { tasks = c.as_slice-task_limits.ensures.limits; machine = c.as_slice-machine_limits.ensures.limits } in
+    let lim : IsWithinLimits p = record { tasks = c.as_slice-task_limits.ensures.limits; machine = c.as_slice-machine_limits.ensures.limits } in
+    let late = c.in-Err.ensures.late in
     subst (IsMissedAtPeriod p) (sym c.missing.ensures)
-    (missed-at p c.in-Err.task c.in_default.ensures.finds c.in-Err.ensures.late lim refl)
+    (first-misses p lim refl c.in-Err.task late.task c.in_default.ensures.finds late.first late.late)
 
 pub returns-clause-shown : goal.returns-clause-shown
 returns-clause-shown c =
     let p : Plan = plan_of c.args.tasks.now c.args.machine.now Rm in
-    let lim : IsWithinLimits p =
-    record { tasks = c.as_slice-task_limits.ensures.limits; machine = c.as_slice-machine_limits.ensures.limits } in
-    subst IsShownMiss (sym c.missing.ensures)
-    (shown-at p c.in-Err.task c.in_default.ensures.finds c.in-Err.ensures.late lim)
+    let lim : IsWithinLimits p = record { tasks = c.as_slice-task_limits.ensures.limits; machine = c.as_slice-machine_limits.ensures.limits } in
+    let i = c.in-Err.task in
+    let late = c.in-Err.ensures.late in
+    subst IsShownMiss (sym c.missing.ensures) (before-response p i (period p i) (some_period p lim i late.task) late.late)
