@@ -9,11 +9,11 @@ use Rattle.task_model.specs.declared.limits.TheConstants.{LONGEST_PERIOD, LATEST
 use Rattle.freq_table.specs.declared.limits.TheConstants.{TOP_SPEED}
 use Rattle.freq_table.specs.declared.machine.Point.{Point}
 use Rattle.sched_model.specs.Plan.{Plan, count, period, offset, worst, point}
-use Rattle.sched_model.specs.Admission.{IsAdmitted}
+use Rattle.sched_model.specs.Admission.{IsAdmitted, IsWithinLimits}
 
 pub record Bounds (p : Plan) : Type 0 where
+  pub limits : IsWithinLimits p
   pub some_task : 0 < count p
-  pub some_period : (i : ℕ) → 0 < period p i
   pub low_period : (i : ℕ) → period p i ≤ LONGEST_PERIOD
   pub low_offset : (i : ℕ) → offset p i ≤ LATEST_OFFSET
   pub low_worst : (i : ℕ) → worst p i ≤ 2 ^ 61
@@ -37,8 +37,8 @@ bounds p adm =
     let charge = adm.limits.machine.low_charge in
     let nothing : Point = record { speed = 0; millivolts = 0 } in
     record {
+      limits = adm.limits;
       some_task = adm.limits.tasks.some;
-      some_period = at-each (λ (t : Task). 0 < t.period) p.tasks no_task (λ i lt. omega (arith, (task i lt).some_period)) (omega arith);
       low_period = at-each (λ (t : Task). t.period ≤ LONGEST_PERIOD) p.tasks no_task (λ i lt. (task i lt).low_period) (omega arith);
       low_offset = at-each (λ (t : Task). t.offset ≤ LATEST_OFFSET) p.tasks no_task (λ i lt. (task i lt).low_offset) (omega arith);
       low_worst = at-each (λ (t : Task). t.worst + 2 * p.machine.charge ≤ 2 ^ 61) p.tasks no_task

@@ -1,12 +1,11 @@
 -- The number of ticks before a span's last one, and the end of the span after it.
-use Rattle.std.proofs.Common.{◌≡◌, ℕ, ◌+◌, ◌-◌, ◌*◌, ◌/◌, ◌^◌, ◌<◌, ◌≤◌, min, Bool, true, false, not, ◌&&◌, List, ◌∷◌, length, refl, arith, ap, ap₂, ◌∙◌, sym, subst, ◌⊎◌, inl, inr, nat_eq, nat_le, mul-le-mul_left}
+use Rattle.std.proofs.Common.{◌≡◌, ℕ, ◌+◌, ◌-◌, ◌*◌, ◌/◌, ◌<◌, ◌≤◌, min, Bool, true, false, not, ◌&&◌, List, ◌∷◌, length, refl, arith, ap, ap₂, ◌∙◌, sym, subst, ◌⊎◌, inl, inr, nat_eq, nat_le, mul-le-mul_left}
 use Rattle.std.specs.Prelude.{Option, None, Some, IfSome, IfNone}
 use Rattle.std.proofs.Math.Nat.{div-mul-le_self, lt-div-mul-add, mul-le-mul_right}
 use Rattle.std.proofs.lemmas.Bool.{cases_lt}
 use Rattle.std.proofs.lemmas.Bool.Decides.{nat_tests}
 use Rattle.grid_fraction.proofs.Searches.{any_below-found}
 use Rattle.grid_fraction.proofs.Least.{least-below, least-above, least-found}
-use Rattle.freq_table.specs.declared.limits.TheConstants.{TOP_SPEED}
 use Rattle.sched_model.specs.declared.state.Row.{Row}
 use Rattle.sched_model.specs.Plan.{Plan, count, point}
 use Rattle.sched_model.specs.Jobs.{JobDemands, latest}
@@ -18,12 +17,13 @@ use Rattle.sched_model.specs.Greedy.{IsFirstOpen}
 use Rattle.sched_model.proofs.Tables.{get-table}
 use Rattle.sched_model.proofs.Allotments.{handed_before}
 use Rattle.sched_model.proofs.JobLaws.{exec-legal}
+use Rattle.sched_model.proofs.Limits.{every_period}
 use Rattle.governor.specs.Meanings.{OwnDemand}
 use Rattle.governor.specs.Schedule.{course}
 use Rattle.governor.specs.Steps.{IsBeforeAll}
 use Rattle.event_kernel.specs.declared.span_trace.SpanTrace.{SpanTrace}
 use Rattle.agenda.specs.Agenda.{IsFirstUndone}
-use Rattle.event_kernel.specs.Segment.{CanAdd, IsFirst}
+use Rattle.event_kernel.specs.Segment.{CanEnter, IsFirst}
 use Rattle.event_kernel.specs.Tickwork.{tick_at, gives}
 use Rattle.event_kernel.specs.Boundary.{some_due}
 use Rattle.event_kernel.specs.declared.progress.Setting.{Setting}
@@ -35,7 +35,7 @@ use Rattle.event_kernel.proofs.GivenUnits.{HasHanded, key, start, first-open}
 use Rattle.event_kernel.proofs.Ofplan.{of-state}
 use Rattle.event_kernel.proofs.DecisionStates.{at-decision}
 use Rattle.event_kernel.proofs.Courses.{course-next, course-len, low-exec}
-use Rattle.event_kernel.proofs.UnitLoop.{HoldsHanded, entry-there, begin, can, ready}
+use Rattle.event_kernel.proofs.UnitLoop.{HoldsHanded, entry-there, begin, can-enter, ready}
 use Rattle.event_kernel.proofs.SpanSteps.{ends-span}
 use Rattle.event_kernel.proofs.QuietStep.{run_on, row-served, due-served, first-served}
 
@@ -82,14 +82,19 @@ module _ {set : Setting} (ok : IsSetting set) where
         (λ i l. (let b = before i l in omega (arith, b))) in
         omega (arith, late, here.before_end)
 
-    pub can-add : CanAdd p st force.from force.index trace
-    can-add = can ok here w0
-
-    pub fit : {first : Option ℕ} {n : ℕ} → AreQuiet set force st first n → (n * f < 2 ^ 63) × (trace.segment.units + n * f < 2 ^ 64)
-    fit {first} {n} quiet =
-        let some : n * f ≤ n * TOP_SPEED = mul-le-mul_left n (adm.low_speed force.index) in
-        let lt = quiet.before_end in
-        (omega (arith, some, lt, ok.low_ticks), omega (arith, some, lt, ok.low_ticks, here.writing.place, here.writing.few))
+    -- the units of the quiet ticks can be added
+    pub can-enter-quiet : {first : Option ℕ} {n : ℕ} → AreQuiet set force st first n → CanEnter p st force.from force.index (n * f) trace
+    can-enter-quiet {first} {n} quiet = record {
+      can = (can-enter ok here w0 {units = 0} (omega arith)).can;
+      fits = omega (
+        arith,
+        mul-le-mul_left n (adm.low_speed force.index),
+        quiet.before_end,
+        ok.low_ticks,
+        here.writing.place,
+        here.writing.few,
+      );
+    }
 
     -- the number of ticks up to the next release or the end, less one
     abbrev most : ℕ
@@ -250,7 +255,7 @@ module _ {set : Setting} (ok : IsSetting set) where
         own = omega (arith, gets)
 
         all : had + share x i ≡ exec p (x ∷ past) i k
-        all = sym (exec-legal p dem x past i (adm.some_period i) (ok.within.none i) own)
+        all = sym (exec-legal p dem x past i (every_period p adm.limits i) (ok.within.none i) own)
 
         whole : dem i k ≤ exec p (x ∷ past) i k
         whole = omega (arith, all, gets, none, speed, enough)

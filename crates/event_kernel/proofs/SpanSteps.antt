@@ -19,6 +19,7 @@ use Rattle.sched_model.specs.Schedule.{entry_in_force, schedule_by}
 use Rattle.sched_model.specs.Notes.{Span, spans_of, pieces_of, same_holder, position_of, all_release_notes, span_notes, segment_notes, notes_before_end}
 use Rattle.sched_model.specs.States.{row_at, prior_row, prior_state, StateOf, state_of}
 use Rattle.sched_model.proofs.Schedules.{length-list_below, force-decided}
+use Rattle.sched_model.proofs.Limits.{every_period}
 use Rattle.sched_model.proofs.Spans.{notes-span, stays}
 use Rattle.sched_model.proofs.States.{due_released, row_at-prior_state, state-still}
 use Rattle.grid_fraction.proofs.Searches.{any_below-same}
@@ -158,7 +159,7 @@ module _ {set : Setting} (ok : IsSetting set) where
     decision-is {t} {s} h =
         ap (is_decision p dem) (course-next demand p dem t)
         ∙ ap₂ (λ a b. a || b)
-        (sym (due-is demand p dem adm.some_period (tick_at demand p dem t ∷ course demand p dem t) s
+        (sym (due-is demand p dem (every_period p adm.limits) (tick_at demand p dem t ∷ course demand p dem t) s
         (h.state ∙ ap (prior_state p dem) (course-next demand p dem t))))
         (sym h.completes)
 
@@ -244,7 +245,7 @@ module _ {set : Setting} (ok : IsSetting set) where
     goes-on {force} {t} {s0} {s} {trace0} {trace} i h quiet lt = record {
       before_end = lt;
       later = omega (arith, i.later);
-      state = h.state ∙ state-still p dem adm.some_period (course demand p dem (t + 1)) ok.within.none no_release;
+      state = h.state ∙ state-still p dem (every_period p adm.limits) (course demand p dem (t + 1)) ok.within.none no_release;
       began = ap (λ (x : Span). x.past) on ∙ i.began;
       entry = i.entry ∙ sym (ap (λ (x : Span). x.entry) on);
       in_force = i.in_force ∙ sym still;
@@ -278,12 +279,12 @@ module _ {set : Setting} (ok : IsSetting set) where
         on = span-on demand p dem t none
 
         no_release : is_release p (length (course demand p dem (t + 1))) ≡ false
-        no_release = sym (due-is demand p dem adm.some_period (course demand p dem (t + 1)) s h.state) ∙ quiet
+        no_release = sym (due-is demand p dem (every_period p adm.limits) (course demand p dem (t + 1)) s h.state) ∙ quiet
 
         steady : (k : ℕ) → k < count p → latest p k (t + 1) ≡ latest p k t
         steady k l =
             ap (latest p k) (sym (course-len demand p dem (t + 1)) ∙ ap length (course-next demand p dem t))
-            ∙ (stays p dem adm.some_period x past (ap (is_decision p dem) (sym (course-next demand p dem t)) ∙ none) k l
+            ∙ (stays p dem (every_period p adm.limits) x past (ap (is_decision p dem) (sym (course-next demand p dem t)) ∙ none) k l
             ∙ ap (latest p k) (course-len demand p dem t))
 
         still : entry_in_force p dem (ask_of demand p dem) (course demand p dem (t + 1)) ≡ entry_in_force p dem (ask_of demand p dem) past
@@ -324,7 +325,7 @@ module _ {set : Setting} (ok : IsSetting set) where
       now-next = ap (λ (v : StateOf). v.now) h.state ∙ course-len demand p dem (t + 1)
 
       pub past-next : NonePast p s
-      past-next = subst (λ (v : StateOf). NonePast p v) (sym h.state) (prior-past p dem (course demand p dem (t + 1)) adm.some_period)
+      past-next = subst (λ (v : StateOf). NonePast p v) (sym h.state) (prior-past p dem (course demand p dem (t + 1)) (every_period p adm.limits))
 
       last-is : t ≡ s.now - 1
       last-is = omega (arith, now-next)

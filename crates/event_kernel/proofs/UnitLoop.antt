@@ -1,5 +1,5 @@
 -- The loop over the units of one tick.
-use Rattle.std.proofs.Common.{◌≡◌, ℕ, ◌+◌, ◌-◌, ◌^◌, ◌<◌, ◌≤◌, min, Bool, true, false, not, ◌&&◌, ◌||◌, List, [], ◌∷◌, ◌++◌, length, replicate, refl, arith, ap, ap₂, ◌∙◌, sym, subst, ◌⊎◌, inl, inr, append-nil, append_assoc, nat_eq, nat_le}
+use Rattle.std.proofs.Common.{◌≡◌, ℕ, ◌+◌, ◌-◌, ◌<◌, ◌≤◌, min, Bool, true, false, not, ◌&&◌, ◌||◌, List, [], ◌∷◌, ◌++◌, length, replicate, refl, arith, ap, ap₂, ◌∙◌, sym, subst, ◌⊎◌, inl, inr, append-nil, append_assoc, nat_eq, nat_le}
 use Rattle.std.specs.Prelude.{count_by}
 use Rattle.freq_table.specs.declared.machine.Point.{Point}
 use Rattle.freq_table.specs.Tables.{Table, point_at, speed_at}
@@ -24,12 +24,13 @@ use Rattle.sched_model.proofs.Tables.{get-table, table-same}
 use Rattle.sched_model.proofs.Allotments.{handed-end}
 use Rattle.sched_model.proofs.Orders.{in_order-below}
 use Rattle.sched_model.proofs.JobLaws.{exec-legal}
+use Rattle.sched_model.proofs.Limits.{every_period}
 use Rattle.sched_model.proofs.States.{row_by, row-ran, state-ran}
 use Rattle.agenda.specs.Agenda.{IsFirstUndone}
 use Rattle.governor.specs.Meanings.{OwnDemand}
 use Rattle.governor.specs.Schedule.{ask_of, course}
 use Rattle.event_kernel.specs.declared.span_trace.SpanTrace.{SpanTrace}
-use Rattle.event_kernel.specs.Segment.{entered, CanAdd, HeldIn}
+use Rattle.event_kernel.specs.Segment.{entered, CanEnter, HeldIn}
 use Rattle.event_kernel.specs.SpanTraces.{HeldNow, HoldsSpan}
 use Rattle.event_kernel.specs.Tickwork.{served, span_at, tick_at, whole_span, most_units}
 use Rattle.event_kernel.specs.declared.progress.Setting.{Setting}
@@ -147,19 +148,20 @@ module _ {demand : OwnDemand} {set : Setting} (ok : IsSetting set) {force : InFo
     slow : fast demand p dem t ≤ TOP_SPEED
     slow = adm.low_speed (entry_in_force p dem (ask_of demand p dem) so_far)
 
-    pub can : CanAdd p st force.from force.index trace
-    can = record {
-      entry = entry-there;
-      place = omega (arith, w.writing.place, w.writing.few, w.hand.sum, slow, long, at.before_end, ok.low_ticks, at.later);
-      task = held trace.segment.holder w.writing.taken;
+    -- at most as many units as are left can be added
+    pub can-enter : {units : ℕ} → units ≤ rest → CanEnter p st force.from force.index units trace
+    can-enter le = record {
+      can = record {
+        entry = entry-there;
+        place = omega (arith, w.writing.place, w.writing.few, w.hand.sum, slow, long, at.before_end, ok.low_ticks, at.later);
+        task = held trace.segment.holder w.writing.taken;
+      };
+      fits = omega (arith, w.writing.place, w.writing.few, w.hand.sum, slow, long, at.before_end, ok.low_ticks, le);
     }
       where
         held : (h : Holder) → HeldNow p (length so_far) h → HeldIn (length st.rows) h
         held Nobody now = tt
         held (Held i k) now = omega (arith, now.0, rows-there)
-
-    pub fits : trace.segment.units + rest < 2 ^ 64
-    fits = omega (arith, w.writing.place, w.writing.few, w.hand.sum, slow, long, at.before_end, ok.low_ticks)
 
     sh : Shows p dem (length so_far) st (λ i. had p dem so_far i + w.given i)
     sh = shows p dem so_far w.hand within
@@ -247,7 +249,9 @@ module _ {demand : OwnDemand} {set : Setting} (ok : IsSetting set) {force : InFo
       own i lt = omega (arith, gets i lt)
 
       had-next : (i : ℕ) → i < count p → had p dem so_far i + w.given i ≡ exec p (x ∷ so_far) i (job p dem so_far i)
-      had-next i lt = ap (λ v. had p dem so_far i + v) (same i lt) ∙ sym (exec-legal p dem x so_far i (adm.some_period i) (ok.within.none i) (own i lt))
+      had-next i lt =
+          ap (λ v. had p dem so_far i + v) (same i lt)
+          ∙ sym (exec-legal p dem x so_far i (every_period p adm.limits i) (ok.within.none i) (own i lt))
 
       units : units_by p dem so_far w.given ++ replicate rest Nobody ≡ tick_units p so_far x
       units =
@@ -263,8 +267,8 @@ module _ {demand : OwnDemand} {set : Setting} (ok : IsSetting set) {force : InFo
           (table-same (count p) (given_row p dem so_far w.given) (prior_row p dem (x ∷ so_far)) (λ i lt.
           ap (λ g. row_by (due p i (job p dem so_far i)) (job p dem so_far i) (had p dem so_far i + g)
           (nat_le (dem i (job p dem so_far i)) (had p dem so_far i + g)) (worst p i)) (same i lt)
-          ∙ sym (row-ran p dem adm.some_period x so_far i (ok.within.none i) (own i lt))))
-          ∙ sym (state-ran p dem adm.some_period x so_far))
+          ∙ sym (row-ran p dem (every_period p adm.limits) x so_far i (ok.within.none i) (own i lt))))
+          ∙ sym (state-ran p dem (every_period p adm.limits) x so_far))
 
       completes : any_below (count p) (ends_in p dem so_far w.given) ≡ any_below (count p) (completes_in p dem x so_far)
       completes =

@@ -1,5 +1,5 @@
 -- Lines written one after another.
-use Rattle.std.proofs.Common.{◌≡◌, ℕ, ◌+◌, ◌<◌, List, [], ◌∷◌, ◌++◌, map, length, length-append, Result, Ok, Err, refl, ap, sym, ◌∙◌, subst, arith, append-nil, append_assoc, ◌⊎◌, inl, inr, zero, suc, eq-or-lt_of_le, le_of_suc-le-suc, true≢false, Bool, true}
+use Rattle.std.proofs.Common.{◌≡◌, ℕ, ◌+◌, ◌<◌, List, [], ◌∷◌, ◌++◌, map, length, length-append, Result, Ok, Err, refl, ap, sym, ◌∙◌, subst, arith, append-nil, append_assoc, ◌⊎◌, inl, inr, zero, suc, eq-or-lt_of_le, le_of_suc-le-suc, true≢false}
 use Rattle.std.proofs.lemmas.List.{map-append}
 use Rattle.grid_fraction.specs.Numbers.{list_below}
 use Rattle.grid_fraction.proofs.Sums.{list_below-more}
@@ -7,13 +7,15 @@ use Rattle.trace_text.specs.TraceLines.{line, fields_of, note_text}
 use Rattle.std.specs.Prelude.{IsErr, if◌then◌else◌}
 use Rattle.std.proofs.lemmas.List.Concat.{flat_map-append}
 use Rattle.dvs_base.specs.declared.kind.Version.{Version}
+use Rattle.dvs_base.specs.declared.kind.Version.TheVariants.{One, Two}
 use Rattle.dvs_base.specs.declared.note.Note.{Note}
 use Rattle.dvs_base.specs.Outside.{SinkView}
 use Rattle.dvs_base.proofs.TextPuts.{wrote-none, wrote-then, wrote-then-some, wrote-some-more}
 use Rattle.probes.specs.Tallies.{ProbeOf, told_all, told_notes}
 use Rattle.trace_reader.specs.TraceText.{LineOf, unnoted, has_task_lines, for_tasks, text_of_lines, notes_of_lines}
 use Rattle.event_kernel.specs.Lines.{WroteLines, StoppedIn, WritesLines}
-use Rattle.dvs_base.specs.WritesText.{Wrote, WroteSome}
+use Rattle.event_kernel.specs.UnnotedLines.{WritesUnnoted}
+use Rattle.dvs_base.specs.WritesText.{Wrote, WroteSome, WritesText}
 
 told-append : (xs ys : List Note) (ps : List ProbeOf) → told_notes (xs ++ ys) ps ≡ told_notes ys (told_notes xs ps)
 told-append [] ys ps = refl
@@ -110,23 +112,18 @@ one-line-part a b ps l w = record {
   told = refl;
 }
 
--- a line of no note that was put, by its text
-pub unnoted-line : (a b : SinkView) (ps : List ProbeOf) (line text : List ℕ) → line ≡ text → Wrote a b line → WroteLines a b ps ps (unnoted text ∷ [])
-unnoted-line a b ps line text is w = one-line a b ps ps (unnoted text) (subst (λ (t : List ℕ). Wrote a b t) is w) refl
-
-pub unnoted-part : (a b : SinkView) (ps : List ProbeOf) (line text : List ℕ) → line ≡ text → WroteSome a b line → StoppedIn a b ps ps (unnoted text ∷ [])
-unnoted-part a b ps line text is w = one-line-part a b ps (unnoted text) (subst (λ (t : List ℕ). WroteSome a b t) is w)
-
--- the lines for the tasks, where a version has them
-pub task-lines : (v : Version) {has : Bool} (texts : List (List ℕ)) → has ≡ has_task_lines v → has ≡ true → map unnoted texts ≡ for_tasks v texts
-task-lines v texts is holds = ap (λ (b : Bool). if b then map unnoted texts else []) (sym holds ∙ is)
+-- a line of no note, by its text, was put as the result says
+pub puts-line : {T E : Type 0} (a b : SinkView) (line text : List ℕ) (r : Result T E) → line ≡ text → WritesText a b line r
+    → WritesUnnoted a b (unnoted text ∷ []) r
+puts-line a b line text (Ok v) is w ps = one-line a b ps ps (unnoted text) (subst (λ (t : List ℕ). Wrote a b t) is w) refl
+puts-line a b line text (Err e) is w ps = one-line-part a b ps (unnoted text) (subst (λ (t : List ℕ). WroteSome a b t) is w)
 
 -- one more line of texts that are a function of their number
-pub below-next : {a b c : SinkView} (ps : List ProbeOf) (f : ℕ → List ℕ) (i : ℕ) {line : List ℕ} → line ≡ f i
-    → WroteLines a b ps ps (map unnoted (list_below i f)) → Wrote b c line → WroteLines a c ps ps (map unnoted (list_below (i + 1) f))
-below-next {a} {b} {c} ps f i {line} is w x =
+pub below-next : {a b c : SinkView} (ps : List ProbeOf) (f : ℕ → List ℕ) (i : ℕ) → WroteLines a b ps ps (map unnoted (list_below i f))
+    → WroteLines b c ps ps (unnoted (f i) ∷ []) → WroteLines a c ps ps (map unnoted (list_below (i + 1) f))
+below-next {a} {b} {c} ps f i w x =
     all-as (sym (ap (map unnoted) (list_below-more i f) ∙ map-append unnoted (list_below i f) (f i ∷ [])))
-    (lines-then a b c ps ps ps (map unnoted (list_below i f)) (unnoted (f i) ∷ []) w (unnoted-line b c ps line (f i) is x))
+    (lines-then a b c ps ps ps (map unnoted (list_below i f)) (unnoted (f i) ∷ []) w x)
 
 below-stop : (a b : SinkView) (ps : List ProbeOf) (f : ℕ → List ℕ) (i n : ℕ) → i < n
     → StoppedIn a b ps ps (map unnoted (list_below i f) ++ unnoted (f i) ∷ []) → StoppedIn a b ps ps (map unnoted (list_below n f))
@@ -140,15 +137,21 @@ below-stop a b ps f i (suc n) lt s =
     go (inl e) more = subst (λ (k : ℕ). StoppedIn a b ps ps (map unnoted (list_below k f) ++ unnoted (f k) ∷ [])) e s
     go (inr l) more = lines-some-more a b ps ps (map unnoted (list_below n f)) (unnoted (f n) ∷ []) (more l s)
 
-pub below-stopped : {a b c : SinkView} (ps : List ProbeOf) (f : ℕ → List ℕ) {i n : ℕ} → i < n → {line : List ℕ} → line ≡ f i
-    → WroteLines a b ps ps (map unnoted (list_below i f)) → WroteSome b c line → StoppedIn a c ps ps (map unnoted (list_below n f))
-below-stopped {a} {b} {c} ps f {i} {n} lt {line} is w x =
-    below-stop a c ps f i n lt
-    (lines-then-some a b c ps ps ps (map unnoted (list_below i f)) (unnoted (f i) ∷ []) w (unnoted-part b c ps line (f i) is x))
+-- the lines for the tasks, by their number: there are none in a version without such lines
+for-below : (v : Version) (n : ℕ) (f : ℕ → List ℕ) {m : ℕ} → m ≡ (if has_task_lines v then n else 0)
+    → map unnoted (list_below m f) ≡ for_tasks v (list_below n f)
+for-below One n f is = ap (λ (m : ℕ). map unnoted (list_below m f)) is
+for-below Two n f is = ap (λ (m : ℕ). map unnoted (list_below m f)) is
 
-pub below-all : {a b : SinkView} (ps : List ProbeOf) (f : ℕ → List ℕ) {i n : ℕ} → i ≡ n → WroteLines a b ps ps (map unnoted (list_below i f))
-    → WroteLines a b ps ps (map unnoted (list_below n f))
-below-all {a} {b} ps f is w = all-as (ap (λ (n : ℕ). map unnoted (list_below n f)) is) w
+pub below-stopped : {a b c : SinkView} (ps : List ProbeOf) (v : Version) (f : ℕ → List ℕ) {i m : ℕ} (n : ℕ) → i < m → m ≡ (if has_task_lines v then n else 0)
+    → WroteLines a b ps ps (map unnoted (list_below i f)) → StoppedIn b c ps ps (unnoted (f i) ∷ []) → StoppedIn a c ps ps (for_tasks v (list_below n f))
+below-stopped {a} {b} {c} ps v f {i} {m} n lt number w x =
+    some-as (for-below v n f number)
+    (below-stop a c ps f i m lt (lines-then-some a b c ps ps ps (map unnoted (list_below i f)) (unnoted (f i) ∷ []) w x))
+
+pub below-all : {a b : SinkView} (ps : List ProbeOf) (v : Version) (f : ℕ → List ℕ) {i : ℕ} (n : ℕ) → i ≡ (if has_task_lines v then n else 0)
+    → WroteLines a b ps ps (map unnoted (list_below i f)) → WroteLines a b ps ps (for_tasks v (list_below n f))
+below-all ps v f n number w = all-as (for-below v n f number) w
 
 -- each line of a note has bytes
 pub note-some : (names : List (List ℕ)) (n : Note) → 0 < length (note_text names n)

@@ -3,6 +3,7 @@ use Rattle.std.specs.Prelude.{◌+◌, List, ◌++◌, [], ◌∷◌, ℕ, if◌
 use Rattle.dvs_base.specs.declared.note.Note.{Note}
 use Rattle.dvs_base.specs.declared.note.Note.TheVariants.{Speed, Run, Idle, Done}
 use Rattle.dvs_base.specs.declared.note.Pos.{Pos}
+use Rattle.dvs_base.specs.Widths.{u64_end}
 use Rattle.sched_model.specs.declared.holder.Holder.{Holder}
 use Rattle.sched_model.specs.declared.holder.Holder.TheVariants.{Nobody, Held}
 use Rattle.sched_model.specs.Plan.{Plan, point, count}
@@ -94,6 +95,11 @@ pub record CanAdd (p : Plan) (s : StateOf) (from e : ℕ) (trace : SpanTrace) : 
   pub entry : e < length p.machine.points
   pub place : from + trace.segment.start + trace.segment.units < 2 ^ 63
   pub task : HeldIn (length s.rows) trace.segment.holder
+
+-- units can be added to the open segment: so can its notes before them, and its units fit into their number with them
+pub record CanEnter (p : Plan) (s : StateOf) (from e units : ℕ) (trace : SpanTrace) : Type 0 where
+  pub can : CanAdd p s from e trace
+  pub fits : trace.segment.units + units < u64_end
 
 -- a trace with these notes, and no segment yet
 abbrev pub new_trace : List Note → SpanTrace

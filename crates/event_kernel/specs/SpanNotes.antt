@@ -11,10 +11,14 @@ use Rattle.event_kernel.specs.declared.notes.TheConstants.{MOST_NOTES}
 use Rattle.event_kernel.specs.Heard.{HasHeard, HasBalked}
 use Rattle.event_kernel.specs.Runs.{demands_of, Run, run_ticks}
 
+-- the listener heard all these notes, and its stops did not fall
+abbrev pub HeardAll : {L : Type 0} → (L → Note → L → Type 0) → (L → ℕ) → L → L → List Note → Type 0
+HeardAll heard stops from to notes = HasHeard heard from notes to × (stops from ≤ stops to)
+
 -- The notes were handed to a listener: at Ok it heard all of them and its stops did not fall; at an error it balked at
 -- one of them and its stops rose.
 abbrev pub HandsOut : {L T E : Type 0} → (L → Note → L → Type 0) → (L → Note → L → Type 0) → (L → ℕ) → L → L → List Note → Result T E → Type 0
-HandsOut heard balked stops from to notes (Ok v) = HasHeard heard from notes to × (stops from ≤ stops to)
+HandsOut heard balked stops from to notes (Ok v) = HeardAll heard stops from to notes
 HandsOut heard balked stops from to notes (Err e) = HasBalked heard balked from notes to × (stops from ≤ stops to) × Rose (stops from) (stops to)
 
 -- the notes of a run before the `End`

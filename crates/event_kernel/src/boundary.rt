@@ -113,7 +113,7 @@ impl<G: Governor> Progress<G> {
         requires early { self.old.state.now < set.now.ticks }
         requires met { IsMetBy set.now G.demand self.old.state.now }
         requires current { IsCurrent G.stands set.now.plan.now self.old }
-        ensures in_span { IsInSpan set.now G.demand result self.new.state.now self.new.state self.new.trace }
+        ensures begun { IsInSpan set.now G.demand result self.new.state.now self.new.state self.new.trace }
         ensures from { result.from ≡ self.old.state.now }
         ensures same { self.new.state.now ≡ self.old.state.now }
         ensures current { IsCurrent G.stands set.now.plan.now self.new }

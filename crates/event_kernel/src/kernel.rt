@@ -153,7 +153,7 @@ impl<'a, G: Governor> Kernel<'a, G> {
     // Runs the spans by this walk and hands the listener every note before the `End`; the account of those notes.
     pub(crate) fn spans<L: Listener>(self, walk: Walk, to: &mut L) -> Result<Account, Stopped>
         ensures booked { IfOk result (λ a. HasBooked self.entry.plan a (notes_before_end_of G.demand self.entry)) }
-        ensures totals { IfOk result (λ a. a.totals ≡ totals_of (notes_of_run G.demand self.entry)) }
+        ensures account_totals { IfOk result (λ a. a.totals ≡ totals_of (notes_of_run G.demand self.entry)) }
         ensures few { IfOk result (λ a. AreFew a.totals) }
         ensures met { IsMetRun G.the_kind G.demand self.entry }
         ensures told { HandsOut L.heard L.balked L.stops to.old to.new

@@ -1,6 +1,6 @@
 // The parts of a run: what stays, and what changes.
-ghost use Rattle.std.specs.Prelude.{◌≡◌, IfOk};
-ghost use Rattle.sched_model.specs.States.{opening};
+ghost use Rattle.std.specs.Prelude.{◌≡◌, ◌≤◌, IfOk};
+ghost use Rattle.sched_model.specs.States.{opening, after_advance};
 ghost use Rattle.event_kernel.specs.Current.{IsCurrent};
 
 use crate::notes::SpanNotes;
@@ -53,5 +53,16 @@ impl<G: Governor> Progress<G> {
         ensures { result ≡ self.entry.now.state.now }
     {
         self.state.now
+    }
+
+    /// Moves time on to the tick `to`, which isn't in the past.
+    pub(crate) fn advance(&mut self, _plan: &Admitted, to: u64)
+        requires later { self.old.state.now ≤ to }
+        requires current { IsCurrent G.stands _plan.now self.old }
+        ensures state { self.new.state ≡ after_advance self.old.state to }
+        ensures current { IsCurrent G.stands _plan.now self.new }
+        ensures trace { self.new.trace ≡ self.old.trace }
+    {
+        self.state.advance(to);
     }
 }

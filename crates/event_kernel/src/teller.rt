@@ -111,7 +111,7 @@ fn tell_tail<W: Sink, P: Probe>(
 ) -> Result<Totals, WriteFault>
     requires { length account.now.by_task ≡ count head.plan.now }
     ensures totals { IfOk result (λ t. t ≡ account.now.totals) }
-    ensures writes { WritesLines (W.shows out.old) (W.shows out.new)
+    ensures writes_tail { WritesLines (W.shows out.old) (W.shows out.new)
         (map P.seen probes.old.items) (map P.seen probes.new.items)
         (sum_lines head.entry.version head.entry.plan.now account.now.by_task ++ noted (names head.entry.plan.now)
         (End head.entry.ticks account.now.totals.run account.now.totals.idle) ∷ []) result }
@@ -131,7 +131,7 @@ fn notes_into<G: Governor, W: Sink, P: Probe>(
     requires names { teller.old.names.now ≡ names head.plan.now }
     ensures totals { IfOk result (λ t. t ≡ totals_of (notes_of_run G.demand kernel.entry)) }
     ensures few { IfOk result AreFew }
-    ensures writes { WritesLines (W.shows teller.old.out.now) (W.shows teller.new.out.now)
+    ensures writes_notes { WritesLines (W.shows teller.old.out.now) (W.shows teller.new.out.now)
         (map P.seen teller.old.probes.now.items) (map P.seen teller.new.probes.now.items)
         (note_lines head.entry.version (names kernel.entry.plan) (notes_of_run G.demand kernel.entry)) result }
     ensures same { (teller.new.out.ghost_name ≡ teller.old.out.ghost_name)

@@ -1,12 +1,12 @@
 // The lines of a trace: its head, the energies of the tasks, and a note's.
-ghost use Rattle.std.specs.Prelude.{◌≡◌, ◌<◌, ◌≤◌, length, map};
+ghost use Rattle.std.specs.Prelude.{◌≡◌, ◌<◌, ◌≤◌, [], ◌∷◌, if◌then◌else◌, length};
 ghost use Rattle.dvs_base.specs.Parts.{name_of};
 ghost use Rattle.dvs_base.specs.WritesText.{WritesText};
 ghost use Rattle.sched_model.specs.Plan.{count, names, task, period, offset};
 ghost use Rattle.trace_text.specs.TraceLines.{note_text, plan_text};
-ghost use Rattle.trace_reader.specs.TraceText.{version_line, task_text, share_text, unnoted, for_tasks, head_lines};
+ghost use Rattle.trace_reader.specs.TraceText.{version_line, task_text, share_text, unnoted, has_task_lines, for_tasks, head_lines};
 ghost use Rattle.note_laws.specs.RunText.{task_texts};
-ghost use Rattle.event_kernel.specs.UnnotedLines.{WritesUnnoted, sum_texts, sum_lines};
+ghost use Rattle.event_kernel.specs.UnnotedLines.{WritesUnnoted, sum_lines};
 
 use dvs_base::{Failed, GovernorKind, Line, Name, Note, Sink, Version, put_line};
 use sched_model::Admitted;
@@ -22,16 +22,19 @@ pub struct Head<'a> {
     pub ticks: u64,
 }
 
-fn line_of_version(version: Version) -> Line
-    ensures { result ≡ version_line version }
+// Puts the line of a trace's version.
+fn put_version<W: Sink>(version: Version, out: &mut W) -> Result<(), Failed>
+    ensures { WritesUnnoted (W.shows out.old) (W.shows out.new) (unnoted (version_line version) ∷ []) result }
 {
     let mut line = Line::new();
     write_version(&mut line, version);
-    line
+    put_line(&line, out)
 }
 
-fn line_of_plan(head: Head<'_>) -> Line
-    ensures { result ≡ plan_text head.entry.plan.now.scheduler head.entry.governor head.entry.ticks }
+// Puts the line of a trace's plan.
+fn put_plan<W: Sink>(head: Head<'_>, out: &mut W) -> Result<(), Failed>
+    ensures { WritesUnnoted (W.shows out.old) (W.shows out.new)
+        (unnoted (plan_text head.entry.plan.now.scheduler head.entry.governor head.entry.ticks) ∷ []) result }
 {
     let mut line = Line::new();
     write_head(
@@ -42,13 +45,14 @@ fn line_of_plan(head: Head<'_>) -> Line
             ticks: head.ticks,
         },
     );
-    line
+    put_line(&line, out)
 }
 
-fn line_of_task(plan: &Admitted, i: u32) -> Line
+// Puts the line of a task: its name, its period, its offset and its declared worst case.
+fn put_task<W: Sink>(plan: &Admitted, i: u32, out: &mut W) -> Result<(), Failed>
     requires { i < count plan.now }
-    ensures { result ≡ task_text (name_of (names plan.now) i) (period plan.now i) (offset plan.now i)
-        (task plan.now i).worst }
+    ensures { WritesUnnoted (W.shows out.old) (W.shows out.new) (unnoted (task_text (name_of (names plan.now) i)
+        (period plan.now i) (offset plan.now i) (task plan.now i).worst) ∷ []) result }
 {
     let mut line = Line::new();
     let task = TaskLine {
@@ -57,27 +61,40 @@ fn line_of_task(plan: &Admitted, i: u32) -> Line
         worst: plan.declared(i),
     };
     write_task(&mut line, &plan.names()[i as usize], task);
-    line
+    put_line(&line, out)
 }
 
-fn line_of_share(plan: &Admitted, i: u32, energy: u128) -> Line
+// Puts the line of a task's energy, with its name.
+fn put_share<W: Sink>(plan: &Admitted, i: u32, energy: u128, out: &mut W) -> Result<(), Failed>
     requires { i < count plan.now }
-    ensures { result ≡ share_text (name_of (names plan.now) i) energy }
+    ensures { WritesUnnoted (W.shows out.old) (W.shows out.new)
+        (unnoted (share_text (name_of (names plan.now) i) energy) ∷ []) result }
 {
     let mut line = Line::new();
     write_share(&mut line, &plan.names()[i as usize], energy);
-    line
+    put_line(&line, out)
+}
+
+// The number of lines for the tasks: one for each in a version that has such lines, and none in another.
+fn count_task_lines(version: Version, plan: &Admitted) -> u32
+    ensures number { result ≡ (if has_task_lines version then count plan.now else 0) }
+    ensures most { result ≤ count plan.now }
+{
+    if has_task_lines(version) {
+        plan.count()
+    } else {
+        0
+    }
 }
 
 // Puts a line for each task in a version that has such lines, and nothing in another.
-fn put_task_lines<W: Sink>(version: Version, plan: &Admitted, out: &mut W) -> Result<(), Failed>
+fn put_tasks<W: Sink>(version: Version, plan: &Admitted, out: &mut W) -> Result<(), Failed>
     ensures { WritesUnnoted (W.shows out.old) (W.shows out.new) (for_tasks version (task_texts plan.now)) result }
 {
-    if has_task_lines(version) {
-        put_tasks(plan, out)
-    } else {
-        Ok(())
+    for i in 0..count_task_lines(version, plan) {
+        put_task(plan, i, out)?;
     }
+    Ok(())
 }
 
 /// Puts the lines before the notes: the version, the plan, and those of the tasks.
@@ -86,30 +103,9 @@ pub(crate) fn put_head<W: Sink>(head: Head<'_>, out: &mut W) -> Result<(), Faile
         (head_lines head.entry.version head.entry.plan.now.scheduler head.entry.governor head.entry.ticks
         (task_texts head.entry.plan.now)) result }
 {
-    put_line(&line_of_version(head.version), out)?;
-    put_line(&line_of_plan(head), out)?;
-    put_task_lines(head.version, head.plan, out)
-}
-
-// Puts a line for each task: its name, its period, its offset and its declared worst case.
-fn put_tasks<W: Sink>(plan: &Admitted, out: &mut W) -> Result<(), Failed>
-    ensures { WritesUnnoted (W.shows out.old) (W.shows out.new) (map unnoted (task_texts plan.now)) result }
-{
-    for i in 0..plan.count() {
-        put_line(&line_of_task(plan, i), out)?;
-    }
-    Ok(())
-}
-
-// Puts a line for each task: its name and its energy.
-fn put_shares<W: Sink>(plan: &Admitted, energies: &[u128], out: &mut W) -> Result<(), Failed>
-    requires { count plan.now ≤ length energies.now }
-    ensures { WritesUnnoted (W.shows out.old) (W.shows out.new) (map unnoted (sum_texts plan.now energies.now)) result }
-{
-    for i in 0..plan.count() {
-        put_line(&line_of_share(plan, i, energies[i as usize]), out)?;
-    }
-    Ok(())
+    put_version(head.version, out)?;
+    put_plan(head, out)?;
+    put_tasks(head.version, head.plan, out)
 }
 
 /// Puts a line with each task's energy in a version that has such lines, and nothing in another.
@@ -122,11 +118,10 @@ pub(crate) fn put_sums<W: Sink>(
     ensures { WritesUnnoted (W.shows out.old) (W.shows out.new)
         (sum_lines head.entry.version head.entry.plan.now energies.now) result }
 {
-    if has_task_lines(head.version) {
-        put_shares(head.plan, energies, out)
-    } else {
-        Ok(())
+    for i in 0..count_task_lines(head.version, head.plan) {
+        put_share(head.plan, i, energies[i as usize], out)?;
     }
+    Ok(())
 }
 
 /// Puts the line of a note, which is written into `line`.

@@ -1,5 +1,5 @@
 // The lines that say where a trace differs from its schedule.
-ghost use Rattle.std.specs.Prelude.{◌≡◌, ◌≤◌, ◌<◌, ◌++◌, ◌∷◌, [], codes, length};
+ghost use Rattle.std.specs.Prelude.{◌≡◌, ◌≤◌, ◌++◌, ◌∷◌, [], codes, length};
 ghost use Rattle.std.specs.Fmt.{decimal};
 ghost use Rattle.std.specs.Option.{option_copied};
 ghost use Rattle.dvs_base.specs.Parts.{joined};
@@ -36,15 +36,17 @@ pub(crate) struct Difference {
     pub(crate) found: Note,
 }
 
-fn differs_line(number: u64) -> Line
-    ensures text { result ≡ joined (codes "differs: line " ∷ decimal number ∷ codes "\n" ∷ []) }
-    ensures some { 0 < length result }
+// Puts the line with the number of the line that differs.
+fn put_differs<E: Sink>(number: u64, notes: &mut E) -> Result<(), Failed>
+    ensures { WritesText (E.shows notes.old) (E.shows notes.new)
+        (joined (codes "differs: line " ∷ decimal number ∷ codes "\n" ∷ [])) result }
 {
-    line_of(&[
+    let line = line_of(&[
         Part::Word(b"differs: line "),
         Part::Number(number),
         Part::Word(b"\n"),
-    ])
+    ]);
+    put_line(&line, notes)
 }
 
 /// Puts the lines of a difference.
@@ -56,9 +58,8 @@ pub(crate) fn put_difference<E: Sink>(
     ensures { WritesText (E.shows notes.old) (E.shows notes.new)
         (difference_text (names_of (option_copied tasks.entry)) at.line at.wanted at.found) result }
 {
-    let first = differs_line(at.line);
     let wanted = prefixed_note(b"wanted: ", at.wanted, tasks);
     let found = prefixed_note(b"found: ", at.found, tasks);
-    put_line(&first, notes)?;
+    put_differs(at.line, notes)?;
     put_two(&wanted, &found, notes)
 }

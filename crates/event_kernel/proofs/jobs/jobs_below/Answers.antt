@@ -3,7 +3,7 @@ use Rattle.std.proofs.lemmas.Grind.{div_ceil_times}
 use Rattle.grid_fraction.specs.Numbers.{ceil_div}
 use Rattle.grid_fraction.proofs.Ceilings.{quotient}
 use Rattle.sched_model.specs.Plan.{period, offset}
-use Rattle.event_kernel.proofs.Bounds.{bounds}
+use Rattle.sched_model.proofs.Limits.{every_period}
 use Rattle.event_kernel.proofs.jobs.jobs_below.Goals as goal
 
 -- a quotient rounded up is the floor, and one more where there is a remainder
@@ -21,8 +21,8 @@ ceil-is n d pos =
 pub returns-clause-jobs : goal.returns-clause-jobs
 returns-clause-jobs c =
     let p = c.args.plan.now in
-    let adm = bounds p c.scheduler-admitted.ensures.admitted in
     let i = c.args.task in
     let n = c.args.ticks - offset p i in
     let span_is : c.saturating_sub-span.result ≡ n = c.saturating_sub-span.ensures ∙ ap (λ o. c.args.ticks - o) c.offset.ensures.offset in
-    c.div_ceil.ensures ∙ (ap₂ (λ m d. m / d + min 1 (m % d)) span_is c.period.ensures.period ∙ ceil-is n (period p i) (adm.some_period i))
+    c.div_ceil.ensures ∙ (ap₂ (λ m d. m / d + min 1 (m % d)) span_is c.period.ensures.period
+    ∙ ceil-is n (period p i) (every_period p c.scheduler-admitted.ensures.admitted.limits i))

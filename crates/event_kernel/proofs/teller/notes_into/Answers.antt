@@ -23,14 +23,14 @@ tell_tail-requires g c =
 
 pub returns-clause-totals : goal.returns-clause-totals
 returns-clause-totals g c =
-    subst (λ (t : Totals). IfOk c.tell_tail.result (λ x. x ≡ t)) c.in_ok-account.ensures.totals c.tell_tail.ensures.totals
+    subst (λ (t : Totals). IfOk c.tell_tail.result (λ x. x ≡ t)) c.in_ok-account.ensures.account_totals c.tell_tail.ensures.totals
 
 pub returns-clause-few : goal.returns-clause-few
 returns-clause-few g c =
     few-of c.tell_tail.result c.in_ok-account.account.totals c.in_ok-account.ensures.few c.tell_tail.ensures.totals
 
-pub returns-clause-writes : goal.returns-clause-writes
-returns-clause-writes g c =
+pub returns-clause-writes_notes : goal.returns-clause-writes_notes
+returns-clause-writes_notes g c =
     let r = c.args.kernel in
     let h = c.args.head in
     let a = c.args.teller.now in
@@ -42,10 +42,10 @@ returns-clause-writes g c =
     (booked-tasks r.plan s _ booked) (booked-totals r.plan s _ booked))
     (writes-then _ _ _ _ _ _ (map (noted a.names.now) (notes_before_end_of g.G.Governor.demand r))
     (sum_lines h.version h.plan.now s.by_task ++ noted (names h.plan.now) (End h.ticks s.totals.run s.totals.idle) ∷ []) c.tell_tail.result
-    (heard-written g.W.Sink.shows g.P.Probe.seen a _ c.spans.new.to c.in_ok-account.ensures.told.0).0 c.tell_tail.ensures.writes)
+    (heard-written g.W.Sink.shows g.P.Probe.seen a _ c.spans.new.to c.in_ok-account.ensures.told.0).0 c.tell_tail.ensures.writes_tail)
 
-pub returns-in_err-account-clause-writes : goal.returns-in_err-account-clause-writes
-returns-in_err-account-clause-writes g c =
+pub returns-in_err-account-clause-writes_notes : goal.returns-in_err-account-clause-writes_notes
+returns-in_err-account-clause-writes_notes g c =
     let r = c.args.kernel in
     let h = c.args.head in
     let a = c.args.teller.now in

@@ -11,7 +11,7 @@ returns-clause-writes g c =
     let h = c.args.head in
     let written = writes-then _ _ _ _ _ _ (head_lines h.version h.plan.now.scheduler h.governor h.ticks (task_texts h.plan.now))
     (note_lines h.version (names c.args.kernel.plan) (notes_of_run g.G.Governor.demand c.args.kernel)) c.notes_into.result
-    (c.in_ok-put_head.ensures _) c.notes_into.ensures.writes in
+    (c.in_ok-put_head.ensures _) c.notes_into.ensures.writes_notes in
     search (rules, written)
 
 pub returns-in_err-put_head-clause-writes : goal.returns-in_err-put_head-clause-writes

@@ -6,15 +6,15 @@ use Rattle.event_kernel.specs.UnnotedLines.{sum_lines}
 use Rattle.event_kernel.proofs.WrittenLines.{writes-then, lines-some-more, stopped-exit, all-as, some-as}
 use Rattle.event_kernel.proofs.teller.tell_tail.Goals as goal
 
-pub returns-clause-writes : goal.returns-clause-writes
-returns-clause-writes g c =
+pub returns-clause-writes_tail : goal.returns-clause-writes_tail
+returns-clause-writes_tail g c =
     let h = c.args.head in
     let s = c.args.account.now in
     writes-then _ _ _ _ _ _ (sum_lines h.version h.plan.now s.by_task) (noted (names h.plan.now) (End h.ticks s.totals.run s.totals.idle) ∷ [])
     c.tell_end.result (all-as (ap (sum_lines h.version h.plan.now) c.by_task.ensures) (c.in_ok-put_sums.ensures _)) c.tell_end.ensures.writes
 
-pub returns-in_err-put_sums-clause-writes : goal.returns-in_err-put_sums-clause-writes
-returns-in_err-put_sums-clause-writes g c =
+pub returns-in_err-put_sums-clause-writes_tail : goal.returns-in_err-put_sums-clause-writes_tail
+returns-in_err-put_sums-clause-writes_tail g c =
     let h = c.args.head in
     let s = c.args.account.now in
     stopped-exit _ _ _ _ _ c.from_residual.result c.from_residual.ensures.0

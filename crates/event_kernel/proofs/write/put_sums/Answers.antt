@@ -1,10 +1,17 @@
-use Rattle.event_kernel.specs.UnnotedLines.{sum_texts}
-use Rattle.event_kernel.proofs.WrittenLines.{lines-as, task-lines}
+use Rattle.std.proofs.Common.{◌∙◌, arith}
+use Rattle.event_kernel.proofs.WrittenLines.{below-next, below-stopped, below-all, stopped-exit}
 use Rattle.event_kernel.proofs.write.put_sums.Goals as goal
 
-pub returns-then-has_task_lines : goal.returns-then-has_task_lines
-returns-then-has_task_lines g c ps =
-    let h = c.args.head in
-    lines-as _ _ ps ps _ _ c.put_shares.result
-    (task-lines h.version (sum_texts h.plan.now c.args.energies.now) c.has_task_lines.ensures c.if-has_task_lines.true)
-    (c.put_shares.ensures ps)
+pub loop-i-preserved : goal.loop-i-preserved
+loop-i-preserved g c ps = below-next ps _ c.loop-i.i (c.loop-i.invariant ps) (c.in_ok-put_share.ensures ps)
+
+pub returns-in_err-put_share : goal.returns-in_err-put_share
+returns-in_err-put_share g c ps =
+    stopped-exit _ _ ps ps _ c.from_residual.result c.from_residual.ensures.0
+    (below-stopped ps c.args.head.version _ _ c.loop-i-test.true c.count_task_lines-i-end.ensures.number (c.loop-i.invariant ps)
+    (c.in_err-put_share.ensures ps))
+
+pub returns : goal.returns
+returns g c ps =
+    below-all ps c.args.head.version _ {i = c.loop-i.i} _
+    (omega (arith, c.loop-i-test.false, c.loop-i.auto.i-end) ∙ c.count_task_lines-i-end.ensures.number) (c.loop-i.invariant ps)

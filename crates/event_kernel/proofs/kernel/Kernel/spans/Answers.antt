@@ -4,7 +4,7 @@ use Rattle.dvs_base.specs.declared.note.Note.{Note}
 use Rattle.sched_model.specs.Admission.{IsAdmitted}
 use Rattle.energy.specs.Books.{Books}
 use Rattle.note_laws.specs.LineCounts.{AreFew}
-use Rattle.event_kernel.specs.SpanNotes.{HasBooked, notes_before_end_of}
+use Rattle.event_kernel.specs.SpanNotes.{HasBooked, HeardAll, notes_before_end_of}
 use Rattle.event_kernel.specs.Heard.{HasHeard, HasBalked}
 use Rattle.event_kernel.specs.Runs.{Run, demands_of}
 use Rattle.event_kernel.specs.Tickwork.{notes_before}
@@ -23,8 +23,7 @@ loop-set-init g c =
       between = first.0;
       current = start.current;
       limit = omega (arith, first.2);
-      stops = omega arith;
-      heard = subst (λ ns. HasHeard g.L.Listener.heard c.args.to.now ns c.args.to.now) (sym first.1) refl;
+      told = (subst (λ ns. HasHeard g.L.Listener.heard c.args.to.now ns c.args.to.now) (sym first.1) refl, omega arith);
       booked = subst (λ ns. HasBooked k.set.plan.now k.account ns) (sym first.1) start.booked;
     }
 
@@ -55,10 +54,11 @@ loop-set-preserved g c =
       between = span.between;
       current = span.current;
       limit = span.limit;
-      stops = omega (arith, i.stops, told.1);
-      heard = subst (λ ns. HasHeard m.heard c.args.to.now ns c.tell.new.to) (sym span.notes)
-          (heard-append m.heard m.balked (before c.loop-set.progress.state.now) c.span-point.new.self.trace.notes
-          c.args.to.now c.loop-set.to c.tell.new.to i.heard told.0);
+      told = subst (HeardAll m.heard m.stops c.args.to.now c.tell.new.to) (sym span.notes) (
+        heard-append m.heard m.balked (before c.loop-set.progress.state.now) c.span-point.new.self.trace.notes
+            c.args.to.now c.loop-set.to c.tell.new.to i.told.0 told.0,
+        omega (arith, i.told.1, told.1),
+      );
       booked = subst (λ (b : Books). HasBooked set.plan.now b (before c.span-point.new.self.state.now)) (sym c.in_ok-tell.ensures.booked)
           (span-booked g.G.Governor.demand set c.self.invariant.setting c.loop-set.progress.state.now _ _ _ _
           span.limit span.notes i.booked span.entry).1;
@@ -76,21 +76,19 @@ returns-in_err-tell-clause-told g c =
     let Balked : List Note → Type 0 = λ ns. HasBalked m.heard m.balked c.args.to.now ns c.tell.new.to in
     let exit = err_from_is_err_and c.from_residual.result c.from_residual.ensures.1 in
     let balked = balked_after m.heard m.balked (notes_before d set.plan.now dem c.loop-set.progress.state.now) c.span-point.new.self.trace.notes
-    c.args.to.now c.loop-set.to c.tell.new.to so_far.heard told.0 in rw exit.1 (
+    c.args.to.now c.loop-set.to c.tell.new.to so_far.told.0 told.0 in rw exit.1 (
       subst (λ (r : Run). Balked (notes_before_end_of d r)) c.self.view_is
           (all-keeps d set.plan.now dem Balked (λ xs ys b. balked-append m.heard m.balked xs ys c.args.to.now c.tell.new.to b)
           c.span-point.new.self.state.now (subst Balked (sym span.notes) balked) set.ticks span.limit span.between.decision),
-      omega (arith, so_far.stops, told.1),
-      omega (arith, so_far.stops, told.2),
+      omega (arith, so_far.told.1, told.1),
+      omega (arith, so_far.told.1, told.2),
     )
 
 pub returns-clause-told : goal.returns-clause-told
 returns-clause-told g c =
-    let i = c.loop-set.invariant in (
-      at-end g.G.Governor.demand c.self.inside.set c.self.view_is (omega (arith, c.now.ensures, c.loop-set-test.false, i.limit))
-          (λ p ns. HasHeard g.L.Listener.heard c.args.to.now ns c.loop-set.to) i.heard,
-      i.stops,
-    )
+    let i = c.loop-set.invariant in
+    at-end g.G.Governor.demand c.self.inside.set c.self.view_is (omega (arith, c.now.ensures, c.loop-set-test.false, i.limit))
+    (λ p ns. HeardAll g.L.Listener.heard g.L.Listener.stops c.args.to.now c.loop-set.to ns) i.told
 
 pub returns-clause-booked : goal.returns-clause-booked
 returns-clause-booked g c =
@@ -98,12 +96,12 @@ returns-clause-booked g c =
     at-end g.G.Governor.demand c.self.inside.set c.self.view_is (omega (arith, c.now.ensures, c.loop-set-test.false, i.limit))
     (λ p ns. HasBooked p c.loop-set.account ns) i.booked
 
-pub returns-clause-totals : goal.returns-clause-totals
-returns-clause-totals g c = run-totals g.G.Governor.demand c.args.self c.loop-set.account (returns-clause-booked g c)
+pub returns-clause-account_totals : goal.returns-clause-account_totals
+returns-clause-account_totals g c = run-totals g.G.Governor.demand c.args.self c.loop-set.account (returns-clause-booked g c)
 
 pub returns-clause-few : goal.returns-clause-few
 returns-clause-few g c =
-    subst AreFew (sym (returns-clause-totals g c))
+    subst AreFew (sym (returns-clause-account_totals g c))
     (run-few g.G.Governor.demand c.args.self (subst (λ (r : Run). IsAdmitted r.plan) c.self.view_is c.self.invariant.setting.admitted))
 
 pub returns-clause-met : goal.returns-clause-met

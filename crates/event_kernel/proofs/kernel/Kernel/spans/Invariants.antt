@@ -1,7 +1,6 @@
 use Rattle.std.proofs.Common.{◌≤◌, ◌-◌}
-use Rattle.event_kernel.specs.SpanNotes.{HasBooked}
+use Rattle.event_kernel.specs.SpanNotes.{HasBooked, HeardAll}
 use Rattle.event_kernel.specs.Current.{IsCurrent}
-use Rattle.event_kernel.specs.Heard.{HasHeard}
 use Rattle.event_kernel.specs.Runs.{demands_of}
 use Rattle.event_kernel.specs.Settings.{IsBetween}
 use Rattle.event_kernel.specs.Tickwork.{notes_before}
@@ -14,8 +13,7 @@ invariant-loop-set g l =
       between : IsBetween l.set g.G.Governor.demand l.progress.state;
       current : IsCurrent g.G.Governor.stands l.set.plan.now l.progress;
       limit : l.progress.state.now ≤ l.set.ticks;
-      stops : g.L.Listener.stops l.fn.to ≤ g.L.Listener.stops l.to;
-      heard : HasHeard g.L.Listener.heard l.fn.to before l.to;
+      told : HeardAll g.L.Listener.heard g.L.Listener.stops l.fn.to l.to before;
       booked : HasBooked l.set.plan.now l.account before;
     }
 

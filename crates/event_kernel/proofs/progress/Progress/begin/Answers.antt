@@ -37,8 +37,8 @@ decide-index-requires-clause-of g c =
     let t = c.args.self.now.state.now in
     subst (λ (s : StateOf). IsOfPlan p s) (sym c.release_all.ensures.state) (of-state p dem (course m p dem t) (low-exec m p dem t c.requires.set.within))
 
-pub returns-clause-in_span : goal.returns-clause-in_span
-returns-clause-in_span g c =
+pub returns-clause-begun : goal.returns-clause-begun
+returns-clause-begun g c =
     let p = c.args.set.now.plan.now in
     let s0 = c.args.self.now.state in
     let st = c.release_all.new.self.state in

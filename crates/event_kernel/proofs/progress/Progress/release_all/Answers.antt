@@ -1,5 +1,6 @@
 use Rattle.std.proofs.Common.{◌≡◌, ◌≢◌, ℕ, ◌+◌, ◌<◌, ◌≤◌, Bool, List, arith, ap, ◌∙◌, sym, subst, true, false, rules}
-use Rattle.sched_model.specs.Plan.{Plan, count, period}
+use Rattle.sched_model.specs.Plan.{Plan, count}
+use Rattle.sched_model.proofs.Limits.{every_period}
 use Rattle.sched_model.specs.Jobs.{JobDemands}
 use Rattle.sched_model.specs.Ticks.{Tick}
 use Rattle.sched_model.specs.States.{StateOf, row_at, after_mark, CanRelease, IsOfPlan}
@@ -33,23 +34,20 @@ module _ {demand : OwnDemand} {set : Setting} (ok : IsSetting set) {s0 : StateOf
   abbrev past : List Tick
   past = course demand p dem s0.now
 
-  periods : (i : ℕ) → 0 < period p i
-  periods = (bounds p ok.admitted).some_period
-
   -- the step to the next task that is due
   module _ {i : ℕ} (d : IsFirstDue p st i) where
     at : HasReleased p dem past i any st × (notes_upto p dem past m ≡ notes_upto p dem past i)
-    at = at-due periods r ok.within.none d
+    at = at-due (every_period p ok.admitted.limits) r ok.within.none d
 
     can : CanRelease p st i
     can =
-        can-release periods at.0 d.below d.due (bounds p ok.admitted) (omega (arith, course-len demand p dem s0.now, here.early))
+        can-release (every_period p ok.admitted.limits) at.0 d.below d.due (bounds p ok.admitted) (omega (arith, course-len demand p dem s0.now, here.early))
         (prior-done here i d.below)
 
   -- the end, where no task is due
   module _ (le : m ≤ count p) (none : (k : ℕ) → k < count p → (row_at st k).deadline ≢ st.now) where
     end : HasReleased p dem past (count p) any st × (notes_upto p dem past m ≡ notes_upto p dem past (count p))
-    end = at-end periods r ok.within.none le none
+    end = at-end (every_period p ok.admitted.limits) r ok.within.none le none
 
     all-notes : (trace0 : SpanTrace) {trace : SpanTrace} → trace ≡ with_notes trace0 (notes_upto p dem past m)
         → trace ≡ with_notes trace0 (all_release_notes p dem s0.now)
@@ -57,10 +55,10 @@ module _ {demand : OwnDemand} {set : Setting} (ok : IsSetting set) {s0 : StateOf
         is ∙ (ap (λ ns. with_notes trace0 ns) end.1 ∙ ap (λ n. with_notes trace0 (all_release_notes p dem n)) (course-len demand p dem s0.now))
 
     marked : any ≡ true → after_mark st ≡ state_at set demand s0.now
-    marked some = released-marked periods some end.0
+    marked some = released-marked (every_period p ok.admitted.limits) some end.0
 
     unmarked : any ≡ false → st ≡ state_at set demand s0.now
-    unmarked nobody = released-unmarked periods ok.within.none nobody end.0
+    unmarked nobody = released-unmarked (every_period p ok.admitted.limits) ok.within.none nobody end.0
 
 pub loop-task-init : goal.loop-task-init
 loop-task-init g c =
@@ -79,27 +77,27 @@ loop-task-init g c =
     }
 
 pub first_due-requires-clause-past : goal.first_due-requires-clause-past
-first_due-requires-clause-past g c = none-past (bounds _ c.requires.set.admitted).some_period c.loop-task.invariant.so_far
+first_due-requires-clause-past g c = none-past (every_period _ c.requires.set.admitted.limits) c.loop-task.invariant.so_far
 
 pub release_one-requires-clause-past : goal.release_one-requires-clause-past
-release_one-requires-clause-past g c = none-past (bounds _ c.requires.set.admitted).some_period c.loop-task.invariant.so_far
+release_one-requires-clause-past g c = none-past (every_period _ c.requires.set.admitted.limits) c.loop-task.invariant.so_far
 
 pub release_one-requires-clause-can : goal.release_one-requires-clause-can
 release_one-requires-clause-can g c = can c.requires.set c.requires.at c.loop-task.invariant.so_far c.in-Some.ensures.due
 
 pub loop-task-preserved : goal.loop-task-preserved
 loop-task-preserved g c =
-    let some_period = (bounds _ c.requires.set.admitted).some_period in
+    let periods = every_period _ c.requires.set.admitted.limits in
     let i = c.loop-task.invariant in
     let d = c.in-Some.ensures.due in
     let here = at c.requires.set c.requires.at i.so_far d in
     let w = c.release_one.ensures in record {
       released = c.in-Some.task + 1;
       within = omega (arith, d.below);
-      so_far = opens some_period here.0 d.below d.due c.release_one.new.self.state w.state;
+      so_far = opens periods here.0 d.below d.due c.release_one.new.self.state w.state;
       current = w.current;
       of = w.of;
-      trace = opens-trace some_period here.0 d.below d.due c.args.self.now.trace
+      trace = opens-trace periods here.0 d.below d.due c.args.self.now.trace
           (i.trace ∙ ap (λ ns. with_notes c.args.self.now.trace ns) here.1) w.trace;
     }
 
@@ -110,7 +108,7 @@ loop-task-smaller g c =
     let long = c.loop-task.invariant.of in
     subst (λ (s : StateOf). due_left p s < due_left p c.loop-task.self.state) (sym c.release_one.ensures.state)
     (due-falls p c.loop-task.self.state c.in-Some.task _ (omega (arith, d.below, long.rows))
-    ((bounds p c.requires.set.admitted).some_period c.in-Some.task) d)
+    (every_period p c.requires.set.admitted.limits c.in-Some.task) d)
 
 pub returns-then-any-clause-trace : goal.returns-then-any-clause-trace
 returns-then-any-clause-trace g c =

@@ -9,7 +9,7 @@ use Rattle.event_kernel.proofs.progress.Progress.span.Goals as goal
 
 pub close-requires : goal.close-requires
 close-requires g c =
-    closing-can c.requires.set c.walk_span.ensures.walked (entry-there c.requires.set c.begin-force.ensures.in_span)
+    closing-can c.requires.set c.walk_span.ensures.walked (entry-there c.requires.set c.begin-force.ensures.begun)
 
 pub returns-clause-between : goal.returns-clause-between
 returns-clause-between g c = close-between c.requires.set c.walk_span.ensures.walked
@@ -27,4 +27,4 @@ returns-clause-notes g c =
     ∙ ap₂ (λ t (q : SpanTrace). before t ++ q.notes) c.begin-force.ensures.from (sym c.close.ensures)
 
 pub returns-clause-entry : goal.returns-clause-entry
-returns-clause-entry g c = entry-there c.requires.set c.begin-force.ensures.in_span
+returns-clause-entry g c = entry-there c.requires.set c.begin-force.ensures.begun

@@ -1,12 +1,11 @@
-use Rattle.std.proofs.Common.{◌≡◌, ℕ, ◌+◌, ◌<◌, min, Bool, true, ◌||◌, arith, refl, ap, ◌∙◌, sym, subst, inl, inr, ◌⊎◌, nat_eq, rules}
+use Rattle.std.proofs.Common.{◌≡◌, ℕ, ◌+◌, ◌<◌, min, Bool, true, ◌||◌, arith, refl, ap, ◌∙◌, sym, subst, inl, inr, ◌⊎◌, nat_eq}
 use Rattle.sched_model.specs.Plan.{count}
 use Rattle.sched_model.specs.States.{row_at, after_advance, StateOf}
-use Rattle.agenda.proofs.StateQueues.{stands-rows}
 use Rattle.event_kernel.specs.declared.progress.Progress.{Progress}
 use Rattle.event_kernel.specs.Current.{IsCurrent}
 use Rattle.event_kernel.specs.Segment.{entered}
 use Rattle.event_kernel.specs.Settings.{HasWorked}
-use Rattle.event_kernel.proofs.UnitLoop.{entry-in, speed-in, begin, can, fits, ready, turned, idled, full, finished}
+use Rattle.event_kernel.proofs.UnitLoop.{entry-in, speed-in, begin, can-enter, ready, turned, idled, full, finished}
 use Rattle.event_kernel.proofs.QuietTicks.{of-plan}
 use Rattle.event_kernel.proofs.progress.Progress.work.Given.{Over}
 use Rattle.event_kernel.proofs.progress.Progress.work.Goals as goal
@@ -27,12 +26,8 @@ pub lacking-lacks-requires-clause-within : goal.lacking-lacks-requires-clause-wi
 lacking-lacks-requires-clause-within g c =
     (ready c.requires.set c.requires.at c.loop-rest.invariant.so_far c.in-Some.task _ c.in-Some.ensures.first refl).1
 
-pub enter-requires-clause-can : goal.enter-requires-clause-can
-enter-requires-clause-can g c = can c.requires.set c.requires.at c.loop-rest.invariant.so_far
-
-pub enter-requires-clause-fits : goal.enter-requires-clause-fits
-enter-requires-clause-fits g c = omega
-    (arith, c.min-share.ensures, fits c.requires.set c.requires.at c.loop-rest.invariant.so_far)
+pub enter-requires : goal.enter-requires
+enter-requires g c = can-enter c.requires.set c.requires.at c.loop-rest.invariant.so_far (omega (arith, c.min-share.ensures))
 
 pub loop-rest-smaller : goal.loop-rest-smaller
 loop-rest-smaller g c =
@@ -64,11 +59,8 @@ loop-rest-preserved g c =
       of = c.serve.ensures.of;
     }
 
-pub enter-requires-then-rest-gt0-clause-can : goal.enter-requires-then-rest-gt0-clause-can
-enter-requires-then-rest-gt0-clause-can g c = can c.requires.set c.requires.at c.loop-rest.invariant.so_far
-
-pub enter-requires-then-rest-gt0-clause-fits : goal.enter-requires-then-rest-gt0-clause-fits
-enter-requires-then-rest-gt0-clause-fits g c = fits c.requires.set c.requires.at c.loop-rest.invariant.so_far
+pub enter-requires-then-rest-gt0 : goal.enter-requires-then-rest-gt0
+enter-requires-then-rest-gt0 g c = can-enter c.requires.set c.requires.at c.loop-rest.invariant.so_far (omega arith)
 
 -- the state and the trace after the tick
 module _ (g : Over) (c : goal.After-advance g) where
@@ -79,10 +71,10 @@ module _ (g : Over) (c : goal.After-advance g) where
         | then-loop-rest-test+in_default w ↦ inr w.in_default.ensures.none
       ]
 
-  moved : c.if-rest-gt0.self.state ≡ c.loop-rest.self.state → c.advance.new.self ≡ after_advance
+  moved : c.if-rest-gt0.self.state ≡ c.loop-rest.self.state → c.advance.new.self.state ≡ after_advance
       c.loop-rest.self.state (c.args.self.now.state.now + 1)
   moved same =
-      c.advance.ensures ∙
+      c.advance.ensures.state ∙
       (ap (λ n. after_advance c.if-rest-gt0.self.state (n + 1)) (ap (λ (v : StateOf). v.now) c.state.view_is) ∙ ap
       (λ (v : StateOf). after_advance v (c.args.self.now.state.now + 1)) same)
 
@@ -91,29 +83,20 @@ returns-clause-worked g c =
     let ok = c.requires.set in
     let at = c.requires.at in
     elim c.if-rest-gt0.branch [
-      | then-rest-gt0 w ↦ finished ok at c.loop-rest.invariant.so_far (ends g c) c.if-rest-gt0.self.trace c.advance.new.self
-          (idled ok at c.loop-rest.invariant.so_far c.if-rest-gt0.self.trace w.if-rest-gt0.true
-          (ap (λ (x : Progress g.row.G.Denot). x.trace) w.self-is ∙ w.enter-then-rest-gt0.ensures))
+      | then-rest-gt0 w ↦ finished ok at c.loop-rest.invariant.so_far (ends g c) c.advance.new.self.trace c.advance.new.self.state
+          (idled ok at c.loop-rest.invariant.so_far c.advance.new.self.trace w.if-rest-gt0.true
+          (c.advance.ensures.trace ∙ (ap (λ (x : Progress g.row.G.Denot). x.trace) w.self-is ∙ w.enter-then-rest-gt0.ensures)))
           (moved g c (ap (λ (x : Progress g.row.G.Denot). x.state) w.self-is))
-      | else-rest-gt0 w ↦ subst (λ q. HasWorked c.args.set.now g.G.Governor.demand c.args.self.now.state.now c.advance.new.self q c.loop-rest.completed)
-          (sym (ap (λ (x : Progress g.row.G.Denot). x.trace) w.self-is))
-          (finished ok at c.loop-rest.invariant.so_far (ends g c) c.loop-rest.self.trace c.advance.new.self
+      | else-rest-gt0 w ↦ subst (λ q. HasWorked c.args.set.now g.G.Governor.demand c.args.self.now.state.now c.advance.new.self.state q c.loop-rest.completed)
+          (sym (c.advance.ensures.trace ∙ ap (λ (x : Progress g.row.G.Denot). x.trace) w.self-is))
+          (finished ok at c.loop-rest.invariant.so_far (ends g c) c.loop-rest.self.trace c.advance.new.self.state
           (full ok at c.loop-rest.invariant.so_far (omega arith)) (moved g c (ap (λ (x : Progress g.row.G.Denot). x.state) w.self-is)))
     ]
 
 -- the counters and the agenda are right before the clock advances
-current : (g : Over) (c : goal.After-advance g) → IsCurrent g.G.Governor.stands c.args.set.now.plan.now c.if-rest-gt0.self
-current g c =
+pub advance-requires-clause-current : goal.advance-requires-clause-current
+advance-requires-clause-current g c =
     elim c.if-rest-gt0.branch [
       | then-rest-gt0 w ↦ subst (IsCurrent g.G.Governor.stands c.args.set.now.plan.now) (sym w.self-is) c.loop-rest.invariant.current
       | else-rest-gt0 w ↦ subst (IsCurrent g.G.Governor.stands c.args.set.now.plan.now) (sym w.self-is) c.loop-rest.invariant.current
     ]
-
-pub returns-clause-current : goal.returns-clause-current
-returns-clause-current g c =
-    let run = c.if-rest-gt0.self in
-    record {
-      counters = search rules;
-      agenda = stands-rows c.args.set.now.plan.now run.state _ run.agenda (ap (λ (v : StateOf). v.rows) c.advance.ensures)
-          (current g c).agenda;
-    }

@@ -6,13 +6,13 @@ use Rattle.event_kernel.proofs.progress.Progress.work.Given as goal
 
 abbrev pub invariant-loop-rest : goal.invariant-loop-rest
 invariant-loop-rest g l =
-    let m = g.G.Governor.demand in
+    let m = g.G.Governor in
     let p = l.fn.set.plan.now in
-    let dem = demands_of l.fn.set.plan.now l.fn.set.demands.now in
+    let run = l.self in
     record {
-      so_far : HoldsHanded m p dem l.fn.self.state.now l.rest l.completed l.self.state l.self.trace;
-      current : IsCurrent g.G.Governor.stands p l.self;
-      of : IsOfPlan p l.self.state;
+      so_far : HoldsHanded m.demand p (demands_of p l.fn.set.demands.now) l.fn.self.state.now l.rest l.completed run.state run.trace;
+      current : IsCurrent m.stands p run;
+      of : IsOfPlan p run.state;
     }
 
 abbrev pub decreases-loop-rest : goal.decreases-loop-rest

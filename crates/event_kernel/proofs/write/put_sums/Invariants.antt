@@ -6,10 +6,10 @@ use Rattle.sched_model.specs.Plan.{names}
 use Rattle.dvs_base.specs.Parts.{name_of}
 use Rattle.trace_reader.specs.TraceText.{share_text, unnoted}
 use Rattle.event_kernel.specs.Lines.{WroteLines}
-use Rattle.event_kernel.proofs.write.put_shares.Given as goal
+use Rattle.event_kernel.proofs.write.put_sums.Given as goal
 
 abbrev pub invariant-loop-i : goal.invariant-loop-i
 invariant-loop-i g l =
-    let p = l.fn.plan in
+    let p = l.fn.head.plan.now in
     (ps : List ProbeOf) → WroteLines (g.W.Sink.shows l.fn.out) (g.W.Sink.shows l.out) ps ps
     (map unnoted (list_below l.i (λ i. share_text (name_of (names p) i) (slice_index l.fn.energies i))))

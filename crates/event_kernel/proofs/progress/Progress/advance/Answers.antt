@@ -1,0 +1,14 @@
+use Rattle.std.proofs.Common.{ap, sym, subst}
+use Rattle.sched_model.specs.States.{StateOf}
+use Rattle.agenda.proofs.StateQueues.{stands-rows}
+use Rattle.event_kernel.proofs.progress.Progress.advance.Goals as goal
+
+pub returns-clause-current : goal.returns-clause-current
+returns-clause-current g c =
+    let run = c.args.self.now in
+    let before = c.requires.current in
+    record {
+      counters = subst (λ (s : StateOf). g.G.Governor.stands run.governor c.args._plan.now s) (sym c.advance.ensures)
+          (g.met.G.Governor.waits run.governor c.args._plan.now run.state c.args.to c.requires.later before.counters);
+      agenda = stands-rows c.args._plan.now run.state _ run.agenda (ap (λ (v : StateOf). v.rows) c.advance.ensures) before.agenda;
+    }
