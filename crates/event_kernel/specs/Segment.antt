@@ -96,7 +96,7 @@ pub record CanAdd (p : Plan) (s : StateOf) (from e : ℕ) (trace : SpanTrace) : 
   pub place : from + trace.segment.start + trace.segment.units < 2 ^ 63
   pub task : HeldIn (length s.rows) trace.segment.holder
 
--- units can be added to the open segment: so can its notes before them, and its units fit into their number with them
+-- units can be entered: the notes of the open segment can be added first, and its units with the new ones are few enough
 pub record CanEnter (p : Plan) (s : StateOf) (from e units : ℕ) (trace : SpanTrace) : Type 0 where
   pub can : CanAdd p s from e trace
   pub fits : trace.segment.units + units < u64_end

@@ -32,7 +32,8 @@ pub(crate) fn put<W: Sink, P: Probe>(
     probes: &mut Vec<P>,
 ) -> Status
     requires { IsPuttable prepared.now }
-    ensures { PutStep (out.old, out.new) (probes.old, probes.new) W.shows (λ v. map P.seen v.items) prepared.now result }
+    ensures { PutStep (out.old, out.new) (probes.old, probes.new) W.shows (λ v. map P.seen v.items)
+        prepared.now result }
 {
     match prepared {
         Prepared::Trace(run) => put_run(alloc, run, out, probes),
