@@ -5,6 +5,7 @@ use Rattle.std.proofs.lemmas.Bool.Decides.{nat_tests}
 use Rattle.sched_model.specs.declared.state.Row.{Row}
 use Rattle.sched_model.specs.Plan.{Plan, count, period, offset, worst}
 use Rattle.sched_model.specs.Admission.{IsAdmitted}
+use Rattle.sched_model.proofs.Limits.{every_period}
 use Rattle.sched_model.specs.States.{StateOf, opening, state_of, after_release, after_mark, no_row, row_at, released_row, IsOfPlan, CanRelease}
 use Rattle.governor.specs.Steps.{IsAtDecision}
 use Rattle.event_kernel.proofs.Bounds.{Bounds, bounds}
@@ -78,7 +79,7 @@ module _ (p : Plan) (adm : IsAdmitted p) where
 
   module _ (m : ℕ) (any : Bool) (s : StateOf) (h : HasReleased p m any s) (lt : m < count p) where
     deadline-is : (row_at s m).deadline ≡ offset p m
-    deadline-is = ap (λ (r : Row). r.deadline) (row-there b.some_period h.rows m lt (omega arith))
+    deadline-is = ap (λ (r : Row). r.deadline) (row-there (every_period p adm.limits) h.rows m lt (omega arith))
 
     now-is : s.now ≡ 0
     now-is = ap (λ (v : StateOf). v.now) h.rows.state
@@ -88,11 +89,11 @@ module _ (p : Plan) (adm : IsAdmitted p) where
 
     pub next-can_release : offset p m ≡ 0 → CanRelease p s m
     next-can_release first =
-        can-release b.some_period h.rows lt (due-now first) b (omega arith) (λ d. refl)
+        can-release (every_period p adm.limits) h.rows lt (due-now first) b (omega arith) (λ d. refl)
 
     pub next-released : offset p m ≡ 0 → HasReleased p (m + 1) true (after_release p s m)
     next-released first = record {
-      rows = opens b.some_period h.rows lt (due-now first) (after_release p s m) is;
+      rows = opens (every_period p adm.limits) h.rows lt (due-now first) (after_release p s m) is;
       of = of-release p s m h.of (next-can_release first);
     }
       where
@@ -108,15 +109,15 @@ module _ (p : Plan) (adm : IsAdmitted p) where
         let apart : (row_at s m).deadline ≡ s.now → ⊥ = (λ e. late (sym deadline-is ∙ (e ∙ now-is))) in
         let only : (k : ℕ) → m ≤ k → k < m + 1 → (row_at s k).deadline ≢ s.now = λ k lo hi.
         (let here : m ≡ k = omega (arith, lo, hi) in subst (λ i. (row_at s i).deadline ≢ s.now) here apart) in
-        record { rows = (skips b.some_period h.rows (m + 1) (λ i. refl) (omega arith) (omega (arith, lt)) only).0; of = h.of }
+        record { rows = (skips (every_period p adm.limits) h.rows (m + 1) (λ i. refl) (omega arith) (omega (arith, lt)) only).0; of = h.of }
 
   -- all tasks without an offset are released, and the tick is marked where there are any
   module _ (m : ℕ) (s : StateOf) (all : m ≡ count p) where
     marked-is : HasReleased p m true s → after_mark s ≡ state_of p one_unit []
-    marked-is h = released-marked b.some_period refl (subst (λ n. HasReleased p one_unit [] n true s) all h.rows)
+    marked-is h = released-marked (every_period p adm.limits) refl (subst (λ n. HasReleased p one_unit [] n true s) all h.rows)
 
     unmarked-is : HasReleased p m false s → s ≡ state_of p one_unit []
-    unmarked-is h = released-unmarked b.some_period (λ i. refl) refl (subst (λ n. HasReleased p one_unit [] n false s) all h.rows)
+    unmarked-is h = released-unmarked (every_period p adm.limits) (λ i. refl) refl (subst (λ n. HasReleased p one_unit [] n false s) all h.rows)
 
     pub marked-of : HasReleased p m true s → IsOfPlan p (after_mark s)
     marked-of h = subst (IsOfPlan p) (sym (marked-is h)) (of-state p one_unit [] (λ i k lt. omega arith))
