@@ -1,5 +1,6 @@
 // The parts of a run: what stays, and what changes.
 ghost use Rattle.std.specs.Prelude.{◌≡◌, ◌≤◌, IfOk};
+ghost use Rattle.sched_model.specs.Plan.{Plan};
 ghost use Rattle.sched_model.specs.States.{opening, after_advance};
 ghost use Rattle.event_kernel.specs.Current.{IsCurrent};
 
@@ -56,11 +57,10 @@ impl<G: Governor> Progress<G> {
     }
 
     /// Moves time on to the tick `to`, which isn't in the past.
-    pub(crate) fn advance(&mut self, _plan: &Admitted, to: u64)
-        requires later { self.old.state.now ≤ to }
-        requires current { IsCurrent G.stands _plan.now self.old }
+    pub(crate) fn advance(&mut self, to: u64)
+        requires { self.old.state.now ≤ to }
         ensures state { self.new.state ≡ after_advance self.old.state to }
-        ensures current { IsCurrent G.stands _plan.now self.new }
+        ensures current { (p : Plan) → IsCurrent G.stands p self.old → IsCurrent G.stands p self.new }
         ensures trace { self.new.trace ≡ self.old.trace }
     {
         self.state.advance(to);

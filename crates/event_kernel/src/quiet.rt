@@ -73,6 +73,6 @@ impl<G: Governor> Progress<G> {
         };
         self.trace.enter(at, holder, units);
         self.serve_first(set.plan, first, units);
-        self.advance(set.plan, now + quiet);
+        self.advance(now + quiet);
     }
 }

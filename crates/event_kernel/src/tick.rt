@@ -113,7 +113,7 @@ impl<G: Governor> Progress<G> {
             };
             self.trace.enter(at, Holder::Nobody, rest);
         }
-        self.advance(set.plan, now + 1);
+        self.advance(now + 1);
         completed
     }
 }

@@ -4,11 +4,10 @@ use Rattle.agenda.proofs.StateQueues.{stands-rows}
 use Rattle.event_kernel.proofs.progress.Progress.advance.Goals as goal
 
 pub returns-clause-current : goal.returns-clause-current
-returns-clause-current g c =
+returns-clause-current g c = λ p before.
     let run = c.args.self.now in
-    let before = c.requires.current in
     record {
-      counters = subst (λ (s : StateOf). g.G.Governor.stands run.governor c.args._plan.now s) (sym c.advance.ensures)
-          (g.met.G.Governor.waits run.governor c.args._plan.now run.state c.args.to c.requires.later before.counters);
-      agenda = stands-rows c.args._plan.now run.state _ run.agenda (ap (λ (v : StateOf). v.rows) c.advance.ensures) before.agenda;
+      counters = subst (λ (s : StateOf). g.G.Governor.stands run.governor p s) (sym c.advance.ensures)
+          (g.met.G.Governor.waits run.governor p run.state c.args.to c.requires before.counters);
+      agenda = stands-rows p run.state _ run.agenda (ap (λ (v : StateOf). v.rows) c.advance.ensures) before.agenda;
     }

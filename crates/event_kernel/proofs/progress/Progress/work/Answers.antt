@@ -93,10 +93,9 @@ returns-clause-worked g c =
           (full ok at c.loop-rest.invariant.so_far (omega arith)) (moved g c (ap (λ (x : Progress g.row.G.Denot). x.state) w.self-is)))
     ]
 
--- the counters and the agenda are right before the clock advances
-pub advance-requires-clause-current : goal.advance-requires-clause-current
-advance-requires-clause-current g c =
-    elim c.if-rest-gt0.branch [
+pub returns-clause-current : goal.returns-clause-current
+returns-clause-current g c =
+    c.advance.ensures.current c.args.set.now.plan.now (elim c.if-rest-gt0.branch [
       | then-rest-gt0 w ↦ subst (IsCurrent g.G.Governor.stands c.args.set.now.plan.now) (sym w.self-is) c.loop-rest.invariant.current
       | else-rest-gt0 w ↦ subst (IsCurrent g.G.Governor.stands c.args.set.now.plan.now) (sym w.self-is) c.loop-rest.invariant.current
-    ]
+    ])
