@@ -11,6 +11,7 @@ use Rattle.sched_model.specs.StaticDemand.{static_demand}
 use Rattle.words.specs.Commands.{AdmitOf}
 use Rattle.statuses.specs.declared.status.Status.{Status}
 use Rattle.command_files.specs.Meanings.{machine_at, tasks_at}
+use Rattle.command_files.specs.Admissions.{admission}
 
 -- the line of an admission: the static demand, and the lowest speed that meets it
 abbrev pub admitted_text : Plan → List ℕ

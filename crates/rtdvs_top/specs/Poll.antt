@@ -24,7 +24,7 @@ use Rattle.statuses.specs.declared.status.FileKind.TheVariants as file
 use Rattle.statuses.specs.declared.status.Status.{Status}
 use Rattle.poll_server.specs.Bound.{HaveJobs, KeepsBound}
 use Rattle.poll_server.specs.Polled.{IsPolled}
-use Rattle.command_files.specs.Meanings.{bytes_at, machine_at, tasks_at}
+use Rattle.command_files.specs.Meanings.{bytes_at, machine_at, tasks_at, server_at}
 use Rattle.command_files.specs.Admissions.{admission}
 use Rattle.rtdvs_top.specs.Run.{within_jobs}
 use Rattle.statuses.specs.Refused.{or_status, request_status}

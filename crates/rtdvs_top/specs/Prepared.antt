@@ -32,7 +32,7 @@ use Rattle.statuses.specs.Status.{OfLoad, CountsLoads, Leaves, LeavesProbes, IsS
 use Rattle.statuses.specs.StatusLines.{status_text}
 use Rattle.rtdvs_top.specs.ToldRuns.{IfAsked, RunTold}
 use Rattle.rtdvs_top.specs.Run.{answer_of_plan}
-use Rattle.command_files.specs.PlannedRuns.{run_with, prepared_of}
+use Rattle.command_files.specs.PlannedRuns.{run_with, prepared_of, IsRunnable, IsReadyRun}
 use Rattle.rtdvs_top.specs.Promises.{OfTests, Tells, LoadFailed, answer_of_command}
 use Rattle.rtdvs_top.specs.Constrain.{FailsToKeep}
 use Rattle.rtdvs_top.specs.Generated.{workload_tasks, workload_ticks, workload_totals, workload_text}

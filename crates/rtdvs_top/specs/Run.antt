@@ -23,6 +23,7 @@ use Rattle.note_laws.specs.DoneLines.{TellsDeadlines}
 use Rattle.statuses.specs.Steps.{Gives}
 use Rattle.command_files.specs.Meanings.{tasks_at}
 use Rattle.rtdvs_top.specs.ToldRuns.{IfAsked, RunTold}
+use Rattle.command_files.specs.PlannedRuns.{prepared_of, run_with}
 
 -- the text, where the run doesn't release too many jobs
 abbrev pub within_jobs : ℕ → List ℕ → Result (List ℕ) Status
