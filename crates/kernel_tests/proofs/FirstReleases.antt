@@ -63,12 +63,12 @@ needed : (i k : ℕ) → nat_eq (one_unit i (k + 1)) 0 ≡ false
 needed i k = rw (add-one k) refl
 
 -- of the first m tasks, those without an offset are released; `any` says whether there are any
-pub record HasReleased (p : Plan) (m : ℕ) (any : Bool) (s : StateOf) : Type 0 where
+pub record HasFirstReleased (p : Plan) (m : ℕ) (any : Bool) (s : StateOf) : Type 0 where
   pub rows : HasReleased p one_unit [] m any s
   pub of : IsOfPlan p s
 
-pub none-released : (p : Plan) (s : StateOf) → s ≡ opening p → HasReleased p 0 false s
-none-released p s is = subst (HasReleased p 0 false) (sym is) (record {
+pub none-released : (p : Plan) (s : StateOf) → s ≡ opening p → HasFirstReleased p 0 false s
+none-released p s is = subst (HasFirstReleased p 0 false) (sym is) (record {
   rows = releasing-start p one_unit [];
   of = of-prior p one_unit [] (λ i k lt. omega arith);
 })
@@ -77,7 +77,7 @@ module _ (p : Plan) (adm : IsAdmitted p) where
   b : Bounds p
   b = bounds p adm
 
-  module _ (m : ℕ) (any : Bool) (s : StateOf) (h : HasReleased p m any s) (lt : m < count p) where
+  module _ (m : ℕ) (any : Bool) (s : StateOf) (h : HasFirstReleased p m any s) (lt : m < count p) where
     deadline-is : (row_at s m).deadline ≡ offset p m
     deadline-is = ap (λ (r : Row). r.deadline) (row-there (every_period p adm.limits) h.rows m lt (omega arith))
 
@@ -91,7 +91,7 @@ module _ (p : Plan) (adm : IsAdmitted p) where
     next-can_release first =
         can-release (every_period p adm.limits) h.rows lt (due-now first) b (omega arith) (λ d. refl)
 
-    pub next-released : offset p m ≡ 0 → HasReleased p (m + 1) true (after_release p s m)
+    pub next-released : offset p m ≡ 0 → HasFirstReleased p (m + 1) true (after_release p s m)
     next-released first = record {
       rows = opens (every_period p adm.limits) h.rows lt (due-now first) (after_release p s m) is;
       of = of-release p s m h.of (next-can_release first);
@@ -104,7 +104,7 @@ module _ (p : Plan) (adm : IsAdmitted p) where
             ≡ record s { rows = slice_set s.rows m (record (released_row (period p m) (row_at s m)) { done = nat_eq (one_unit m (job + 1)) 0 }) }
         is = ap (λ c. record s { rows = slice_set s.rows m (record (released_row (period p m) (row_at s m)) { done = c }) }) (sym (needed m job))
 
-    pub next-passed : (offset p m ≡ 0 → ⊥) → HasReleased p (m + 1) any s
+    pub next-passed : (offset p m ≡ 0 → ⊥) → HasFirstReleased p (m + 1) any s
     next-passed late =
         let apart : (row_at s m).deadline ≡ s.now → ⊥ = (λ e. late (sym deadline-is ∙ (e ∙ now-is))) in
         let only : (k : ℕ) → m ≤ k → k < m + 1 → (row_at s k).deadline ≢ s.now = λ k lo hi.
@@ -113,17 +113,17 @@ module _ (p : Plan) (adm : IsAdmitted p) where
 
   -- all tasks without an offset are released, and the tick is marked where there are any
   module _ (m : ℕ) (s : StateOf) (all : m ≡ count p) where
-    marked-is : HasReleased p m true s → after_mark s ≡ state_of p one_unit []
+    marked-is : HasFirstReleased p m true s → after_mark s ≡ state_of p one_unit []
     marked-is h = released-marked (every_period p adm.limits) refl (subst (λ n. HasReleased p one_unit [] n true s) all h.rows)
 
-    unmarked-is : HasReleased p m false s → s ≡ state_of p one_unit []
+    unmarked-is : HasFirstReleased p m false s → s ≡ state_of p one_unit []
     unmarked-is h = released-unmarked (every_period p adm.limits) (λ i. refl) refl (subst (λ n. HasReleased p one_unit [] n false s) all h.rows)
 
-    pub marked-of : HasReleased p m true s → IsOfPlan p (after_mark s)
+    pub marked-of : HasFirstReleased p m true s → IsOfPlan p (after_mark s)
     marked-of h = subst (IsOfPlan p) (sym (marked-is h)) (of-state p one_unit [] (λ i k lt. omega arith))
 
-    pub marked-decision : HasReleased p m true s → IsAtDecision p (after_mark s)
+    pub marked-decision : HasFirstReleased p m true s → IsAtDecision p (after_mark s)
     marked-decision h = subst (IsAtDecision p) (sym (marked-is h)) (at-decision p b one_unit [])
 
-    pub unmarked-decision : HasReleased p m false s → IsAtDecision p s
+    pub unmarked-decision : HasFirstReleased p m false s → IsAtDecision p s
     unmarked-decision h = subst (IsAtDecision p) (sym (unmarked-is h)) (at-decision p b one_unit [])

@@ -2,7 +2,7 @@ use Rattle.std.proofs.Common.{◌≡◌, ◌+◌, ◌<◌, true, false, arith, s
 use Rattle.sched_model.specs.Plan.{count, offset}
 use Rattle.sched_model.specs.States.{StateOf, IsOfPlan}
 use Rattle.governor.specs.Steps.{IsAtDecision}
-use Rattle.kernel_tests.proofs.FirstReleases.{HasReleased, none-released, next-can_release, next-released, next-passed, marked-of, marked-decision, unmarked-decision}
+use Rattle.kernel_tests.proofs.FirstReleases.{HasFirstReleased, none-released, next-can_release, next-released, next-passed, marked-of, marked-decision, unmarked-decision}
 use Rattle.kernel_tests.proofs.choices.release_all.Goals as goal
 use Rattle.kernel_tests.proofs.choices.release_all.Goals.{then-offset-eq0, else-offset-eq0}
 
@@ -34,7 +34,7 @@ loop-task-preserved g c =
     elim c.if-offset-eq0.branch [
       | then-offset-eq0 w ↦ (let first : offset p i ≡ 0 = omega (arith, c.offset.ensures.offset, w.if-offset-eq0.true) in
           rw (w.any-is, w.state-is, w.governor-is) (record {
-            released = subst (HasReleased p (i + 1) true) (sym w.release.ensures)
+            released = subst (HasFirstReleased p (i + 1) true) (sym w.release.ensures)
                 (next-released p c.scheduler-admitted.ensures.admitted i c.loop-task.any c.loop-task.state c.loop-task.invariant.released lt first);
             counters = subst (λ (s : StateOf). g.G.Governor.stands w.released.new.self p s) (sym w.release.ensures) w.released.ensures;
           }))
@@ -52,8 +52,8 @@ pub returns-then-any-clause-of : goal.returns-then-any-clause-of
 returns-then-any-clause-of g c =
     let p = c.args.plan.now in
     let whole : c.loop-task.task ≡ count p = omega (arith, c.count-task-end.ensures.count) in
-    let some : HasReleased p c.loop-task.task true c.loop-task.state =
-    subst (λ b. HasReleased p c.loop-task.task b c.loop-task.state) c.if-any.true c.loop-task.invariant.released in
+    let some : HasFirstReleased p c.loop-task.task true c.loop-task.state =
+    subst (λ b. HasFirstReleased p c.loop-task.task b c.loop-task.state) c.if-any.true c.loop-task.invariant.released in
     subst (IsOfPlan p) (sym c.mark.ensures) (marked-of p c.scheduler-admitted.ensures.admitted c.loop-task.task c.loop-task.state whole some)
 
 pub returns-else-any-clause-of : goal.returns-else-any-clause-of
@@ -63,14 +63,14 @@ pub returns-then-any-clause-decision : goal.returns-then-any-clause-decision
 returns-then-any-clause-decision g c =
     let p = c.args.plan.now in
     let whole : c.loop-task.task ≡ count p = omega (arith, c.count-task-end.ensures.count) in
-    let some : HasReleased p c.loop-task.task true c.loop-task.state =
-    subst (λ b. HasReleased p c.loop-task.task b c.loop-task.state) c.if-any.true c.loop-task.invariant.released in
+    let some : HasFirstReleased p c.loop-task.task true c.loop-task.state =
+    subst (λ b. HasFirstReleased p c.loop-task.task b c.loop-task.state) c.if-any.true c.loop-task.invariant.released in
     subst (IsAtDecision p) (sym c.mark.ensures) (marked-decision p c.scheduler-admitted.ensures.admitted c.loop-task.task c.loop-task.state whole some)
 
 pub returns-else-any-clause-decision : goal.returns-else-any-clause-decision
 returns-else-any-clause-decision g c =
     let p = c.args.plan.now in
     let whole : c.loop-task.task ≡ count p = omega (arith, c.count-task-end.ensures.count) in
-    let none : HasReleased p c.loop-task.task false c.loop-task.state =
-    subst (λ b. HasReleased p c.loop-task.task b c.loop-task.state) c.if-any.false c.loop-task.invariant.released in
+    let none : HasFirstReleased p c.loop-task.task false c.loop-task.state =
+    subst (λ b. HasFirstReleased p c.loop-task.task b c.loop-task.state) c.if-any.false c.loop-task.invariant.released in
     unmarked-decision p c.scheduler-admitted.ensures.admitted c.loop-task.task c.loop-task.state whole none
