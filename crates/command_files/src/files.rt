@@ -52,7 +52,7 @@ pub fn load_file<S: Shelf>(
     Ok(bytes)
 }
 
-/// The tasks of a file. `Load` and `Text` as for its bytes; `Text` where it is no task file, with its first fault.
+/// The tasks of a file. `Load` and `Text` as for its bytes; `Text` where it isn't a task file, with its first fault.
 pub fn load_tasks<S: Shelf>(alloc: Global, name: &str, shelf: &mut S) -> Result<TaskSet, Status>
     ensures { LoadStep (one_file FileKind.Tasks name.now (tasks_at name.now)) (S.shows shelf.old) (S.shows shelf.new)
         result (λ v. v) }
@@ -61,7 +61,7 @@ pub fn load_tasks<S: Shelf>(alloc: Global, name: &str, shelf: &mut S) -> Result<
     Ok(TaskSet::read(alloc, &bytes)?)
 }
 
-/// The machine of a file. `Load` and `Text` as for its bytes; `Text` where it is no machine file, with its first fault.
+/// The machine of a file. `Load` and `Text` as for its bytes; `Text` where it isn't a machine file, with its first fault.
 pub fn load_machine<S: Shelf>(alloc: Global, name: &str, shelf: &mut S) -> Result<Machine, Status>
     ensures step { LoadStep (one_file FileKind.Machine name.now (machine_at name.now)) (S.shows shelf.old)
         (S.shows shelf.new) result (λ v. v) }
@@ -87,7 +87,7 @@ fn load_named_demands<S: Shelf>(
 }
 
 /// The demands of a file, or every job's worst case where none is named. `Load` and `Text` as for its bytes; `Text` or
-/// `OverWorst` where it is no demand file of these tasks, with its first fault.
+/// `OverWorst` where it isn't a demand file of these tasks, with its first fault.
 pub fn load_demands<S: Shelf>(
     alloc: Global,
     name: Option<&str>,

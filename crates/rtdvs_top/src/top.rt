@@ -1,13 +1,9 @@
 // The top call.
 ghost use Rattle.std.specs.Prelude.{◌≡◌, ◌≤◌, ◌↔◌, map};
-ghost use Rattle.std.specs.Option.{option_copied};
 ghost use Rattle.dvs_base.specs.Outside.{Rose};
 ghost use Rattle.rtdvs_top.specs.Promises.{asked, known_files, Answers, Writes, WritesPart, IsSureOf, LoadFailed, loads_asked, loads_wanted, OfRun, OfTests, OfPoll, Headline, OfLeast, Notes, Tells, probes_asked, OfAdmission};
 ghost use Rattle.command_files.specs.Files.{MakesLoads};
 ghost use Rattle.statuses.specs.Status.{CountsLoads, CountsPuts, IsShown, Leaves, LeavesProbes};
-ghost use Rattle.statuses.specs.StatusLines.{status_text};
-ghost use Rattle.statuses.specs.Noted.{NotedAs, noted_text};
-ghost use Rattle.task_model.specs.Tasks.{names_of};
 ghost use Rattle.rtdvs_top.specs.Trace.{OfTrace};
 ghost use Rattle.words.specs.declared.command.WordFault.{WordFault};
 
