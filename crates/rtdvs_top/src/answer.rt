@@ -31,7 +31,7 @@ pub(crate) fn answer<S: Shelf, W: Sink, P: Probe>(
 {
     let (step, tasks) = prepare(alloc, command, shelf);
     match step {
-        Ok(prepared) => (put(alloc, &prepared, out, probes), tasks),
+        Ok(prepared) => (put(alloc, prepared, out, probes), tasks),
         Err(status) => (status, tasks),
     }
 }

@@ -27,21 +27,25 @@ fn status_of_put(wrote: Result<(), Failed>) -> Status
 /// Puts what a command prepared. It reads no file, and takes memory only before the first put.
 pub(crate) fn put<W: Sink, P: Probe>(
     alloc: Global,
-    prepared: &Prepared,
+    prepared: Prepared,
     out: &mut W,
     probes: &mut Vec<P>,
 ) -> Status
-    requires { IsPuttable prepared.now }
+    requires { IsPuttable prepared }
     ensures { PutStep (out.old, out.new) (probes.old, probes.new) W.shows (λ v. map P.seen v.items)
-        prepared.now result }
+        prepared result }
 {
     match prepared {
-        Prepared::Trace(run) => put_run(alloc, run, out, probes),
-        Prepared::Migrated(plan, trace) => status_of_put(put_trace(plan, trace, Version::Two, out)),
-        Prepared::Line(line) => status_of_put(put_line(line, out)),
-        Prepared::Responses(tasks, response) => status_of_put(put_responses(tasks, response, out)),
-        Prepared::Polled(polling, served) => status_of_put(put_polled(polling, served, out)),
-        Prepared::Least(least) => status_of_put(put_least(least, out)),
-        Prepared::Made(made, totals) => status_of_put(put_made(*made, totals, out)),
+        Prepared::Trace(run) => put_run(alloc, &run, out, probes),
+        Prepared::Migrated(plan, trace) => {
+            status_of_put(put_trace(&plan, &trace, Version::Two, out))
+        }
+        Prepared::Line(line) => status_of_put(put_line(&line, out)),
+        Prepared::Responses(tasks, response) => status_of_put(put_responses(
+            &tasks, &response, out,
+        )),
+        Prepared::Polled(polling, served) => status_of_put(put_polled(&polling, &served, out)),
+        Prepared::Least(least) => status_of_put(put_least(&least, out)),
+        Prepared::Made(made, totals) => status_of_put(put_made(made, &totals, out)),
     }
 }
