@@ -28,6 +28,7 @@ use Rattle.rtdvs_top.specs.declared.generated.PlannedRun.{PlannedRun}
 use Rattle.rtdvs_top.specs.declared.prepared.ReadyRun.{ReadyRun}
 use Rattle.statuses.specs.Steps.{EndsWith, Gives, Refuses, CountsStep}
 use Rattle.command_files.specs.Files.{files_for, names_by, loads_needed, MakesLoads}
+use Rattle.command_files.specs.Loads.{LoadOf, LoadStep}
 use Rattle.statuses.specs.Status.{OfLoad, CountsLoads, Leaves, LeavesProbes, IsShown}
 use Rattle.statuses.specs.StatusLines.{status_text}
 use Rattle.rtdvs_top.specs.ToldRuns.{IfAsked, RunTold}
@@ -237,6 +238,13 @@ pub record IsRefused (old new : ShelfView) (c : CommandOf) (tasks : Option (List
   pub named : Named (files_for old.held c) c tasks s
   pub failed : LoadFailed old new (Ok c) s
   pub shown : IsShown s
+
+-- What a step that loads files gives, with what holds of its value, and what its status shows.
+pub record LoadStepWith {T A : Type 0} (l : LoadOf A) (old new : ShelfView) (r : Result T Status) (see : T → A)
+    (Holds : T → Type 0) (Shows : Status → Type 0) : Type 0 where
+  pub step : LoadStep l old new r see
+  pub value : IfOk r Holds
+  pub status : IfErr r Shows
 
 -- What a command prepares before anything is put, and its tasks where they were read.
 pub record PrepareStep (old new : ShelfView) (c : CommandOf) (tasks : Option (List Task)) (r : Result Prepared Status) : Type 0 where

@@ -8,8 +8,8 @@ ghost use Rattle.words.specs.Shown.{shown_constrain};
 ghost use Rattle.statuses.specs.Status.{IsOfFile};
 ghost use Rattle.statuses.specs.Steps.{TestStep};
 ghost use Rattle.rtdvs_top.specs.Constrain.{deadlines_at, constrained_text, constrain_with, constrain_after_tasks, KeepsDeadlines, IsKept};
-ghost use Rattle.command_files.specs.Loads.{LoadStep, one_file, later_files};
-ghost use Rattle.rtdvs_top.specs.Prepared.{RefusesBy, PrepareStep};
+ghost use Rattle.command_files.specs.Loads.{one_file, later_files};
+ghost use Rattle.rtdvs_top.specs.Prepared.{RefusesBy, LoadStepWith, PrepareStep};
 
 use crate::prepared::Prepared;
 use crate::{Denied, FileKind, Status};
@@ -28,10 +28,8 @@ fn load_deadlines<S: Shelf>(
     tasks: &TaskSet,
     shelf: &mut S,
 ) -> Result<Deadlines, Status>
-    ensures step { LoadStep (one_file FileKind.Deadlines name.now (deadlines_at tasks.now name.now))
-        (S.shows shelf.old) (S.shows shelf.new) result (λ v. v) }
-    ensures for_tasks { IfOk result (AreFor tasks.now) }
-    ensures of_file { IfErr result IsOfFile }
+    ensures { LoadStepWith (one_file FileKind.Deadlines name.now (deadlines_at tasks.now name.now))
+        (S.shows shelf.old) (S.shows shelf.new) result (λ v. v) (AreFor tasks.now) IsOfFile }
 {
     let bytes = load_file(alloc, FileKind::Deadlines, name, shelf)?;
     Ok(Deadlines::read(alloc, &bytes, tasks)?)
@@ -87,12 +85,11 @@ fn load_constrained<S: Shelf>(
     tasks: &TaskSet,
     shelf: &mut S,
 ) -> Result<Line, Status>
-    ensures step { LoadStep (later_files (S.shows shelf.old).held (constrain_of (shown_constrain words.now))
+    ensures { LoadStepWith (later_files (S.shows shelf.old).held (constrain_of (shown_constrain words.now))
         (constrain_after_tasks (shown_constrain words.now) tasks.now))
-        (S.shows shelf.old) (S.shows shelf.new) result (λ l. l) }
-    ensures some { IfOk result (λ l. 0 < length l) }
-    ensures proves { OnOk result (IsKept (S.shows shelf.old).held (shown_constrain words.now) tasks.now Status.Done) }
-    ensures fails { IfErr result (IsKept (S.shows shelf.old).held (shown_constrain words.now) tasks.now) }
+        (S.shows shelf.old) (S.shows shelf.new) result (λ l. l)
+        (λ l. (0 < length l) × IsKept (S.shows shelf.old).held (shown_constrain words.now) tasks.now Status.Done)
+        (IsKept (S.shows shelf.old).held (shown_constrain words.now) tasks.now) }
 {
     let machine = load_machine(alloc, words.machine, shelf)?;
     let deadlines = load_deadlines(alloc, words.deadlines, tasks, shelf)?;

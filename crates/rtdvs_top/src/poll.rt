@@ -1,5 +1,5 @@
 // The server of a `poll` run: its files loaded, its run, and its lines.
-ghost use Rattle.std.specs.Prelude.{◌≡◌, ◌<◌, Ok, IfOk, length, if◌then◌else◌};
+ghost use Rattle.std.specs.Prelude.{◌≡◌, ◌<◌, ⊤, Ok, IfOk, length, if◌then◌else◌};
 ghost use Rattle.dvs_base.specs.WritesText.{WritesText};
 ghost use Rattle.sched_model.specs.Plan.{count};
 ghost use Rattle.poll_server.specs.ServerJobs.{request_count};
@@ -9,7 +9,7 @@ ghost use Rattle.statuses.specs.Steps.{TestStep};
 ghost use Rattle.command_files.specs.Loads.{LoadStep, one_file, later_files};
 ghost use Rattle.rtdvs_top.specs.Poll.{requests_at, polling_at, polling_served, answer_of_polling, HasServed, outcome_text, request_lines, is_served, served_among, polled_line, polled_text};
 ghost use Rattle.command_files.specs.Meanings.{server_at};
-ghost use Rattle.rtdvs_top.specs.Prepared.{IsPollable, PrepareStep};
+ghost use Rattle.rtdvs_top.specs.Prepared.{IsPollable, LoadStepWith, PrepareStep};
 
 use crate::at_pair::at_pair;
 use crate::prepared::{Polling, Prepared};
@@ -54,10 +54,9 @@ fn load_polling<S: Shelf>(
     shelf: &mut S,
 ) -> Result<Polling, Status>
     requires { server_at words.now.server.now tasks.now ≡ Ok server }
-    ensures step { LoadStep (later_files (S.shows shelf.old).held (poll_of (shown_poll words.now))
-        (polling_at (shown_poll words.now) server tasks.now)) (S.shows shelf.old) (S.shows shelf.new) result (λ s. s) }
-    ensures server { IfOk result (λ s. s.task < count s.plan) }
-    ensures scheduler { IfOk result (λ s. s.plan.scheduler ≡ words.now.scheduler) }
+    ensures { LoadStepWith (later_files (S.shows shelf.old).held (poll_of (shown_poll words.now))
+        (polling_at (shown_poll words.now) server tasks.now)) (S.shows shelf.old) (S.shows shelf.new) result (λ s. s)
+        (λ s. (s.task < count s.plan) × (s.plan.scheduler ≡ words.now.scheduler)) (λ s. ⊤) }
 {
     let machine = load_machine(alloc, words.machine, shelf)?;
     let requests = load_requests(alloc, words.requests, shelf)?;

@@ -1,5 +1,5 @@
 // The answer of `response`, the exact test under RM.
-ghost use Rattle.std.specs.Prelude.{◌≡◌, ◌<◌, length, IfOk, OnOk, IfErr};
+ghost use Rattle.std.specs.Prelude.{◌≡◌, ◌<◌, length, IfOk, OnOk};
 ghost use Rattle.std.specs.Result.{IsErrOf};
 ghost use Rattle.dvs_base.specs.WritesText.{WritesText};
 ghost use Rattle.sched_model.specs.Plan.{plan_of};
@@ -7,8 +7,8 @@ ghost use Rattle.words.specs.Commands.{response as response_of};
 ghost use Rattle.words.specs.Shown.{shown_response};
 ghost use Rattle.statuses.specs.Steps.{TestStep};
 ghost use Rattle.statuses.specs.declared.status.Denied.{Denied};
-ghost use Rattle.command_files.specs.Loads.{LoadStep, later_files};
-ghost use Rattle.rtdvs_top.specs.Prepared.{IsTested, PrepareStep};
+ghost use Rattle.command_files.specs.Loads.{later_files};
+ghost use Rattle.rtdvs_top.specs.Prepared.{IsTested, LoadStepWith, PrepareStep};
 ghost use Rattle.rtdvs_top.specs.Response.{responses_on, responses_at, response_text, responses_text, Responds, FailsToRespond};
 
 use crate::prepared::Prepared;
@@ -48,11 +48,11 @@ fn load_responses<S: Shelf>(
     tasks: &TaskSet,
     shelf: &mut S,
 ) -> Result<Response, Status>
-    ensures step { LoadStep (later_files (S.shows shelf.old).held (response_of (shown_response words.now))
-        (responses_at (shown_response words.now) tasks.now)) (S.shows shelf.old) (S.shows shelf.new) result (λ r. r) }
-    ensures one_each { IfOk result (λ r. length r ≡ length tasks.now) }
-    ensures proves { OnOk result (IsTested (S.shows shelf.old).held (shown_response words.now) tasks.now Status.Done) }
-    ensures fails { IfErr result (IsTested (S.shows shelf.old).held (shown_response words.now) tasks.now) }
+    ensures { LoadStepWith (later_files (S.shows shelf.old).held (response_of (shown_response words.now))
+        (responses_at (shown_response words.now) tasks.now)) (S.shows shelf.old) (S.shows shelf.new) result (λ r. r)
+        (λ r. (length r ≡ length tasks.now)
+        × IsTested (S.shows shelf.old).held (shown_response words.now) tasks.now Status.Done)
+        (IsTested (S.shows shelf.old).held (shown_response words.now) tasks.now) }
 {
     let machine = load_machine(alloc, words.machine, shelf)?;
     respond(alloc, tasks, &machine)

@@ -2,7 +2,6 @@
 ghost use Rattle.std.specs.Prelude.{◌≡◌, map, IfOk, ◌<◌, length};
 ghost use Rattle.dvs_base.specs.Checks.{IsUnlessMemory};
 ghost use Rattle.trace_reader.specs.Traces.{IsTrace};
-ghost use Rattle.sched_model.specs.Admission.{IsAdmitted};
 ghost use Rattle.words.specs.Commands.{traced as traced_command, traced};
 ghost use Rattle.words.specs.Shown.{shown_trace};
 ghost use Rattle.statuses.specs.Steps.{TestStep};
@@ -97,12 +96,10 @@ pub(crate) fn load_traced<S: Shelf>(
     ensures step { LoadStep (later_files (S.shows shelf.old).held (traced_command (shown_trace words.now))
         (traced_of (shown_trace words.now) tasks.now)) (S.shows shelf.old) (S.shows shelf.new) result (λ x. (x.0, x.1)) }
     ensures compared { IfOk result (λ x. IsComparable x.0 x.1) }
-    ensures admitted { IfOk result (λ x. IsAdmitted x.0) }
 {
     let machine = load_machine(alloc, words.machine, shelf)?;
     let trace = load_trace(alloc, words.trace, tasks, shelf)?;
     let plan = admit(alloc, trace.plan.scheduler, tasks, &machine)?;
-    let _admitted = plan.scheduler();
     Ok((plan, trace))
 }
 
@@ -225,6 +222,7 @@ pub(crate) fn prepare_trace<S: Shelf>(
         Ok(loaded) => loaded,
         Err(status) => return (Err(status), Some(tasks)),
     };
+    let _admitted = plan.scheduler();
     match prepare_compared(alloc, words.asked, plan, trace) {
         Ok(prepared) => (Ok(prepared), Some(tasks)),
         Err(status) => (Err(status), Some(tasks)),
