@@ -3,14 +3,17 @@
 
     python3 tools/form.py [WORD]
 
-It ends with 1 where a count is above its limit: 70 for relations, 0 for the others. WORD is one of the counts, and then
+It ends with 1 where a count is above its limit: 90 for relations, 0 for the others. WORD is one of the counts, and then
 its places are printed too:
-relations   definitions of rtdvs_top's specs that are relations: their type ends in `Type 0`, or a record has parameters
+relations   definitions of the top call's specs (rtdvs_top, statuses, command_files) that are relations: their type ends
+            in `Type 0`, or a record has parameters
 positions   citations of an invariant's part by its place (`invariant.0`), and invariants of three or more parts
             that are no records
 mutual      pairs of source files of one crate that name each other
-idle        matches that only hand an error or nothing on, and `let x = f()?; Ok(x)`
+idle        matches that only hand an error or nothing on, `let x = f()?; Ok(x)`, and loops that do nothing; in product
+            crates also matches that hand the `Ok` on and change the error
 limits      numbers of a limit in code, definitions or proofs, outside tests and `limits.rt`
+edges       crates that crates.txt names as used by a crate none of whose files uses them
 """
 import collections
 import pathlib
@@ -18,9 +21,16 @@ import re
 import sys
 
 CRATES = pathlib.Path("crates")
-TESTS = {"test_inputs", "text_tests", "trace_tests", "file_tests", "model_tests", "run_tests", "call_tests", "kernel_tests",
-         "call_tests", "kernel_tests", "stored_calls", "example_runs"}
+TOP = ("rtdvs_top", "statuses", "command_files")
+TESTS = {"test_inputs", "text_tests", "trace_tests", "file_tests", "model_tests", "run_tests", "call_tests",
+         "kernel_tests", "stored_calls", "example_runs"}
+# Tasks, lines, speeds, charges, millivolts, jobs, ticks, bytes of a file, hyperperiods.
 LIMITS = r"(?<![\w.#])(?:64|800_?00[01]|1_?000_?000|20_?000|100_?000|1099511627776|16777216|281474976710656)(?![\w.])"
+# The bytes of a name, where they bound or measure something (32 is also the blank), of a line, and of parts of a line.
+BEFORE = ("≤ ", "≡ ", "; ", r"\+ ", r"\) ", r"\) = ", "min ", r"min\(", "take ", "take_min ")
+BOUND = "|".join(rf"(?<={before})" for before in BEFORE)
+WIDTHS = rf"(?<![\w.#])(?:(?:{BOUND})32(?! \*)|32(?= - )|25[56]|(?:(?<=[+≤<] )|(?<=\) = ))(?:41|53|89|203))(?![\w.])"
+
 
 
 def files(kind, ending):
@@ -33,7 +43,7 @@ def place(path, text, at):
 
 def relations():
     found = []
-    for path in sorted((CRATES / "rtdvs_top" / "specs").glob("*.antt")):
+    for path in sorted(path for crate in TOP for path in (CRATES / crate / "specs").glob("*.antt")):
         text = path.read_text()
         for m in re.finditer(r"^(abbrev pub|pub record|abbrev|record|pub data|data) (\w+)((?:.|\n(?=[ \t]))*)", text, re.M):
             kind, name, body = m.groups()
@@ -101,7 +111,11 @@ def idle():
     found = []
     for path in files("src", ".rt"):
         text = path.read_text()
-        for m in re.finditer(r"Err\((\w+)\) => (?:return )?Err\(\1\)|let (\w+) = [^;]*\?;\n\s*Ok\(\2\)\n", text):
+        patterns = [r"Err\((\w+)\) => (?:return )?Err\(\1\)", r"let (\w+) = [^;]*\?;\n\s*Ok\(\1\)\n",
+                    r"\b(?:for|while) [^;{}]*\{\s*(?:let _\w* = [^;{}]*;\s*)*\}"]
+        if path.parts[1] not in TESTS:
+            patterns.append(r"Ok\((\w+)\) => (?:return )?Ok\(\1\)")
+        for m in (m for pattern in patterns for m in re.finditer(pattern, text)):
             found.append(f"{place(path, text, m.start())} {' '.join(m.group().split())}")
     return found
 
@@ -117,15 +131,30 @@ def limits():
             code = re.sub(r"\b(?:2|10) \^ \d+|<< 64", "", code)
             if "digits" in code or "decimal" in code or "spelled" in code:  # 64 digits, the width of a text
                 continue
-            for m in re.finditer(LIMITS, code):
+            for m in re.finditer(f"{LIMITS}|{WIDTHS}", code):
                 found.append(f"{path}:{n} {m.group()}")
+    return found
+
+
+def edges():
+    found = []
+    for line in pathlib.Path("crates.txt").read_text().splitlines():
+        crate, _, used = line.partition("#")[0].partition(":")
+        folder = CRATES / crate.split()[0] if crate.strip() else None
+        if folder is None:
+            continue
+        paths = [path for kind in ("src", "specs", "proofs") for path in (folder / kind).glob("**/*")]
+        text = "\n".join(path.read_text() for path in paths if path.suffix in (".rt", ".antt"))
+        for other in used.split():
+            if not re.search(rf"\bRattle\.{other}\b|\b{other}::|\buse {other};", text):
+                found.append(f"{folder.name}: {other}")
     return found
 
 
 def main():
     asked = sys.argv[1] if len(sys.argv) > 1 else None
     above = 0
-    for count, most in ((relations, 70), (positions, 0), (mutual, 0), (idle, 0), (limits, 0)):
+    for count, most in ((relations, 90), (positions, 0), (mutual, 0), (idle, 0), (limits, 0), (edges, 0)):
         rows = count()
         above += len(rows) > most
         print(f"{count.__name__}: {len(rows)}, at most {most}")

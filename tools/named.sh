@@ -47,7 +47,7 @@ rows() {
     command_row least Least 'LeastOf|LeastWords' least Least
 
     files=$(find crates/*/src crates/*/specs -type f | sort |
-        grep -v -e '^crates/[a-z_]*_tests/' -e '^crates/[a-z_]*_rows/' -e '^crates/stored_calls/' -e '^crates/example_runs/' \
+        grep -v -e '^crates/[a-z_]*_tests/' -e '^crates/stored_calls/' -e '^crates/example_runs/' \
             -e '^crates/test_inputs/' -e '^crates/reserve_gov/')
     others=$(echo "$files" | grep -v -e '^crates/static_gov/' -e '^crates/cc_edf' -e '^crates/cc_rm' -e '^crates/look_ahead')
     for kind in Plain Fixed Cycle Ahead; do
