@@ -3,6 +3,7 @@ mod cuts;
 mod example;
 mod large;
 mod lengths;
+mod lines;
 mod loads;
 mod memory;
 mod notes;

@@ -1,8 +1,8 @@
-// What probes count, alone and in a list.
+// What a probe counts, and the probes of a list.
 use dvs_base::{Note, Pos};
 use probes::{CountProbe, Probe, Rule, Stay, TableProbe, What, tell_all};
-use std::alloc::Global;
 use std::test::Fail;
+use test_inputs::{Asked, probes_of, tallies_of};
 
 const RELEASE: Note = Note::Release {
     tick: 0,
@@ -28,9 +28,11 @@ fn segment(task: u32, units: u64) -> Note {
 #[test]
 fn a_probe_at_its_limit_leaves(rt: HostRuntime) -> Result<(), Fail> {
     let alloc = rt.alloc();
-    let mut probes: Vec<Box<dyn Probe>> = Vec::new(alloc);
-    probes.push(Box::new(alloc, CountProbe::new(rule(What::Releases, None, Some(1))))?)?;
-    probes.push(Box::new(alloc, CountProbe::new(rule(What::Releases, None, None)))?)?;
+    let asked = [
+        Asked::Count(rule(What::Releases, None, Some(1))),
+        Asked::Count(rule(What::Releases, None, None)),
+    ];
+    let mut probes = probes_of!(alloc, &asked);
     tell_all(&mut probes, &RELEASE);
     assert_eq!(rt; probes.len(), 1);
     assert_eq!(rt; probes[0].tally(), 1);
@@ -41,17 +43,17 @@ fn a_probe_at_its_limit_leaves(rt: HostRuntime) -> Result<(), Fail> {
 #[test]
 fn those_that_stay_keep_their_order(rt: HostRuntime) -> Result<(), Fail> {
     let alloc = rt.alloc();
-    let mut probes: Vec<Box<dyn Probe>> = Vec::new(alloc);
-    probes.push(Box::new(alloc, TableProbe::new(rule(What::Units, None, None)))?)?;
-    probes.push(Box::new(alloc, CountProbe::new(rule(What::Units, Some(1), Some(5))))?)?;
-    probes.push(Box::new(alloc, TableProbe::new(rule(What::Units, Some(0), Some(9))))?)?;
+    let asked = [
+        Asked::Table(rule(What::Units, None, None)),
+        Asked::Count(rule(What::Units, Some(1), Some(5))),
+        Asked::Table(rule(What::Units, Some(0), Some(9))),
+    ];
+    let mut probes = probes_of!(alloc, &asked);
     tell_all(&mut probes, &segment(1, 4));
     tell_all(&mut probes, &segment(0, 8));
     assert_eq!(rt; probes.len(), 3);
     tell_all(&mut probes, &segment(1, 1));
-    assert_eq!(rt; probes.len(), 2);
-    assert_eq!(rt; probes[0].tally(), 13);
-    assert_eq!(rt; probes[1].tally(), 8);
+    assert_eq!(rt; tallies_of(alloc, &probes)?.as_slice(), [13, 8].as_slice());
     Ok(())
 }
 

@@ -1,5 +1,6 @@
 // Task files, and sets made from a list.
-use dvs_base::Short;
+use dvs_base::{MOST_TASKS, Short};
+use std::alloc::{AllocError, Global};
 use std::test::Fail;
 use task_model::{Field, LATEST_OFFSET, TaskFault, TaskSet};
 
@@ -172,6 +173,49 @@ fn a_set_is_made_of_its_tasks(rt: HostRuntime) -> Result<(), Fail> {
             assert_eq!(rt; task.name.as_bytes(), name);
             assert_eq!(rt; (task.period, task.worst, task.offset), (period, worst, 0));
         }
+    }
+    Ok(())
+}
+
+// A task file with `count` tasks of period 64 and worst case 1.
+fn file_of(alloc: Global, count: usize) -> Result<String, AllocError> {
+    let mut text = String::new(alloc);
+    for i in 0..count {
+        let entry = format!(in alloc; "[[task]]\nname = \"t{i}\"\nperiod = 64\nworst = 1\n")?;
+        text.push_str(entry.as_str())?;
+    }
+    Ok(text)
+}
+
+#[test]
+fn sixty_four_tasks_are_the_most(rt: HostRuntime) -> Result<(), Fail> {
+    let alloc = rt.alloc();
+    let most = TaskSet::read(alloc, file_of(alloc, MOST_TASKS)?.as_bytes()).map_err(|_| "most")?;
+    assert_eq!(rt; (most.count(), most.hyper()), (64, 64));
+    let more = TaskSet::read(alloc, file_of(alloc, MOST_TASKS + 1)?.as_bytes());
+    assert!(rt; matches!(more, Err(TaskFault::TooMany { count: 65 })));
+    Ok(())
+}
+
+// The place of the task with this name, its period and its worst case.
+fn found_task(set: &TaskSet, name: &str) -> Option<(u32, u64, u64)> {
+    let place = set.find(name.as_bytes())?;
+    if place >= set.count() {
+        return None;
+    }
+    let task = set.task(place);
+    Some((place, task.period, task.worst))
+}
+
+#[test]
+fn a_written_set_is_read_again(rt: HostRuntime) -> Result<(), Fail> {
+    let alloc = rt.alloc();
+    let read = TaskSet::read(alloc, PAPER_SET.as_bytes()).map_err(|_| "the paper's set")?;
+    let text = read.write(alloc).map_err(|_| "memory")?;
+    let back = TaskSet::read(alloc, text.as_bytes()).map_err(|_| "written")?;
+    assert_eq!(rt; (back.count(), back.hyper()), (3, 280));
+    for (name, found) in [("t1", (0, 8, 12)), ("t2", (1, 10, 12)), ("t3", (2, 14, 4))] {
+        assert_eq!(rt; found_task(&back, name), Some(found), "{name}");
     }
     Ok(())
 }

@@ -82,7 +82,7 @@ fn rm_choice(alloc: Global, plan: &Admitted, kind: GovernorKind) -> Result<Choic
         GovernorKind::Plain => first_choice(alloc, plan, Full::new(alloc, plan)?),
         GovernorKind::Fixed => first_choice(alloc, plan, Static::new(alloc, plan)?),
         GovernorKind::Cycle => first_choice(alloc, plan, CcRm::new(alloc, plan)?),
-        GovernorKind::Ahead => Err("la serves EDF alone")?,
+        GovernorKind::Ahead => Err("la serves only EDF")?,
     }
 }
 

@@ -1,35 +1,11 @@
 // Generated cases: a task file, a machine file and a demand file for each seed.
-ghost use Rattle.std.specs.Prelude.{◌<◌};
-
 use crate::case::Case;
 use std::alloc::{AllocError, Global};
+use test_inputs::Draws;
 
-// A sequence of draws (SplitMix64; Steele, Lea and Flood 2014).
-#[derive(Drop)]
-struct Draws {
-    state: u64,
-}
-
-impl Draws {
-    fn next(&mut self) -> u64 {
-        self.state = self.state.wrapping_add(0x9e37_79b9_7f4a_7c15);
-        let mixed = (self.state ^ (self.state >> 30)).wrapping_mul(0xbf58_476d_1ce4_e5b9);
-        let mixed = (mixed ^ (mixed >> 27)).wrapping_mul(0x94d0_49bb_1331_11eb);
-        mixed ^ (mixed >> 31)
-    }
-
-    // A number below `most`.
-    fn below(&mut self, most: u64) -> u64
-        requires { 0 < most }
-        ensures { result < most }
-    {
-        self.next() % most
-    }
-
-    // One of eight numbers.
-    fn one_of(&mut self, choices: [u64; 8]) -> u64 {
-        choices[self.below(8) as usize]
-    }
+// One of eight numbers.
+fn one_of(draws: &mut Draws, choices: [u64; 8]) -> u64 {
+    choices[draws.below(8) as usize]
 }
 
 // The files of a generated case.
@@ -42,8 +18,8 @@ pub(crate) struct MadeFiles {
 
 // A machine with one to three points, and its highest speed.
 fn make_machine(alloc: Global, draws: &mut Draws) -> Result<(String, u64), AllocError> {
-    let idle = draws.one_of([0, 0, 0, 100, 100, 500, 999, 1000]);
-    let charge = draws.one_of([0, 0, 0, 0, 0, 1, 1, 2]);
+    let idle = one_of(draws, [0, 0, 0, 100, 100, 500, 999, 1000]);
+    let charge = one_of(draws, [0, 0, 0, 0, 0, 1, 1, 2]);
     let mut text = format!(in alloc; "idle = {idle}\ncharge = {charge}\n")?;
     let mut speed: u64 = 0;
     let mut millivolts: u64 = 1000;
@@ -51,9 +27,10 @@ fn make_machine(alloc: Global, draws: &mut Draws) -> Result<(String, u64), Alloc
         speed = speed.saturating_add(1 + draws.below(3));
         let point = format!(in alloc; "[[point]]\nspeed = {speed}\nmillivolts = {millivolts}\n")?;
         text.push_str(point.as_str())?;
-        millivolts = millivolts.saturating_add(draws.one_of([
-            0, 1, 250, 500, 500, 750, 1000, 1500,
-        ]));
+        millivolts = millivolts.saturating_add(one_of(
+            draws,
+            [0, 1, 250, 500, 500, 750, 1000, 1500],
+        ));
     }
     Ok((text, speed))
 }
@@ -80,14 +57,14 @@ fn make_rows(
 impl MadeFiles {
     // One to four tasks whose hyperperiod divides 24, on a machine on which most such sets are admitted.
     pub(crate) fn from_seed(alloc: Global, seed: u64) -> Result<MadeFiles, AllocError> {
-        let mut draws = Draws { state: seed };
+        let mut draws = Draws::from_seed(seed);
         let (machine, top) = make_machine(alloc, &mut draws)?;
         let mut tasks = String::new(alloc);
         let mut demands = String::from_str(alloc, "task,job,units\n")?;
         let count = 1 + draws.below(4);
         for task in 0..count {
-            let period = draws.one_of([2, 3, 4, 6, 6, 8, 12, 24]);
-            let offset = draws.one_of([0, 0, 0, 1, 2, 5, 7, 40]);
+            let period = one_of(&mut draws, [2, 3, 4, 6, 6, 8, 12, 24]);
+            let offset = one_of(&mut draws, [0, 0, 0, 1, 2, 5, 7, 40]);
             let most = (period.saturating_mul(top) / count).max(1);
             let worst = if draws.below(3) == 0 {
                 most
@@ -110,9 +87,9 @@ impl MadeFiles {
     // The files as a case.
     pub(crate) fn case(&self) -> Case<'_> {
         Case {
-            tasks: self.tasks.as_str(),
-            machine: self.machine.as_str(),
-            demands: self.demands.as_str(),
+            tasks: self.tasks.as_bytes(),
+            machine: self.machine.as_bytes(),
+            demands: self.demands.as_bytes(),
             words: "",
         }
     }

@@ -1,46 +1,49 @@
-// Traces that a kernel writes to a sink in memory and shows to probes, each worked out by hand.
-use crate::case::{Case, expect_lines};
-use crate::example::{FIRST_LATE, NONE_TRACE, PAPER_MACHINE, PAPER_TASKS};
-use crate::plans::edf_planned;
+// Traces that a kernel writes to a sink in memory and shows to probes, each worked out by hand; and the jobs that a
+// kernel takes.
+ghost use Rattle.std.specs.Prelude.{◌≤◌};
+ghost use Rattle.dvs_base.specs.declared.limits.TheConstants.{MOST_TICKS};
+
+use crate::case::Case;
+use crate::plans::{edf_plan, edf_planned, paper_tasks};
 use cc_edf::CcEdf;
+use demand_list::Demands;
 use dvs_base::{FailAt, MemSink, Totals, Version};
-use event_kernel::{Kernel, WriteFault};
+use event_kernel::{Kernel, KernelFault, WriteFault};
 use governor::Governor;
-use probes::{CountProbe, Probe, Rule, TableProbe, What};
+use probes::{Rule, What};
 use static_gov::Full;
 use std::alloc::Global;
 use std::test::Fail;
+use task_model::TaskSet;
+use test_inputs::example::{
+    NO_DEMANDS, NONE_TRACE, PAPER_MACHINE, PAPER_TASKS, TWO_TASKS, TWO_TRACE_2,
+};
+use test_inputs::{Asked, of_all_tasks, probes_of, shown, tallies_of};
 
 const PAPER_AT_WORST: Case = Case {
     tasks: PAPER_TASKS,
     machine: PAPER_MACHINE,
-    demands: "task,job,units\n",
+    demands: NO_DEMANDS,
     words: "",
 };
 
-const FIRST_LATE_AT_WORST: Case = Case {
-    tasks: FIRST_LATE,
+const TWO_AT_WORST: Case = Case {
+    tasks: TWO_TASKS,
     machine: PAPER_MACHINE,
-    demands: "task,job,units\n",
+    demands: NO_DEMANDS,
     words: "",
 };
 
 // A probe of completions, and one of the units of the second task.
-fn two_probes(alloc: Global) -> Result<Vec<Box<dyn Probe>>, Fail> {
-    let mut probes: Vec<Box<dyn Probe>> = Vec::new(alloc);
-    let ends = Rule {
-        what: What::Dones,
-        task: None,
-        limit: None,
-    };
-    let units = Rule {
-        what: What::Units,
-        task: Some(1),
-        limit: None,
-    };
-    probes.push(Box::new(alloc, CountProbe::new(ends))?)?;
-    probes.push(Box::new(alloc, TableProbe::new(units))?)?;
-    Ok(probes)
+fn two_probes() -> [Asked; 2] {
+    [
+        Asked::Count(of_all_tasks(What::Dones, None)),
+        Asked::Table(Rule {
+            what: What::Units,
+            task: Some(1),
+            limit: None,
+        }),
+    ]
 }
 
 // A run: its totals or its error, the sink with its trace, and the tallies of the probes that stayed.
@@ -59,12 +62,9 @@ fn written<G: Governor>(
     version: Version,
 ) -> Result<WrittenRun, Fail> {
     let mut out = MemSink::new(alloc, 4096, failing)?;
-    let mut probes = two_probes(alloc)?;
+    let mut probes = probes_of!(alloc, &two_probes());
     let ended = kernel.run(&mut out, &mut probes, version);
-    let mut tallies = Vec::new(alloc);
-    for probe in &probes {
-        tallies.push(probe.tally())?;
-    }
+    let tallies = tallies_of(alloc, &probes)?;
     Ok(WrittenRun {
         ended,
         out,
@@ -83,8 +83,8 @@ fn paper_run(alloc: Global, failing: &[FailAt]) -> Result<WrittenRun, Fail> {
 }
 
 // The run of two tasks, one of which is late, under cycle-conserving EDF.
-fn first_late_run(alloc: Global) -> Result<WrittenRun, Fail> {
-    let Some(planned) = edf_planned(alloc, FIRST_LATE_AT_WORST)? else {
+fn two_tasks_run(alloc: Global) -> Result<WrittenRun, Fail> {
+    let Some(planned) = edf_planned(alloc, TWO_AT_WORST)? else {
         return Err("plan")?;
     };
     let governor = CcEdf::new(alloc, &planned.plan)?;
@@ -95,7 +95,7 @@ fn first_late_run(alloc: Global) -> Result<WrittenRun, Fail> {
 #[test]
 fn a_run_tells_its_probes(rt: HostRuntime) -> Result<(), Fail> {
     let run = paper_run(rt.alloc(), &[])?;
-    expect_lines(&rt, run.out.bytes(), &NONE_TRACE)?;
+    assert_eq!(rt; shown(run.out.bytes()), NONE_TRACE);
     let totals = run.ended?;
     assert_eq!(rt; (totals.run, totals.finished), (1_400_000_000_000, 6));
     assert_eq!(rt; run.tallies.as_slice(), [6, 24].as_slice());
@@ -112,36 +112,37 @@ fn no_note_is_heard_whose_put_fails(rt: HostRuntime) -> Result<(), Fail> {
     Ok(())
 }
 
-// The trace of two tasks, one of which is late, in version 2.
-const LATE_TRACE: [&str; 23] = [
-    "trace 2",
-    "plan edf cc 8",
-    "task x 4 0 4",
-    "task y 6 2 6",
-    "release 0 x 1",
-    "speed 0 2 12/12",
-    "run 0:0 2:0 x 1 4 36000000000",
-    "done 2:0 x 1 4",
-    "release 2 y 1",
-    "speed 2 2 24/12",
-    "run 2:0 4:0 y 1 4 36000000000",
-    "release 4 x 2",
-    "speed 4 2 24/12",
-    "run 4:0 6:0 x 2 4 36000000000",
-    "done 6:0 x 2 4",
-    "speed 6 2 24/12",
-    "run 6:0 7:0 y 1 2 18000000000",
-    "done 7:0 y 1 6",
-    "speed 7 2 24/12",
-    "idle 7:0 8:0 2 0",
-    "energy x 72000000000",
-    "energy y 54000000000",
-    "end 8 126000000000 0",
-];
-
 #[test]
 fn a_run_in_version_2(rt: HostRuntime) -> Result<(), Fail> {
-    let run = first_late_run(rt.alloc())?;
+    let run = two_tasks_run(rt.alloc())?;
     assert_eq!(rt; run.tallies.as_slice(), [3, 6].as_slice());
-    expect_lines(&rt, run.out.bytes(), &LATE_TRACE)
+    assert_eq!(rt; shown(run.out.bytes()), TWO_TRACE_2);
+    Ok(())
+}
+
+// The error of a kernel for these tasks and ticks under EDF, if any.
+fn refused_jobs(alloc: Global, tasks: &TaskSet, ticks: u64) -> Result<Option<KernelFault>, Fail>
+    requires some_ticks { 1 ≤ ticks }
+    requires low_ticks { ticks ≤ MOST_TICKS }
+{
+    let plan = edf_plan(alloc, tasks)?;
+    let Ok(demands) = Demands::read(alloc, NO_DEMANDS, tasks) else {
+        return Err("demands")?;
+    };
+    let full = Full::new(alloc, &plan)?;
+    Ok(Kernel::new(alloc, &plan, &demands, full, ticks).err())
+}
+
+#[test]
+fn a_kernel_takes_at_most_max_jobs(rt: HostRuntime) -> Result<(), Fail> {
+    let tasks = paper_tasks(rt.alloc())?;
+    let refused = [
+        refused_jobs(rt.alloc(), &tasks, 1_000_000)?,
+        refused_jobs(rt.alloc(), &tasks, 300_000)?,
+    ];
+    assert_eq!(rt;
+        refused,
+        [Some(KernelFault::TooManyJobs { count: 296_429 }), None]
+    );
+    Ok(())
 }

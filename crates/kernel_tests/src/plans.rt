@@ -4,7 +4,6 @@ ghost use Rattle.governor.specs.ServedSchedulers.{ServesEdf, ServesRm};
 ghost use Rattle.event_kernel.specs.Runs.{IsListOf};
 
 use crate::case::Case;
-use crate::example::{PAPER_MACHINE, PAPER_TASKS};
 use demand_list::Demands;
 use edf_admit::{EdfFault, edf_admit};
 use freq_table::Machine;
@@ -13,15 +12,16 @@ use sched_model::Admitted;
 use std::alloc::Global;
 use std::test::Fail;
 use task_model::TaskSet;
+use test_inputs::example::{PAPER_MACHINE, PAPER_TASKS};
 
 // The task set of a file.
-pub(crate) fn tasks_of(alloc: Global, text: &str) -> Result<TaskSet, Fail> {
-    Ok(TaskSet::read(alloc, text.as_bytes())?)
+fn tasks_of(alloc: Global, bytes: &[u8]) -> Result<TaskSet, Fail> {
+    Ok(TaskSet::read(alloc, bytes)?)
 }
 
 // The machine of a file.
-pub(crate) fn machine_of(alloc: Global, text: &str) -> Result<Machine, Fail> {
-    Ok(Machine::read(alloc, text.as_bytes())?)
+fn machine_of(alloc: Global, bytes: &[u8]) -> Result<Machine, Fail> {
+    Ok(Machine::read(alloc, bytes)?)
 }
 
 // The tasks of the example.
@@ -66,7 +66,7 @@ pub(crate) fn edf_planned(alloc: Global, case: Case<'_>) -> Result<Option<Planne
 {
     let tasks = tasks_of(alloc, case.tasks)?;
     let machine = machine_of(alloc, case.machine)?;
-    let Ok(demands) = Demands::read(alloc, case.demands.as_bytes(), &tasks) else {
+    let Ok(demands) = Demands::read(alloc, case.demands, &tasks) else {
         return Err("demands")?;
     };
     match edf_admit(alloc, &tasks, &machine) {
@@ -83,7 +83,7 @@ pub(crate) fn rm_planned(alloc: Global, case: Case<'_>) -> Result<Option<Planned
 {
     let tasks = tasks_of(alloc, case.tasks)?;
     let machine = machine_of(alloc, case.machine)?;
-    let Ok(demands) = Demands::read(alloc, case.demands.as_bytes(), &tasks) else {
+    let Ok(demands) = Demands::read(alloc, case.demands, &tasks) else {
         return Err("demands")?;
     };
     match rm_admit(alloc, &tasks, &machine) {

@@ -1,7 +1,6 @@
-// Deadline files, and the lowest speed for deadlines up to the periods. Unless a case says otherwise, the tasks are a
-// (period 4, worst case 2) and b (period 6, worst case 3).
-use dvs_base::Short;
-use edf_demand::{ConstrainFault, Constrained, DeadlineFault, Deadlines, constrain};
+// The lowest speed for deadlines up to the periods. Unless a case says otherwise, the tasks are a (period 4, worst case 2)
+// and b (period 6, worst case 3).
+use edf_demand::{ConstrainFault, Constrained, Deadlines, constrain};
 use freq_table::Machine;
 use grid_fraction::Frac;
 use std::process::Abort;
@@ -88,57 +87,4 @@ fn an_offset_is_named_before_many_jobs(rt: HostRuntime) -> Result<(), Fail> {
 ]"#;
     let jobs = ConstrainFault::TooManyJobs { count: 100001 };
     answers(&rt, [many, ONE_SPEED, "task,deadline\n"], Err(jobs))
-}
-
-#[test]
-fn the_first_refusal_is_the_answer(rt: HostRuntime) -> Result<(), Fail> {
-    let alloc = rt.alloc();
-    let tasks = TaskSet::read(alloc, TASKS.as_bytes()).map_err(|_| "tasks")?;
-    for (text, want) in [
-        (b"".as_slice(), DeadlineFault::Header),
-        (b"task,job\na,0\n", DeadlineFault::Header),
-        (
-            b"task,deadline\na,1\na\n",
-            DeadlineFault::Fields { row: 2, count: 1 },
-        ),
-        (
-            b"task,deadline\nc,x\n",
-            DeadlineFault::UnknownTask {
-                row: 1,
-                name: Short::of(b"c"),
-            },
-        ),
-        (
-            b"task,deadline\na,01\n",
-            DeadlineFault::BadNumber { row: 1 },
-        ),
-        (b"task,deadline\na,5\n", DeadlineFault::Range { row: 1 }),
-        (b"task,deadline\na,0\n", DeadlineFault::Range { row: 1 }),
-        (
-            b"task,deadline\nb,6\nb,7\n",
-            DeadlineFault::Range { row: 2 },
-        ),
-        (
-            b"task,deadline\nb,6\nb,5\n",
-            DeadlineFault::Repeated { row: 2, task: 1 },
-        ),
-    ] {
-        let found = Deadlines::read(alloc, text, &tasks).err();
-        assert_eq!(rt; found, Some(want));
-    }
-    Ok(())
-}
-
-#[test]
-fn a_task_without_a_row_has_its_period(rt: HostRuntime) -> Result<(), Fail> {
-    let alloc = rt.alloc();
-    let tasks = TaskSet::read(alloc, TASKS.as_bytes()).map_err(|_| "tasks")?;
-    let deadlines = Deadlines::read(alloc, b"task,deadline\nb,5\n", &tasks).map_err(
-        |_| "deadlines",
-    )?;
-    if tasks.count() != 2 {
-        return Err("tasks".into());
-    }
-    assert_eq!(rt; [deadlines.of(0), deadlines.of(1)], [4, 5]);
-    Ok(())
 }

@@ -1,11 +1,10 @@
 // Task sets at random, whose responses are compared with the definition. In nearly all of them the last task takes more
 // than a thousand steps of the iteration, so its response is searched for; about half of these have none.
-ghost use Rattle.std.specs.Prelude.{◌≤◌, ◌<◌};
-
 use crate::responses::answer;
 use rm_response::ResponseFault;
 use std::alloc::Global;
 use std::test::Fail;
+use test_inputs::Draws;
 
 // How many sets are compared.
 const SETS: u32 = 20;
@@ -20,25 +19,6 @@ const MACHINE: &str = "point = [{speed = 1000, millivolts = 1000}]";
 struct Row {
     period: u64,
     worst: u64,
-}
-
-// Numbers from a linear congruential generator, whose step is Knuth's (The Art of Computer Programming, volume 2).
-#[derive(Drop)]
-struct Draws {
-    state: u64,
-}
-
-impl Draws {
-    fn below(&mut self, bound: u64) -> u64
-        requires { 1 ≤ bound }
-        ensures { result < bound }
-    {
-        self.state = self
-            .state
-            .wrapping_mul(6364136223846793005)
-            .wrapping_add(1442695040888963407);
-        (self.state >> 33) % bound
-    }
 }
 
 // Four tasks in RM order. The first leaves `units` units of each tick, the second `left` units of these in each of its
@@ -123,7 +103,7 @@ fn defined(alloc: Global, rows: &[Row; 4]) -> Result<Result<Vec<u64>, ResponseFa
 #[test]
 fn long_responses_are_those_of_the_definition(rt: HostRuntime) -> Result<(), Fail> {
     let alloc = rt.alloc();
-    let mut draws = Draws { state: 1 };
+    let mut draws = Draws::from_seed(1);
     for _ in 0..SETS {
         let rows = rows_of(&mut draws);
         let file = file_of(alloc, &rows)?;

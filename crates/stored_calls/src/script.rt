@@ -2,7 +2,8 @@
 //
 // | Line | What it does |
 // |---|---|
-// | empty, or `# text` | the line is printed |
+// | empty | is printed; a case begins, which has no files yet |
+// | `# text` | the line is printed |
 // | `file NAME` | begins the file T, M, F or D anew, empty so far |
 // | `\|text` | adds a line to that file: the bytes of the text, with escapes, and a line feed |
 // | `-text` | adds the bytes of the text without a line feed |
@@ -12,6 +13,8 @@
 // | `probe WHAT` | the next call has one more probe, which counts `speeds` or `dones`, or the `units` of each task |
 // | `probe WHAT LIMIT` | the same of a probe that leaves at this tally |
 // | `call WORDS` | makes the call: its words, with escapes, are those between single blanks |
+//
+// So each case has its own files. A call that names one of the four which its case doesn't have is no form of the list.
 use crate::Trouble;
 use crate::escape::unescaped;
 use crate::show::show_call;
@@ -59,21 +62,30 @@ fn words_of(alloc: Global, line: &str) -> Result<Vec<String>, Trouble> {
     Ok(words)
 }
 
+// A call with the files of its case; `Script`, with a line that says so, where the case lacks one.
+fn run_call(rt: &HostRuntime, line: &str, stage: &mut Stage) -> Result<(), Trouble> {
+    let words = words_of(rt.alloc(), line)?;
+    for word in &words {
+        if stage.lacks(word) {
+            println!(rt; "rtdvs {line}: no file {word} in this case").map_err(|_| Trouble::Write)?;
+            return Err(Trouble::Script);
+        }
+    }
+    let ending = stage.call(rt.alloc(), &words)?;
+    show_call(rt, line, &ending)
+}
+
 // A line that begins with a word and a blank.
 fn run_order(rt: &HostRuntime, order: &str, rest: &str, stage: &mut Stage) -> Result<(), Trouble> {
     match (order, rest.split_once(' ')) {
         ("#", _) => println!(rt; "# {rest}").map_err(|_| Trouble::Write),
-        ("file", _) => stage.begin(rest),
+        ("file", _) => stage.begin(rt.alloc(), rest),
         ("fail", Some(("load", number))) => stage.fail_load(number_of(number)?),
         ("fail", Some(("put", at))) => stage.fail_put(fail_at(at)?),
         ("fail", Some(("note", at))) => stage.fail_note(fail_at(at)?),
         ("probe", Some((what, limit))) => stage.probe(what_of(what)?, Some(number_of(limit)?)),
         ("probe", None) => stage.probe(what_of(rest)?, None),
-        ("call", _) => {
-            let words = words_of(rt.alloc(), rest)?;
-            let ending = stage.call(rt.alloc(), &words)?;
-            show_call(rt, rest, &ending)
-        }
+        ("call", _) => run_call(rt, rest, stage),
         _ => Err(Trouble::Script),
     }
 }
@@ -81,6 +93,7 @@ fn run_order(rt: &HostRuntime, order: &str, rest: &str, stage: &mut Stage) -> Re
 /// Does what a line of the list says.
 pub(crate) fn run_line(rt: &HostRuntime, line: &str, stage: &mut Stage) -> Result<(), Trouble> {
     if line.is_empty() {
+        stage.begin_case();
         return println!(rt; "").map_err(|_| Trouble::Write);
     }
     if let Some(text) = line.strip_prefix('|') {

@@ -1,14 +1,15 @@
 // What the next call is made over.
 use crate::Trouble;
 use dvs_base::{FailAt, MemShelf, MemSink};
-use probes::{CountProbe, Probe, Rule, TableProbe, What};
+use probes::What;
 use rtdvs_top::rtdvs;
 use std::alloc::{AllocError, Global};
+use test_inputs::{Asked, of_all_tasks, probes_of};
 
 // The bytes that each sink of a call has room for.
 const ROOM: usize = 65536;
 
-// A file of the shelf.
+// A file that a case may have.
 #[derive(Clone, Copy)]
 enum Place {
     T,
@@ -17,19 +18,32 @@ enum Place {
     D,
 }
 
-/// The files so far, which have the names T, M, F and D; the loads and puts that fail in the next call, counted from 1, and
-/// its probes.
+impl Place {
+    // The file of this name.
+    fn named(name: &str) -> Option<Place> {
+        match name {
+            "T" => Some(Place::T),
+            "M" => Some(Place::M),
+            "F" => Some(Place::F),
+            "D" => Some(Place::D),
+            _ => None,
+        }
+    }
+}
+
+/// The files of the case so far, which have the names T, M, F and D; the loads and puts that fail in the next call, counted
+/// from 1, and its probes.
 #[derive(Drop)]
 pub(crate) struct Stage {
-    t: Vec<u8>,
-    m: Vec<u8>,
-    f: Vec<u8>,
-    d: Vec<u8>,
-    place: Place,
+    t: Option<Vec<u8>>,
+    m: Option<Vec<u8>>,
+    f: Option<Vec<u8>>,
+    d: Option<Vec<u8>>,
+    last: Option<Place>,
     loads: Vec<u64>,
     puts: Vec<FailAt>,
     notes: Vec<FailAt>,
-    probes: Vec<Rule>,
+    probes: Vec<Asked>,
 }
 
 /// What a call is made over and what it leaves: the shelf, both sinks, and its exit status.
@@ -42,14 +56,14 @@ pub(crate) struct Ending {
 }
 
 impl Stage {
-    /// Empty files, and nothing fails.
+    /// No files, and nothing fails.
     pub(crate) fn new(alloc: Global) -> Stage {
         Stage {
-            t: Vec::new(alloc),
-            m: Vec::new(alloc),
-            f: Vec::new(alloc),
-            d: Vec::new(alloc),
-            place: Place::T,
+            t: None,
+            m: None,
+            f: None,
+            d: None,
+            last: None,
             loads: Vec::new(alloc),
             puts: Vec::new(alloc),
             notes: Vec::new(alloc),
@@ -57,33 +71,57 @@ impl Stage {
         }
     }
 
-    /// Begins the file of this name anew; `Script` where there is none of the name.
-    pub(crate) fn begin(&mut self, name: &str) -> Result<(), Trouble> {
-        self.place = match name {
-            "T" => Place::T,
-            "M" => Place::M,
-            "F" => Place::F,
-            "D" => Place::D,
-            _ => return Err(Trouble::Script),
-        };
-        match self.place {
-            Place::T => self.t.clear(),
-            Place::M => self.m.clear(),
-            Place::F => self.f.clear(),
-            Place::D => self.d.clear(),
+    /// A case begins: it has no files yet.
+    pub(crate) fn begin_case(&mut self) {
+        self.t = None;
+        self.m = None;
+        self.f = None;
+        self.d = None;
+        self.last = None;
+    }
+
+    // The bytes of a file of the case.
+    fn file(&self, place: Place) -> &Option<Vec<u8>> {
+        match place {
+            Place::T => &self.t,
+            Place::M => &self.m,
+            Place::F => &self.f,
+            Place::D => &self.d,
         }
+    }
+
+    fn file_mut(&mut self, place: Place) -> &mut Option<Vec<u8>> {
+        match place {
+            Place::T => &mut self.t,
+            Place::M => &mut self.m,
+            Place::F => &mut self.f,
+            Place::D => &mut self.d,
+        }
+    }
+
+    /// Begins the file of this name anew; `Script` where there is none of the name.
+    pub(crate) fn begin(&mut self, alloc: Global, name: &str) -> Result<(), Trouble> {
+        let place = Place::named(name).ok_or(Trouble::Script)?;
+        *self.file_mut(place) = Some(Vec::new(alloc));
+        self.last = Some(place);
         Ok(())
     }
 
-    /// Adds bytes to the file that was begun last.
+    /// Adds bytes to the file that was begun last; `Script` where the case has none.
     pub(crate) fn add(&mut self, bytes: &[u8]) -> Result<(), Trouble> {
-        let added = match self.place {
-            Place::T => self.t.extend_from_slice(bytes),
-            Place::M => self.m.extend_from_slice(bytes),
-            Place::F => self.f.extend_from_slice(bytes),
-            Place::D => self.d.extend_from_slice(bytes),
-        };
-        added.map_err(|_| Trouble::NoMemory)
+        let place = self.last.ok_or(Trouble::Script)?;
+        match self.file_mut(place) {
+            Some(file) => file.extend_from_slice(bytes).map_err(|_| Trouble::NoMemory),
+            None => Err(Trouble::Script),
+        }
+    }
+
+    /// Whether the word names a file that the case lacks.
+    pub(crate) fn lacks(&self, word: &str) -> bool {
+        match Place::named(word) {
+            Some(place) => self.file(place).is_none(),
+            None => false,
+        }
     }
 
     /// In the next call this load fails.
@@ -101,14 +139,14 @@ impl Stage {
         self.notes.push(put).map_err(|_| Trouble::NoMemory)
     }
 
-    /// The next call has one more probe, of all tasks.
+    /// The next call has one more probe, of all tasks: units are counted by a table, all else by a count.
     pub(crate) fn probe(&mut self, what: What, limit: Option<u64>) -> Result<(), Trouble> {
-        let rule = Rule {
-            what,
-            task: None,
-            limit,
+        let rule = of_all_tasks(what, limit);
+        let probe = match what {
+            What::Units => Asked::Table(rule),
+            _ => Asked::Count(rule),
         };
-        self.probes.push(rule).map_err(|_| Trouble::NoMemory)
+        self.probes.push(probe).map_err(|_| Trouble::NoMemory)
     }
 
     // Nothing fails any more, and there are no probes.
@@ -119,30 +157,35 @@ impl Stage {
         self.probes.clear();
     }
 
+    // A shelf with the files of the case.
+    fn shelf(&self, alloc: Global) -> Result<MemShelf, Trouble> {
+        let mut shelf = MemShelf::new(alloc, &self.loads)?;
+        for (name, place) in [
+            ("T", Place::T),
+            ("M", Place::M),
+            ("F", Place::F),
+            ("D", Place::D),
+        ] {
+            if let Some(file) = self.file(place) {
+                shelf.add(name, file)?;
+            }
+        }
+        Ok(shelf)
+    }
+
     // The files on a shelf, and empty sinks.
     fn opened(&self, alloc: Global) -> Result<Ending, Trouble> {
-        let mut shelf = MemShelf::new(alloc, &self.loads)?;
-        shelf.add("T", &self.t)?;
-        shelf.add("M", &self.m)?;
-        shelf.add("F", &self.f)?;
-        shelf.add("D", &self.d)?;
         Ok(Ending {
-            shelf,
+            shelf: self.shelf(alloc)?,
             out: MemSink::new(alloc, ROOM, &self.puts)?,
             notes: MemSink::new(alloc, ROOM, &self.notes)?,
             code: 0,
         })
     }
 
-    // Makes the call: units are counted by a table, all else by a count.
+    // Makes the call.
     fn make(&self, alloc: Global, words: &[String], ending: &mut Ending) -> Result<(), AllocError> {
-        let mut probes: Vec<Box<dyn Probe>> = Vec::new(alloc);
-        for rule in &self.probes {
-            match rule.what {
-                What::Units => probes.push(Box::new(alloc, TableProbe::new(*rule))?)?,
-                _ => probes.push(Box::new(alloc, CountProbe::new(*rule))?)?,
-            }
-        }
+        let mut probes = probes_of!(alloc, &self.probes);
         let status = rtdvs(
             alloc,
             words,

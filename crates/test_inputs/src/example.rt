@@ -1,5 +1,5 @@
 // The inputs that several crates of tests share: the example of Pillai and Shin 2001, with 4 units for a millisecond
-// at full speed; a battery-driven controller; and two tasks, the second of which has its first release after tick 0.
+// at full speed; a battery-driven controller; and two tasks, one or both of which are first released after tick 0.
 
 /// The tasks of the example of Pillai and Shin 2001.
 pub const PAPER_TASKS: &[u8] = br#"
@@ -7,6 +7,15 @@ task = [
     {name = "t1", period = 8, worst = 12},
     {name = "t2", period = 10, worst = 12},
     {name = "t3", period = 14, worst = 4},
+]
+"#;
+
+/// The tasks of the example of Pillai and Shin 2001 with first releases after tick 0.
+pub const LATE_TASKS: &[u8] = br#"
+task = [
+    {name = "t1", period = 8, worst = 12, offset = 3},
+    {name = "t2", period = 10, worst = 12, offset = 1},
+    {name = "t3", period = 14, worst = 4, offset = 5},
 ]
 "#;
 
@@ -22,6 +31,45 @@ point = [
 /// The demands of the jobs of the example of Pillai and Shin 2001.
 pub const PAPER_DEMANDS: &[u8] =
     b"task,job,units\nt1,1,8\nt1,2,4\nt2,1,4\nt2,2,4\nt3,1,4\nt3,2,4\n";
+
+/// A demand file without rows: each job needs its worst case.
+pub const NO_DEMANDS: &[u8] = b"task,job,units\n";
+
+/// The trace of the example of Pillai and Shin 2001 at the highest speed, with each job at its worst case.
+pub const NONE_TRACE: &str = "trace 1
+plan edf none 16
+release 0 t1 1
+release 0 t2 1
+release 0 t3 1
+speed 0 4 4/1
+run 0:0 3:0 t1 1 12 300000000000
+done 3:0 t1 1 12
+speed 3 4 4/1
+run 3:0 6:0 t2 1 12 300000000000
+done 6:0 t2 1 12
+speed 6 4 4/1
+run 6:0 7:0 t3 1 4 100000000000
+done 7:0 t3 1 4
+speed 7 4 4/1
+idle 7:0 8:0 4 0
+release 8 t1 2
+speed 8 4 4/1
+run 8:0 10:0 t1 2 8 200000000000
+release 10 t2 2
+speed 10 4 4/1
+run 10:0 11:0 t1 2 4 100000000000
+done 11:0 t1 2 12
+speed 11 4 4/1
+run 11:0 14:0 t2 2 12 300000000000
+done 14:0 t2 2 12
+release 14 t3 2
+speed 14 4 4/1
+run 14:0 15:0 t3 2 4 100000000000
+done 15:0 t3 2 4
+speed 15 4 4/1
+idle 15:0 16:0 4 0
+end 16 1400000000000 0
+";
 
 /// The trace of the example of Pillai and Shin 2001 under cycle-conserving EDF, with `PAPER_DEMANDS`.
 pub const CYCLE_TRACE: &[u8] = b"trace 1
@@ -90,6 +138,14 @@ pub const CONTROLLER_DEMANDS: &[u8] =
 /// Two tasks; the first release of the second is at tick 2.
 pub const TWO_TASKS: &[u8] =
     br#"task = [{name = "x", period = 4, worst = 4}, {name = "y", period = 6, worst = 6, offset = 2}]"#;
+
+/// Two tasks, both first released at tick 2; the first decision, at tick 0, has a demand of 0.
+pub const BOTH_AT_2: &[u8] =
+    br#"task = [{name = "x", period = 4, worst = 4, offset = 2}, {name = "y", period = 6, worst = 6, offset = 2}]"#;
+
+/// Two tasks, one of which is first released after tick 99.
+pub const ONE_BEYOND: &[u8] =
+    br#"task = [{name = "x", period = 4, worst = 4}, {name = "z", period = 6, worst = 6, offset = 100}]"#;
 
 /// The trace of `TWO_TASKS` on `PAPER_MACHINE` under cycle-conserving EDF, in version 1.
 pub const TWO_TRACE_1: &[u8] = b"trace 1

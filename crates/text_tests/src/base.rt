@@ -3,7 +3,7 @@ use crate::trickling::Trickling;
 use dvs_base::{
     FailAt, HostShelf, HostSink, Line, LoadFault, MemShelf, MemSink, MemberFault, Name, Part,
     Shelf, Short, Sink, VoidSink, line_of, member_at, number_at, put_num, read_document, text_at,
-    unknown_key, wide,
+    unknown_key, whole, wide,
 };
 use std::alloc::Global;
 use std::io::{Cursor, Write};
@@ -11,6 +11,20 @@ use std::process::Abort;
 use std::rt::Files;
 use std::test::Fail;
 use std::{fs, io};
+
+#[test]
+fn numbers_have_one_spelling(rt: HostRuntime) {
+    for (text, want) in [
+        ("0", Some(0)),
+        ("18446744073709551615", Some(u64::MAX)),
+        ("18446744073709551616", None),
+        ("", None),
+        ("007", None),
+        ("+7", None),
+    ] {
+        assert_eq!(rt; whole(text.as_bytes()), want, "{text}");
+    }
+}
 
 #[test]
 fn wide_numbers_end_at_128_bits(rt: HostRuntime) {

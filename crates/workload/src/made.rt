@@ -20,8 +20,8 @@ use task_model::{Task, TaskSet};
 // The periods, in ticks.
 const PERIODS: [u64; 8] = [20, 25, 40, 50, 100, 125, 200, 250];
 
-// The highest speed, in work units per tick.
-const TOP_SPEED: u64 = 1000;
+// The highest speed of the machine, in work units per tick.
+const MADE_SPEED: u64 = 1000;
 
 // How many jobs of each task have a row in the demand list.
 const JOBS: u32 = 4;
@@ -45,7 +45,7 @@ fn make_task(draws: &mut Draws, count: u32, task: u32) -> Task
     ensures task { result ≡ task_by count task (draw_of (next_state draws.old.state)) (draw_of draws.new.state) }
 {
     let period = PERIODS[(draws.draw() % 8) as usize];
-    let share = TOP_SPEED * period / u64::from(count);
+    let share = MADE_SPEED * period / u64::from(count);
     Task {
         name: made_name(task),
         period,
@@ -127,7 +127,7 @@ fn make_machine(alloc: Global) -> Result<Machine, NoMemory>
             millivolts: 4000,
         },
         Point {
-            speed: TOP_SPEED,
+            speed: MADE_SPEED,
             millivolts: 5000,
         },
     ];

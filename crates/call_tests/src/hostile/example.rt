@@ -12,48 +12,12 @@ pub(crate) const CONTROLLER_RUN: Call = Call {
     words: "run --tasks T --machine M --scheduler edf --governor cc --ticks 100 --demands F",
 };
 
-pub(crate) const ROW_RUN: Call = Call {
+pub(crate) const NONE_RUN: Call = Call {
     tasks: PAPER_TASKS,
     machine: PAPER_MACHINE,
     third: b"",
     words: "run --tasks T --machine M --scheduler edf --governor none --ticks 16",
 };
-
-// The trace of the example at the highest speed, with each job at its worst case.
-pub(crate) const ROW_TRACE: &str = "trace 1
-plan edf none 16
-release 0 t1 1
-release 0 t2 1
-release 0 t3 1
-speed 0 4 4/1
-run 0:0 3:0 t1 1 12 300000000000
-done 3:0 t1 1 12
-speed 3 4 4/1
-run 3:0 6:0 t2 1 12 300000000000
-done 6:0 t2 1 12
-speed 6 4 4/1
-run 6:0 7:0 t3 1 4 100000000000
-done 7:0 t3 1 4
-speed 7 4 4/1
-idle 7:0 8:0 4 0
-release 8 t1 2
-speed 8 4 4/1
-run 8:0 10:0 t1 2 8 200000000000
-release 10 t2 2
-speed 10 4 4/1
-run 10:0 11:0 t1 2 4 100000000000
-done 11:0 t1 2 12
-speed 11 4 4/1
-run 11:0 14:0 t2 2 12 300000000000
-done 14:0 t2 2 12
-release 14 t3 2
-speed 14 4 4/1
-run 14:0 15:0 t3 2 4 100000000000
-done 15:0 t3 2 4
-speed 15 4 4/1
-idle 15:0 16:0 4 0
-end 16 1400000000000 0
-";
 
 pub(crate) const TWO_RUN: Call = Call {
     tasks: TWO_TASKS,

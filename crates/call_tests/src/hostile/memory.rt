@@ -3,7 +3,7 @@ ghost use Rattle.std.specs.Prelude.{None};
 
 use crate::call::{Faults, left_over};
 use crate::hostile::example::EACH_THAT_LOADS;
-use crate::hostile::puts::at;
+use crate::hostile::lines::fail_at;
 use dvs_base::{FailAt, LoadFault, Shelf};
 use std::alloc::Global;
 use std::test::Fail;
@@ -54,8 +54,8 @@ fn is_out_of_memory(
 #[test]
 fn out_of_memory_for_a_file(rt: HostRuntime) -> Result<(), Fail> {
     for call in EACH_THAT_LOADS {
-        is_out_of_memory(rt.alloc(), call.words, at(2, 0), "no memory\n", 0)?;
-        is_out_of_memory(rt.alloc(), call.words, at(1, 2), "no", 1)?;
+        is_out_of_memory(rt.alloc(), call.words, fail_at(2, 0), "no memory\n", 0)?;
+        is_out_of_memory(rt.alloc(), call.words, fail_at(1, 2), "no", 1)?;
     }
     Ok(())
 }

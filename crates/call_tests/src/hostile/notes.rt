@@ -1,7 +1,8 @@
 // Puts of the notes that fail: the status stays the same, and nothing more is put.
 use crate::call::{Call, Faults};
 use crate::hostile::example::{ADMIT, CONSTRAIN, DENIED, LEAST, OVER_WORST, POLL, RESPONSE};
-use crate::hostile::puts::{Line, TAKEN, at};
+use crate::hostile::lines::{Line, after, lines_of};
+use crate::hostile::puts::TAKEN;
 use dvs_base::FailAt;
 use std::test::Fail;
 use test_inputs::Ending;
@@ -31,18 +32,18 @@ fn note_fails(rt: &impl AllocGlobal, call: Call<'_>, code: u8, line: Line<'_>) -
             notes: line.first(taken),
             faults: [0, 0, 1],
         };
-        ends_at_note(rt, call, at(line.number, taken), failed)?;
+        ends_at_note(rt, call, line.failing(taken), failed)?;
     }
     Ok(())
 }
 
-// A fault at the put with this number, which isn't made, changes nothing.
+// A put of the notes that isn't made changes nothing.
 fn note_is_not_put(
     rt: &impl AllocGlobal,
     call: Call<'_>,
     code: u8,
     text: &str,
-    number: u64,
+    put: FailAt,
 ) -> Result<(), Fail> {
     let whole = Ending {
         code,
@@ -50,7 +51,7 @@ fn note_is_not_put(
         notes: text,
         faults: [0, 0, 0],
     };
-    ends_at_note(rt, call, at(number, 0), whole)
+    ends_at_note(rt, call, put, whole)
 }
 
 // Each put of these notes, one for each line, fails in turn, and one after them isn't made.
@@ -60,20 +61,11 @@ fn each_note_fails(
     code: u8,
     text: &str,
 ) -> Result<(), Fail> {
-    let mut before = 0;
-    let mut number = 1;
-    for line in text.split_inclusive('\n') {
-        let failing = Line {
-            text,
-            line,
-            number,
-            before,
-        };
-        note_fails(rt, call, code, failing)?;
-        before = before.saturating_add(line.len());
-        number = number.saturating_add(1);
+    let lines = lines_of(rt.alloc(), text)?;
+    for line in &lines {
+        note_fails(rt, call, code, *line)?;
     }
-    note_is_not_put(rt, call, code, text, number)
+    note_is_not_put(rt, call, code, text, after(&lines))
 }
 
 // A trace of one tick, which goes to t2; under `none` the example's first tick goes to t1.

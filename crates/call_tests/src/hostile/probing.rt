@@ -1,13 +1,13 @@
 // Runs with probes, where puts fail and probes leave.
 use crate::call::{Call, Faults, NO_FAULTS};
 use crate::hostile::example::{DENIED, EACH_THAT_LOADS, OVER_WORST};
-use crate::hostile::puts::at;
+use crate::hostile::lines::{Line, fail_at, lines_of};
 use dvs_base::FailAt;
-use probes::{CountProbe, Probe, Rule, TableProbe, What};
+use probes::{Rule, What};
 use std::alloc::Global;
 use std::test::Fail;
 use test_inputs::example::{CYCLE_TRACE, PAPER_DEMANDS, PAPER_MACHINE, PAPER_TASKS};
-use test_inputs::{Ending, Outcome, first_part, of_all_tasks, shown};
+use test_inputs::{Asked, Ending, Outcome, of_all_tasks, probes_of, shown, tallies_of};
 
 const PROBED: Call = Call {
     tasks: PAPER_TASKS,
@@ -15,13 +15,6 @@ const PROBED: Call = Call {
     third: PAPER_DEMANDS,
     words: "run --tasks T --machine M --scheduler edf --governor cc --ticks 16 --demands F --probes",
 };
-
-// A probe of a call: one counter, or a counter for each task.
-#[derive(Clone, Copy)]
-enum Asked {
-    Count(Rule),
-    Table(Rule),
-}
 
 // A probe of the notes of this kind over all tasks.
 fn count(what: What) -> Asked {
@@ -61,26 +54,6 @@ impl Told {
     }
 }
 
-// The probes that are asked for.
-fn probes_of(alloc: Global, asked: &[Asked]) -> Result<Vec<Box<dyn Probe>>, Fail> {
-    let mut probes: Vec<Box<dyn Probe>> = Vec::new(alloc);
-    for probe in asked {
-        match *probe {
-            Asked::Count(rule) => probes.push(Box::new(alloc, CountProbe::new(rule))?)?,
-            Asked::Table(rule) => probes.push(Box::new(alloc, TableProbe::new(rule))?)?,
-        }
-    }
-    Ok(probes)
-}
-
-fn tallies_of(alloc: Global, probes: &[Box<dyn Probe>]) -> Result<Vec<u64>, Fail> {
-    let mut tallies = Vec::new(alloc);
-    for probe in probes {
-        tallies.push(probe.tally())?;
-    }
-    Ok(tallies)
-}
-
 // The call with these probes and these faults.
 fn probed(
     alloc: Global,
@@ -88,7 +61,7 @@ fn probed(
     faults: Faults<'_>,
     asked: &[Asked],
 ) -> Result<Told, Fail> {
-    let mut probes = probes_of(alloc, asked)?;
+    let mut probes = probes_of!(alloc, asked);
     let left = call.probed(alloc, faults, &mut probes)?;
     let tallies = tallies_of(alloc, &probes)?;
     Ok(Told { left, tallies })
@@ -124,32 +97,23 @@ fn done(notes: &str, failed: u64) -> Ending<'_> {
     }
 }
 
-// Where this put of the trace fails, this text is on `out`, and a probe of decisions has counted `told` of them.
-fn hears_before(alloc: Global, number: u64, out: &str, told: u64) -> Result<(), Fail> {
-    let run = failed_at(alloc, at(number, 255), &[count(What::Speeds)])?;
-    run.left.is(PROBED.words, failed(out))?;
+// Where the put of this line fails, the text up to its end is on `out`, and a probe of decisions has counted `told`.
+fn hears_before(alloc: Global, line: Line<'_>, told: u64) -> Result<(), Fail> {
+    let run = failed_at(alloc, line.failing(255), &[count(What::Speeds)])?;
+    run.left.is(PROBED.words, failed(line.first(255)))?;
     run.is(PROBED.words, 8, &[told])
 }
 
 // Each put of the trace fails in turn: the probe has counted the decisions of the lines before it, and no other.
 #[test]
 fn a_probe_hears_the_lines_that_were_put(rt: HostRuntime) -> Result<(), Fail> {
-    let trace = shown(CYCLE_TRACE);
+    let lines = lines_of(rt.alloc(), shown(CYCLE_TRACE))?;
     let mut told = 0u64;
-    let mut number = 1u64;
-    let mut before = 0;
-    for line in trace.split_inclusive('\n') {
-        hears_before(
-            rt.alloc(),
-            number,
-            first_part(trace, before, line, 255),
-            told,
-        )?;
-        before = before.saturating_add(line.len());
-        if line.starts_with("speed ") {
+    for line in &lines {
+        hears_before(rt.alloc(), *line, told)?;
+        if line.line.starts_with("speed ") {
             told = told.saturating_add(1);
         }
-        number = number.saturating_add(1);
     }
     assert_eq!(rt; told, 8);
     Ok(())
@@ -197,13 +161,13 @@ const BOTH_LINES: &str = "probe 1 speeds all 8\nprobe 2 idles none 0\n";
 #[test]
 fn each_line_of_probes_fails(rt: HostRuntime) -> Result<(), Fail> {
     let alloc = rt.alloc();
-    line_fails(alloc, at(1, 0), "", 1)?;
-    line_fails(alloc, at(1, 1), "p", 1)?;
-    line_fails(alloc, at(1, 255), SPEEDS_LINE, 1)?;
-    line_fails(alloc, at(2, 0), SPEEDS_LINE, 1)?;
-    line_fails(alloc, at(2, 1), "probe 1 speeds all 8\np", 1)?;
-    line_fails(alloc, at(2, 255), BOTH_LINES, 1)?;
-    line_fails(alloc, at(3, 0), BOTH_LINES, 0)
+    line_fails(alloc, fail_at(1, 0), "", 1)?;
+    line_fails(alloc, fail_at(1, 1), "p", 1)?;
+    line_fails(alloc, fail_at(1, 255), SPEEDS_LINE, 1)?;
+    line_fails(alloc, fail_at(2, 0), SPEEDS_LINE, 1)?;
+    line_fails(alloc, fail_at(2, 1), "probe 1 speeds all 8\np", 1)?;
+    line_fails(alloc, fail_at(2, 255), BOTH_LINES, 1)?;
+    line_fails(alloc, fail_at(3, 0), BOTH_LINES, 0)
 }
 
 // The run with a probe of each kind, of all tasks or of one, succeeds with these notes.
@@ -241,7 +205,11 @@ fn each_kind_of_probe_has_its_line(rt: HostRuntime) -> Result<(), Fail> {
 
 // Where this put fails, a probe that leaves at the first completion, and one of running segments, have these tallies.
 fn stay_at_put(alloc: Global, number: u64, tallies: &[u64]) -> Result<(), Fail> {
-    let run = failed_at(alloc, at(number, 1), &[leaves_at(1), count(What::Runs)])?;
+    let run = failed_at(
+        alloc,
+        fail_at(number, 1),
+        &[leaves_at(1), count(What::Runs)],
+    )?;
     run.is(PROBED.words, 8, tallies)
 }
 
@@ -300,7 +268,7 @@ fn three_probes() -> [Asked; 3] {
 
 // Where the eighth put fails, the first completion wasn't told.
 fn three_count_before_a_put(alloc: Global) -> Result<(), Fail> {
-    let part = failed_at(alloc, at(8, 0), &three_probes())?;
+    let part = failed_at(alloc, fail_at(8, 0), &three_probes())?;
     part.is(PROBED.words, 8, &[0, 1, 0])?;
     has_notes(&part.left, "write: out failed\n")
 }

@@ -1,11 +1,12 @@
 // Traces of generated plans with random demands: replayed, migrated, and with one byte changed.
-ghost use Rattle.std.specs.Prelude.{◌≤◌, ◌<◌};
+ghost use Rattle.std.specs.Prelude.{◌≤◌};
 
 use crate::call::{Call, NO_FAULTS};
 use crate::changed;
 use std::alloc::Global;
 use std::test::Fail;
 use task_model::TaskSet;
+use test_inputs::Draws;
 use workload::make;
 
 const REPLAY: &str = "replay --tasks T --machine M --trace F";
@@ -63,7 +64,7 @@ fn add_rows(
 
 // The rows of a demand file for the first jobs of each task.
 fn demand_rows(alloc: Global, tasks: &TaskSet, seed: u64) -> Result<String, Fail> {
-    let mut draws = Draws { state: seed };
+    let mut draws = Draws::from_seed(seed);
     let mut rows = String::from_str(alloc, "task,job,units\n")?;
     for i in 0..tasks.count() {
         let task = tasks.task(i);
@@ -177,33 +178,14 @@ fn traces_of_made_plans_are_replayed_and_migrated(rt: HostRuntime) -> Result<(),
     Ok(())
 }
 
-// Numbers from a linear congruential generator, whose step is Knuth's (The Art of Computer Programming, volume 2).
-#[derive(Drop)]
-struct Draws {
-    state: u64,
-}
-
-impl Draws {
-    fn below(&mut self, bound: u64) -> u64
-        requires { 1 ≤ bound }
-        ensures { result < bound }
-    {
-        self.state = self
-            .state
-            .wrapping_mul(6364136223846793005)
-            .wrapping_add(1442695040888963407);
-        (self.state >> 33) % bound
+// The text with one of its bytes changed.
+fn changed_text(alloc: Global, draws: &mut Draws, text: &[u8]) -> Result<Vec<u8>, Fail> {
+    if text.is_empty() {
+        return Err(Fail::from("no byte"));
     }
-
-    // The text with one of its bytes changed.
-    fn changed(&mut self, alloc: Global, text: &[u8]) -> Result<Vec<u8>, Fail> {
-        if text.is_empty() {
-            return Err(Fail::from("no byte"));
-        }
-        let place = self.below(text.len() as u64) as usize;
-        let draw = self.below(1 << 31);
-        Ok(changed(alloc, text, place, draw)?)
-    }
+    let place = draws.below(text.len() as u64) as usize;
+    let draw = draws.below(1 << 31);
+    Ok(changed(alloc, text, place, draw)?)
 }
 
 // The call fails: it leaves nothing on `out`, and a line on `notes`.
@@ -223,7 +205,7 @@ fn changes_are_refused(
     draws: &mut Draws,
 ) -> Result<(), Fail> {
     for _ in 0..4 {
-        let other = draws.changed(alloc, trace.as_bytes())?;
+        let other = changed_text(alloc, draws, trace.as_bytes())?;
         is_refused(alloc, made.asked(other.as_slice(), REPLAY))?;
         is_refused(alloc, made.asked(other.as_slice(), MIGRATE))?;
     }
@@ -254,7 +236,7 @@ fn each_change_is_refused(alloc: Global, seed: u64, draws: &mut Draws) -> Result
 
 #[test]
 fn a_changed_byte_is_never_replayed(rt: HostRuntime) -> Result<(), Fail> {
-    let mut draws = Draws { state: 14 };
+    let mut draws = Draws::from_seed(14);
     for seed in SEEDS {
         each_change_is_refused(rt.alloc(), seed, &mut draws)?;
     }
