@@ -43,7 +43,8 @@ function read_sections() {
     section("others", "The least energy", "energy_bound rtdvs_top/Least")
     section("others", "Generated workloads", "workload rtdvs_top/Generated")
     section("others", "The lines of faults", "dvs_base/FaultLines task_model/FaultLines freq_table/FaultLines " \
-        "words/FaultLines trace_reader/FaultLines demand_list/FaultLines request_list/FaultLines deadline_list/FaultLines")
+        "csv_text/FaultLines words/FaultLines trace_reader/FaultLines demand_list/FaultLines request_list/FaultLines " \
+        "deadline_list/FaultLines")
     section("others", "Every answer and every refusal", "words statuses command_files rtdvs_top")
 }
 

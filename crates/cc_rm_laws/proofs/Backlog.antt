@@ -5,12 +5,11 @@ use Rattle.std.proofs.lemmas.Bool.Decides.{nat_tests}
 use Rattle.dvs_base.specs.declared.kind.Scheduler.{Scheduler}
 use Rattle.dvs_base.specs.declared.kind.Scheduler.TheVariants.{Rm}
 use Rattle.dvs_base.specs.declared.kind.GovernorKind.TheVariants.{Fixed}
-use Rattle.grid_fraction.specs.declared.Frac.{Frac}
 use Rattle.grid_fraction.specs.Numbers.{sum_where}
 use Rattle.freq_table.specs.Tables.{speed_at, lowest_entry}
 use Rattle.sched_model.specs.Plan.{Plan, count, period, offset, worst, point}
 use Rattle.sched_model.specs.Jobs.{due, latest, worst_demand}
-use Rattle.sched_model.specs.Ticks.{Tick, exec}
+use Rattle.sched_model.specs.Ticks.{PublishedDemand, Tick, exec}
 use Rattle.sched_model.specs.Demand.{published}
 use Rattle.sched_model.specs.Priority.{stands_before, is_up_to, sum_before, sum_up_to}
 use Rattle.sched_model.specs.Schedule.{entry_in_force}
@@ -25,7 +24,7 @@ use Rattle.governor.proofs.Lacks.{worst_ticks, IsDown, lack-long, lack-same, lac
 pub use Rattle.governor.proofs.Lacks.{IsQuiet, level_down}
 
 -- the published demand of static, with every job at its worst case
-abbrev asked : Plan → List Tick → Frac
+abbrev asked : Plan → PublishedDemand
 asked p = published p Fixed (worst_demand p)
 
 -- what the job of task i that was released last before t lacks at t

@@ -2,13 +2,13 @@
 use Rattle.std.proofs.Common.{◌≡◌, ◌≢◌, ◌<◌, ◌+◌, ◌^◌, ◌==◌, refl, subst, ℕ, Bool, true, false, List, [], ◌∷◌, Option, Some, None, Result, Ok, Err, nat_lt, slice_index, arith, if◌then◌else◌}
 use Rattle.std.specs.Prelude.{⊤, ok_or, length}
 use Rattle.std.proofs.lemmas.Bool.Decides.{nat_tests}
-use Rattle.dvs_base.specs.Checks.{and_then}
+use Rattle.dvs_base.specs.Checks.{and_then, none_found}
 use Rattle.dvs_base.specs.Text.{number_below, short_of}
 use Rattle.task_model.specs.declared.task.Task.{Task}
 use Rattle.task_model.specs.DemandRows.{named}
 use Rattle.task_model.specs.TaskFile.{place_of}
 use Rattle.demand_list.specs.Demands.{DemandsOf}
-use Rattle.demand_list.specs.DemandFile.{demand_of_row, no_earlier_demand, with_checked, demands_from, worst_list, demand_file}
+use Rattle.demand_list.specs.DemandFile.{demand_of_row, with_checked, demands_from, worst_list, demand_file}
 use Rattle.demand_list.specs.declared.fault.Column.TheVariants as column
 use Rattle.demand_list.specs.declared.fault.DemandFault.{DemandFault}
 use Rattle.demand_list.specs.declared.fault.DemandFault.TheVariants as fault
@@ -48,16 +48,17 @@ row-shown tasks row fields =
     then-shown _ _ (choice-shown (number == 0) (Err (fault.JobZero row)) (Ok number) (λ h. tt) tt) (λ job.
     then-shown _ _ (found-shown (number_below (2 ^ 64) three.2) (fault.BadNumber row column.Units) tt) (λ units. tt)))))
 
-earlier-shown : (row task job : ℕ) (o : Option ℕ) (rest : Result DemandsOf DemandFault) → IsShownStep rest
-    → IsShownStep (no_earlier_demand row task job o rest)
-earlier-shown row task job None rest h = h
-earlier-shown row task job (Some units) rest h = tt
+none-shown : {A : Type 0} (refusal : A → DemandFault) (o : Option A) → ((a : A) → IsShownFault (refusal a))
+    → IsShownStep (none_found refusal o)
+none-shown refusal None each = tt
+none-shown refusal (Some a) each = each a
 
 checked-shown : (d : DemandsOf) (row task job units : ℕ) → IsShownStep (with_checked d row task job units)
 checked-shown d row task job units =
-    earlier-shown row task job (named d.rows task job) _
+    then-shown _ _ (none-shown _ (named d.rows task job) (λ earlier. tt)) (λ _.
+    then-shown _ _
     (choice-shown (nat_lt (slice_index d.worsts task) units)
-    (Err (fault.OverWorst task job units (slice_index d.worsts task))) _ (λ h. grind (arith, nat_tests)) tt)
+    (Err (fault.OverWorst task job units (slice_index d.worsts task))) _ (λ h. grind (arith, nat_tests)) tt) (λ _. tt))
 
 rows-shown : (tasks : List Task) (row : ℕ) (d : DemandsOf) (rows : List (List (List ℕ)))
     → IsShownStep (demands_from tasks row d rows)

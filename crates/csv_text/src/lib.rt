@@ -3,8 +3,11 @@
 //! A text is read with the CSV reader's defaults, and records may have any number of fields. Callers may rely on
 //! `records_left`: it has the records of the text that a reader has not read, by the CSV reader's own specification,
 //! and each call of `next_record` takes the first of them; and on `rows_reader` to find the rows after one header,
-//! field by field. One record is used again for each row, so no text is kept twice.
+//! field by field. One record is used again for each row, so no text is kept twice. `row_line` is the line of a refused
+//! row, and `bad_number_line` that of a field that is no number.
 #![tactic(auto)]
+
+mod fault_line;
 
 ghost use Rattle.std.specs.Prelude.{◌≡◌, ◌<◌, ◌≤◌, ◌+◌, ◌∷◌, [], Ok, Some, true, false, length, map, option_map, IfOk, IfSome};
 ghost use Rattle.csv.specs.Reading.{default_config, records, strip_bom, error_kind, stops_reader};
@@ -14,6 +17,7 @@ ghost use Rattle.csv_text.specs.Rows.{IsDefault, records_left, has_fields, text_
 
 use csv::{ByteRecord, Error, Reader, ReaderBuilder};
 use dvs_base::NoMemory;
+pub use fault_line::{bad_number_line, row_line};
 use std::alloc::Global;
 
 // A reader of the records of a text, of any number of fields, the first one included. It fails only where memory runs
@@ -44,10 +48,7 @@ pub fn next_record(reader: &mut Reader<&[u8]>, fields: &mut ByteRecord) -> Resul
     ensures default_reader { result ≡ Ok true → IsDefault reader.new }
     ensures none { result ≡ Ok false → records_left reader.old ≡ [] }
 {
-    match reader.read_byte_record(fields) {
-        Ok(found) => Ok(found),
-        Err(e) => Err(no_record(e)),
-    }
+    reader.read_byte_record(fields).map_err(no_record)
 }
 
 // The field of a record at this place, counted from 0.

@@ -1,7 +1,7 @@
 -- The meaning of a demand file: the demand list, or the first refusal.
-use Rattle.std.specs.Prelude.{ℕ, ◌+◌, ◌==◌, List, [], ◌∷◌, length, map, nat_lt, slice_index, codes, Option, Some, None, ok_or, Result, Ok, Err, if◌then◌else◌}
+use Rattle.std.specs.Prelude.{ℕ, ◌+◌, ◌==◌, List, [], ◌∷◌, length, map, nat_lt, slice_index, codes, ok_or, ⊤, Result, Ok, Err, if◌then◌else◌}
 use Rattle.dvs_base.specs.Widths.{u64_end}
-use Rattle.dvs_base.specs.Checks.{and_then, IsUnlessMemory}
+use Rattle.dvs_base.specs.Checks.{◌>>=◌, ◌>>◌, none_found, IsUnlessMemory}
 use Rattle.dvs_base.specs.Text.{number_below, short_of}
 use Rattle.dvs_base.specs.Parts.{three_of}
 use Rattle.csv_text.specs.Rows.{text_rows}
@@ -23,36 +23,32 @@ job_from row job = if job == 0 then Err (fault.JobZero row) else Ok job
 
 -- the task, the job and the units of a row, or its first refusal, checked without the rows before it
 abbrev pub demand_of_row : List Task → ℕ → List (List ℕ) → Result (ℕ × ℕ × ℕ) DemandFault
-demand_of_row tasks row fields =
-    and_then (ok_or (three_of fields) (fault.Fields row (length fields))) (λ three.
-    and_then (ok_or (place_of tasks three.0) (fault.UnknownTask row (short_of three.0))) (λ task.
-    and_then (ok_or (number_below u64_end three.1) (fault.BadNumber row column.Job)) (λ number.
-    and_then (job_from row number) (λ job.
-    and_then (ok_or (number_below u64_end three.2) (fault.BadNumber row column.Units)) (λ units.
-    Ok (task, job, units))))))
+demand_of_row tasks row fields = do
+  three ← ok_or (three_of fields) (fault.Fields row (length fields))
+  task ← ok_or (place_of tasks three.0) (fault.UnknownTask row (short_of three.0))
+  number ← ok_or (number_below u64_end three.1) (fault.BadNumber row column.Job)
+  job ← job_from row number
+  units ← ok_or (number_below u64_end three.2) (fault.BadNumber row column.Units)
+  Ok (task, job, units)
 
--- the check for an earlier row of the job: the refusal where there is one, else the rest
-abbrev pub no_earlier_demand : ℕ → ℕ → ℕ → Option ℕ → Result DemandsOf DemandFault → Result DemandsOf DemandFault
-no_earlier_demand row task job None rest = rest
-no_earlier_demand row task job (Some units) rest = Err (fault.Repeated row task job)
-
--- the check against the declared worst case: the refusal of units above it, else the rest
-abbrev pub within_worst : ℕ → ℕ → ℕ → ℕ → Result DemandsOf DemandFault → Result DemandsOf DemandFault
-within_worst task job units worst rest = if nat_lt worst units then Err (fault.OverWorst task job units worst) else rest
+-- the check against the declared worst case, which refuses units above it
+abbrev pub within_worst : ℕ → ℕ → ℕ → ℕ → Result ⊤ DemandFault
+within_worst task job units worst = if nat_lt worst units then Err (fault.OverWorst task job units worst) else Ok tt
 
 -- the list with one more row, after the checks that need the list
 abbrev pub with_checked : DemandsOf → ℕ → ℕ → ℕ → ℕ → Result DemandsOf DemandFault
-with_checked d row task job units =
-    no_earlier_demand row task job (named d.rows task job) (
-    within_worst task job units (slice_index d.worsts task) (
-    Ok (record { worsts = d.worsts; rows = with_row d.rows (demand_row task job units) })))
+with_checked d row task job units = do
+  none_found (λ earlier. fault.Repeated row task job) (named d.rows task job)
+  within_worst task job units (slice_index d.worsts task)
+  Ok (record { worsts = d.worsts; rows = with_row d.rows (demand_row task job units) })
 
 -- the list so far with the rows from number `row` on, or the first refusal
 abbrev pub demands_from : List Task → ℕ → DemandsOf → List (List (List ℕ)) → Result DemandsOf DemandFault
 demands_from tasks row d [] = Ok d
-demands_from tasks row d (fields ∷ rest) =
-    and_then (demand_of_row tasks row fields) (λ r.
-    and_then (with_checked d row r.0 r.1 r.2) (λ e. demands_from tasks (row + 1) e rest))
+demands_from tasks row d (fields ∷ rest) = do
+  r ← demand_of_row tasks row fields
+  more ← with_checked d row r.0 r.1 r.2
+  demands_from tasks (row + 1) more rest
 
 -- the list without rows, in which every job needs its declared worst case
 abbrev pub worst_list : List Task → DemandsOf
@@ -64,5 +60,6 @@ demand_header = codes "task" ∷ codes "job" ∷ codes "units" ∷ []
 
 -- the meaning of a demand file's bytes for these tasks: its header first, and then its rows, counted from 1
 abbrev pub demand_file : List Task → List ℕ → Result DemandsOf DemandFault
-demand_file tasks bytes =
-    and_then (ok_or (text_rows demand_header bytes) fault.Header) (demands_from tasks 1 (worst_list tasks))
+demand_file tasks bytes = do
+  rows ← ok_or (text_rows demand_header bytes) fault.Header
+  demands_from tasks 1 (worst_list tasks) rows

@@ -2,6 +2,7 @@
 use Rattle.std.specs.Prelude.{ℕ, List, [], ◌∷◌, codes}
 use Rattle.std.specs.Fmt.{decimal}
 use Rattle.dvs_base.specs.Parts.{joined, name_of}
+use Rattle.csv_text.specs.FaultLines.{row_text, bad_number_text}
 use Rattle.demand_list.specs.declared.fault.Column.{Column}
 use Rattle.demand_list.specs.declared.fault.Column.TheVariants as column
 use Rattle.demand_list.specs.declared.fault.DemandFault.{DemandFault}
@@ -11,10 +12,6 @@ use Rattle.demand_list.specs.declared.fault.DemandFault.TheVariants as fault
 abbrev pub column_word : Column → List ℕ
 column_word column.Job = codes "job"
 column_word column.Units = codes "units"
-
--- the line of a refused row of a demand file
-abbrev pub at_demand : ℕ → List (List ℕ) → List ℕ
-at_demand row texts = joined (codes "demands: row " ∷ decimal row ∷ codes ": " ∷ texts)
 
 -- the line of a demand over its worst case: the task's name, the job, its units and the declared worst case
 abbrev pub over_worst_text : List ℕ → ℕ → ℕ → ℕ → List ℕ
@@ -26,11 +23,12 @@ over_worst_text name job units worst =
 -- the line of a demand file's refusal, with the tasks' names
 abbrev pub demand_fault_text : List (List ℕ) → DemandFault → List ℕ
 demand_fault_text names fault.Header = codes "demands: wrong header\n"
-demand_fault_text names (fault.Fields row count) = at_demand row (decimal count ∷ codes " fields\n" ∷ [])
-demand_fault_text names (fault.UnknownTask row word) = at_demand row (codes "unknown task " ∷ word ∷ codes "\n" ∷ [])
-demand_fault_text names (fault.BadNumber row at) = at_demand row (codes "bad " ∷ column_word at ∷ codes "\n" ∷ [])
-demand_fault_text names (fault.JobZero row) = at_demand row (codes "job 0\n" ∷ [])
+demand_fault_text names (fault.Fields row count) = row_text (codes "demands") row (decimal count ∷ codes " fields\n" ∷ [])
+demand_fault_text names (fault.UnknownTask row word) =
+    row_text (codes "demands") row (codes "unknown task " ∷ word ∷ codes "\n" ∷ [])
+demand_fault_text names (fault.BadNumber row at) = bad_number_text (codes "demands") row (column_word at)
+demand_fault_text names (fault.JobZero row) = row_text (codes "demands") row (codes "job 0\n" ∷ [])
 demand_fault_text names (fault.Repeated row task job) =
-    at_demand row (codes "task " ∷ name_of names task ∷ codes " job " ∷ decimal job ∷ codes " stands twice\n" ∷ [])
+    row_text (codes "demands") row (codes "task " ∷ name_of names task ∷ codes " job " ∷ decimal job ∷ codes " stands twice\n" ∷ [])
 demand_fault_text names (fault.OverWorst task job units worst) = over_worst_text (name_of names task) job units worst
 demand_fault_text names fault.NoMemory = codes "no memory\n"

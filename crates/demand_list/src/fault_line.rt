@@ -1,13 +1,15 @@
 // The lines of a refused demand file.
-ghost use Rattle.std.specs.Prelude.{◌≡◌, ◌≤◌, [], ◌∷◌, codes, length, map};
+ghost use Rattle.std.specs.Prelude.{◌≡◌, ◌≤◌, [], ◌∷◌, codes, length};
 ghost use Rattle.std.specs.Fmt.{decimal};
 ghost use Rattle.std.specs.Option.{option_copied};
-ghost use Rattle.dvs_base.specs.Parts.{part_text, most_of, name_text};
+ghost use Rattle.dvs_base.specs.Parts.{name_text};
+ghost use Rattle.csv_text.specs.FaultLines.{row_text};
 ghost use Rattle.task_model.specs.Tasks.{names_of};
-ghost use Rattle.demand_list.specs.FaultLines.{column_word, at_demand, over_worst_text, demand_fault_text};
+ghost use Rattle.demand_list.specs.FaultLines.{column_word, over_worst_text, demand_fault_text};
 
 use crate::{Column, DemandFault};
-use dvs_base::{Line, Name, Part, line_of, name_part, push_number, push_parts, push_word};
+use csv_text::{bad_number_line, row_line};
+use dvs_base::{Line, Name, Part, line_of, name_part};
 use task_model::{TaskSet, task_name};
 
 fn column_word(column: Column) -> &'static [u8]
@@ -18,19 +20,6 @@ fn column_word(column: Column) -> &'static [u8]
         Column::Job => b"job",
         Column::Units => b"units",
     }
-}
-
-// The line of a refused row.
-fn row_line(row: u64, what: &[Part<'_>]) -> Line
-    requires { most_of what.now ≤ 128 }
-    ensures { result ≡ at_demand row (map part_text what.now) }
-{
-    let mut line = Line::new();
-    push_word(&mut line, b"demands: row ");
-    push_number(&mut line, row);
-    push_word(&mut line, b": ");
-    push_parts(&mut line, what);
-    line
 }
 
 /// The line of a demand over its worst case, with the task's name. It takes no memory.
@@ -51,10 +40,11 @@ pub fn over_worst_line(name: &Option<Name>, job: u64, units: u64, worst: u64) ->
 }
 
 fn repeated_line(row: u64, name: &Option<Name>, job: u64) -> Line
-    ensures { result ≡ at_demand row
+    ensures { result ≡ row_text (codes "demands") row
         (codes "task " ∷ name_text name.now ∷ codes " job " ∷ decimal job ∷ codes " stands twice\n" ∷ []) }
 {
     row_line(
+        b"demands",
         row,
         &[
             Part::Word(b"task "),
@@ -66,19 +56,6 @@ fn repeated_line(row: u64, name: &Option<Name>, job: u64) -> Line
     )
 }
 
-fn bad_number_line(row: u64, column: Column) -> Line
-    ensures { result ≡ at_demand row (codes "bad " ∷ column_word column ∷ codes "\n" ∷ []) }
-{
-    row_line(
-        row,
-        &[
-            Part::Word(b"bad "),
-            Part::Word(column_word(column)),
-            Part::Word(b"\n"),
-        ],
-    )
-}
-
 /// The line of a demand file's refusal, with the tasks' names where they were read. It takes no memory.
 pub fn demand_fault_line(why: &DemandFault, tasks: Option<&TaskSet>) -> Line
     ensures { result ≡ demand_fault_text (names_of (option_copied tasks.entry)) why.now }
@@ -86,9 +63,14 @@ pub fn demand_fault_line(why: &DemandFault, tasks: Option<&TaskSet>) -> Line
     match why {
         DemandFault::Header => line_of(&[Part::Word(b"demands: wrong header\n")]),
         DemandFault::Fields { row, count } => {
-            row_line(*row, &[Part::Number(*count), Part::Word(b" fields\n")])
+            row_line(
+                b"demands",
+                *row,
+                &[Part::Number(*count), Part::Word(b" fields\n")],
+            )
         }
         DemandFault::UnknownTask { row, name } => row_line(
+            b"demands",
             *row,
             &[
                 Part::Word(b"unknown task "),
@@ -96,8 +78,12 @@ pub fn demand_fault_line(why: &DemandFault, tasks: Option<&TaskSet>) -> Line
                 Part::Word(b"\n"),
             ],
         ),
-        DemandFault::BadNumber { row, column } => bad_number_line(*row, *column),
-        DemandFault::JobZero { row } => row_line(*row, &[Part::Word(b"job 0\n")]),
+        DemandFault::BadNumber { row, column } => bad_number_line(
+            b"demands",
+            *row,
+            column_word(*column),
+        ),
+        DemandFault::JobZero { row } => row_line(b"demands", *row, &[Part::Word(b"job 0\n")]),
         DemandFault::Repeated { row, task, job } => {
             repeated_line(*row, &task_name(tasks, *task), *job)
         }

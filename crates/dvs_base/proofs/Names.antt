@@ -3,14 +3,15 @@ use Rattle.std.proofs.Common.{◌≡◌, ℕ, ◌≤◌, true, ◌&&◌, nat_le,
 use Rattle.std.proofs.lemmas.Bool.{and_parts}
 use Rattle.std.proofs.lemmas.Bool.Decides.{nat_tests}
 use Rattle.std.specs.List.{list_all}
+use Rattle.dvs_base.specs.declared.limits.TheConstants.{NAME_BYTES}
 use Rattle.dvs_base.specs.Text.{is_name, is_name_byte}
 
--- a name has at most 32 bytes, each one that a name may have
-pub name-parts : (name : List ℕ) → is_name name ≡ true → (length name ≤ 32) × (list_all is_name_byte name ≡ true)
+-- a name has at most `NAME_BYTES` bytes, each one that a name may have
+pub name-parts : (name : List ℕ) → is_name name ≡ true → (length name ≤ NAME_BYTES) × (list_all is_name_byte name ≡ true)
 name-parts name e =
-    let all = and_parts (nat_le 1 (length name) && nat_le (length name) 32) (list_all is_name_byte name) e in
-    let ends = and_parts (nat_le 1 (length name)) (nat_le (length name) 32) all.0 in
+    let all = and_parts (nat_le 1 (length name) && nat_le (length name) NAME_BYTES) (list_all is_name_byte name) e in
+    let ends = and_parts (nat_le 1 (length name)) (nat_le (length name) NAME_BYTES) all.0 in
     (grind (arith, nat_tests), all.1)
 
-pub length-name : (name : List ℕ) → is_name name ≡ true → length name ≤ 32
+pub length-name : (name : List ℕ) → is_name name ≡ true → length name ≤ NAME_BYTES
 length-name name e = (name-parts name e).0

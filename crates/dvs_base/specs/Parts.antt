@@ -1,6 +1,7 @@
 -- The parts of a line of text.
 use Rattle.std.specs.Prelude.{ℕ, ◌+◌, List, [], ◌∷◌, ◌++◌, codes, length, Option, Some, None, slice_index_or}
 use Rattle.std.specs.Fmt.{decimal}
+use Rattle.dvs_base.specs.declared.limits.TheConstants.{NAME_BYTES, NUMBER_BYTES, WIDE_BYTES, POSITION_BYTES, RATIO_BYTES}
 use Rattle.dvs_base.specs.declared.note.Pos.{Pos}
 use Rattle.dvs_base.specs.declared.part.Part.{Part}
 use Rattle.dvs_base.specs.declared.part.Part.TheVariants as part
@@ -41,12 +42,12 @@ part_text (part.Ratio num den) = fraction_text num den
 -- how many bytes a part has at most
 abbrev pub most_bytes : Part → ℕ
 most_bytes (part.Word bytes) = length bytes.now
-most_bytes (part.Named name) = 32
-most_bytes (part.Shown short) = 32
-most_bytes (part.Number n) = 20
-most_bytes (part.Wide n) = 39
-most_bytes (part.At pos) = 41
-most_bytes (part.Ratio num den) = 79
+most_bytes (part.Named name) = NAME_BYTES
+most_bytes (part.Shown short) = NAME_BYTES
+most_bytes (part.Number n) = NUMBER_BYTES
+most_bytes (part.Wide n) = WIDE_BYTES
+most_bytes (part.At pos) = POSITION_BYTES
+most_bytes (part.Ratio num den) = RATIO_BYTES
 
 -- how many bytes the parts have at most
 abbrev pub most_of : List Part → ℕ

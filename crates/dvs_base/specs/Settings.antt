@@ -38,6 +38,11 @@ abbrev pub number_at : ℕ → ℕ → Option Data → Result ℕ MemberFault
 number_at low high None = Err fault.Missing
 number_at low high (Some value) = number_from low high (as_integer value)
 
+-- the number at a key that a table may lack, where it is at most `high`; 0 where the key is absent
+abbrev pub number_or_zero : ℕ → Option Data → Result ℕ MemberFault
+number_or_zero high None = Ok 0
+number_or_zero high (Some value) = number_from 0 high (as_integer value)
+
 -- the text of a value, where it has one
 abbrev pub text_from : Option (List ℕ) → Result (List ℕ) MemberFault
 text_from None = Err fault.Kind

@@ -1,14 +1,14 @@
 // What the lines of several faults share.
-ghost use Rattle.std.specs.Prelude.{◌≡◌, ◌≤◌, length};
-ghost use Rattle.dvs_base.specs.FaultLines.{place_text, too_many_text};
+ghost use Rattle.std.specs.Prelude.{◌≡◌, ◌≤◌, ◌+◌, ◌*◌, length};
+ghost use Rattle.dvs_base.specs.declared.limits.TheConstants.{NAME_BYTES, NUMBER_BYTES};
+ghost use Rattle.dvs_base.specs.FaultLines.{place_text, settings_text, too_many_text};
 
 use crate::{Line, Part, Short, line_of, push_number, push_part, push_word};
 
-/// The beginning of a line about a settings file: the file, and where the place isn't 0, which of its entries. It takes
-/// no memory.
-pub fn place_line(file: &Short, entry: &Short, place: u32) -> Line
+// The beginning of a line about a settings file: the file, and where the place isn't 0, which of its entries.
+fn place_line(file: &Short, entry: &Short, place: u32) -> Line
     ensures text { result ≡ place_text file.now entry.now place }
-    ensures most { length result ≤ 89 }
+    ensures most { length result ≤ 2 * NAME_BYTES + NUMBER_BYTES + 5 }
 {
     let mut line = Line::new();
     push_part(&mut line, Part::Shown(file));
@@ -19,6 +19,20 @@ pub fn place_line(file: &Short, entry: &Short, place: u32) -> Line
         push_number(&mut line, place as u64);
         push_word(&mut line, b": ");
     }
+    line
+}
+
+/// The line of a refusal in a settings file: the file, where the place isn't 0 which of its entries, and then `what` and
+/// `which`. It takes no memory.
+pub fn settings_line(file: &Short, entry: &Short, place: u32, what: &[u8], which: &[u8]) -> Line
+    requires what { length what.now ≤ NAME_BYTES }
+    requires which { length which.now ≤ NAME_BYTES }
+    ensures { result ≡ settings_text file.now entry.now place what.now which.now }
+{
+    let mut line = place_line(file, entry, place);
+    push_word(&mut line, what);
+    push_word(&mut line, which);
+    push_word(&mut line, b"\n");
     line
 }
 

@@ -26,11 +26,12 @@ mod put;
 mod settings;
 mod void;
 
-pub use fault_line::{place_line, too_many_line};
+pub use fault_line::{settings_line, too_many_line};
 pub use host::{HostShelf, HostSink};
 pub use kind::{GovernorKind, Scheduler, Version};
 pub use limits::{
-    LONGEST_FILE, LONGEST_LINE, LONGEST_TRACE, MOST_JOBS, MOST_LINES, MOST_TASKS, MOST_TICKS,
+    LINE_BYTES, LONGEST_FILE, LONGEST_LINE, LONGEST_TRACE, MOST_JOBS, MOST_LINES, MOST_TASKS,
+    MOST_TICKS, NAME_BYTES, NUMBER_BYTES, POSITION_BYTES, RATIO_BYTES, WIDE_BYTES,
 };
 pub use line::{Line, put_num};
 pub use memory::{FailAt, MemShelf, MemSink};
@@ -45,6 +46,7 @@ pub use part::{
 pub use plan_word::{governor_of, is_pair, scheduler_of, ticks_of};
 pub use put::{put_line, put_two};
 pub use settings::{
-    DocumentFault, MemberFault, member_at, number_at, read_document, text_at, unknown_key,
+    DocumentFault, MemberFault, member_at, number_at, number_or_zero, read_document, text_at,
+    unknown_key,
 };
 pub use void::VoidSink;

@@ -1,13 +1,11 @@
 // The parts of a line of text.
 ghost use Rattle.std.specs.Prelude.{◌≡◌, ◌+◌, ◌≤◌, ◌++◌, length, map};
 ghost use Rattle.std.specs.Fmt.{decimal};
+ghost use Rattle.dvs_base.specs.declared.limits.TheConstants.{LINE_BYTES, NAME_BYTES, NUMBER_BYTES, WIDE_BYTES, POSITION_BYTES, RATIO_BYTES};
 ghost use Rattle.dvs_base.specs.Parts.{part_text, most_bytes, most_of, joined, name_text};
 
-use crate::{Line, Name, Pos, Short, put_num};
+use crate::{Line, NUMBER_BYTES, Name, Pos, Short, put_num};
 use itoa::write_digits;
-
-// The most digits of a number below 2^64.
-const MOST_DIGITS: usize = 20;
 
 /// A part of a line.
 #[derive(Clone, Copy)]
@@ -31,7 +29,7 @@ pub enum Part<'a> {
 /// The name as a part, which is empty where there is none. It takes no memory.
 pub fn name_part(name: &Option<Name>) -> Part<'_>
     ensures text { part_text result ≡ name_text name.now }
-    ensures most { most_bytes result ≤ 32 }
+    ensures most { most_bytes result ≤ NAME_BYTES }
 {
     match name {
         Some(name) => Part::Named(name),
@@ -39,10 +37,10 @@ pub fn name_part(name: &Option<Name>) -> Part<'_>
     }
 }
 
-/// Appends the bytes, which fit in the 256. It takes no memory.
+/// Appends the bytes, which fit in the line. It takes no memory.
 #[inline]
 pub fn push_word(line: &mut Line, bytes: &[u8])
-    requires { length line.old + length bytes.now ≤ 256 }
+    requires { length line.old + length bytes.now ≤ LINE_BYTES }
     ensures text { line.new ≡ line.old ++ bytes.now }
     ensures most { length line.new ≤ length line.old + length bytes.now }
 {
@@ -52,31 +50,31 @@ pub fn push_word(line: &mut Line, bytes: &[u8])
 /// Appends a name. It takes no memory.
 #[inline]
 pub fn push_name(line: &mut Line, name: &Name)
-    requires { length line.old + 32 ≤ 256 }
+    requires { length line.old + NAME_BYTES ≤ LINE_BYTES }
     ensures text { line.new ≡ line.old ++ name.now }
-    ensures most { length line.new ≤ length line.old + 32 }
+    ensures most { length line.new ≤ length line.old + NAME_BYTES }
 {
     line.push_first(name.padded(), name.len());
 }
 
-/// Appends a number of at most 20 digits. It takes no memory.
+/// Appends a number of at most `NUMBER_BYTES` digits. It takes no memory.
 #[inline]
 pub fn push_number(line: &mut Line, n: u64)
-    requires { length line.old + 20 ≤ 256 }
+    requires { length line.old + NUMBER_BYTES ≤ LINE_BYTES }
     ensures text { line.new ≡ line.old ++ decimal n }
-    ensures most { length line.new ≤ length line.old + 20 }
+    ensures most { length line.new ≤ length line.old + NUMBER_BYTES }
 {
-    let mut digits = [0; 2 * MOST_DIGITS];
-    let start = write_digits(n, &mut digits, MOST_DIGITS);
-    line.push_first(&digits[start..start + MOST_DIGITS], MOST_DIGITS - start);
+    let mut digits = [0; 2 * NUMBER_BYTES];
+    let start = write_digits(n, &mut digits, NUMBER_BYTES);
+    line.push_first(&digits[start..start + NUMBER_BYTES], NUMBER_BYTES - start);
 }
 
-/// Appends a number of at most 39 digits. It takes no memory.
+/// Appends a number of at most `WIDE_BYTES` digits. It takes no memory.
 #[inline]
 pub fn push_wide(line: &mut Line, n: u128)
-    requires { length line.old + 39 ≤ 256 }
+    requires { length line.old + WIDE_BYTES ≤ LINE_BYTES }
     ensures text { line.new ≡ line.old ++ decimal n }
-    ensures most { length line.new ≤ length line.old + 39 }
+    ensures most { length line.new ≤ length line.old + WIDE_BYTES }
 {
     match u64::try_from(n) {
         Ok(short) => push_number(line, short),
@@ -84,33 +82,33 @@ pub fn push_wide(line: &mut Line, n: u128)
     }
 }
 
-/// Appends a position as `tick:offset`, at most 41 bytes. It takes no memory.
+/// Appends a position as `tick:offset`, at most `POSITION_BYTES` bytes. It takes no memory.
 #[inline]
 pub fn push_position(line: &mut Line, pos: Pos)
-    requires { length line.old + 41 ≤ 256 }
+    requires { length line.old + POSITION_BYTES ≤ LINE_BYTES }
     ensures text { line.new ≡ line.old ++ part_text (Part.At pos) }
-    ensures most { length line.new ≤ length line.old + 41 }
+    ensures most { length line.new ≤ length line.old + POSITION_BYTES }
 {
     push_number(line, pos.tick);
     line.push(b":");
     push_number(line, pos.offset);
 }
 
-/// Appends a fraction as `num/den`, at most 79 bytes. It takes no memory.
+/// Appends a fraction as `num/den`, at most `RATIO_BYTES` bytes. It takes no memory.
 #[inline]
 pub fn push_ratio(line: &mut Line, num: u128, den: u128)
-    requires { length line.old + 79 ≤ 256 }
+    requires { length line.old + RATIO_BYTES ≤ LINE_BYTES }
     ensures text { line.new ≡ line.old ++ part_text (Part.Ratio num den) }
-    ensures most { length line.new ≤ length line.old + 79 }
+    ensures most { length line.new ≤ length line.old + RATIO_BYTES }
 {
     push_wide(line, num);
     line.push(b"/");
     push_wide(line, den);
 }
 
-/// Appends a part, which fits in the 256 bytes. It takes no memory.
+/// Appends a part, which fits in the line. It takes no memory.
 pub fn push_part(line: &mut Line, part: Part<'_>)
-    requires { length line.old + most_bytes part ≤ 256 }
+    requires { length line.old + most_bytes part ≤ LINE_BYTES }
     ensures text { line.new ≡ line.old ++ part_text part.entry }
     ensures most { length line.new ≤ length line.old + most_bytes part.entry }
 {
@@ -125,9 +123,9 @@ pub fn push_part(line: &mut Line, part: Part<'_>)
     }
 }
 
-/// Appends these parts, one after another, which fit in the 256 bytes. It takes no memory.
+/// Appends these parts, one after another, which fit in the line. It takes no memory.
 pub fn push_parts(line: &mut Line, parts: &[Part<'_>])
-    requires { length line.old + most_of parts.now ≤ 256 }
+    requires { length line.old + most_of parts.now ≤ LINE_BYTES }
     ensures { line.new ≡ line.old ++ joined (map part_text parts.now) }
 {
     for part in parts {
@@ -137,7 +135,7 @@ pub fn push_parts(line: &mut Line, parts: &[Part<'_>])
 
 /// The line of these parts, one after another. It takes no memory.
 pub fn line_of(parts: &[Part<'_>]) -> Line
-    requires { most_of parts.now ≤ 256 }
+    requires { most_of parts.now ≤ LINE_BYTES }
     ensures { result ≡ joined (map part_text parts.now) }
 {
     let mut line = Line::new();

@@ -8,11 +8,13 @@ ghost use Rattle.std.specs.BTreeMap.{keys, IsOrdered};
 ghost use Rattle.std.specs.String.{string_cmp};
 ghost use Rattle.dvs_base.specs.Text.{short_of};
 ghost use Rattle.toml.specs.Data.{get_member, as_integer, as_str};
+ghost use Rattle.toml.specs.Errors.{IsMemory};
 ghost use Rattle.toml.specs.View.{view, table_view};
-ghost use Rattle.dvs_base.specs.Settings.{document_of, is_known, unknown_key, number_from, number_at, text_from, text_at};
+ghost use Rattle.dvs_base.specs.Settings.{document_of, is_known, unknown_key, number_from, number_at, number_or_zero, text_from, text_at};
 
 use crate::Short;
 use std::alloc::Global;
+use toml::de::Error;
 use toml::{Table, Value};
 
 /// Why bytes give no document.
@@ -35,21 +37,23 @@ pub enum MemberFault {
     Range,
 }
 
+// Why the bytes give no document, by the reader's error.
+fn document_fault(why: Error) -> DocumentFault
+    ensures { result ≡ DocumentFault.NotToml → IsMemory why → ⊥ }
+{
+    if why.is_memory() {
+        DocumentFault::NoMemory
+    } else {
+        DocumentFault::NotToml
+    }
+}
+
 /// The document of the bytes, as an untyped table. Bytes that are not UTF-8 are not TOML.
 pub fn read_document(alloc: Global, bytes: &[u8]) -> Result<Table, DocumentFault>
     ensures document { IfOk result (λ t. document_of bytes.now ≡ Some (table_view t)) }
     ensures refused { IsErrOf result DocumentFault.NotToml → document_of bytes.now ≡ None }
 {
-    match toml::table_from_slice(alloc, bytes) {
-        Ok(table) => Ok(table),
-        Err(e) => {
-            if e.is_memory() {
-                Err(DocumentFault::NoMemory)
-            } else {
-                Err(DocumentFault::NotToml)
-            }
-        }
-    }
+    toml::table_from_slice(alloc, bytes).map_err(document_fault)
 }
 
 fn is_among(known: &[&str], key: &str) -> bool
@@ -90,7 +94,8 @@ pub fn member_at<'a>(table: &'a Table, key: &str) -> Option<&'a Value>
 }
 
 fn number_of(value: &Value, low: u64, high: u64) -> Result<u64, MemberFault>
-    ensures { result ≡ number_from low high (as_integer (view value.now)) }
+    ensures meaning { result ≡ number_from low high (as_integer (view value.now)) }
+    ensures within { IfOk result (λ n. (low ≤ n) × (n ≤ high)) }
 {
     match value.as_integer() {
         Some(n) => {
@@ -106,11 +111,23 @@ fn number_of(value: &Value, low: u64, high: u64) -> Result<u64, MemberFault>
 
 /// The whole number at a key, where it is within `low` and `high`.
 pub fn number_at(table: &Table, key: &str, low: u64, high: u64) -> Result<u64, MemberFault>
-    ensures { result ≡ number_at low high (get_member key.now (table_view table.now)) }
+    ensures meaning { result ≡ number_at low high (get_member key.now (table_view table.now)) }
+    ensures within { IfOk result (λ n. (low ≤ n) × (n ≤ high)) }
 {
     match member_at(table, key) {
         Some(value) => number_of(value, low, high),
         None => Err(MemberFault::Missing),
+    }
+}
+
+/// The whole number at a key that the table may lack, where it is at most `high`; 0 where the key is absent.
+pub fn number_or_zero(table: &Table, key: &str, high: u64) -> Result<u64, MemberFault>
+    ensures meaning { result ≡ number_or_zero high (get_member key.now (table_view table.now)) }
+    ensures within { IfOk result (λ n. n ≤ high) }
+{
+    match member_at(table, key) {
+        Some(value) => number_of(value, 0, high),
+        None => Ok(0),
     }
 }
 

@@ -2,12 +2,11 @@
 use Rattle.std.proofs.Common.{◌≡◌, ℕ, true, false, [], ◌∷◌, List, Ok, Err, refl, codes, arith}
 use Rattle.std.proofs.lemmas.List.Elements.{All-from_recursion}
 use Rattle.dvs_base.specs.declared.kind.Scheduler.TheVariants.{Edf}
-use Rattle.grid_fraction.specs.declared.Frac.{Frac}
 use Rattle.freq_table.specs.declared.machine.Point.{Point}
 use Rattle.freq_table.specs.Tables.{Table}
 use Rattle.sched_model.specs.Plan.{Plan}
 use Rattle.sched_model.specs.Jobs.{release, due, latest, worst_demand}
-use Rattle.sched_model.specs.Ticks.{Tick}
+use Rattle.sched_model.specs.Ticks.{PublishedDemand, Tick}
 use Rattle.sched_model.specs.Priority.{in_order}
 use Rattle.sched_model.specs.Schedule.{schedule_by}
 use Rattle.sched_model.specs.Notes.{notes_before_end, notes_of}
@@ -129,7 +128,7 @@ abbrev two_a_tick : Plan
 two_a_tick = record { tasks = task_of (codes "a") 1 2 ∷ []; machine = one_and_three; scheduler = Edf }
 
 -- the published demand is the highest speed
-abbrev highest : List Tick → Frac
+abbrev highest : PublishedDemand
 highest past = record { num = 3; den = 1 }
 
 abbrev one_tick : List Tick

@@ -21,37 +21,30 @@ pub ratio-trans : (a b c d e f : ℕ) → 0 < d → a * d ≤ c * b → c * f �
 ratio-trans a b c d e f pos h g =
     le_of_mul-le-mul_left {m = a * f} {n = e * b} {k = d} (omega (arith, mul-le-mul_right f h, mul-le-mul_right b g)) pos
 
+-- the line from (p, c) to (U, C) and the slopes to (U, C) from (p, c) and from (x, y): E and M are the place and the cost
+-- by which (U, C) exceeds (p, c), D and N those by which it exceeds (x, y)
+slope-sums : (p c U C x y E M D N : ℕ) → p + E ≡ U → c + M ≡ C → x + D ≡ U → y + N ≡ C
+    → U * y + C * p + c * x + N * E ≡ C * x + c * U + p * y + M * D
+slope-sums p c U C x y E M D N pe cm xd yn =
+    omega (
+      arith,
+      ap (λ v. v * x) cm,
+      ap (λ v. v * p) cm,
+      ap (λ v. c * v) pe,
+      ap (λ v. v * y) pe,
+      ap (λ v. M * v) pe,
+      ap (λ v. M * v) xd,
+      ap (λ v. E * v) cm,
+      ap (λ v. E * v) yn,
+    )
+
 -- the point (x, y) is on or above the line from (p, c) to (U, C) where the slope from (x, y) to (U, C) is at most that
 -- from (p, c), by the amounts by which (U, C) exceeds both
 pub slope-above : (p c U C x y E M D N : ℕ) → p + E ≡ U → c + M ≡ C → x + D ≡ U → y + N ≡ C → N * E ≤ M * D → Above p c U C x y
-slope-above p c U C x y E M D N pe cm xd yn h =
-    omega (
-      arith,
-      ap (λ v. v * x) cm,
-      ap (λ v. v * p) cm,
-      ap (λ v. c * v) pe,
-      ap (λ v. v * y) pe,
-      ap (λ v. M * v) pe,
-      ap (λ v. M * v) xd,
-      ap (λ v. E * v) cm,
-      ap (λ v. E * v) yn,
-      h,
-    )
+slope-above p c U C x y E M D N pe cm xd yn h = omega (arith, slope-sums p c U C x y E M D N pe cm xd yn, h)
 
 pub above-slope : (p c U C x y E M D N : ℕ) → p + E ≡ U → c + M ≡ C → x + D ≡ U → y + N ≡ C → Above p c U C x y → N * E ≤ M * D
-above-slope p c U C x y E M D N pe cm xd yn h =
-    omega (
-      arith,
-      ap (λ v. v * x) cm,
-      ap (λ v. v * p) cm,
-      ap (λ v. c * v) pe,
-      ap (λ v. v * y) pe,
-      ap (λ v. M * v) pe,
-      ap (λ v. M * v) xd,
-      ap (λ v. E * v) cm,
-      ap (λ v. E * v) yn,
-      h,
-    )
+above-slope p c U C x y E M D N pe cm xd yn h = omega (arith, slope-sums p c U C x y E M D N pe cm xd yn, h)
 
 -- where one point is on or above the line of a pair, and the first of the pair is on or above the line from that
 -- point to a last one, the last one is on or above the line of the pair

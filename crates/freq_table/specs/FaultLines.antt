@@ -1,8 +1,8 @@
 -- The lines of a refused machine file.
-use Rattle.std.specs.Prelude.{ℕ, List, [], ◌∷◌, ◌++◌, codes}
+use Rattle.std.specs.Prelude.{ℕ, List, [], ◌∷◌, codes}
 use Rattle.std.specs.Fmt.{decimal}
 use Rattle.dvs_base.specs.Parts.{joined}
-use Rattle.dvs_base.specs.FaultLines.{place_text, too_many_text}
+use Rattle.dvs_base.specs.FaultLines.{settings_text, too_many_text}
 use Rattle.freq_table.specs.declared.limits.TheConstants.{MOST_POINTS}
 use Rattle.freq_table.specs.declared.fault.MachineField.{MachineField}
 use Rattle.freq_table.specs.declared.fault.MachineField.TheVariants as field
@@ -20,8 +20,7 @@ machine_field_word field.Millivolts = codes "millivolts"
 
 -- the line of a refusal in a machine file: place 0 is the document, and each other place is a point
 abbrev pub at_point : ℕ → List ℕ → List ℕ → List ℕ
-at_point place what which =
-    place_text (codes "machine") (codes "point") place ++ joined (what ∷ which ∷ codes "\n" ∷ [])
+at_point = settings_text (codes "machine") (codes "point")
 
 -- the line of a machine file's refusal
 abbrev pub machine_fault_text : MachineFault → List ℕ

@@ -1,11 +1,11 @@
 -- What a machine file means: its table, or the first refusal.
 use Rattle.std.specs.Prelude.{ℕ, ◌+◌, ◌-◌, ◌&&◌, Bool, true, List, [], ◌∷◌, ◌++◌, length, slice_get, nat_lt, nat_le, codes, Option, Some, None, Result, Ok, Err, if◌then◌else◌}
 use Rattle.dvs_base.specs.Text.{short_of}
-use Rattle.toml.specs.Data.{Data, Items, no_items, item, Members, get_member, as_integer, as_array, as_table}
+use Rattle.toml.specs.Data.{Data, Items, no_items, item, Members, get_member, as_array, as_table}
 use Rattle.dvs_base.specs.declared.settings.MemberFault.{MemberFault}
 use Rattle.dvs_base.specs.declared.settings.MemberFault.TheVariants as member_fault
-use Rattle.dvs_base.specs.Checks.{and_then, IsUnlessMemory}
-use Rattle.dvs_base.specs.Settings.{document_of, unknown_key, number_from, number_at, count_of}
+use Rattle.dvs_base.specs.Checks.{◌>>=◌, ◌>>◌, none_found, or_refusal, IsUnlessMemory}
+use Rattle.dvs_base.specs.Settings.{document_of, unknown_key, number_at, number_or_zero, count_of}
 use Rattle.freq_table.specs.declared.limits.TheConstants.{MOST_POINTS, TOP_SPEED, MOST_MILLIVOLTS, MOST_IDLE, MOST_CHARGE}
 use Rattle.freq_table.specs.declared.machine.Point.{Point}
 use Rattle.freq_table.specs.declared.fault.MachineField.{MachineField}
@@ -22,10 +22,9 @@ machine_file_keys = codes "charge" ∷ codes "idle" ∷ codes "point" ∷ []
 abbrev pub point_keys : List (List ℕ)
 point_keys = codes "speed" ∷ codes "millivolts" ∷ []
 
--- the check for an unknown key: the refusal of the table at this place where there is one, else the rest
-abbrev pub no_unknown_machine_key : {A : Type 0} → ℕ → Option (List ℕ) → Result A MachineFault → Result A MachineFault
-no_unknown_machine_key place None rest = rest
-no_unknown_machine_key place (Some key) rest = Err (fault.UnknownKey place (short_of key))
+-- the refusal of an unknown key in the table at this place
+abbrev pub unknown_machine_key : ℕ → List ℕ → MachineFault
+unknown_machine_key place key = fault.UnknownKey place (short_of key)
 
 -- the refusal for an error at a key of this place
 abbrev pub machine_fault_at : ℕ → MachineField → MemberFault → MachineFault
@@ -33,23 +32,14 @@ machine_fault_at place field member_fault.Missing = fault.Missing place field
 machine_fault_at place field member_fault.Kind = fault.Kind place field
 machine_fault_at place field member_fault.Range = fault.Range place field
 
--- the value at a key of this place, or the refusal for its error
-abbrev pub at_point_key : {A : Type 0} → ℕ → MachineField → Result A MemberFault → Result A MachineFault
-at_point_key place field (Ok value) = Ok value
-at_point_key place field (Err e) = Err (machine_fault_at place field e)
-
--- a setting of the document, of the value at its key; 0 where it is absent
-abbrev pub setting_at : MachineField → ℕ → Option Data → Result ℕ MachineFault
-setting_at field high None = Ok 0
-setting_at field high (Some value) = at_point_key 0 field (number_from 0 high (as_integer value))
-
 -- the point of the table at this place: its unknown keys, its speed and its voltage, in this order
 abbrev pub point_of_members : ℕ → Members → Result Point MachineFault
-point_of_members place ms =
-    no_unknown_machine_key place (unknown_key point_keys ms) (
-    and_then (at_point_key place field.Speed (number_at 1 TOP_SPEED (get_member (codes "speed") ms))) (λ speed.
-    and_then (at_point_key place field.Millivolts (number_at 1 MOST_MILLIVOLTS (get_member (codes "millivolts") ms))) (λ millivolts.
-    Ok record { speed = speed; millivolts = millivolts })))
+point_of_members place ms = do
+  none_found (unknown_machine_key place) (unknown_key point_keys ms)
+  speed ← or_refusal (machine_fault_at place field.Speed) (number_at 1 TOP_SPEED (get_member (codes "speed") ms))
+  millivolts ← or_refusal (machine_fault_at place field.Millivolts)
+      (number_at 1 MOST_MILLIVOLTS (get_member (codes "millivolts") ms))
+  Ok record { speed = speed; millivolts = millivolts }
 
 -- the point at this place, of an entry that is a table; another entry is refused
 abbrev pub point_of_table : ℕ → Option Members → Result Point MachineFault
@@ -72,9 +62,9 @@ last_of points = slice_get points (length points - 1)
 -- the points before, with those of the entries after them, or the first refusal
 abbrev pub points_from : List Point → Items → Result (List Point) MachineFault
 points_from points no_items = Ok points
-points_from points (item value rest) =
-    and_then (point_of (length points + 1) value) (λ x.
-    if may_follow (last_of points) x then points_from (points ++ x ∷ []) rest else Err (fault.NotRising (length points + 1)))
+points_from points (item value rest) = do
+  x ← point_of (length points + 1) value
+  if may_follow (last_of points) x then points_from (points ++ x ∷ []) rest else Err (fault.NotRising (length points + 1))
 
 -- the points of a value that is an array, or the refusal of a value that is not
 abbrev pub points_of_array : Option Items → Result (List Point) MachineFault
@@ -91,12 +81,12 @@ points_at (Some value) = points_of_array (as_array value)
 -- the machine of a document: its unknown keys, its idle share, its charge, and then its points
 abbrev pub table_of_document : Option Members → Result Table MachineFault
 table_of_document None = Err fault.NotToml
-table_of_document (Some ms) =
-    no_unknown_machine_key 0 (unknown_key machine_file_keys ms) (
-    and_then (setting_at field.Idle MOST_IDLE (get_member (codes "idle") ms)) (λ idle.
-    and_then (setting_at field.Charge MOST_CHARGE (get_member (codes "charge") ms)) (λ charge.
-    and_then (points_at (get_member (codes "point") ms)) (λ points.
-    Ok record { points = points; idle = idle; charge = charge }))))
+table_of_document (Some ms) = do
+  none_found (unknown_machine_key 0) (unknown_key machine_file_keys ms)
+  idle ← or_refusal (machine_fault_at 0 field.Idle) (number_or_zero MOST_IDLE (get_member (codes "idle") ms))
+  charge ← or_refusal (machine_fault_at 0 field.Charge) (number_or_zero MOST_CHARGE (get_member (codes "charge") ms))
+  points ← points_at (get_member (codes "point") ms)
+  Ok record { points = points; idle = idle; charge = charge }
 
 -- the result, its value seen through `shown`, is the meaning, unless memory ran out
 abbrev pub MeansMachine : {T A : Type 0} → (T → A) → Result T MachineFault → Result A MachineFault → Type 0

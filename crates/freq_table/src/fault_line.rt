@@ -1,9 +1,10 @@
 // The lines of a refused machine file.
 ghost use Rattle.std.specs.Prelude.{◌≡◌, ◌≤◌, length};
+ghost use Rattle.dvs_base.specs.declared.limits.TheConstants.{NAME_BYTES};
 ghost use Rattle.freq_table.specs.FaultLines.{machine_field_word, at_point, machine_fault_text};
 
 use crate::{MOST_POINTS, MachineFault, MachineField};
-use dvs_base::{Line, Part, Short, line_of, place_line, push_word, too_many_line};
+use dvs_base::{Line, Part, Short, line_of, settings_line, too_many_line};
 
 fn machine_field_word(field: MachineField) -> &'static [u8]
     ensures text { result.now ≡ machine_field_word field }
@@ -21,15 +22,17 @@ fn machine_field_word(field: MachineField) -> &'static [u8]
 
 // The line of a refusal at this place: `what`, and then `which`.
 fn point_line(place: u32, what: &[u8], which: &[u8]) -> Line
-    requires what { length what.now ≤ 32 }
-    requires which { length which.now ≤ 32 }
+    requires what { length what.now ≤ NAME_BYTES }
+    requires which { length which.now ≤ NAME_BYTES }
     ensures { result ≡ at_point place what.now which.now }
 {
-    let mut line = place_line(&Short::of(b"machine"), &Short::of(b"point"), place);
-    push_word(&mut line, what);
-    push_word(&mut line, which);
-    push_word(&mut line, b"\n");
-    line
+    settings_line(
+        &Short::of(b"machine"),
+        &Short::of(b"point"),
+        place,
+        what,
+        which,
+    )
 }
 
 fn too_many_points(count: u64) -> Line

@@ -3,16 +3,18 @@ ghost use Rattle.std.specs.Prelude.{codes, ◌≡◌, ◌≤◌, ◌<◌, [], So
 ghost use Rattle.std.specs.Option.{option_copied};
 ghost use Rattle.toml.specs.Data.{get_member};
 ghost use Rattle.toml.specs.View.{view, table_view, items_view};
-ghost use Rattle.dvs_base.specs.Settings.{number_at};
+ghost use Rattle.dvs_base.specs.Checks.{or_refusal};
 ghost use Rattle.freq_table.specs.declared.limits.TheConstants.{MOST_POINTS};
 ghost use Rattle.freq_table.specs.Tables.{IsPoint};
 ghost use Rattle.freq_table.specs.Limits.{ArePoints};
-ghost use Rattle.freq_table.specs.MachineFile.{MeansMachine, machine_fault_at, at_point_key, setting_at, point_of_members, point_of, may_follow, last_of, points_from, points_of_array, points_at, table_of_document, machine_file};
+ghost use Rattle.freq_table.specs.MachineFile.{MeansMachine, machine_fault_at, point_of_members, point_of, may_follow, last_of, points_from, points_of_array, points_at, table_of_document, machine_file};
 
 use crate::fault::{MachineFault, MachineField};
 use crate::limits::{MOST_CHARGE, MOST_IDLE, MOST_MILLIVOLTS, MOST_POINTS, TOP_SPEED};
 use crate::machine::{Machine, Point};
-use dvs_base::{DocumentFault, MemberFault, member_at, number_at, read_document, unknown_key};
+use dvs_base::{
+    DocumentFault, MemberFault, member_at, number_at, number_or_zero, read_document, unknown_key,
+};
 use std::alloc::Global;
 use toml::{Table, Value};
 
@@ -26,36 +28,15 @@ fn fault_at(place: u32, field: MachineField, fault: MemberFault) -> MachineFault
     }
 }
 
-fn read_setting(
-    field: MachineField,
-    key: &str,
-    most: u64,
-    table: &Table,
-) -> Result<u64, MachineFault>
-    ensures meaning { result ≡ setting_at field most (get_member key.now (table_view table.now)) }
-    ensures limit { IfOk result (λ n. n ≤ most) }
-{
-    match number_at(table, key, 0, most) {
-        Ok(n) => Ok(n),
-        Err(MemberFault::Missing) => Ok(0),
-        Err(fault) => Err(fault_at(0, field, fault)),
-    }
-}
-
-fn read_number(
+// A number of the document or of the point at this place, or the refusal for its error.
+fn number_in(
     place: u32,
     field: MachineField,
-    key: &str,
-    most: u64,
-    table: &Table,
+    number: Result<u64, MemberFault>,
 ) -> Result<u64, MachineFault>
-    ensures meaning { result ≡ at_point_key place field (number_at 1 most (get_member key.now (table_view table.now))) }
-    ensures limits { IfOk result (λ n. (1 ≤ n) × (n ≤ most)) }
+    ensures { result ≡ or_refusal (machine_fault_at place field) number }
 {
-    match number_at(table, key, 1, most) {
-        Ok(n) => Ok(n),
-        Err(fault) => Err(fault_at(place, field, fault)),
-    }
+    number.map_err(|fault| fault_at(place, field, fault))
 }
 
 fn read_members(place: u32, table: &Table) -> Result<Point, MachineFault>
@@ -65,14 +46,10 @@ fn read_members(place: u32, table: &Table) -> Result<Point, MachineFault>
     if let Some(key) = unknown_key(table, &["speed", "millivolts"]) {
         return Err(MachineFault::UnknownKey { place, key });
     }
-    let speed = read_number(place, MachineField::Speed, "speed", TOP_SPEED, table)?;
-    let millivolts = read_number(
-        place,
-        MachineField::Millivolts,
-        "millivolts",
-        MOST_MILLIVOLTS,
-        table,
-    )?;
+    let speed = number_at(table, "speed", 1, TOP_SPEED);
+    let speed = number_in(place, MachineField::Speed, speed)?;
+    let millivolts = number_at(table, "millivolts", 1, MOST_MILLIVOLTS);
+    let millivolts = number_in(place, MachineField::Millivolts, millivolts)?;
     Ok(Point { speed, millivolts })
 }
 
@@ -163,8 +140,10 @@ fn read_table(alloc: Global, table: &Table) -> Result<Machine, MachineFault>
     if let Some(key) = unknown_key(table, &["charge", "idle", "point"]) {
         return Err(MachineFault::UnknownKey { place: 0, key });
     }
-    let idle = read_setting(MachineField::Idle, "idle", MOST_IDLE, table)?;
-    let charge = read_setting(MachineField::Charge, "charge", MOST_CHARGE, table)?;
+    let idle = number_or_zero(table, "idle", MOST_IDLE);
+    let idle = number_in(0, MachineField::Idle, idle)?;
+    let charge = number_or_zero(table, "charge", MOST_CHARGE);
+    let charge = number_in(0, MachineField::Charge, charge)?;
     let points = read_points(alloc, table)?;
     Ok(Machine::from_points(points, idle, charge))
 }

@@ -1,7 +1,6 @@
 -- A governor's schedule: the one tick list whose speeds are those of its published demand.
 use Rattle.std.specs.Prelude.{List, ℕ, ◌≡◌}
 use Rattle.dvs_base.specs.declared.kind.GovernorKind.{GovernorKind}
-use Rattle.grid_fraction.specs.declared.Frac.{Frac}
 use Rattle.sched_model.specs.Plan.{Plan}
 use Rattle.sched_model.specs.Ticks.{PublishedDemand, Tick}
 use Rattle.sched_model.specs.Demand.{published}
@@ -12,7 +11,7 @@ use Rattle.sched_model.specs.States.{state_of}
 use Rattle.governor.specs.Meanings.{OwnDemand, Serving}
 
 -- a governor's published demand as a function of the ticks so far
-abbrev pub ask_of : OwnDemand → Plan → JobDemands → List Tick → Frac
+abbrev pub ask_of : OwnDemand → Plan → JobDemands → PublishedDemand
 ask_of demand p dem past = demand p (state_of p dem past)
 
 -- the first t ticks of a governor's own schedule

@@ -1,7 +1,7 @@
 -- The meaning of a request file: the requests, or the first refusal.
 use Rattle.std.specs.Prelude.{ℕ, ◌+◌, ◌==◌, ◌||◌, ◌++◌, nat_lt, List, [], ◌∷◌, length, codes, ok_or, Result, Ok, Err, if◌then◌else◌}
 use Rattle.dvs_base.specs.Widths.{u64_end}
-use Rattle.dvs_base.specs.Checks.{and_then}
+use Rattle.dvs_base.specs.Checks.{◌>>=◌}
 use Rattle.dvs_base.specs.Text.{number_below}
 use Rattle.dvs_base.specs.Parts.{two_of}
 use Rattle.csv_text.specs.Rows.{text_rows}
@@ -21,18 +21,20 @@ arrival_in_order row earlier arrival = if nat_lt arrival earlier then Err (fault
 
 -- the request of a row, where the row before it arrives at `earlier`
 abbrev pub request_of_row : ℕ → ℕ → List (List ℕ) → Result Request RequestFault
-request_of_row row earlier fields =
-    and_then (ok_or (two_of fields) (fault.Fields row (length fields))) (λ two.
-    and_then (ok_or (number_below u64_end two.0) (fault.BadNumber row column.Arrival)) (λ arrival.
-    and_then (ok_or (number_below u64_end two.1) (fault.BadNumber row column.Units)) (λ number.
-    and_then (units_from row number) (λ units.
-    and_then (arrival_in_order row earlier arrival) (λ arrival. Ok (record { arrival = arrival; units = units }))))))
+request_of_row row earlier fields = do
+  two ← ok_or (two_of fields) (fault.Fields row (length fields))
+  number ← ok_or (number_below u64_end two.0) (fault.BadNumber row column.Arrival)
+  amount ← ok_or (number_below u64_end two.1) (fault.BadNumber row column.Units)
+  units ← units_from row amount
+  arrival ← arrival_in_order row earlier number
+  Ok (record { arrival = arrival; units = units })
 
 -- the requests so far, the last of which arrives at `earlier`, with those of the rows from number `row` on
 abbrev pub requests_from : ℕ → ℕ → List Request → List (List (List ℕ)) → Result (List Request) RequestFault
 requests_from row earlier requests [] = Ok requests
-requests_from row earlier requests (fields ∷ rest) =
-    and_then (request_of_row row earlier fields) (λ r. requests_from (row + 1) r.arrival (requests ++ (r ∷ [])) rest)
+requests_from row earlier requests (fields ∷ rest) = do
+  r ← request_of_row row earlier fields
+  requests_from (row + 1) r.arrival (requests ++ (r ∷ [])) rest
 
 -- the fields of a request file's header
 abbrev pub request_header : List (List ℕ)
@@ -44,8 +46,12 @@ few_rows rows = if nat_lt MOST_REQUESTS (length rows) then Err (fault.TooMany (l
 
 -- the rows of a file after its header, at most the limit
 abbrev pub rows_in : List ℕ → Result (List (List (List ℕ))) RequestFault
-rows_in bytes = and_then (ok_or (text_rows request_header bytes) fault.Header) few_rows
+rows_in bytes = do
+  rows ← ok_or (text_rows request_header bytes) fault.Header
+  few_rows rows
 
 -- the meaning of a request file's bytes; rows count from 1
 abbrev pub request_file : List ℕ → Result (List Request) RequestFault
-request_file bytes = and_then (rows_in bytes) (requests_from 1 0 [])
+request_file bytes = do
+  rows ← rows_in bytes
+  requests_from 1 0 [] rows

@@ -2,10 +2,9 @@
 -- stretches meet their deadlines.
 use Rattle.std.proofs.Common.{◌≡◌, List, length, ap, ◌∙◌, subst, ℕ, zero, suc, ◌*◌, ◌<◌, ◌≤◌, Bool, true, [], ◌∷◌, sym}
 use Rattle.dvs_base.specs.declared.kind.GovernorKind.TheVariants.{Plain}
-use Rattle.grid_fraction.specs.declared.Frac.{Frac}
 use Rattle.freq_table.specs.Tables.{speed_at}
 use Rattle.sched_model.specs.Plan.{Plan, count, point, top_speed, period}
-use Rattle.sched_model.specs.Ticks.{Tick, share, left, at, exec}
+use Rattle.sched_model.specs.Ticks.{PublishedDemand, Tick, share, left, at, exec}
 use Rattle.sched_model.specs.Demand.{published}
 use Rattle.sched_model.specs.Jobs.{JobDemands, due, IsWithin}
 use Rattle.sched_model.specs.Priority.{SharesOut, key_of}
@@ -27,7 +26,7 @@ use Rattle.governor.specs.Worst.{level_work_in}
 use Rattle.governor.proofs.RmLevels.{level_opens, level_completes, level_releases, level_ticks}
 
 -- the published demand with no governor
-abbrev pub full_ask : Plan → JobDemands → List Tick → Frac
+abbrev pub full_ask : Plan → JobDemands → PublishedDemand
 full_ask p dem = published p Plain dem
 
 -- the tick after `past` in the schedule with no governor

@@ -4,14 +4,13 @@ use Rattle.std.proofs.Common.{◌≡◌, inl, inr, ℕ, zero, suc, ◌+◌, ◌*
 use Rattle.std.proofs.Math.Nat.{mul-le-mul_right}
 use Rattle.std.proofs.lemmas.Bool.{cases_lt, le-leb}
 use Rattle.std.proofs.lemmas.Bool.Decides.{nat_tests}
-use Rattle.grid_fraction.specs.declared.Frac.{Frac}
 use Rattle.grid_fraction.specs.Numbers.{sum_where, ceil_div}
 use Rattle.grid_fraction.proofs.Sums.{sum_below-same}
 use Rattle.grid_fraction.proofs.Ceilings.{ceil-at}
 use Rattle.task_model.specs.Tasks.{NoneOffset}
 use Rattle.sched_model.specs.Plan.{Plan, count, period, offset, worst, top_speed}
 use Rattle.sched_model.specs.Jobs.{due, latest, worst_demand}
-use Rattle.sched_model.specs.Ticks.{Tick, exec}
+use Rattle.sched_model.specs.Ticks.{PublishedDemand, Tick, exec}
 use Rattle.sched_model.specs.Admission.{IsWithinLimits}
 use Rattle.sched_model.proofs.Limits.{some_period}
 use Rattle.sched_model.proofs.LevelSums.{sum_where-plus, sum_up_to-where, sum_where-term, sum_where-zero, up_to-self}
@@ -66,7 +65,7 @@ quiet-off p t j q r first pos low e k is =
           absurd (omega arith)
     ]
 
-module _ (p : Plan) (lim : IsWithinLimits p) (ask : List Tick → Frac) where
+module _ (p : Plan) (lim : IsWithinLimits p) (ask : PublishedDemand) where
   -- where task j lacks nothing of a job due at t, the releases of t add as much to its lack as tick t to its work
   lack-asks : (t j : ℕ) → j < count p → offset p j ≡ 0 → ((k : ℕ) → t ≡ due p j k → lack p ask t j ≡ 0)
       → lack_after p ask t j + held p t j * worst p j ≡ lack p ask t j + held p (suc t) j * worst p j
@@ -142,7 +141,7 @@ work-none p lim i h =
     sum_up_to-where (count p) (period p) work i h ∙ sum_where-zero (count p) (level p i) work (λ j hj on. none j hj)
 
 -- the published demand with no governor, with every job at its worst case
-abbrev pub worst_ask : Plan → List Tick → Frac
+abbrev pub worst_ask : Plan → PublishedDemand
 worst_ask p = full_ask p (worst_demand p)
 
 -- what the job of task i released last before t lacks at t, at the highest speed and with every job at its worst case

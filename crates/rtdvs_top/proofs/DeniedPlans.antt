@@ -7,21 +7,17 @@ use Rattle.dvs_base.specs.Checks.{and_then}
 use Rattle.dvs_base.specs.declared.kind.Scheduler.{Scheduler}
 use Rattle.dvs_base.specs.declared.kind.Scheduler.TheVariants.{Edf, Rm}
 use Rattle.task_model.specs.declared.task.Task.{Task}
-use Rattle.task_model.specs.declared.fault.TaskFault.{TaskFault}
 use Rattle.task_model.specs.declared.fault.TaskFault.TheVariants as task_fault
 use Rattle.task_model.specs.TaskFile.{task_file, place_of}
 use Rattle.freq_table.specs.MachineFile.{machine_file}
-use Rattle.freq_table.specs.declared.fault.MachineFault.{MachineFault}
 use Rattle.freq_table.specs.declared.fault.MachineFault.TheVariants as machine_fault
 use Rattle.demand_list.specs.DemandFile.{demand_file}
-use Rattle.demand_list.specs.declared.fault.DemandFault.{DemandFault}
 use Rattle.demand_list.specs.declared.fault.DemandFault.TheVariants as demand_fault
 use Rattle.request_list.specs.RequestFile.{request_file}
-use Rattle.request_list.specs.declared.fault.RequestFault.{RequestFault}
 use Rattle.request_list.specs.declared.fault.RequestFault.TheVariants as request_fault
 use Rattle.trace_reader.specs.Traces.{TraceOf}
-use Rattle.trace_reader.specs.declared.trace.TraceFault.{TraceFault}
 use Rattle.trace_reader.specs.declared.trace.TraceFault.TheVariants as trace_fault
+use Rattle.deadline_list.specs.declared.fault.DeadlineFault.TheVariants as deadline_fault
 use Rattle.replay.specs.Replays.{replay_of}
 use Rattle.replay.specs.declared.fault.ReplayFault.{ReplayFault}
 use Rattle.replay.specs.declared.fault.ReplayFault.TheVariants as replay_fault
@@ -32,6 +28,7 @@ use Rattle.sched_model.specs.Tests.{total_rate}
 use Rattle.sched_model.specs.Admission.{PassesTest}
 use Rattle.dvs_base.specs.declared.limits.TheConstants.{MOST_JOBS}
 use Rattle.command_files.specs.Meanings.{bytes_from, bytes_at, tasks_at, machine_at, demands_at, longest, server_from, server_at}
+use Rattle.statuses.specs.Status.{text_status}
 use Rattle.statuses.specs.Refused.{or_status, task_status, machine_status, demand_status, trace_status, request_status}
 use Rattle.command_files.specs.Admissions.{admission, admission_by, admission_from, first_overloaded}
 use Rattle.rtdvs_top.specs.Run.{within_jobs}
@@ -42,6 +39,7 @@ use Rattle.statuses.specs.declared.status.Denied.{Denied}
 use Rattle.statuses.specs.declared.status.Denied.TheVariants as denied
 use Rattle.statuses.specs.declared.status.FileKind.{FileKind}
 use Rattle.statuses.specs.declared.status.FileKind.TheVariants as file
+use Rattle.statuses.specs.declared.status.TextFault.{TextFault}
 use Rattle.statuses.specs.declared.status.TextFault.TheVariants as text
 use Rattle.statuses.specs.declared.status.Status.{Status}
 use Rattle.statuses.specs.declared.status.Status.TheVariants as status
@@ -117,52 +115,42 @@ refusal-denies-not : {A F : Type 0} (as_status : F → Status) → ((e : F) → 
 refusal-denies-not as_status each (Ok a) = refl
 refusal-denies-not as_status each (Err e) = each e
 
-task-denies-not : (e : TaskFault) → is_denial (task_status e) ≡ false
-task-denies-not task_fault.NoMemory = refl
-task-denies-not e = refl
-
-machine-denies-not : (e : MachineFault) → is_denial (machine_status e) ≡ false
-machine-denies-not machine_fault.NoMemory = refl
-machine-denies-not e = refl
-
-demand-denies-not : (e : DemandFault) → is_denial (demand_status e) ≡ false
-demand-denies-not demand_fault.NoMemory = refl
-demand-denies-not e = refl
-
-trace-denies-not : (e : TraceFault) → is_denial (trace_status e) ≡ false
-trace-denies-not trace_fault.NoMemory = refl
-trace-denies-not e = refl
-
-request-denies-not : (e : RequestFault) → is_denial (request_status e) ≡ false
-request-denies-not request_fault.NoMemory = refl
-request-denies-not e = refl
+text-denies-not : (why : TextFault) → is_denial (text_status why) ≡ false
+text-denies-not (text.Tasks task_fault.NoMemory) = refl
+text-denies-not (text.Machine machine_fault.NoMemory) = refl
+text-denies-not (text.Demands demand_fault.NoMemory) = refl
+text-denies-not (text.Demands (demand_fault.OverWorst task job units worst)) = refl
+text-denies-not (text.Trace trace_fault.NoMemory) = refl
+text-denies-not (text.Deadlines deadline_fault.NoMemory) = refl
+text-denies-not (text.Requests request_fault.NoMemory) = refl
+text-denies-not why = refl
 
 pub tasks_at-denies-not : (name : List ℕ) (files : Files) → DeniesNot (tasks_at name files)
 tasks_at-denies-not name files =
     file-denies-not file.Tasks name files (λ bytes. or_status task_status (task_file bytes))
-    (λ bytes. refusal-denies-not task_status task-denies-not (task_file bytes))
+    (λ bytes. refusal-denies-not task_status (λ e. text-denies-not (text.Tasks e)) (task_file bytes))
 
 pub machine_at-denies-not : (name : List ℕ) (files : Files) → DeniesNot (machine_at name files)
 machine_at-denies-not name files =
     file-denies-not file.Machine name files (λ bytes. or_status machine_status (machine_file bytes))
-    (λ bytes. refusal-denies-not machine_status machine-denies-not (machine_file bytes))
+    (λ bytes. refusal-denies-not machine_status (λ e. text-denies-not (text.Machine e)) (machine_file bytes))
 
 pub demands_at-denies-not : (tasks : List Task) (name : Option (List ℕ)) (files : Files)
     → DeniesNot (demands_at tasks name files)
 demands_at-denies-not tasks None files = refl
 demands_at-denies-not tasks (Some name) files =
     file-denies-not file.Demands name files (λ bytes. or_status demand_status (demand_file tasks bytes))
-    (λ bytes. refusal-denies-not demand_status demand-denies-not (demand_file tasks bytes))
+    (λ bytes. refusal-denies-not demand_status (λ e. text-denies-not (text.Demands e)) (demand_file tasks bytes))
 
 pub trace_at-denies-not : (tasks : List Task) (name : List ℕ) (files : Files) → DeniesNot (trace_at tasks name files)
 trace_at-denies-not tasks name files =
     file-denies-not file.Trace name files (λ bytes. or_status trace_status (trace_of tasks bytes))
-    (λ bytes. refusal-denies-not trace_status trace-denies-not (trace_of tasks bytes))
+    (λ bytes. refusal-denies-not trace_status (λ e. text-denies-not (text.Trace e)) (trace_of tasks bytes))
 
 pub requests_at-denies-not : (name : List ℕ) (files : Files) → DeniesNot (requests_at name files)
 requests_at-denies-not name files =
     file-denies-not file.Requests name files (λ bytes. or_status request_status (request_file bytes))
-    (λ bytes. refusal-denies-not request_status request-denies-not (request_file bytes))
+    (λ bytes. refusal-denies-not request_status (λ e. text-denies-not (text.Requests e)) (request_file bytes))
 
 pub server_at-denies-not : (name : List ℕ) (tasks : List Task) → DeniesNot (server_at name tasks)
 server_at-denies-not name tasks = go (place_of tasks name)

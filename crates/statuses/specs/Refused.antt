@@ -1,21 +1,15 @@
 -- A refusal as a status.
 use Rattle.std.specs.Prelude.{Result, Ok, Err, ◌≡◌, ⊤}
 use Rattle.task_model.specs.declared.fault.TaskFault.{TaskFault}
-use Rattle.task_model.specs.declared.fault.TaskFault.TheVariants as task_fault
 use Rattle.freq_table.specs.declared.fault.MachineFault.{MachineFault}
-use Rattle.freq_table.specs.declared.fault.MachineFault.TheVariants as machine_fault
 use Rattle.demand_list.specs.declared.fault.DemandFault.{DemandFault}
-use Rattle.demand_list.specs.declared.fault.DemandFault.TheVariants as demand_fault
 use Rattle.trace_reader.specs.declared.trace.TraceFault.{TraceFault}
-use Rattle.trace_reader.specs.declared.trace.TraceFault.TheVariants as trace_fault
 use Rattle.deadline_list.specs.declared.fault.DeadlineFault.{DeadlineFault}
-use Rattle.deadline_list.specs.declared.fault.DeadlineFault.TheVariants as deadline_fault
 use Rattle.request_list.specs.declared.fault.RequestFault.{RequestFault}
-use Rattle.request_list.specs.declared.fault.RequestFault.TheVariants as request_fault
 use Rattle.statuses.specs.declared.status.TextFault.TheVariants as text
 use Rattle.statuses.specs.declared.status.Status.{Status}
 use Rattle.statuses.specs.declared.status.Status.TheVariants as status
-use Rattle.statuses.specs.Status.{IsShownText}
+use Rattle.statuses.specs.Status.{text_status, IsShownText}
 
 -- the status refuses a file and shows its cause, or memory ran out
 abbrev pub RefusesFile : Status → Type 0
@@ -33,33 +27,26 @@ abbrev pub or_status : {A F : Type 0} → (F → Status) → Result A F → Resu
 or_status status_of_refusal (Ok value) = Ok value
 or_status status_of_refusal (Err why) = Err (status_of_refusal why)
 
--- a refusal of a task file as a status; `NoMemory` is a status of its own
+-- a refusal of a task file as a status
 abbrev pub task_status : TaskFault → Status
-task_status task_fault.NoMemory = status.NoMemory
-task_status e = status.Text (text.Tasks e)
+task_status why = text_status (text.Tasks why)
 
--- a refusal of a machine file as a status; `NoMemory` is a status of its own
+-- a refusal of a machine file as a status
 abbrev pub machine_status : MachineFault → Status
-machine_status machine_fault.NoMemory = status.NoMemory
-machine_status e = status.Text (text.Machine e)
+machine_status why = text_status (text.Machine why)
 
--- a refusal of a demand file as a status; `NoMemory` and `OverWorst` are statuses of their own
+-- a refusal of a demand file as a status
 abbrev pub demand_status : DemandFault → Status
-demand_status demand_fault.NoMemory = status.NoMemory
-demand_status (demand_fault.OverWorst task job units worst) = status.OverWorst task job units worst
-demand_status e = status.Text (text.Demands e)
+demand_status why = text_status (text.Demands why)
 
--- a refusal of a trace file as a status; `NoMemory` is a status of its own
+-- a refusal of a trace file as a status
 abbrev pub trace_status : TraceFault → Status
-trace_status trace_fault.NoMemory = status.NoMemory
-trace_status e = status.Text (text.Trace e)
+trace_status why = text_status (text.Trace why)
 
--- a refusal of a deadline file as a status; `NoMemory` is a status of its own
+-- a refusal of a deadline file as a status
 abbrev pub deadline_status : DeadlineFault → Status
-deadline_status deadline_fault.NoMemory = status.NoMemory
-deadline_status e = status.Text (text.Deadlines e)
+deadline_status why = text_status (text.Deadlines why)
 
--- a refusal of a request file as a status; `NoMemory` is a status of its own
+-- a refusal of a request file as a status
 abbrev pub request_status : RequestFault → Status
-request_status request_fault.NoMemory = status.NoMemory
-request_status e = status.Text (text.Requests e)
+request_status why = text_status (text.Requests why)

@@ -60,16 +60,25 @@ IsShownDenial (denied.Response task num cap) = cap < num
 IsShownDenial (denied.Demand at num cap) = cap < num
 IsShownDenial (denied.Units num cap) = cap < num
 
--- a refusal of a file is none of those that are statuses of their own: `NoMemory`, and a demand over its worst case
+-- a refusal of a file as a status: `NoMemory`, and a demand over its worst case, are statuses of their own
+abbrev pub text_status : TextFault → Status
+text_status (text.Tasks task_fault.NoMemory) = status.NoMemory
+text_status (text.Machine machine_fault.NoMemory) = status.NoMemory
+text_status (text.Demands demand_fault.NoMemory) = status.NoMemory
+text_status (text.Demands (demand_fault.OverWorst task job units worst)) = status.OverWorst task job units worst
+text_status (text.Trace trace_fault.NoMemory) = status.NoMemory
+text_status (text.Deadlines deadline_fault.NoMemory) = status.NoMemory
+text_status (text.Requests request_fault.NoMemory) = status.NoMemory
+text_status why = status.Text why
+
+-- the status is the refusal of a file
+abbrev pub IsText : Status → Type 0
+IsText (status.Text why) = ⊤
+IsText s = ⊥
+
+-- a refusal of a file is none of those that are statuses of their own
 abbrev pub IsShownText : TextFault → Type 0
-IsShownText (text.Tasks task_fault.NoMemory) = ⊥
-IsShownText (text.Machine machine_fault.NoMemory) = ⊥
-IsShownText (text.Demands demand_fault.NoMemory) = ⊥
-IsShownText (text.Demands (demand_fault.OverWorst task job units worst)) = ⊥
-IsShownText (text.Trace trace_fault.NoMemory) = ⊥
-IsShownText (text.Deadlines deadline_fault.NoMemory) = ⊥
-IsShownText (text.Requests request_fault.NoMemory) = ⊥
-IsShownText why = ⊤
+IsShownText why = IsText (text_status why)
 
 -- the numbers and the notes of a status show its cause
 abbrev pub IsShown : Status → Type 0

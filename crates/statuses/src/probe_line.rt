@@ -1,6 +1,7 @@
 // The lines of the probes that are left after a run.
 ghost use Rattle.std.specs.Prelude.{◌≡◌, ◌≤◌, ◌<◌, ◌+◌, length, map};
 ghost use Rattle.std.specs.Option.{option_copied};
+ghost use Rattle.dvs_base.specs.declared.limits.TheConstants.{NAME_BYTES};
 ghost use Rattle.dvs_base.specs.Parts.{part_text, most_bytes};
 ghost use Rattle.task_model.specs.Tasks.{names_of};
 ghost use Rattle.statuses.specs.ProbeLines.{what_word, probe_of, counted_text, probe_text, probe_lines};
@@ -46,7 +47,7 @@ fn shown_at<P: Probe>(place: u64, probe: &P) -> Counted
 
 // The line of a probe, with `task` in the place of the task that it counts for.
 fn counted_line(probe: Counted, task: Part<'_>) -> Line
-    requires { most_bytes task ≤ 32 }
+    requires { most_bytes task ≤ NAME_BYTES }
     ensures { result ≡ counted_text probe.place (probe_of probe) (part_text task.entry) }
 {
     line_of(&[

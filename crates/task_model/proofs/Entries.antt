@@ -2,7 +2,7 @@
 use Rattle.std.proofs.Common.{◌≡◌, ◌<◌, ◌≤◌, List, [], ◌∷◌, length, Some, Err, arith}
 use Rattle.toml.specs.declared.value.Value.{Value}
 use Rattle.toml.specs.View.{items_view}
-use Rattle.dvs_base.specs.Checks.{and_then}
+use Rattle.dvs_base.specs.Checks.{◌>>=◌}
 use Rattle.dvs_base.specs.Settings.{count_of}
 use Rattle.dvs_base.specs.declared.limits.TheConstants.{MOST_TASKS}
 use Rattle.task_model.specs.declared.fault.TaskFault.TheVariants as fault
@@ -14,6 +14,6 @@ too_many [] h = absurd (omega arith)
 too_many (v ∷ vs) h = choose MOST_TASKS (count_of (items_view (v ∷ vs))) (length (v ∷ vs)) (λ n. Err (fault.TooMany n)) _ (count_of-items_view (v ∷ vs)) h
 
 pub few : (vs : List Value) → 0 < length vs → length vs ≤ MOST_TASKS
-    → tasks_of_array (Some (items_view vs)) ≡ and_then (tasks_from [] (items_view vs)) within_hyper
+    → tasks_of_array (Some (items_view vs)) ≡ (tasks_from [] (items_view vs) >>= within_hyper)
 few [] s h = absurd (omega arith)
 few (v ∷ vs) s h = choose_not MOST_TASKS (count_of (items_view (v ∷ vs))) (length (v ∷ vs)) (λ n. Err (fault.TooMany n)) _ (count_of-items_view (v ∷ vs)) h

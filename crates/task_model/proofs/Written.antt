@@ -22,7 +22,7 @@ use Rattle.toml.specs.View.{view, items_of, members_view}
 use Rattle.toml.specs.declared.value.Value.{Value}
 use Rattle.toml.specs.Parse.{parse_document}
 use Rattle.dvs_base.proofs.Counts.{choose_not}
-use Rattle.dvs_base.specs.declared.limits.TheConstants.{MOST_TASKS}
+use Rattle.dvs_base.specs.declared.limits.TheConstants.{MOST_TASKS, NAME_BYTES}
 use Rattle.dvs_base.specs.Settings.{count_of}
 use Rattle.task_model.specs.declared.task.Task.{Task}
 use Rattle.task_model.specs.Tasks.{IsTask, task_at, no_task, IsTaskSet, hyper_of}
@@ -100,7 +100,7 @@ name_bytes (b ∷ bytes) h (suc i) = name_bytes bytes (and_parts (is_name_byte b
 
 pub IsUtf8-name : (bytes : List ℕ) → is_name bytes ≡ true → IsUtf8 bytes
 IsUtf8-name bytes h =
-    IsUtf8-from_ascii bytes (name_bytes bytes (and_parts (nat_le 1 (length bytes) && nat_le (length bytes) 32) (list_all is_name_byte bytes) h).1)
+    IsUtf8-from_ascii bytes (name_bytes bytes (and_parts (nat_le 1 (length bytes) && nat_le (length bytes) NAME_BYTES) (list_all is_name_byte bytes) h).1)
 
 -- where two tests are true, both together are
 test_both : (a b : Bool) → a ≡ true → b ≡ true → (a && b) ≡ true

@@ -1,8 +1,8 @@
 -- The lines of a refused task file.
-use Rattle.std.specs.Prelude.{ℕ, List, codes, [], ◌∷◌, ◌++◌}
+use Rattle.std.specs.Prelude.{ℕ, List, codes, [], ◌∷◌}
 use Rattle.std.specs.Fmt.{decimal}
 use Rattle.dvs_base.specs.Parts.{joined}
-use Rattle.dvs_base.specs.FaultLines.{place_text, too_many_text}
+use Rattle.dvs_base.specs.FaultLines.{settings_text, too_many_text}
 use Rattle.dvs_base.specs.declared.limits.TheConstants.{MOST_TASKS}
 use Rattle.task_model.specs.declared.limits.TheConstants.{LONGEST_HYPERPERIOD}
 use Rattle.task_model.specs.declared.fault.Field.{Field}
@@ -21,7 +21,7 @@ task_field_word field.Offset = codes "offset"
 
 -- the line of a refusal in a task file: place 0 is the document, and each other place is a task
 abbrev pub at_task : ℕ → List ℕ → List ℕ → List ℕ
-at_task place what which = place_text (codes "tasks") (codes "task") place ++ joined (what ∷ which ∷ codes "\n" ∷ [])
+at_task = settings_text (codes "tasks") (codes "task")
 
 -- the line of a task file's refusal
 abbrev pub task_fault_text : TaskFault → List ℕ

@@ -2,11 +2,11 @@
 use Rattle.std.specs.Prelude.{ℕ, List, [], ◌∷◌, codes, Option, Some, None, Result, Err, Ok, if◌then◌else◌, position, ◌+◌, ◌++◌, length, nat_le, nat_lt}
 use Rattle.std.specs.Str.{bytes_eq}
 use Rattle.dvs_base.specs.Text.{short_of, is_name}
-use Rattle.toml.specs.Data.{Data, as_integer, Members, get_member, as_table, Items, no_items, item, as_array}
+use Rattle.toml.specs.Data.{Data, Members, get_member, as_table, Items, no_items, item, as_array}
 use Rattle.dvs_base.specs.declared.settings.MemberFault.{MemberFault}
 use Rattle.dvs_base.specs.declared.settings.MemberFault.TheVariants as member_fault
-use Rattle.dvs_base.specs.Checks.{and_then}
-use Rattle.dvs_base.specs.Settings.{text_at, number_from, unknown_key, number_at, count_of, document_of}
+use Rattle.dvs_base.specs.Checks.{◌>>=◌, ◌>>◌, none_found, or_refusal}
+use Rattle.dvs_base.specs.Settings.{text_at, unknown_key, number_at, number_or_zero, count_of, document_of}
 use Rattle.dvs_base.specs.declared.limits.TheConstants.{MOST_TASKS}
 use Rattle.task_model.specs.declared.limits.TheConstants.{LATEST_OFFSET, LONGEST_PERIOD, MOST_WORK, LONGEST_HYPERPERIOD}
 use Rattle.task_model.specs.declared.task.Task.{Task}
@@ -24,10 +24,9 @@ task_file_keys = codes "task" ∷ []
 abbrev pub task_keys : List (List ℕ)
 task_keys = codes "name" ∷ codes "period" ∷ codes "worst" ∷ codes "offset" ∷ []
 
--- the check for an unknown key: the refusal of the table at this place where there is one, else the rest
-abbrev pub no_unknown_task_key : {A : Type 0} → ℕ → Option (List ℕ) → Result A TaskFault → Result A TaskFault
-no_unknown_task_key place None rest = rest
-no_unknown_task_key place (Some key) rest = Err (fault.UnknownKey place (short_of key))
+-- the refusal of an unknown key in the table at this place
+abbrev pub unknown_task_key : ℕ → List ℕ → TaskFault
+unknown_task_key place key = fault.UnknownKey place (short_of key)
 
 -- the refusal for an error at a key of the task at this place
 abbrev pub task_fault_at : ℕ → Field → MemberFault → TaskFault
@@ -35,33 +34,25 @@ task_fault_at place field member_fault.Missing = fault.Missing place field
 task_fault_at place field member_fault.Kind = fault.Kind place field
 task_fault_at place field member_fault.Range = fault.Range place field
 
--- the value at a key of the task at this place, or the refusal for its error
-abbrev pub at_task_key : {A : Type 0} → ℕ → Field → Result A MemberFault → Result A TaskFault
-at_task_key place field (Ok value) = Ok value
-at_task_key place field (Err e) = Err (task_fault_at place field e)
-
 -- the text as the name of the task at this place, or the refusal where it is not a name
 abbrev pub checked_name : ℕ → List ℕ → Result (List ℕ) TaskFault
 checked_name place text = if is_name text then Ok text else Err (fault.BadName place)
 
 -- the name of the task at this place, of the value at its key `name`
 abbrev pub name_at : ℕ → Option Data → Result (List ℕ) TaskFault
-name_at place value = and_then (at_task_key place field.Name (text_at value)) (checked_name place)
-
--- the offset of the task at this place, of the value at its key `offset`; 0 where it is absent
-abbrev pub offset_at : ℕ → Option Data → Result ℕ TaskFault
-offset_at place None = Ok 0
-offset_at place (Some value) = at_task_key place field.Offset (number_from 0 LATEST_OFFSET (as_integer value))
+name_at place value = do
+  text ← or_refusal (task_fault_at place field.Name) (text_at value)
+  checked_name place text
 
 -- the task of the table at this place: its unknown keys, its name, period, worst case and offset, in this order
 abbrev pub task_of_members : ℕ → Members → Result Task TaskFault
-task_of_members place ms =
-    no_unknown_task_key place (unknown_key task_keys ms) (
-    and_then (name_at place (get_member (codes "name") ms)) (λ name.
-    and_then (at_task_key place field.Period (number_at 1 LONGEST_PERIOD (get_member (codes "period") ms))) (λ period.
-    and_then (at_task_key place field.Worst (number_at 1 MOST_WORK (get_member (codes "worst") ms))) (λ worst.
-    and_then (offset_at place (get_member (codes "offset") ms)) (λ offset.
-    Ok record { name = name; period = period; worst = worst; offset = offset })))))
+task_of_members place ms = do
+  none_found (unknown_task_key place) (unknown_key task_keys ms)
+  name ← name_at place (get_member (codes "name") ms)
+  period ← or_refusal (task_fault_at place field.Period) (number_at 1 LONGEST_PERIOD (get_member (codes "period") ms))
+  worst ← or_refusal (task_fault_at place field.Worst) (number_at 1 MOST_WORK (get_member (codes "worst") ms))
+  offset ← or_refusal (task_fault_at place field.Offset) (number_or_zero LATEST_OFFSET (get_member (codes "offset") ms))
+  Ok record { name = name; period = period; worst = worst; offset = offset }
 
 -- the task at this place, of an entry that is a table; another entry is refused
 abbrev pub task_of_table : ℕ → Option Members → Result Task TaskFault
@@ -76,17 +67,13 @@ task_of place value = task_of_table place (as_table value)
 abbrev pub place_of : List Task → List ℕ → Option ℕ
 place_of tasks name = position (λ t. bytes_eq t.name name) tasks
 
--- the check for an earlier task with the same name: the refusal where there is one, else the rest
-abbrev pub no_twin : {A : Type 0} → ℕ → Option ℕ → Result A TaskFault → Result A TaskFault
-no_twin place None rest = rest
-no_twin place (Some i) rest = Err (fault.SameName (i + 1) place)
-
 -- the tasks before, with those of the entries after them, or the first refusal
 abbrev pub tasks_from : List Task → Items → Result (List Task) TaskFault
 tasks_from tasks no_items = Ok tasks
-tasks_from tasks (item value rest) =
-    and_then (task_of (length tasks + 1) value) (λ task.
-    no_twin (length tasks + 1) (place_of tasks task.name) (tasks_from (tasks ++ task ∷ []) rest))
+tasks_from tasks (item value rest) = do
+  task ← task_of (length tasks + 1) value
+  none_found (λ first. fault.SameName (first + 1) (length tasks + 1)) (place_of tasks task.name)
+  tasks_from (tasks ++ task ∷ []) rest
 
 -- the check that the least common multiple of the periods is within its limit
 abbrev pub within_hyper : List Task → Result (List Task) TaskFault
@@ -98,7 +85,7 @@ tasks_of_array None = Err (fault.Kind 0 field.Task)
 tasks_of_array (Some no_items) = Err fault.NoTasks
 tasks_of_array (Some (item value rest)) =
     if nat_lt MOST_TASKS (count_of (item value rest)) then Err (fault.TooMany (count_of (item value rest)))
-    else and_then (tasks_from [] (item value rest)) within_hyper
+    else (tasks_from [] (item value rest) >>= within_hyper)
 
 -- the tasks of the value at the document's key `task`
 abbrev pub entries_at : Option Data → Result (List Task) TaskFault
@@ -108,7 +95,9 @@ entries_at (Some value) = tasks_of_array (as_array value)
 -- the tasks of a document: its unknown keys first, and then its array
 abbrev pub tasks_of_document : Option Members → Result (List Task) TaskFault
 tasks_of_document None = Err fault.NotToml
-tasks_of_document (Some ms) = no_unknown_task_key 0 (unknown_key task_file_keys ms) (entries_at (get_member (codes "task") ms))
+tasks_of_document (Some ms) = do
+  none_found (unknown_task_key 0) (unknown_key task_file_keys ms)
+  entries_at (get_member (codes "task") ms)
 
 -- the meaning of a task file's bytes: the tasks, or the first refusal
 abbrev pub task_file : List ℕ → Result (List Task) TaskFault

@@ -35,7 +35,7 @@ pub enum TaskFault {
     Kind { place: u32, field: Field },
     /// A number is outside its limits: the period 1 to 2^40, the worst case 1 to 2^60, the offset 0 to 2^40.
     Range { place: u32, field: Field },
-    /// The name is not 1 to 32 bytes of ASCII letters, digits, `_` and `-`.
+    /// The name is not 1 to [`NAME_BYTES`](dvs_base::NAME_BYTES) bytes of ASCII letters, digits, `_` and `-`.
     BadName { place: u32 },
     /// Two tasks have one name.
     SameName { first: u32, second: u32 },

@@ -2,20 +2,18 @@
 ghost use Rattle.std.specs.Prelude.{codes, ◌≡◌, ◌≤◌, ◌<◌, [], Some, length, IfOk, vec_len};
 ghost use Rattle.toml.specs.Data.{get_member};
 ghost use Rattle.toml.specs.View.{view, table_view, items_view};
-ghost use Rattle.dvs_base.specs.Checks.{IsUnlessMemory};
-ghost use Rattle.dvs_base.specs.Settings.{number_at};
+ghost use Rattle.dvs_base.specs.Checks.{or_refusal, IsUnlessMemory};
 ghost use Rattle.dvs_base.specs.declared.limits.TheConstants.{MOST_TASKS};
-ghost use Rattle.task_model.specs.declared.limits.TheConstants.{LATEST_OFFSET};
 ghost use Rattle.task_model.specs.Tasks.{IsTask, hyper_of};
 ghost use Rattle.task_model.specs.Limits.{AreTasks};
-ghost use Rattle.task_model.specs.TaskFile.{task_fault_at, at_task_key, checked_name, name_at, offset_at, task_of_members, task_of, place_of, tasks_from, within_hyper, tasks_of_array, tasks_of_document, task_file};
+ghost use Rattle.task_model.specs.TaskFile.{task_fault_at, checked_name, name_at, task_of_members, task_of, place_of, tasks_from, within_hyper, tasks_of_array, tasks_of_document, task_file};
 
 use crate::fault::{Field, TaskFault};
 use crate::limits::{LATEST_OFFSET, LONGEST_PERIOD, MOST_WORK};
 use crate::task::{Task, TaskSet, place_of};
 use dvs_base::{
-    DocumentFault, MOST_TASKS, MemberFault, Name, member_at, number_at, read_document, text_at,
-    unknown_key,
+    DocumentFault, MOST_TASKS, MemberFault, Name, member_at, number_at, number_or_zero,
+    read_document, text_at, unknown_key,
 };
 use std::alloc::Global;
 use toml::{Table, Value};
@@ -30,32 +28,11 @@ fn fault_at(place: u32, field: Field, fault: MemberFault) -> TaskFault
     }
 }
 
-fn read_number(
-    place: u32,
-    field: Field,
-    key: &str,
-    most: u64,
-    table: &Table,
-) -> Result<u64, TaskFault>
-    ensures meaning { result ≡ at_task_key place field (number_at 1 most (get_member key.now (table_view table.now))) }
-    ensures limits { IfOk result (λ n. (1 ≤ n) × (n ≤ most)) }
+// A number of the task at this place, or the refusal for its error.
+fn number_in(place: u32, field: Field, number: Result<u64, MemberFault>) -> Result<u64, TaskFault>
+    ensures { result ≡ or_refusal (task_fault_at place field) number }
 {
-    match number_at(table, key, 1, most) {
-        Ok(n) => Ok(n),
-        Err(fault) => Err(fault_at(place, field, fault)),
-    }
-}
-
-// The offset of an entry's table, 0 where it is absent.
-fn read_offset(place: u32, table: &Table) -> Result<u64, TaskFault>
-    ensures meaning { result ≡ offset_at place (get_member (codes "offset") (table_view table.now)) }
-    ensures limit { IfOk result (λ n. n ≤ LATEST_OFFSET) }
-{
-    match number_at(table, "offset", 0, LATEST_OFFSET) {
-        Ok(n) => Ok(n),
-        Err(MemberFault::Missing) => Ok(0),
-        Err(fault) => Err(fault_at(place, Field::Offset, fault)),
-    }
+    number.map_err(|fault| fault_at(place, field, fault))
 }
 
 fn checked_name(place: u32, text: &str) -> Result<Name, TaskFault>
@@ -84,9 +61,12 @@ fn read_members(place: u32, table: &Table) -> Result<Task, TaskFault>
         return Err(TaskFault::UnknownKey { place, key });
     }
     let name = read_name(place, table)?;
-    let period = read_number(place, Field::Period, "period", LONGEST_PERIOD, table)?;
-    let worst = read_number(place, Field::Worst, "worst", MOST_WORK, table)?;
-    let offset = read_offset(place, table)?;
+    let period = number_at(table, "period", 1, LONGEST_PERIOD);
+    let period = number_in(place, Field::Period, period)?;
+    let worst = number_at(table, "worst", 1, MOST_WORK);
+    let worst = number_in(place, Field::Worst, worst)?;
+    let offset = number_or_zero(table, "offset", LATEST_OFFSET);
+    let offset = number_in(place, Field::Offset, offset)?;
     Ok(Task {
         name,
         period,

@@ -18,10 +18,7 @@ fn name_value(alloc: Global, name: &Name) -> Result<Value, NoMemory>
     ensures { IfOk result (λ v. view v ≡ string name.now) }
 {
     let text = std::str::from_utf8(name.as_bytes()).unwrap();
-    match Value::string(alloc, text) {
-        Ok(value) => Ok(value),
-        Err(_) => Err(NoMemory),
-    }
+    Value::string(alloc, text).map_err(|_| NoMemory)
 }
 
 fn number_value(n: u64) -> Value
@@ -35,14 +32,9 @@ fn number_value(n: u64) -> Value
 fn put(alloc: Global, table: &mut Table, key: &str, value: Value) -> Result<(), NoMemory>
     ensures { OnOk result (table_view table.new ≡ put_member key.now (view value) (table_view table.old)) }
 {
-    let kept = match String::from_str(alloc, key) {
-        Ok(kept) => kept,
-        Err(_) => return Err(NoMemory),
-    };
-    match table.insert(kept, value) {
-        Ok(_) => Ok(()),
-        Err(_) => Err(NoMemory),
-    }
+    let kept = String::from_str(alloc, key).map_err(|_| NoMemory)?;
+    table.insert(kept, value).map_err(|_| NoMemory)?;
+    Ok(())
 }
 
 fn task_value(alloc: Global, task: &Task) -> Result<Value, NoMemory>
@@ -90,9 +82,6 @@ impl TaskSet {
         ensures { IfOk result (λ text. task_file (string_bytes text) ≡ Ok self.now) }
     {
         let table = document_of(alloc, self.as_slice())?;
-        match toml::table_to_string(alloc, &table) {
-            Ok(text) => Ok(text),
-            Err(_) => Err(NoMemory),
-        }
+        toml::table_to_string(alloc, &table).map_err(|_| NoMemory)
     }
 }

@@ -10,7 +10,7 @@ use Rattle.std.proofs.Math.Nat.{mod-add-div, mul-div-le, mul-le-mul_left, mul-le
 use Rattle.std.specs.Prelude.{slice_index}
 use Rattle.std.proofs.lemmas.Nat.{le-div}
 use Rattle.std.proofs.lemmas.List.Elements.{All-from_get_or, All-from_recursion}
-use Rattle.dvs_base.specs.declared.limits.TheConstants.{MOST_TASKS}
+use Rattle.dvs_base.specs.declared.limits.TheConstants.{MOST_TASKS, NAME_BYTES}
 use Rattle.dvs_base.specs.Text.{is_name, is_name_byte}
 use Rattle.grid_fraction.specs.Numbers.{list_below, sum_below, ceil_div}
 use Rattle.grid_fraction.proofs.Sums.{list_below-more}
@@ -62,7 +62,7 @@ pub made_name-is : (i : ℕ) → i < MOST_TASKS → is_name (made_name i) ≡ tr
 made_name-is i lt =
     let short = length-decimal i lt in
     let some : nat_le 1 (length (made_name i)) ≡ true = grind (arith, nat_tests) in
-    let few : nat_le (length (made_name i)) 32 ≡ true = grind (arith, nat_tests) in
+    let few : nat_le (length (made_name i)) NAME_BYTES ≡ true = grind (arith, nat_tests) in
     rw (some, few, digits-named (i + 1) (omega arith)) refl
 
 pub made_name-same : (i j : ℕ) → i < MOST_TASKS → j < MOST_TASKS → made_name i ≡ made_name j → i ≡ j
