@@ -27,7 +27,7 @@ use Rattle.sched_model.proofs.Spans.{stays-unreleased, IsLastSpan, IsNow}
 use Rattle.dvs_base.specs.declared.note.Note.TheVariants.{Done}
 use Rattle.sched_model.proofs.Units.{sum-own}
 use Rattle.sched_model.proofs.Walk.{EachNote, AreFirst, each-note}
-use Rattle.trace_text.proofs.Unspaced.{each-append}
+use Rattle.grid_fraction.proofs.Lists.{each-append}
 use Rattle.note_laws.specs.LineCounts.{AreFew, HasFewDecisions}
 use Rattle.note_laws.specs.DoneLines.{IsBy}
 

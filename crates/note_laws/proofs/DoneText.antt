@@ -18,7 +18,8 @@ use Rattle.dvs_base.specs.declared.note.Note.{Note}
 use Rattle.sched_model.specs.Plan.{Plan, count, names, task, period, offset}
 use Rattle.sched_model.proofs.Tables.{each-below}
 use Rattle.trace_text.specs.TraceLines.{lines_of, line, done_fields, fields_of, note_text}
-use Rattle.trace_text.proofs.Unspaced.{AreUnspaced, each-append, unspaced-name, some-name}
+use Rattle.grid_fraction.proofs.Lists.{each-append}
+use Rattle.trace_text.proofs.Unspaced.{AreUnspaced, unspaced-name, some-name}
 use Rattle.trace_reader.specs.TraceText.{head_lines, text_of_lines, shares_from, version_line, LineOf, noted, lines_of_note}
 use Rattle.trace_reader.proofs.WholeText.{each-for, each-share, each-noted}
 use Rattle.trace_reader.proofs.SplitLines.{IsLine, lines-text, task-fields, each-line}

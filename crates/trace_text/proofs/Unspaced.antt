@@ -1,24 +1,17 @@
 -- The lines of a text whose fields have neither a space nor a line feed.
-use Rattle.std.proofs.Common.{◌≡◌, ◌≢◌, ℕ, zero, suc, ◌+◌, ◌/◌, ◌%◌, Bool, true, false, ◌&&◌, List, [], ◌∷◌, ◌++◌, length, drop, refl, arith, if◌then◌else◌, ap, ap₂, ◌∙◌, sym, true≢false, append_assoc, nat_le, nat_lt, get_or, replicate}
+use Rattle.std.proofs.Common.{◌≡◌, ◌≢◌, ℕ, zero, suc, ◌+◌, ◌/◌, ◌%◌, Bool, true, false, ◌&&◌, List, [], ◌∷◌, ◌++◌, length, drop, refl, arith, if◌then◌else◌, ap, ap₂, ◌∙◌, sym, true≢false, append_assoc, nat_le, nat_lt, get_or}
 use Rattle.std.specs.Prelude.{decimal, ◌==◌}
 use Rattle.std.specs.List.{AllByRecursion, list_all}
 use Rattle.std.proofs.lemmas.Bool.{and_parts}
 use Rattle.std.proofs.lemmas.Bool.Decides.{nat_tests}
 use Rattle.std.specs.Fmt.{digit_glyph, digits_onto, digits}
 use Rattle.dvs_base.specs.Text.{is_name, is_name_byte}
+use Rattle.grid_fraction.proofs.Lists.{each-append}
 use Rattle.trace_text.specs.TraceLines.{line, lines_of, with_byte}
 
 -- a byte that is neither a space nor a line feed
 abbrev pub IsUnspaced : ℕ → Type 0
 IsUnspaced b = (b ≢ 32) × (b ≢ 10)
-
-pub each-append : {A : Type 0} (P : A → Type 0) (xs ys : List A) → AllByRecursion P xs → AllByRecursion P ys → AllByRecursion P (xs ++ ys)
-each-append P [] ys e f = f
-each-append P (x ∷ xs) ys e f = (e.0, each-append P xs ys e.1 f)
-
-pub each-replicate : {A : Type 0} (P : A → Type 0) (n : ℕ) (x : A) → P x → AllByRecursion P (replicate n x)
-each-replicate P zero x h = tt
-each-replicate P (suc n) x h = (h, each-replicate P n x h)
 
 abbrev pub AreUnspaced : List ℕ → Type 0
 AreUnspaced = AllByRecursion IsUnspaced
