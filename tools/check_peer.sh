@@ -15,7 +15,7 @@ runs=0 differ=0
 
 # compare WORDS: one run of both programs, if the program makes it
 compare() {
-    "$program" run "$@" > "$work/wanted" 2> /dev/null || return
+    "$program" run "$@" > "$work/wanted" 2> "$work/notes" || return
     runs=$((runs + 1))
     "$work/peer" run "$@" > "$work/found" 2>&1
     cmp -s "$work/wanted" "$work/found" && return
