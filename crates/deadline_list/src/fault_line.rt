@@ -26,7 +26,8 @@ fn unknown_task_line(row: u64, name: &Short) -> Line
 }
 
 fn repeated_line(row: u64, name: &Option<Name>) -> Line
-    ensures { result ≡ row_text (codes "deadlines") row (codes "task " ∷ name_text name.now ∷ codes " stands twice\n" ∷ []) }
+    ensures { result ≡ row_text (codes "deadlines") row
+        (codes "task " ∷ name_text name.now ∷ codes " stands twice\n" ∷ []) }
 {
     row_line(
         b"deadlines",

@@ -23,12 +23,14 @@ over_worst_text name job units worst =
 -- the line of a demand file's refusal, with the tasks' names
 abbrev pub demand_fault_text : List (List ℕ) → DemandFault → List ℕ
 demand_fault_text names fault.Header = codes "demands: wrong header\n"
-demand_fault_text names (fault.Fields row count) = row_text (codes "demands") row (decimal count ∷ codes " fields\n" ∷ [])
+demand_fault_text names (fault.Fields row count) =
+    row_text (codes "demands") row (decimal count ∷ codes " fields\n" ∷ [])
 demand_fault_text names (fault.UnknownTask row word) =
     row_text (codes "demands") row (codes "unknown task " ∷ word ∷ codes "\n" ∷ [])
 demand_fault_text names (fault.BadNumber row at) = bad_number_text (codes "demands") row (column_word at)
 demand_fault_text names (fault.JobZero row) = row_text (codes "demands") row (codes "job 0\n" ∷ [])
 demand_fault_text names (fault.Repeated row task job) =
-    row_text (codes "demands") row (codes "task " ∷ name_of names task ∷ codes " job " ∷ decimal job ∷ codes " stands twice\n" ∷ [])
+    row_text (codes "demands") row
+    (codes "task " ∷ name_of names task ∷ codes " job " ∷ decimal job ∷ codes " stands twice\n" ∷ [])
 demand_fault_text names (fault.OverWorst task job units worst) = over_worst_text (name_of names task) job units worst
 demand_fault_text names fault.NoMemory = codes "no memory\n"

@@ -19,6 +19,7 @@ module _ {T E D : Type 0} where
 
   -- each error comes from one
   pub map_err-Err : (r : Result T E) (mapped : Result T D) (Made : E → D → Type 0) (d : D)
-      → MatchResult r (λ x. mapped ≡ Ok x) (λ e. IsErrAnd mapped (Made e)) → mapped ≡ Err d → (e : E) × (r ≡ Err e) × Made e d
+      → MatchResult r (λ x. mapped ≡ Ok x) (λ e. IsErrAnd mapped (Made e)) → mapped ≡ Err d
+      → (e : E) × (r ≡ Err e) × Made e d
   map_err-Err (Ok x) mapped Made d is e = absurd cc
   map_err-Err (Err e) mapped Made d made is = (e, refl, subst (λ m. IsErrAnd m (Made e)) is made)

@@ -22,8 +22,8 @@ fn place_line(file: &Short, entry: &Short, place: u32) -> Line
     line
 }
 
-/// The line of a refusal in a settings file: the file, where the place isn't 0 which of its entries, and then `what` and
-/// `which`. It takes no memory.
+/// The line of a refusal in a settings file: the file, where the place isn't 0 which of its entries, and then `what`
+/// and `which`. It takes no memory.
 pub fn settings_line(file: &Short, entry: &Short, place: u32, what: &[u8], which: &[u8]) -> Line
     requires what { length what.now ≤ NAME_BYTES }
     requires which { length which.now ≤ NAME_BYTES }

@@ -21,8 +21,8 @@ pub ratio-trans : (a b c d e f : ℕ) → 0 < d → a * d ≤ c * b → c * f �
 ratio-trans a b c d e f pos h g =
     le_of_mul-le-mul_left {m = a * f} {n = e * b} {k = d} (omega (arith, mul-le-mul_right f h, mul-le-mul_right b g)) pos
 
--- the line from (p, c) to (U, C) and the slopes to (U, C) from (p, c) and from (x, y): E and M are the place and the cost
--- by which (U, C) exceeds (p, c), D and N those by which it exceeds (x, y)
+-- how far (x, y) is from the line through (p, c) and (U, C), by the slopes to (U, C) from both: E and M are the place
+-- and the cost by which (U, C) exceeds (p, c), D and N those by which it exceeds (x, y)
 slope-sums : (p c U C x y E M D N : ℕ) → p + E ≡ U → c + M ≡ C → x + D ≡ U → y + N ≡ C
     → U * y + C * p + c * x + N * E ≡ C * x + c * U + p * y + M * D
 slope-sums p c U C x y E M D N pe cm xd yn =

@@ -64,7 +64,9 @@ abbrev pub points_from : List Point → Items → Result (List Point) MachineFau
 points_from points no_items = Ok points
 points_from points (item value rest) = do
   x ← point_of (length points + 1) value
-  if may_follow (last_of points) x then points_from (points ++ x ∷ []) rest else Err (fault.NotRising (length points + 1))
+  if may_follow (last_of points) x
+      then points_from (points ++ x ∷ []) rest
+      else Err (fault.NotRising (length points + 1))
 
 -- the points of a value that is an array, or the refusal of a value that is not
 abbrev pub points_of_array : Option Items → Result (List Point) MachineFault
