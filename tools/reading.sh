@@ -31,10 +31,10 @@ function read_sections() {
     section("headline", "The command line", "dvs_base/Pairs dvs_base/PlanWords words")
     section("headline", "Tasks, machines, demands", "freq_table task_model demand_list csv_text")
     section("headline", "The model", "sched_model")
-    section("headline", "The text of a run", "trace_text trace_reader sched_model/RunNotes note_laws")
+    section("headline", "The text of a run", "trace_text trace_reader sched_model/RunNotes note_laws trace_writer trace_laws")
     section("headline", "The tests under RM", "rm_admit governor rm_response_laws rm_response")
     section("headline", "The promise", "event_kernel statuses command_files rtdvs_top")
-    section("others", "Writing and probes", "dvs_base sched_model energy probes event_kernel")
+    section("others", "Writing and probes", "dvs_base sched_model energy probes trace_writer event_kernel")
     section("others", "Replay and migration", "trace_reader replay_laws replay " \
         "rtdvs_top/Trace")
     section("others", "Deadlines below the periods", "edf_demand_laws deadline_list edf_demand " \

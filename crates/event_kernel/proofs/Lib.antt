@@ -1,14 +1,12 @@
 pub mod Bounds
 pub mod Pieces
 pub mod SpanBuffer
-pub mod WrittenLines
 pub mod Tellers
 pub mod OpenSegment
 pub mod Courses
 pub mod GivenUnits
 pub mod HeardLists
 pub mod Wholes
-pub mod TracePuts
 pub mod UnitLoop
 pub mod Ofplan
 pub mod BoundaryReleases
@@ -18,7 +16,7 @@ pub mod RunAccount
 pub mod QuietStep
 pub mod QuietTicks
 pub mod RunEnds
+pub mod DrivenRuns
 pub mod DecisionStates
 pub mod ListedDemands
 pub mod MetRuns
-pub mod MostLines

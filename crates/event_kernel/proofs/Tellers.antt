@@ -4,10 +4,10 @@ use Rattle.dvs_base.specs.Outside.{SinkView}
 use Rattle.dvs_base.specs.declared.note.Note.{Note}
 use Rattle.probes.specs.Tallies.{ProbeOf}
 use Rattle.event_kernel.specs.Heard.{HasHeard, HasBalked}
-use Rattle.trace_reader.specs.TraceText.{LineOf, noted}
-use Rattle.event_kernel.specs.Lines.{WroteLines, StoppedIn}
+use Rattle.trace_text.specs.TraceText.{LineOf, noted}
+use Rattle.trace_writer.specs.Lines.{WroteLines, StoppedIn}
 use Rattle.event_kernel.specs.declared.teller.Teller.{Teller}
-use Rattle.event_kernel.proofs.WrittenLines.{no-lines, lines-then, lines-then-some, lines-some-more}
+use Rattle.trace_writer.proofs.WrittenLines.{no-lines, lines-then, lines-then-some, lines-some-more}
 
 module _ {W P : Type 0} (shows : W → SinkView) (seen : P → ProbeOf) where
   -- the sink, the list of probes and the names stay

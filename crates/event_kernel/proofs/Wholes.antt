@@ -1,6 +1,6 @@
--- The lines of a whole run, and what writing them does to a sink.
-use Rattle.std.proofs.Common.{◌≡◌, ℕ, zero, suc, ◌+◌, ◌*◌, ◌<◌, ◌≤◌, List, [], ◌∷◌, ◌++◌, length, map, Result, Ok, Err, refl, ap, ap₂, sym, ◌∙◌, subst, arith, append-nil, length-append}
-use Rattle.std.specs.Prelude.{flat_map, sum_by, slice_index, IfOk, IsOk, OnErr}
+-- The lines of a whole run.
+use Rattle.std.proofs.Common.{◌≡◌, ℕ, ◌+◌, ◌*◌, ◌≤◌, List, [], ◌∷◌, ◌++◌, length, map, Result, Ok, Err, refl, ap, ap₂, sym, ◌∙◌, subst, arith, append-nil, length-append}
+use Rattle.std.specs.Prelude.{flat_map, sum_by, slice_index, IfOk}
 use Rattle.std.specs.List.{AllByRecursion}
 use Rattle.std.proofs.lemmas.List.{length-map}
 use Rattle.std.proofs.lemmas.List.Concat.{flat_map-append}
@@ -12,7 +12,6 @@ use Rattle.dvs_base.specs.declared.kind.Version.TheVariants.{One, Two}
 use Rattle.dvs_base.specs.declared.note.Note.{Note}
 use Rattle.dvs_base.specs.declared.note.Note.TheVariants.{End}
 use Rattle.dvs_base.specs.declared.note.Totals.{Totals}
-use Rattle.dvs_base.specs.Outside.{SinkView, Rose}
 use Rattle.dvs_base.specs.Parts.{name_of}
 use Rattle.dvs_base.specs.NoteTasks.{energy_of_task}
 use Rattle.task_model.specs.declared.task.Task.{Task}
@@ -25,49 +24,19 @@ use Rattle.sched_model.proofs.Tables.{get-table, length-list_below}
 use Rattle.governor.specs.Meanings.{OwnDemand}
 use Rattle.governor.specs.Schedule.{ask_of}
 use Rattle.note_laws.specs.LineCounts.{AreFew}
-use Rattle.note_laws.specs.RunText.{task_texts, run_lines}
+use Rattle.trace_writer.specs.RunText.{task_texts, run_lines, most_lines}
 use Rattle.note_laws.proofs.FewNotes.{has-few-notes, IsNoteIn}
-use Rattle.trace_reader.specs.TraceText.{LineOf, unnoted, noted, task_energy, task_text, share_text, shares_from, for_tasks, head_lines, lines_of_note, note_lines, text_of_lines}
-use Rattle.probes.specs.Tallies.{ProbeOf}
-use Rattle.event_kernel.specs.Lines.{most_lines, WritesLines}
-use Rattle.event_kernel.specs.UnnotedLines.{sum_lines}
+use Rattle.trace_text.specs.TraceText.{LineOf, unnoted, noted, task_energy, task_text, share_text, shares_from, for_tasks, head_lines, lines_of_note, note_lines}
+use Rattle.trace_writer.specs.UnnotedLines.{sum_lines}
+use Rattle.trace_writer.proofs.SumLines.{shares-below}
 use Rattle.event_kernel.specs.Runs.{Run as RunOf, demands_of, run_ticks, notes_of_run}
 use Rattle.event_kernel.specs.SpanNotes.{notes_before_end_of}
 use Rattle.event_kernel.proofs.NoteRoom.{course-fits}
 use Rattle.event_kernel.proofs.Courses.{course-len, course-legal}
-use Rattle.event_kernel.proofs.WrittenLines.{stopped-some}
-
-module _ {T E : Type 0} (a b : SinkView) (ps qs : List ProbeOf) (lines : List LineOf) where
-  pub writes-sure : (r : Result T E) → WritesLines a b ps qs lines r → length (text_of_lines lines) ≤ a.sure → IsOk r
-  writes-sure (Ok v) w le = refl
-  writes-sure (Err e) w le = absurd (omega (arith, (stopped-some a b ps qs lines w).unsure, le))
-
-  pub writes-later : (r : Result T E) → WritesLines a b ps qs lines r → a.faults ≤ b.faults
-  writes-later (Ok v) w = omega (arith, w.wrote.steady)
-  writes-later (Err e) w = (stopped-some a b ps qs lines w).later
-
-  pub writes-rose : (r : Result T E) → WritesLines a b ps qs lines r → OnErr r (Rose a.faults b.faults)
-  writes-rose (Ok v) w = tt
-  writes-rose (Err e) w = (stopped-some a b ps qs lines w).rose
 
 pub few-of : {E : Type 0} (r : Result Totals E) (t : Totals) → AreFew t → IfOk r (λ x. x ≡ t) → IfOk r AreFew
 few-of (Ok x) t few is = subst AreFew (sym is) few
 few-of (Err e) t few is = tt
-
--- the first of some numbered values comes before the others
-pub below-first : {A : Type 0} (n : ℕ) (f : ℕ → A) → list_below (suc n) f ≡ f 0 ∷ list_below n (λ i. f (suc i))
-below-first zero f = refl
-below-first {A} (suc n) f = ap (λ (xs : List A). xs ++ f (suc n) ∷ []) (below-first n f)
-
--- the lines of energies, which are those of the tasks from i on
-pub shares-below : (notes : List Note) (ns : List (List ℕ)) (i : ℕ) (energy : ℕ → ℕ)
-    → ((k m : ℕ) → m ≡ i + k → k < length ns → energy k ≡ task_energy notes m)
-    → list_below (length ns) (λ k. share_text (name_of ns k) (energy k)) ≡ shares_from notes i ns
-shares-below notes [] i energy same = refl
-shares-below notes (name ∷ ns) i energy same =
-    below-first (length ns) (λ k. share_text (name_of (name ∷ ns) k) (energy k))
-    ∙ ap₂ (λ x xs. x ∷ xs) (ap (share_text name) (same 0 i (omega arith) (omega arith)))
-    (shares-below notes ns (i + 1) (λ k. energy (suc k)) (λ k m e lt. same (suc k) m (omega (arith, e)) (omega (arith, lt))))
 
 -- each note before the `End` has its own line alone
 own-lines : (v : Version) (ns : List (List ℕ)) (p : Plan) (all notes : List Note) → AllByRecursion (IsNoteIn p) notes

@@ -1,10 +1,9 @@
 pub mod Heard
 pub mod Runs
 pub mod MetRun
+pub mod Drives
 pub mod SpanNotes
 pub mod Segment
-pub mod Lines
-pub mod UnnotedLines
 pub mod SpanTraces
 pub mod Tickwork
 pub mod Boundary

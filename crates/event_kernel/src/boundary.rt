@@ -13,9 +13,9 @@ ghost use Rattle.event_kernel.specs.Boundary.{needs_nothing, opening_notes, spee
 ghost use Rattle.event_kernel.specs.Settings.{IsSetting, IsAtBoundary, IsBetween, IsInSpan, IsMetBy, state_at};
 
 use crate::in_force::InForce;
+use crate::jobs::demand;
 use crate::notes::SpanNotes;
 use crate::progress::{Progress, Setting};
-use crate::tick::demand;
 use dvs_base::{Note, Pos};
 use governor::Governor;
 use sched_model::{Admitted, State};

@@ -1,14 +1,17 @@
-// The jobs of a run: how many there are, and what they need at most.
-ghost use Rattle.std.specs.Prelude.{◌≡◌, ◌-◌, ◌<◌, ◌≤◌, ◌^◌, IfOk, []};
+// The jobs of a run: how many there are, what each needs, and which is the latest of a task.
+ghost use Rattle.std.specs.Prelude.{◌≡◌, ◌-◌, ◌<◌, ◌≤◌, ◌^◌, IfOk, IfSome, [], length};
 ghost use Rattle.dvs_base.specs.declared.limits.TheConstants.{MOST_TICKS};
 ghost use Rattle.grid_fraction.specs.Numbers.{ceil_div};
 ghost use Rattle.sched_model.specs.Plan.{count, period, offset};
 ghost use Rattle.sched_model.specs.Jobs.{released_jobs};
-ghost use Rattle.event_kernel.specs.Runs.{IsListOf};
+ghost use Rattle.sched_model.specs.States.{row_at};
+ghost use Rattle.event_kernel.specs.Runs.{demands_of, IsListOf};
+ghost use Rattle.event_kernel.specs.Segment.{holder_at};
 
+use crate::progress::Setting;
 use demand_list::Demands;
 use dvs_base::NoMemory;
-use sched_model::Admitted;
+use sched_model::{Admitted, Holder, State};
 use std::alloc::Global;
 
 /// The number of a task's jobs that are released before tick `ticks`.
@@ -45,4 +48,42 @@ pub fn worst_demands(alloc: Global, plan: &Admitted) -> Result<Demands, NoMemory
         worsts.push(plan.declared(task)).map_err(|_| NoMemory)?;
     }
     Demands::worst_only(alloc, &worsts)
+}
+
+/// A job's demand in work units, with twice the charge; 0 for job 0.
+pub(crate) fn demand(plan: &Admitted, demands: &Demands, task: u32, job: u64) -> u64
+    requires list { IsListOf plan.now demands.now }
+    requires task { task < count plan.now }
+    ensures { result ≡ demands_of plan.now demands.now task job }
+{
+    let _within = demands.worsts();
+    if job == 0 {
+        return 0;
+    }
+    demands.units(task, job) + 2 * plan.machine().charge()
+}
+
+/// The work units that a task's latest job still needs.
+pub(crate) fn lacking(set: &Setting<'_>, state: &State, task: u32) -> u64
+    requires list { IsListOf set.now.plan.now set.now.demands.now }
+    requires rows { length state.now.rows ≡ count set.now.plan.now }
+    requires task { task < count set.now.plan.now }
+    requires within { (row_at state.now task).used
+        ≤ demands_of set.now.plan.now set.now.demands.now task (row_at state.now task).job }
+    ensures { result ≡ demands_of set.now.plan.now set.now.demands.now task (row_at state.entry.now task).job
+        - (row_at state.entry.now task).used }
+{
+    let row = state.rows[task as usize];
+    demand(set.plan, set.demands, task, row.job) - row.used
+}
+
+/// The holder that is the latest job of the task `first`; nobody where it is `None`.
+pub(crate) fn holder_of(state: &State, first: Option<u32>) -> Holder
+    requires { IfSome first (λ i. i < length state.now.rows) }
+    ensures { result ≡ holder_at state.entry.now first }
+{
+    match first {
+        Some(task) => Holder::Held(task, state.rows[task as usize].job),
+        None => Holder::Nobody,
+    }
 }

@@ -1,15 +1,15 @@
 // The kernel.
 ghost use Rattle.std.specs.Prelude.{◌≡◌, ◌≤◌, ◌<◌, ℕ, OnOk, OnErr, IfOk, IsErrOf};
+ghost use Rattle.dvs_base.specs.declared.note.Note.TheVariants.{End};
 ghost use Rattle.sched_model.specs.Totals.{totals_of};
 ghost use Rattle.sched_model.specs.States.{opening};
-ghost use Rattle.sched_model.specs.Demand.{IsAlwaysMet};
-ghost use Rattle.event_kernel.specs.Heard.{HasHeard, HasBalked};
+ghost use Rattle.event_kernel.specs.Drives.{Drives};
 ghost use Rattle.event_kernel.specs.SpanNotes.{HandsOut, notes_before_end_of, HasBooked};
 ghost use Rattle.event_kernel.specs.declared.kernel.KernelFault.TheVariants as fault;
 ghost use Rattle.sched_model.specs.Jobs.{released_jobs};
 ghost use Rattle.dvs_base.specs.declared.limits.TheConstants.{MOST_JOBS, MOST_TICKS};
 ghost use Rattle.note_laws.specs.LineCounts.{AreFew};
-ghost use Rattle.event_kernel.specs.Runs.{IsListOf, notes_of_run, MeetsDeadlines, MeetsDemands};
+ghost use Rattle.event_kernel.specs.Runs.{IsListOf, notes_of_run};
 ghost use Rattle.event_kernel.specs.MetRun.{IsMetRun};
 ghost use Rattle.dvs_base.specs.Outside.{Rose};
 
@@ -60,6 +60,19 @@ impl<'a, G: Governor> Model for Kernel<'a, G> {
     ghost invariant = { λ k. IsAtStart G.stands G.the_kind G.demand k.set k.progress k.account };
 }
 
+// Hands the listener the `End` of a run of `ticks` ticks; the totals of the account.
+fn finish<L: Listener>(ticks: u64, account: &Account, to: &mut L) -> Result<Totals, Stopped>
+    ensures totals { IfOk result (λ t. t ≡ account.now.totals) }
+    ensures heard { OnOk result (L.heard to.old (End ticks account.now.totals.run account.now.totals.idle) to.new) }
+    ensures balked { OnErr result (L.balked to.old (End ticks account.now.totals.run account.now.totals.idle) to.new) }
+    ensures later { L.stops to.old ≤ L.stops to.new }
+    ensures rose { OnErr result (Rose (L.stops to.old) (L.stops to.new)) }
+{
+    let (totals, end) = ending(ticks, account);
+    to.hear(&end)?;
+    Ok(totals)
+}
+
 impl<'a, G: Governor> Kernel<'a, G> {
     /// A kernel for `ticks` ticks, 1 to 2^40, of a plan and its demands. All its memory is taken here.
     /// `TooManyJobs` comes exactly where more than `MOST_JOBS` jobs are released before tick `ticks`, with their
@@ -105,49 +118,20 @@ impl<'a, G: Governor> Kernel<'a, G> {
     /// comes only where the listener stopped, after a proper prefix of them. Every job that is due within the run has
     /// its demand by its deadline.
     pub fn drive<L: Listener>(self, to: &mut L) -> Result<Totals, Stopped>
-        ensures totals { IfOk result (λ t. t ≡ totals_of (notes_of_run G.demand self.entry)) }
-        // At most one more decision than releases and completions together, so at most one more than two a job.
-        ensures few { IfOk result AreFew }
-        ensures deadlines { MeetsDeadlines G.demand self.entry }
-        ensures demands { IsAlwaysMet G.the_kind → MeetsDemands G.demand self.entry }
-        ensures ran { OnOk result (HasHeard L.heard to.old (notes_of_run G.demand self.entry) to.new) }
-        ensures broke_off { OnErr result (HasBalked L.heard L.balked to.old (notes_of_run G.demand self.entry) to.new) }
-        ensures never_falls { L.stops to.old ≤ L.stops to.new }
-        ensures rose { OnErr result (Rose (L.stops to.old) (L.stops to.new)) }
+        ensures { Drives L.heard L.balked L.stops G.the_kind G.demand self.entry to.old to.new result }
     {
-        self.whole_run(Walk::Events, to)
+        let ticks = self.set.ticks;
+        let account = self.spans(Walk::Events, to)?;
+        finish(ticks, &account, to)
     }
 
     /// Hands the listener the notes that `drive` hands it, with the same results, but goes tick by tick, not by events.
     pub fn tick_drive<L: Listener>(self, to: &mut L) -> Result<Totals, Stopped>
-        ensures totals { IfOk result (λ t. t ≡ totals_of (notes_of_run G.demand self.entry)) }
-        // At most one more decision than releases and completions together, so at most one more than two a job.
-        ensures few { IfOk result AreFew }
-        ensures deadlines { MeetsDeadlines G.demand self.entry }
-        ensures demands { IsAlwaysMet G.the_kind → MeetsDemands G.demand self.entry }
-        ensures ran { OnOk result (HasHeard L.heard to.old (notes_of_run G.demand self.entry) to.new) }
-        ensures broke_off { OnErr result (HasBalked L.heard L.balked to.old (notes_of_run G.demand self.entry) to.new) }
-        ensures never_falls { L.stops to.old ≤ L.stops to.new }
-        ensures rose { OnErr result (Rose (L.stops to.old) (L.stops to.new)) }
-    {
-        self.whole_run(Walk::Ticks, to)
-    }
-
-    // Runs the spans by this walk and hands the listener all notes, the `End` last; the totals of the notes.
-    fn whole_run<L: Listener>(self, walk: Walk, to: &mut L) -> Result<Totals, Stopped>
-        ensures totals { IfOk result (λ t. t ≡ totals_of (notes_of_run G.demand self.entry)) }
-        ensures few { IfOk result AreFew }
-        ensures met { IsMetRun G.the_kind G.demand self.entry }
-        ensures ran { OnOk result (HasHeard L.heard to.old (notes_of_run G.demand self.entry) to.new) }
-        ensures broke_off { OnErr result (HasBalked L.heard L.balked to.old (notes_of_run G.demand self.entry) to.new) }
-        ensures never_falls { L.stops to.old ≤ L.stops to.new }
-        ensures rose { OnErr result (Rose (L.stops to.old) (L.stops to.new)) }
+        ensures { Drives L.heard L.balked L.stops G.the_kind G.demand self.entry to.old to.new result }
     {
         let ticks = self.set.ticks;
-        let account = self.spans(walk, to)?;
-        let (totals, end) = ending(ticks, &account);
-        to.hear(&end)?;
-        Ok(totals)
+        let account = self.spans(Walk::Ticks, to)?;
+        finish(ticks, &account, to)
     }
 
     // Runs the spans by this walk and hands the listener every note before the `End`; the account of those notes.

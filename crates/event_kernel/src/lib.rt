@@ -1,7 +1,8 @@
 //! The kernel: it runs an admitted plan under a governor and hands a listener every note of the schedule.
 //!
 //! It is generic over the governor and learns each demand from `choose` alone. A listener hears all notes, in order;
-//! where it stops, it has heard a proper prefix of them.
+//! where it stops, it has heard a proper prefix of them. `Kernel::run` is the run with a listener that writes each note's
+//! line by `trace_writer` and then gives the note to probes.
 #![tactic(auto)]
 
 mod boundary;
@@ -18,11 +19,8 @@ mod span;
 mod span_trace;
 mod teller;
 mod tick;
-mod trace;
-mod write;
 
 pub use jobs::{count_jobs, jobs_below, worst_demands};
 pub use kernel::{Kernel, KernelFault};
 pub use listener::{Listener, Stopped};
 pub use teller::WriteFault;
-pub use trace::put_trace;

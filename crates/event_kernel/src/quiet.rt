@@ -7,9 +7,9 @@ ghost use Rattle.event_kernel.specs.Tickwork.{gives};
 ghost use Rattle.event_kernel.specs.Settings.{IsSetting, IsInSpan, IsLastTick, AreQuiet};
 
 use crate::in_force::InForce;
+use crate::jobs::{holder_of, lacking};
 use crate::progress::{Progress, Setting};
 use crate::span_trace::Moment;
-use crate::tick::{holder_of, lacking};
 use governor::Governor;
 use sched_model::Admitted;
 

@@ -3,23 +3,23 @@ ghost use Rattle.std.specs.Prelude.{◌≡◌, ◌≤◌, [], ◌∷◌, ◌++�
 ghost use Rattle.dvs_base.specs.Outside.{Rose};
 ghost use Rattle.dvs_base.specs.declared.note.Note.TheVariants.{End};
 ghost use Rattle.note_laws.specs.LineCounts.{AreFew};
-ghost use Rattle.note_laws.specs.RunText.{run_lines, task_texts};
+ghost use Rattle.trace_writer.specs.RunText.{run_lines, most_lines};
 ghost use Rattle.sched_model.specs.Demand.{IsAlwaysMet};
 ghost use Rattle.sched_model.specs.Plan.{count, names};
 ghost use Rattle.sched_model.specs.Totals.{totals_of};
-ghost use Rattle.trace_reader.specs.TraceText.{noted, head_lines, note_lines, text_of_lines};
-ghost use Rattle.event_kernel.specs.Lines.{WritesLines, WroteLines, StoppedIn, most_lines};
-ghost use Rattle.event_kernel.specs.UnnotedLines.{sum_lines};
+ghost use Rattle.trace_text.specs.TraceText.{noted, note_lines, text_of_lines};
+ghost use Rattle.trace_writer.specs.Lines.{WritesLines, WroteLines, StoppedIn};
+ghost use Rattle.trace_writer.specs.UnnotedLines.{sum_lines};
 ghost use Rattle.event_kernel.specs.Runs.{notes_of_run, MeetsDeadlines, MeetsDemands};
 
 use crate::ending::ending;
 use crate::span::Walk;
-use crate::write::{Head, put_head, put_note, put_sums};
 use crate::{Kernel, Listener, Stopped};
 use dvs_base::{Failed, Line, Name, Note, Sink, Totals, Version};
 use energy::Account;
 use governor::Governor;
 use probes::{Probe, tell_all};
+use trace_writer::{Head, put_head, put_note, put_sums};
 
 /// The sink failed before the whole trace was written.
 #[derive(Clone, Copy, Debug, PartialEq, Eq)]
@@ -35,23 +35,6 @@ impl From<Stopped> for WriteFault {
     fn from(_e: Stopped) -> WriteFault {
         WriteFault
     }
-}
-
-// Writes a note's line into `line`, puts it, and then tells the probes the note.
-fn tell_note<W: Sink, P: Probe>(
-    note: &Note,
-    names: &[Name],
-    line: &mut Line,
-    out: &mut W,
-    probes: &mut Vec<P>,
-) -> Result<(), Failed>
-    ensures { WritesLines (W.shows out.old) (W.shows out.new)
-        (map P.seen probes.old.items) (map P.seen probes.new.items)
-        (noted names.now note.now ∷ []) result }
-{
-    put_note(note, names, line, out)?;
-    tell_all(probes, note);
-    Ok(())
 }
 
 // A listener that puts each note's line into a sink, and then tells the probes the note. `line` is used for each.
@@ -77,7 +60,8 @@ impl<'a, 'b, 'c, W: Sink, P: Probe> Listener for Teller<'a, 'b, 'c, W, P> {
     ghost stops = { λ a. (W.shows a.out.now).faults };
 
     fn hear(&mut self, note: &Note) -> Result<(), Stopped> {
-        tell_note(note, self.names, &mut self.line, self.out, self.probes)?;
+        put_note(note, self.names, &mut self.line, self.out)?;
+        tell_all(self.probes, note);
         Ok(())
     }
 }
@@ -97,7 +81,8 @@ fn tell_end<W: Sink, P: Probe>(
         (End head.entry.ticks account.now.totals.run account.now.totals.idle) ∷ []) result }
 {
     let (totals, end) = ending(head.ticks, account);
-    tell_note(&end, head.plan.names(), line, out, probes)?;
+    put_note(&end, head.plan.names(), line, out)?;
+    tell_all(probes, &end);
     Ok(totals)
 }
 
@@ -142,33 +127,6 @@ fn notes_into<G: Governor, W: Sink, P: Probe>(
     tell_tail(head, &account, &mut teller.line, teller.out, teller.probes)
 }
 
-// Writes all lines of a run, and tells the probes its notes; the totals.
-fn tell_run<G: Governor, W: Sink, P: Probe>(
-    kernel: Kernel<'_, G>,
-    head: Head<'_>,
-    out: &mut W,
-    probes: &mut Vec<P>,
-) -> Result<Totals, WriteFault>
-    requires plan { head.plan.now ≡ kernel.plan }
-    requires ticks { head.ticks ≡ kernel.ticks }
-    ensures totals { IfOk result (λ t. t ≡ totals_of (notes_of_run G.demand kernel.entry)) }
-    ensures few { IfOk result AreFew }
-    ensures writes { WritesLines (W.shows out.old) (W.shows out.new)
-        (map P.seen probes.old.items) (map P.seen probes.new.items)
-        (head_lines head.entry.version head.entry.plan.now.scheduler head.entry.governor head.entry.ticks
-        (task_texts head.entry.plan.now)
-        ++ note_lines head.entry.version (names kernel.entry.plan) (notes_of_run G.demand kernel.entry)) result }
-{
-    put_head(head, out)?;
-    let mut teller = Teller {
-        out,
-        probes,
-        names: head.plan.names(),
-        line: Line::new(),
-    };
-    notes_into(kernel, head, &mut teller)
-}
-
 impl<'a, G: Governor> Kernel<'a, G> {
     /// Writes the whole trace in this version to the sink, one `put` a line, and tells the probes each note after
     /// its line was put; the totals of the notes. `WriteFault` comes only where the sink failed at some line: the lines
@@ -203,6 +161,13 @@ impl<'a, G: Governor> Kernel<'a, G> {
             plan: self.set.plan,
             ticks: self.set.ticks,
         };
-        tell_run(self, head, out, probes)
+        put_head(head, out)?;
+        let mut teller = Teller {
+            out,
+            probes,
+            names: head.plan.names(),
+            line: Line::new(),
+        };
+        notes_into(self, head, &mut teller)
     }
 }

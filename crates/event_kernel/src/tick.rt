@@ -1,58 +1,18 @@
 // The work of one tick.
-ghost use Rattle.std.specs.Prelude.{◌≡◌, ◌-◌, ◌<◌, ◌≤◌, IfSome, length};
+ghost use Rattle.std.specs.Prelude.{◌≡◌};
 ghost use Rattle.sched_model.specs.Plan.{count};
-ghost use Rattle.sched_model.specs.States.{row_at, CanRun, IsOfPlan};
-ghost use Rattle.event_kernel.specs.Runs.{demands_of, IsListOf};
-ghost use Rattle.event_kernel.specs.Segment.{holder_at};
+ghost use Rattle.sched_model.specs.States.{CanRun, IsOfPlan};
 ghost use Rattle.agenda.specs.Agenda.{IsFirstUndone};
 ghost use Rattle.event_kernel.specs.Current.{IsCurrent};
 ghost use Rattle.event_kernel.specs.Tickwork.{served};
 ghost use Rattle.event_kernel.specs.Settings.{IsSetting, IsInSpan, HasWorked};
 
 use crate::in_force::InForce;
+use crate::jobs::{holder_of, lacking};
 use crate::progress::{Progress, Setting};
 use crate::span_trace::Moment;
-use demand_list::Demands;
 use governor::Governor;
-use sched_model::{Admitted, Holder, State};
-
-/// A job's demand in work units, with twice the charge; 0 for job 0.
-pub(crate) fn demand(plan: &Admitted, demands: &Demands, task: u32, job: u64) -> u64
-    requires list { IsListOf plan.now demands.now }
-    requires task { task < count plan.now }
-    ensures { result ≡ demands_of plan.now demands.now task job }
-{
-    let _within = demands.worsts();
-    if job == 0 {
-        return 0;
-    }
-    demands.units(task, job) + 2 * plan.machine().charge()
-}
-
-/// The work units that a task's latest job still needs.
-pub(crate) fn lacking(set: &Setting<'_>, state: &State, task: u32) -> u64
-    requires list { IsListOf set.now.plan.now set.now.demands.now }
-    requires rows { length state.now.rows ≡ count set.now.plan.now }
-    requires task { task < count set.now.plan.now }
-    requires within { (row_at state.now task).used
-        ≤ demands_of set.now.plan.now set.now.demands.now task (row_at state.now task).job }
-    ensures { result ≡ demands_of set.now.plan.now set.now.demands.now task (row_at state.entry.now task).job
-        - (row_at state.entry.now task).used }
-{
-    let row = state.rows[task as usize];
-    demand(set.plan, set.demands, task, row.job) - row.used
-}
-
-/// The holder that is the latest job of the task `first`; nobody where it is `None`.
-pub(crate) fn holder_of(state: &State, first: Option<u32>) -> Holder
-    requires { IfSome first (λ i. i < length state.now.rows) }
-    ensures { result ≡ holder_at state.entry.now first }
-{
-    match first {
-        Some(task) => Holder::Held(task, state.rows[task as usize].job),
-        None => Holder::Nobody,
-    }
-}
+use sched_model::{Admitted, Holder};
 
 impl<G: Governor> Progress<G> {
     /// Runs `units` of the first incomplete job, and completes it where `ends`. The governor and the agenda hear of it.

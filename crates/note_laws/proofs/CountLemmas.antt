@@ -29,7 +29,7 @@ use Rattle.sched_model.proofs.Units.{sum-own}
 use Rattle.sched_model.proofs.Walk.{EachNote, AreFirst, each-note}
 use Rattle.grid_fraction.proofs.Lists.{each-append}
 use Rattle.note_laws.specs.LineCounts.{AreFew, HasFewDecisions}
-use Rattle.note_laws.specs.DoneLines.{IsBy}
+use Rattle.note_laws.specs.InTime.{IsBy}
 
 pub count-next : {A : Type 0} (test : A → Bool) (x : A) (xs : List A) → count_by test (x ∷ xs) ≡ one_if (test x) + count_by test xs
 count-next test x xs = sum_by-cons (λ y. cond (test y) 1 0) x xs

@@ -1,4 +1,2 @@
-pub mod RunText
-pub mod DoneLines
+pub mod InTime
 pub mod LineCounts
-pub mod RunTraces

@@ -16,7 +16,7 @@ use Rattle.sched_model.proofs.Limits.{every_period}
 use Rattle.sched_model.proofs.NoteSums.{one_if, tells_done}
 use Rattle.sched_model.proofs.Schedules.{exec-most, exec-drop}
 use Rattle.sched_model.proofs.JobLaws.{release-due}
-use Rattle.note_laws.specs.DoneLines.{IsBy}
+use Rattle.note_laws.specs.InTime.{IsBy}
 use Rattle.note_laws.proofs.CountLemmas.{count-next, none-counted, told-once, told-never, IsInTime, in-time}
 use Rattle.dvs_base.proofs.Options.{or-none, or-assoc}
 use Rattle.event_kernel.specs.Heard.{HasHeard}

@@ -3,7 +3,7 @@ use Rattle.std.specs.Prelude.{ℕ, ◌+◌, ◌-◌, ◌<◌, ◌≤◌}
 use Rattle.grid_fraction.specs.Numbers.{ceil_div}
 use Rattle.sched_model.specs.Plan.{period, offset}
 use Rattle.sched_model.specs.Jobs.{due}
-use Rattle.note_laws.specs.DoneLines.{IsBy}
+use Rattle.note_laws.specs.InTime.{IsBy}
 use Rattle.poll_server.specs.declared.served.Outcome.{Outcome}
 use Rattle.poll_server.specs.declared.served.Outcome.TheVariants.{Served, Pending}
 use Rattle.poll_server.specs.ServerJobs.{ServerOf, budget, job_release, request_count, arrival, asked_with, taken_up_to}

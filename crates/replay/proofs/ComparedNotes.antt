@@ -6,7 +6,7 @@ use Rattle.dvs_base.specs.declared.note.Note.TheVariants.{Release, Speed, Run, I
 use Rattle.sched_model.specs.Totals.{totals_of}
 use Rattle.event_kernel.specs.Heard.{HasHeard, HasBalked}
 use Rattle.trace_reader.specs.Traces.{TraceOf, is_end, IsEnded}
-use Rattle.note_laws.proofs.OneEnd.{whole-prefix, schedule-ended}
+use Rattle.trace_laws.proofs.OneEnd.{whole-prefix, schedule-ended}
 use Rattle.replay.specs.Comparison.{same_note, IsOther, first_unequal, differs, unless_unequal, compared}
 use Rattle.replay.specs.declared.fault.ReplayFault.{ReplayFault}
 use Rattle.governor.specs.Meanings.{OwnDemand}

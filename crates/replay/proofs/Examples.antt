@@ -15,7 +15,7 @@ use Rattle.sched_model.specs.Priority.{in_order}
 use Rattle.sched_model.specs.Schedule.{schedule_by}
 use Rattle.sched_model.specs.Notes.{notes_before_end}
 use Rattle.trace_reader.specs.Traces.{TraceOf, IsTrace}
-use Rattle.note_laws.specs.RunText.{task_texts}
+use Rattle.trace_writer.specs.RunText.{task_texts}
 use Rattle.replay_laws.specs.OwnList.{Asking, notes_by}
 use Rattle.replay.specs.declared.fault.ReplayFault.TheVariants.{OverWorst, TooManyJobs, Differs}
 use Rattle.replay.specs.Comparison.{compared}

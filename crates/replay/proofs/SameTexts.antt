@@ -11,12 +11,12 @@ use Rattle.sched_model.specs.Jobs.{demand_of}
 use Rattle.sched_model.specs.Plan.{Plan, count, names, task, period, offset}
 use Rattle.sched_model.proofs.Tables.{each-below}
 use Rattle.trace_reader.specs.Traces.{TraceOf, text_of}
-use Rattle.trace_reader.specs.TraceText.{task_text}
+use Rattle.trace_text.specs.TraceText.{task_text}
 use Rattle.trace_reader.proofs.HeadTexts.{IsLine, AreLines, task_lines-lines}
 use Rattle.trace_reader.proofs.TraceTexts.{one-text}
-use Rattle.note_laws.specs.RunText.{task_texts}
+use Rattle.trace_writer.specs.RunText.{task_texts}
 use Rattle.replay_laws.specs.OwnList.{Asking, HasSameNotes}
-use Rattle.note_laws.proofs.TraceLimits.{keeps-limits}
+use Rattle.trace_laws.proofs.TraceLimits.{keeps-limits}
 use Rattle.replay.specs.SameTexts.{trace_by, text_by, HasSameTextBy, HasSameText}
 use Rattle.replay.proofs.Texts.{names-distinct, names-named, name-at}
 

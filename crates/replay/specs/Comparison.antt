@@ -6,7 +6,7 @@ use Rattle.dvs_base.specs.declared.note.Pos.{Pos}
 use Rattle.dvs_base.specs.declared.note.Totals.{Totals}
 use Rattle.dvs_base.specs.declared.kind.Version.{Version}
 use Rattle.sched_model.specs.Totals.{totals_of}
-use Rattle.trace_reader.specs.TraceText.{has_task_lines}
+use Rattle.trace_text.specs.TraceText.{has_task_lines}
 use Rattle.trace_reader.specs.Traces.{TraceOf}
 use Rattle.replay.specs.declared.fault.ReplayFault.{ReplayFault}
 use Rattle.replay.specs.declared.fault.ReplayFault.TheVariants as fault

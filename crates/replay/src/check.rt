@@ -21,11 +21,12 @@ use crate::ReplayFault;
 use crate::compared::Compared;
 use crate::ends::{first_over, fixed_demands};
 use dvs_base::{Note, Totals, Version};
-use event_kernel::{Kernel, Stopped};
+use event_kernel::Kernel;
 use governor::Governor;
 use sched_model::Admitted;
 use std::alloc::Global;
-use trace_reader::{Trace, has_task_lines};
+use trace_reader::Trace;
+use trace_text::has_task_lines;
 
 // The line of a note of a trace, counted from 1, by the note's place from 0.
 fn line_of(version: Version, tasks: u32, place: u64, note: &Note) -> u64
@@ -73,12 +74,12 @@ fn compare<G: Governor>(
         wanted: None,
         stops: 0,
     };
-    match kernel.drive(&mut compared) {
-        Ok(totals) => Ok(totals),
-        Err(Stopped) => match compared.wanted {
-            Some(wanted) => Err(differs(plan.count(), trace, compared.rest, wanted)),
-            None => unreachable!(),
-        },
+    if let Ok(totals) = kernel.drive(&mut compared) {
+        return Ok(totals);
+    }
+    match compared.wanted {
+        Some(wanted) => Err(differs(plan.count(), trace, compared.rest, wanted)),
+        None => unreachable!(),
     }
 }
 

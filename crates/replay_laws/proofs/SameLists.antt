@@ -13,8 +13,8 @@ use Rattle.sched_model.specs.Admission.{IsWithinLimits}
 use Rattle.sched_model.proofs.NoteSums.{tells_done}
 use Rattle.dvs_base.specs.declared.kind.GovernorKind.{GovernorKind}
 use Rattle.sched_model.specs.Demand.{published}
-use Rattle.trace_reader.specs.TraceText.{text_of_lines}
-use Rattle.note_laws.specs.RunText.{run_lines}
+use Rattle.trace_text.specs.TraceText.{text_of_lines}
+use Rattle.trace_writer.specs.RunText.{run_lines}
 use Rattle.governor.specs.Schedule.{ask_of}
 use Rattle.replay_laws.proofs.SameNotes.{IsBlind, blind-own}
 use Rattle.replay_laws.specs.FixedDemands.{fixed_of}

@@ -14,7 +14,7 @@ use Rattle.sched_model.specs.Demand.{published}
 use Rattle.sched_model.specs.Schedule.{schedule_by}
 use Rattle.sched_model.specs.Notes.{notes_of}
 use Rattle.sched_model.specs.RunNotes.{run_notes}
-use Rattle.note_laws.specs.RunText.{run_text_in}
+use Rattle.trace_writer.specs.RunText.{run_text_in}
 use Rattle.governor.specs.Meanings.{OwnDemand}
 use Rattle.governor.specs.Schedule.{ask_of}
 use Rattle.replay_laws.specs.FixedDemands.{fixed_of, fixed_list, fixed_demand}

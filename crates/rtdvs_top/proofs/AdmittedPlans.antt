@@ -4,7 +4,7 @@ use Rattle.dvs_base.specs.Outside.{Files, SinkView}
 use Rattle.dvs_base.specs.Checks.{and_then}
 use Rattle.sched_model.specs.Plan.{Plan, plan_of}
 use Rattle.sched_model.specs.Jobs.{demand_of, released_jobs}
-use Rattle.note_laws.specs.RunText.{run_text_in}
+use Rattle.trace_writer.specs.RunText.{run_text_in}
 use Rattle.poll_server.specs.ServerJobs.{server_of}
 use Rattle.words.specs.Commands.{RunOf, AdmitOf, TracedOf, PollOf, CommandOf, run, admit, traced, poll}
 use Rattle.command_files.specs.Meanings.{tasks_at, machine_at, demands_at, server_at}

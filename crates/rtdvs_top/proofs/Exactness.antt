@@ -10,9 +10,9 @@ use Rattle.sched_model.specs.Jobs.{released_jobs, demand_of}
 use Rattle.sched_model.specs.Demand.{published}
 use Rattle.sched_model.specs.Admission.{IsWithinLimits, IsAdmitted}
 use Rattle.sched_model.specs.RunNotes.{run_notes}
-use Rattle.note_laws.specs.RunText.{task_texts}
+use Rattle.trace_writer.specs.RunText.{task_texts}
 use Rattle.trace_reader.specs.Traces.{TraceOf, IsEnded, IsTrace, IsTextOf, text_of}
-use Rattle.trace_reader.specs.TraceText.{task_text}
+use Rattle.trace_text.specs.TraceText.{task_text}
 use Rattle.replay_laws.specs.FixedDemands.{fixed_of}
 use Rattle.replay.specs.Replays.{too_many, replay_of}
 use Rattle.replay.specs.declared.fault.ReplayFault.{ReplayFault}
@@ -36,8 +36,8 @@ use Rattle.trace_reader.proofs.HeadTexts.{task_lines-lines}
 use Rattle.trace_reader.proofs.ShortTexts.{text-short}
 use Rattle.trace_reader.proofs.TraceTexts.{reads-found, reads-only, version-lines}
 use Rattle.replay_laws.proofs.SameLists.{own-lists}
-use Rattle.note_laws.specs.RunTraces.{trace_of_run, IsLimitedRun}
-use Rattle.note_laws.proofs.TraceLimits.{keeps-limits}
+use Rattle.trace_laws.specs.RunTraces.{trace_of_run, IsLimitedRun}
+use Rattle.trace_laws.proofs.TraceLimits.{keeps-limits}
 use Rattle.replay.proofs.Texts.{names-distinct, names-named}
 use Rattle.words.specs.Commands.{TracedOf, CommandOf, traced}
 use Rattle.command_files.specs.Meanings.{longest, bytes_from, bytes_at, tasks_at, machine_at}

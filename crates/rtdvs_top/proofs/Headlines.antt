@@ -8,7 +8,7 @@ use Rattle.freq_table.specs.Tables.{Table}
 use Rattle.demand_list.specs.Demands.{DemandsOf}
 use Rattle.sched_model.specs.Plan.{Plan, plan_of}
 use Rattle.sched_model.specs.Jobs.{demand_of, released_jobs}
-use Rattle.note_laws.specs.RunText.{run_text_in}
+use Rattle.trace_writer.specs.RunText.{run_text_in}
 use Rattle.dvs_base.specs.declared.limits.TheConstants.{MOST_JOBS}
 use Rattle.words.specs.declared.command.WordFault.{WordFault}
 use Rattle.words.specs.Commands.{RunOf, CommandOf, run, response}

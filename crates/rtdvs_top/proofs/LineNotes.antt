@@ -6,8 +6,8 @@ use Rattle.dvs_base.specs.declared.kind.GovernorKind.{GovernorKind}
 use Rattle.dvs_base.specs.declared.kind.Scheduler.{Scheduler}
 use Rattle.dvs_base.specs.declared.note.Note.{Note}
 use Rattle.dvs_base.specs.declared.note.Note.TheVariants.{End}
-use Rattle.trace_reader.specs.TraceText.{unnoted, noted, shares_from, for_tasks, head_lines, lines_of_note, note_lines, trace_lines, notes_of_lines}
-use Rattle.event_kernel.proofs.WrittenLines.{notes-append}
+use Rattle.trace_text.specs.TraceText.{unnoted, noted, shares_from, for_tasks, head_lines, lines_of_note, note_lines, trace_lines, notes_of_lines}
+use Rattle.trace_writer.proofs.WrittenLines.{notes-append}
 
 notes-unnoted : (texts : List (List ℕ)) → notes_of_lines (map unnoted texts) ≡ []
 notes-unnoted [] = refl

@@ -4,16 +4,15 @@ use Rattle.dvs_base.specs.Outside.{SinkView}
 use Rattle.dvs_base.specs.declared.note.Note.{Note}
 use Rattle.dvs_base.specs.declared.kind.GovernorKind.{GovernorKind}
 use Rattle.dvs_base.specs.declared.kind.Version.{Version}
-use Rattle.dvs_base.specs.declared.limits.TheConstants.{MOST_TICKS}
+use Rattle.dvs_base.specs.declared.limits.TheConstants.{MOST_TICKS, MOST_JOBS}
 use Rattle.grid_fraction.specs.declared.Frac.{Frac}
 use Rattle.demand_list.specs.Demands.{DemandsOf, IsWithinWorsts}
-use Rattle.dvs_base.specs.declared.limits.TheConstants.{MOST_JOBS}
 use Rattle.sched_model.specs.Plan.{Plan, names}
 use Rattle.sched_model.specs.Notes.{notes_of}
 use Rattle.sched_model.specs.RunNotes.{run_notes}
-use Rattle.note_laws.proofs.DoneText.{text-tells}
-use Rattle.note_laws.specs.RunText.{task_texts, run_lines}
-use Rattle.trace_reader.specs.TraceText.{LineOf}
+use Rattle.trace_laws.proofs.DoneText.{text-tells}
+use Rattle.trace_writer.specs.RunText.{task_texts, run_lines}
+use Rattle.trace_text.specs.TraceText.{LineOf}
 use Rattle.sched_model.specs.Schedule.{schedule_by}
 use Rattle.sched_model.specs.Ticks.{PublishedDemand, IsMet, Tick}
 use Rattle.sched_model.specs.Admission.{IsAdmitted}
@@ -22,8 +21,8 @@ use Rattle.freq_table.specs.Tables.{lowest_pick}
 use Rattle.sched_model.specs.Jobs.{JobDemands, released_jobs, demand_of, IsWithin}
 use Rattle.event_kernel.specs.Runs.{Run, IsListOf, notes_of_run}
 use Rattle.event_kernel.specs.MetRun.{IsMetRun}
-use Rattle.event_kernel.specs.Lines.{WroteLines, StoppedIn}
-use Rattle.event_kernel.proofs.WrittenLines.{all-as, some-as, stopped-some}
+use Rattle.trace_writer.specs.Lines.{WroteLines, StoppedIn}
+use Rattle.trace_writer.proofs.WrittenLines.{all-as, some-as, stopped-some}
 use Rattle.event_kernel.proofs.ListedDemands.{demand-within}
 use Rattle.sched_model.specs.Demand.{published}
 use Rattle.sched_model.proofs.Schedules.{schedule_exists, schedule_unique}

@@ -9,7 +9,7 @@ use Rattle.demand_list.specs.Demands.{DemandsOf}
 use Rattle.sched_model.specs.Demand.{IsAlwaysMet}
 use Rattle.sched_model.specs.Plan.{Plan}
 use Rattle.sched_model.specs.Jobs.{demand_of, released_jobs, JobDemands}
-use Rattle.note_laws.specs.RunText.{run_text_in}
+use Rattle.trace_writer.specs.RunText.{run_text_in}
 use Rattle.event_kernel.specs.Runs.{Run, demands_of}
 use Rattle.probes.specs.Tallies.{ProbeOf}
 use Rattle.dvs_base.specs.declared.limits.TheConstants.{MOST_JOBS}
@@ -19,7 +19,7 @@ use Rattle.statuses.specs.declared.status.Status.TheVariants as status
 use Rattle.sched_model.specs.Ticks.{Tick, IsMet}
 use Rattle.sched_model.specs.Admission.{PassesTest}
 use Rattle.sched_model.specs.Schedule.{schedule, AlwaysMeets, HasSchedule, HasNoOther, IsTheSchedule}
-use Rattle.note_laws.specs.DoneLines.{TellsDeadlines}
+use Rattle.trace_laws.specs.DoneLines.{TellsDeadlines}
 use Rattle.statuses.specs.Steps.{Gives}
 use Rattle.command_files.specs.Meanings.{tasks_at}
 use Rattle.rtdvs_top.specs.ToldRuns.{IfAsked, RunTold}

@@ -6,8 +6,8 @@ use Rattle.dvs_base.specs.declared.kind.GovernorKind.{GovernorKind}
 use Rattle.dvs_base.specs.declared.note.Note.{Note}
 use Rattle.sched_model.specs.RunNotes.{run_notes}
 use Rattle.event_kernel.specs.Runs.{Run, demands_of}
-use Rattle.note_laws.specs.RunText.{run_lines}
-use Rattle.event_kernel.specs.Lines.{StoppedIn}
+use Rattle.trace_writer.specs.RunText.{run_lines}
+use Rattle.trace_writer.specs.Lines.{StoppedIn}
 use Rattle.probes.specs.Tallies.{ProbeOf, told_notes}
 use Rattle.statuses.specs.declared.status.Status.{Status}
 use Rattle.statuses.specs.declared.status.Status.TheVariants as status

@@ -10,8 +10,9 @@ use Rattle.demand_list.specs.Demands.{IsDemands}
 use Rattle.sched_model.specs.Plan.{Plan, names, plan_of}
 use Rattle.sched_model.specs.Admission.{IsAdmitted}
 use Rattle.sched_model.specs.Jobs.{demand_of, IsWithin, released_jobs}
-use Rattle.note_laws.specs.RunText.{run_text_in, task_texts}
-use Rattle.trace_reader.specs.Traces.{TraceOf, IsTrace, text_of, task_lines}
+use Rattle.trace_writer.specs.RunText.{run_text_in, task_texts}
+use Rattle.trace_reader.specs.Traces.{TraceOf, IsTrace, text_of}
+use Rattle.trace_text.specs.TraceText.{task_lines}
 use Rattle.replay_laws.specs.FixedDemands.{fixed_of, fixed_list}
 use Rattle.words.specs.declared.command.WordFault.{WordFault}
 use Rattle.words.specs.Commands.{TracedOf, CommandOf, traced}
@@ -23,7 +24,7 @@ use Rattle.dvs_base.specs.declared.note.Totals.{Totals}
 use Rattle.trace_text.specs.TraceLines.{line}
 use Rattle.task_model.specs.declared.task.Task.{Task}
 use Rattle.sched_model.specs.Demand.{published}
-use Rattle.trace_reader.specs.declared.trace.TaskLine.{TaskLine}
+use Rattle.trace_text.specs.declared.versions.TaskLine.{TaskLine}
 use Rattle.trace_reader.specs.declared.trace.TraceFault.{TraceFault}
 use Rattle.trace_reader.specs.TraceFile.{trace_file}
 use Rattle.replay.specs.Replays.{replay_of}

@@ -10,9 +10,9 @@ use crate::prepared::Prepared;
 use crate::response::put_responses;
 use crate::run::put_run;
 use dvs_base::{Failed, Sink, Version, put_line};
-use event_kernel::put_trace;
 use probes::Probe;
 use std::alloc::Global;
+use trace_writer::put_trace;
 
 // The status of a put: `Done`, or `Write` where it failed.
 fn status_of_put(wrote: Result<(), Failed>) -> Status

@@ -19,7 +19,8 @@ use replay::{ReplayFault, replay};
 use sched_model::Admitted;
 use std::alloc::Global;
 use task_model::TaskSet;
-use trace_reader::{TaskLine, Trace, TraceFault, read_any};
+use trace_reader::{Trace, TraceFault, read_any};
+use trace_text::TaskLine;
 use words::command::{TraceUse, TraceWords};
 
 // The names of tasks.

@@ -1,6 +1,6 @@
 //! The model of a plan and its schedule, and the state of a run.
-//! `specs/` goes from the plan to the text of a trace: jobs, ticks, priority, decisions, published demands, the tests
-//! of admission, the schedule, its segments, notes and deadlines.
+//! `specs/` goes from the plan to the notes of its schedule: jobs, ticks, priority, decisions, published demands, the
+//! tests of admission, the schedule, its segments, notes and deadlines. The text of a trace is in `trace_text`.
 //! Callers may rely on an `Admitted` plan being within the limits and passing its scheduler's test, on each call of
 //! `State` changing exactly what it says, and on a plan having exactly one schedule of each length.
 #![tactic(auto)]

@@ -1,7 +1,9 @@
-// Lines of the example of Pillai and Shin 2001.
-use dvs_base::{GovernorKind, Line, Name, Note, Pos, Scheduler};
+// Lines of the example of Pillai and Shin 2001, and those that only version 2 has.
+use dvs_base::{GovernorKind, Line, Name, Note, Pos, Scheduler, Version};
 use std::test::Fail;
-use trace_text::{PlanLine, write_head, write_note};
+use trace_text::{
+    PlanLine, TaskLine, write_head, write_note, write_share, write_task, write_version,
+};
 
 const START: Pos = Pos { tick: 0, offset: 0 };
 
@@ -46,5 +48,25 @@ fn lines_of_the_paper_example(rt: HostRuntime) -> Result<(), Fail> {
         write_note(&mut line, note, &names);
         assert_eq!(rt; line.as_bytes(), *text);
     }
+    Ok(())
+}
+
+#[test]
+fn lines_of_version_2(rt: HostRuntime) -> Result<(), Fail> {
+    let name = Name::of(b"t2").ok_or("name")?;
+    let mut line = Line::new();
+    write_version(&mut line, Version::Two);
+    assert_eq!(rt; line.as_bytes(), b"trace 2\n".as_slice());
+    let mut line = Line::new();
+    let task = TaskLine {
+        period: 6,
+        offset: 2,
+        worst: 6,
+    };
+    write_task(&mut line, &name, task);
+    assert_eq!(rt; line.as_bytes(), b"task t2 6 2 6\n".as_slice());
+    let mut line = Line::new();
+    write_share(&mut line, &name, 54000000000);
+    assert_eq!(rt; line.as_bytes(), b"energy t2 54000000000\n".as_slice());
     Ok(())
 }

@@ -9,7 +9,7 @@ use Rattle.dvs_base.specs.declared.note.Note.{Note}
 use Rattle.dvs_base.specs.declared.note.Pos.{Pos}
 use Rattle.dvs_base.specs.declared.note.Note.TheVariants.{Run}
 use Rattle.dvs_base.specs.NoteTasks.{energy_of_task}
-use Rattle.trace_reader.specs.TraceText.{task_energy}
+use Rattle.trace_text.specs.TraceText.{task_energy}
 use Rattle.trace_reader.specs.Sums.{narrow, with_energy, HasSums}
 
 with-narrow : (s e : ℕ) → with_energy (narrow s) e ≡ narrow (s + e)

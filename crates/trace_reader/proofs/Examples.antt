@@ -8,7 +8,7 @@ use Rattle.dvs_base.specs.declared.kind.Version.TheVariants.{One, Two}
 use Rattle.dvs_base.specs.declared.limits.TheConstants.{MOST_LINES}
 use Rattle.dvs_base.specs.declared.note.Note.TheVariants.{Release, Speed, Run, Idle, Done, End}
 use Rattle.dvs_base.specs.declared.note.Pos.{Pos}
-use Rattle.trace_reader.specs.declared.trace.TaskLine.{TaskLine}
+use Rattle.trace_text.specs.declared.versions.TaskLine.{TaskLine}
 use Rattle.trace_reader.specs.declared.trace.TraceFault.{TraceFault}
 use Rattle.trace_reader.specs.declared.trace.TraceFault.TheVariants.{Refused}
 use Rattle.trace_reader.specs.declared.trace.TraceKind.TheVariants as kind
@@ -16,7 +16,8 @@ use Rattle.trace_reader.specs.Fields.{position_in, fraction_in, task_in}
 use Rattle.trace_reader.specs.Items.{release_in, speed_in, run_in, idle_in, done_in, end_in, energy_in, item_of}
 use Rattle.trace_reader.specs.Heads.{line_at, plan_line_of, parts_after_tasks}
 use Rattle.trace_reader.specs.TraceFile.{next_item, notes_from, trace_file}
-use Rattle.trace_reader.specs.Traces.{TraceOf, task_lines}
+use Rattle.trace_reader.specs.Traces.{TraceOf}
+use Rattle.trace_text.specs.TraceText.{task_lines}
 
 -- lines, each ended by a line feed
 abbrev lines : List (List ℕ) → List ℕ

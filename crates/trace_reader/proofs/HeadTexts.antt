@@ -11,7 +11,7 @@ use Rattle.trace_text.specs.TraceLines.{scheduler_word, governor_word, line, pla
 use Rattle.trace_text.proofs.Unspaced.{AreUnspaced, unspaced-name}
 use Rattle.dvs_base.specs.PlanWords.{scheduler_of, governor_of, ticks_from, ticks_of, is_pair}
 use Rattle.dvs_base.specs.Parts.{joined}
-use Rattle.trace_reader.specs.TraceText.{version_line}
+use Rattle.trace_text.specs.TraceText.{version_line, task_lines}
 use Rattle.dvs_base.specs.declared.kind.Scheduler.{Scheduler}
 use Rattle.dvs_base.specs.declared.kind.Scheduler.TheVariants.{Edf, Rm}
 use Rattle.dvs_base.specs.declared.kind.GovernorKind.{GovernorKind}
@@ -22,14 +22,13 @@ use Rattle.dvs_base.specs.declared.limits.TheConstants.{LONGEST_LINE, MOST_LINES
 use Rattle.dvs_base.proofs.Names.{length-name}
 use Rattle.dvs_base.proofs.Spelled.{number_below-decimal, number_below-found}
 use Rattle.trace_text.specs.declared.write.PlanLine.{PlanLine}
-use Rattle.trace_reader.specs.declared.trace.TaskLine.{TaskLine}
+use Rattle.trace_text.specs.declared.versions.TaskLine.{TaskLine}
 use Rattle.trace_reader.specs.declared.trace.TraceFault.{TraceFault}
 use Rattle.trace_reader.specs.declared.trace.TraceFault.TheVariants.{Refused}
 use Rattle.trace_reader.specs.declared.trace.TraceKind.{TraceKind}
 use Rattle.trace_reader.specs.declared.trace.TraceKind.TheVariants as kind
 use Rattle.trace_reader.specs.Fields.{parts, four_of}
 use Rattle.trace_reader.specs.Heads.{line_at, version_in, plan_line_of, parts_after_tasks, version_task_lines}
-use Rattle.trace_reader.specs.Traces.{task_lines}
 use Rattle.trace_reader.proofs.Lined.{spaced, line-spaced}
 use Rattle.trace_reader.proofs.UnspacedFields.{Lacks, lacks-unspaced, lacks-spaced, length-decimal, parts-joined}
 use Rattle.trace_reader.proofs.FieldTexts.{read-step, if-ok}

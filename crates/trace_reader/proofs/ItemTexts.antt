@@ -13,7 +13,7 @@ use Rattle.trace_reader.specs.declared.line.Item.{Item}
 use Rattle.trace_reader.specs.declared.line.Item.TheVariants.{Told, Share}
 use Rattle.trace_reader.specs.declared.trace.TraceKind.{TraceKind}
 use Rattle.trace_reader.specs.declared.trace.TraceKind.TheVariants as kind
-use Rattle.trace_reader.specs.TraceText.{has_task_lines}
+use Rattle.trace_text.specs.TraceText.{has_task_lines}
 use Rattle.trace_reader.specs.Fields.{four_of, six_of}
 use Rattle.trace_reader.specs.Items.{release_in, speed_in, run_in, idle_in, done_in, end_in, energy_in, item_of}
 use Rattle.trace_reader.specs.Traces.{IsNoteOf}

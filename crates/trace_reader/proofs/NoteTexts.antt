@@ -8,7 +8,7 @@ use Rattle.std.proofs.lemmas.List.{append-nil}
 use Rattle.dvs_base.specs.Parts.{joined, name_of}
 use Rattle.trace_text.specs.TraceLines.{note_text}
 use Rattle.trace_text.proofs.Unspaced.{AreUnspaced}
-use Rattle.trace_reader.specs.TraceText.{has_task_lines, share_text, task_energy}
+use Rattle.trace_text.specs.TraceText.{has_task_lines, share_text, task_energy}
 use Rattle.dvs_base.specs.declared.note.Note.{Note}
 use Rattle.dvs_base.specs.declared.note.Note.TheVariants.{End}
 use Rattle.dvs_base.specs.declared.kind.Version.{Version}

@@ -7,11 +7,10 @@ use Rattle.trace_reader.specs.declared.trace.TraceFault.{TraceFault}
 use Rattle.trace_reader.specs.declared.trace.TraceFault.TheVariants.{Refused}
 use Rattle.trace_reader.specs.declared.trace.TraceKind.TheVariants as kind
 use Rattle.trace_reader.specs.Fields.{parts}
-use Rattle.trace_reader.specs.declared.trace.TaskLine.{TaskLine}
-use Rattle.trace_reader.specs.TraceText.{task_text}
+use Rattle.trace_text.specs.declared.versions.TaskLine.{TaskLine}
+use Rattle.trace_text.specs.TraceText.{task_text, task_lines}
 use Rattle.trace_reader.specs.Heads.{line_at, parts_after_tasks}
 use Rattle.trace_reader.specs.TraceFile.{is_nothing}
-use Rattle.trace_reader.specs.Traces.{task_lines}
 use Rattle.trace_reader.proofs.FirstCut.{HasPart, some-part}
 
 -- the answer for a part that another part follows, which makes it a line

@@ -6,7 +6,7 @@ use Rattle.std.proofs.lemmas.Grind.{flat_map-append}
 use Rattle.std.proofs.lemmas.List.{append-nil, drop_all}
 use Rattle.dvs_base.specs.Parts.{joined, name_of}
 use Rattle.trace_text.specs.TraceLines.{note_text}
-use Rattle.trace_reader.specs.TraceText.{LineOf, noted, for_tasks, lines_of_note, note_lines, text_of_lines, share_text, task_energy, shares_from}
+use Rattle.trace_text.specs.TraceText.{LineOf, noted, for_tasks, lines_of_note, note_lines, text_of_lines, share_text, task_energy, shares_from}
 use Rattle.trace_reader.specs.Heads.{version_task_lines}
 use Rattle.dvs_base.specs.declared.note.Note.{Note}
 use Rattle.dvs_base.specs.declared.note.Note.TheVariants.{End}

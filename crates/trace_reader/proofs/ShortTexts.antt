@@ -10,7 +10,7 @@ use Rattle.dvs_base.proofs.Decimals.{length-decimal_u128}
 use Rattle.trace_text.specs.TraceLines.{line, note_text, plan_fields, plan_text}
 use Rattle.grid_fraction.proofs.Lists.{each-append}
 use Rattle.trace_reader.specs.declared.line.Item.TheVariants.{Told}
-use Rattle.trace_reader.specs.TraceText.{LineOf, for_tasks, note_lines, trace_lines, text_of_lines, version_line, share_text, task_energy}
+use Rattle.trace_text.specs.TraceText.{LineOf, for_tasks, note_lines, trace_lines, text_of_lines, version_line, share_text, task_energy}
 use Rattle.trace_reader.specs.Traces.{TraceOf, IsNoteOf, IsTrace, text_of}
 use Rattle.trace_reader.proofs.Lined.{line-spaced}
 use Rattle.trace_reader.proofs.LineTexts.{AreNames, lengths, length-spaced, length-name_of, lengths-item}

@@ -12,7 +12,7 @@ use Rattle.trace_text.specs.TraceLines.{line, fields_of, note_text, plan_fields,
 use Rattle.grid_fraction.proofs.Lists.{each-append}
 use Rattle.trace_text.proofs.Unspaced.{AreUnspaced, unspaced-decimal, lines-line}
 use Rattle.trace_text.proofs.NoteLines.{unspaced-word, unspaced-scheduler, unspaced-governor, note-fields, unspaced-fields}
-use Rattle.trace_reader.specs.TraceText.{LineOf, for_tasks, note_lines, trace_lines, text_of_lines, version_line, share_text, task_text, task_energy}
+use Rattle.trace_text.specs.TraceText.{LineOf, for_tasks, note_lines, trace_lines, text_of_lines, version_line, share_text, task_text, task_energy}
 use Rattle.trace_reader.proofs.WholeText.{each-for, each-share, each-noted}
 
 -- a line of unspaced fields

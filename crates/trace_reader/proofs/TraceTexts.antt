@@ -7,7 +7,7 @@ use Rattle.std.proofs.lemmas.List.Splits.{join_with_byte-slice_split}
 use Rattle.dvs_base.specs.Checks.{IsUnlessMemory, ◌>>=◌}
 use Rattle.dvs_base.specs.Parts.{joined}
 use Rattle.trace_text.specs.TraceLines.{plan_text}
-use Rattle.trace_reader.specs.TraceText.{version_line, task_energy, has_task_lines, note_lines, text_of_lines}
+use Rattle.trace_text.specs.TraceText.{version_line, task_energy, has_task_lines, note_lines, text_of_lines}
 use Rattle.dvs_base.specs.declared.note.Note.{Note}
 use Rattle.dvs_base.specs.declared.kind.Version.{Version}
 use Rattle.dvs_base.specs.declared.kind.Version.TheVariants.{One, Two}

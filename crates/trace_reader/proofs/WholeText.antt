@@ -12,7 +12,7 @@ use Rattle.dvs_base.specs.declared.note.Note.TheVariants.{End}
 use Rattle.trace_text.specs.TraceLines.{note_text, plan_text}
 use Rattle.trace_text.specs.declared.write.PlanLine.{PlanLine}
 use Rattle.grid_fraction.proofs.Lists.{each-append}
-use Rattle.trace_reader.specs.TraceText.{LineOf, unnoted, noted, has_task_lines, for_tasks, lines_of_note, note_lines, trace_lines, text_of_lines, whole_text, version_line, share_text, task_energy, shares_from}
+use Rattle.trace_text.specs.TraceText.{LineOf, unnoted, noted, has_task_lines, for_tasks, lines_of_note, note_lines, trace_lines, text_of_lines, whole_text, version_line, share_text, task_energy, shares_from}
 use Rattle.trace_reader.specs.Heads.{version_task_lines}
 use Rattle.trace_reader.specs.TraceFile.{wanted}
 use Rattle.trace_reader.specs.Traces.{is_end, IsEnded, lines_for_tasks}

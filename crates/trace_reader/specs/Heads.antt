@@ -12,7 +12,7 @@ use Rattle.trace_reader.specs.declared.trace.TraceFault.{TraceFault}
 use Rattle.trace_reader.specs.declared.trace.TraceFault.TheVariants.{Refused}
 use Rattle.trace_reader.specs.declared.trace.TraceKind.{TraceKind}
 use Rattle.trace_reader.specs.declared.trace.TraceKind.TheVariants as kind
-use Rattle.trace_reader.specs.TraceText.{has_task_lines}
+use Rattle.trace_text.specs.TraceText.{has_task_lines}
 use Rattle.trace_reader.specs.Fields.{four_of}
 
 -- line n, and the parts after it, of a text's parts between line feeds; bytes after the last line feed are not a line

@@ -12,7 +12,7 @@ use Rattle.trace_reader.specs.declared.line.Item.{Item}
 use Rattle.trace_reader.specs.declared.line.Item.TheVariants.{Told, Share}
 use Rattle.trace_reader.specs.declared.trace.TraceKind.{TraceKind}
 use Rattle.trace_reader.specs.declared.trace.TraceKind.TheVariants as kind
-use Rattle.trace_reader.specs.TraceText.{has_task_lines}
+use Rattle.trace_text.specs.TraceText.{has_task_lines}
 use Rattle.trace_reader.specs.Fields.{whole_in, task_in, fraction_in, six_of, wide_in, position_in, four_of}
 
 -- the release note of the fields after the word `release`

@@ -1,4 +1,3 @@
-pub mod TraceText
 pub mod Fields
 pub mod Items
 pub mod Heads

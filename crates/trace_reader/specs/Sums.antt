@@ -2,7 +2,7 @@
 use Rattle.std.specs.Prelude.{ℕ, ◌^◌, nat_lt, Option, Some, None, if◌then◌else◌, ◌+◌, ◌≡◌, ◌<◌, List, slice_index_or}
 use Rattle.dvs_base.specs.declared.limits.TheConstants.{MOST_TASKS}
 use Rattle.dvs_base.specs.declared.note.Note.{Note}
-use Rattle.trace_reader.specs.TraceText.{task_energy}
+use Rattle.trace_text.specs.TraceText.{task_energy}
 
 -- the number where it is below 2^128, else None
 abbrev pub narrow : ℕ → Option ℕ

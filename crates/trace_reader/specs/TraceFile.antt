@@ -10,7 +10,7 @@ use Rattle.trace_reader.specs.declared.trace.TraceFault.{TraceFault}
 use Rattle.trace_reader.specs.declared.trace.TraceFault.TheVariants.{Refused}
 use Rattle.trace_reader.specs.declared.trace.TraceKind.{TraceKind}
 use Rattle.trace_reader.specs.declared.trace.TraceKind.TheVariants as kind
-use Rattle.trace_reader.specs.TraceText.{task_energy, has_task_lines}
+use Rattle.trace_text.specs.TraceText.{task_energy, has_task_lines}
 use Rattle.trace_reader.specs.Fields.{parts}
 use Rattle.trace_reader.specs.Items.{item_of}
 use Rattle.trace_reader.specs.Heads.{line_at, at_line, version_in, plan_line_of, parts_after_tasks, version_task_lines}

@@ -9,20 +9,13 @@ use Rattle.dvs_base.specs.declared.kind.Version.{Version}
 use Rattle.dvs_base.specs.PlanWords.{is_pair}
 use Rattle.dvs_base.specs.declared.limits.TheConstants.{MOST_TICKS, MOST_LINES}
 use Rattle.trace_text.specs.declared.write.PlanLine.{PlanLine}
-use Rattle.trace_reader.specs.declared.trace.TaskLine.{TaskLine}
-use Rattle.trace_reader.specs.TraceText.{task_text, whole_text, task_energy, has_task_lines}
+use Rattle.trace_text.specs.TraceText.{whole_text, task_energy, has_task_lines}
 
 -- a trace: its version, its plan and its notes
 pub record TraceOf : Type 0 where
   pub version : Version
   pub plan : PlanLine
   pub notes : List Note
-
--- the lines of the tasks with these names
-abbrev pub task_lines : List (List ℕ) → List TaskLine → List (List ℕ)
-task_lines [] tasks = []
-task_lines (name ∷ names) [] = []
-task_lines (name ∷ names) (t ∷ tasks) = task_text name t.period t.offset t.worst ∷ task_lines names tasks
 
 -- the text of a trace, for tasks with these names and lines
 abbrev pub text_of : List (List ℕ) → List (List ℕ) → TraceOf → List ℕ

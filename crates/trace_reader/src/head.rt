@@ -2,16 +2,15 @@
 ghost use Rattle.std.specs.Prelude.{◌≡◌, ◌++◌, ◌∷◌, [], length, IfOk, true};
 ghost use Rattle.std.specs.Str.{bytes_eq};
 ghost use Rattle.dvs_base.specs.Checks.{IsUnlessMemory};
-ghost use Rattle.trace_reader.specs.TraceText.{task_text, has_task_lines};
+ghost use Rattle.trace_text.specs.TraceText.{task_text, has_task_lines, task_lines};
 ghost use Rattle.trace_reader.specs.Fields.{parts};
 ghost use Rattle.trace_reader.specs.Heads.{MayBeNext, version_in, plan_line_of, parts_after_tasks, version_task_lines};
-ghost use Rattle.trace_reader.specs.Traces.{task_lines};
 
 use crate::parts::four;
 use crate::text_line::line_at;
-use crate::{TaskLine, TraceFault, TraceKind, has_task_lines, write_task};
+use crate::{TraceFault, TraceKind};
 use dvs_base::{Line, Name, Version, governor_of, is_pair, scheduler_of, ticks_of};
-use trace_text::PlanLine;
+use trace_text::{PlanLine, TaskLine, has_task_lines, write_task};
 
 // The version that the first line names, if it is not above the newest that is read.
 pub(crate) fn version_in(newest: Version, line: &[u8]) -> Result<Version, TraceKind>

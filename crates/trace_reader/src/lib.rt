@@ -1,7 +1,6 @@
 //! Reading the text of a trace of either version.
 //!
-//! The reader takes exactly the texts of a trace, and for any other text it returns the first error. The lines that
-//! version 2 adds are written here too, each with its line feed and without memory.
+//! The reader takes exactly the texts of a trace, and for any other text it returns the first error.
 #![tactic(auto)]
 
 mod fault_line;
@@ -14,10 +13,8 @@ mod read;
 mod shares;
 mod text_line;
 mod trace;
-mod write;
 
 pub use fault_line::trace_fault_line;
 pub use read::{read_any, read_trace};
 pub use shares::task_energies;
-pub use trace::{TaskLine, Trace, TraceFault, TraceKind};
-pub use write::{has_task_lines, write_share, write_task, write_version};
+pub use trace::{Trace, TraceFault, TraceKind};

@@ -1,14 +1,15 @@
 // The lines after the head of a trace: notes, and energies of tasks.
 ghost use Rattle.std.specs.Prelude.{◌≡◌, ◌≤◌, ℕ, length, IfOk};
 ghost use Rattle.dvs_base.specs.declared.limits.TheConstants.{MOST_TASKS};
-ghost use Rattle.trace_reader.specs.TraceText.{has_task_lines};
+ghost use Rattle.trace_text.specs.TraceText.{has_task_lines};
 ghost use Rattle.trace_reader.specs.Fields.{parts};
 ghost use Rattle.trace_reader.specs.Items.{release_in, speed_in, run_in, idle_in, done_in, end_in, energy_in, item_of, HasTaskBelow};
 
+use crate::TraceKind;
 use crate::fields::{fraction_in, position_in, task_in, whole_in, wide_in};
 use crate::parts::{cut, four, six, three, two};
-use crate::{TraceKind, has_task_lines};
 use dvs_base::{Name, Note, Version};
+use trace_text::has_task_lines;
 
 /// A note, or the energy of a task.
 #[derive(Clone, Copy, Debug, PartialEq, Eq)]

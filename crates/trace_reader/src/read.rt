@@ -8,21 +8,22 @@ ghost use Rattle.dvs_base.specs.declared.limits.TheConstants.{MOST_TASKS};
 ghost use Rattle.dvs_base.specs.Parts.{name_of};
 ghost use Rattle.trace_reader.specs.declared.trace.TraceFault.TheVariants as fault;
 ghost use Rattle.trace_reader.specs.declared.trace.TraceKind.TheVariants as kind;
-ghost use Rattle.trace_reader.specs.TraceText.{has_task_lines};
+ghost use Rattle.trace_text.specs.TraceText.{has_task_lines, task_lines};
 ghost use Rattle.trace_reader.specs.Fields.{parts};
 ghost use Rattle.trace_reader.specs.Heads.{MayBeNext};
 ghost use Rattle.trace_reader.specs.Items.{HasTaskBelow};
 ghost use Rattle.trace_reader.specs.Sums.{HasSums};
 ghost use Rattle.trace_reader.specs.TraceFile.{is_in_order, is_right_share, wanted, next_item, nothing_yet, is_nothing, notes_from, trace_file};
-ghost use Rattle.trace_reader.specs.Traces.{TraceOf, task_lines, IsTextOf, HaveOneText};
+ghost use Rattle.trace_reader.specs.Traces.{TraceOf, IsTextOf, HaveOneText};
 
 use crate::head::{plan_line_of, read_tasks, version_in};
 use crate::line::{Item, item_of};
 use crate::shares::Shares;
 use crate::text_line::{at_line, line_at, refused};
-use crate::{TaskLine, Trace, TraceFault, TraceKind, has_task_lines};
+use crate::{Trace, TraceFault, TraceKind};
 use dvs_base::{Name, Note, Version};
 use std::alloc::Global;
+use trace_text::{TaskLine, has_task_lines};
 
 // How many energies of tasks a trace has: one for each name, in a version that has such lines.
 fn wanted_of(version: Version, names: &[Name]) -> u32
@@ -124,9 +125,7 @@ fn read_notes(
         match item {
             Item::Share { .. } => energies_read += 1,
             Item::Told(note) => {
-                if notes.push(note).is_err() {
-                    return Err(TraceFault::NoMemory);
-                }
+                notes.push(note).map_err(|_| TraceFault::NoMemory)?;
                 if let Note::End { .. } = note {
                     break;
                 }

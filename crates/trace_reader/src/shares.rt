@@ -3,7 +3,7 @@ ghost use Rattle.std.specs.Prelude.{◌≡◌, ℕ, ◌<◌, ◌^◌, ◌==◌, 
 ghost use Rattle.std.specs.List.{AllByRecursion};
 ghost use Rattle.dvs_base.specs.declared.note.Note.{Note};
 ghost use Rattle.dvs_base.specs.declared.limits.TheConstants.{MOST_TASKS};
-ghost use Rattle.trace_reader.specs.TraceText.{task_energy};
+ghost use Rattle.trace_text.specs.TraceText.{task_energy};
 ghost use Rattle.trace_reader.specs.Items.{HasTaskBelow};
 ghost use Rattle.trace_reader.specs.Sums.{with_energy, HasSums};
 

@@ -43,8 +43,5 @@ pub(crate) fn line_at(number: u64, bytes: &[u8]) -> Result<(&[u8], &[u8]), Trace
 pub(crate) fn at_line<T>(line: u64, read: Result<T, TraceKind>) -> Result<T, TraceFault>
     ensures { result ≡ at_line line read }
 {
-    match read {
-        Ok(value) => Ok(value),
-        Err(kind) => Err(refused(line, kind)),
-    }
+    read.map_err(|kind| refused(line, kind))
 }

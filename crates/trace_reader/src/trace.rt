@@ -4,15 +4,6 @@ use dvs_base::{Note, Version};
 use std::marker::Model;
 use trace_text::PlanLine;
 
-/// A task of a trace of version 2: its period and its first release in ticks, and its declared worst case in work
-/// units.
-#[derive(Clone, Copy, Debug, PartialEq, Eq)]
-pub struct TaskLine {
-    pub period: u64,
-    pub offset: u64,
-    pub worst: u64,
-}
-
 /// A trace: its version, its plan and its notes, the last of which ends it.
 #[derive(Drop)]
 pub struct Trace {

@@ -1,14 +1,12 @@
 // Whole traces, texts with errors, and single lines.
 ghost use Rattle.std.specs.Prelude.{◌≡◌, [], ◌∷◌, codes, IfOk};
 
-use dvs_base::{LONGEST_LINE, Line, MOST_LINES, MOST_TICKS, Name, Note, Pos, Version};
+use dvs_base::{LONGEST_LINE, MOST_LINES, MOST_TICKS, Name, Note, Pos, Version};
 use std::alloc::Global;
 use std::process::Abort;
 use std::test::Fail;
-use trace_reader::{
-    TaskLine, Trace, TraceFault, TraceKind, read_any, read_trace, write_share, write_task,
-    write_version,
-};
+use trace_reader::{Trace, TraceFault, TraceKind, read_any, read_trace};
+use trace_text::TaskLine;
 
 const START: Pos = Pos { tick: 0, offset: 0 };
 
@@ -473,19 +471,4 @@ const WRONG_TASKS: &[Refusal] = &[
 #[test]
 fn the_lines_of_the_tasks_are_those_of_the_set(rt: HostRuntime) -> Result<(), Fail> {
     pair_refuses(&rt, b"trace 2\nplan edf cc 8\n", WRONG_TASKS)
-}
-
-#[test]
-fn lines_are_written(rt: HostRuntime) -> Result<(), Fail> {
-    let name = Name::of(b"t2").ok_or("name")?;
-    let mut line = Line::new();
-    write_version(&mut line, Version::Two);
-    assert_eq!(rt; line.as_bytes(), b"trace 2\n".as_slice());
-    let mut line = Line::new();
-    write_task(&mut line, &name, X_AND_Y[1]);
-    assert_eq!(rt; line.as_bytes(), b"task t2 6 2 6\n".as_slice());
-    let mut line = Line::new();
-    write_share(&mut line, &name, 54000000000);
-    assert_eq!(rt; line.as_bytes(), b"energy t2 54000000000\n".as_slice());
-    Ok(())
 }

@@ -1,1 +1,2 @@
 pub mod TraceLines
+pub mod TraceText

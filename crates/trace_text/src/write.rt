@@ -3,6 +3,7 @@ ghost use Rattle.std.specs.Prelude.{◌≡◌, ◌+◌, ◌≤◌, ◌++◌, [],
 ghost use Rattle.std.specs.Fmt.{decimal};
 ghost use Rattle.std.specs.Option.{option_copied};
 ghost use Rattle.dvs_base.specs.Parts.{part_text, most_bytes, fraction_text, name_text, position_text};
+ghost use Rattle.trace_text.specs.declared.limits.TheConstants.{LINE_BYTES, NAME_BYTES, POSITION_BYTES, JOB_BYTES, NOTE_LINE_BYTES};
 ghost use Rattle.trace_text.specs.TraceLines.{line, run_fields, idle_fields, done_fields, fields_with, note_text, plan_text, scheduler_word, governor_word};
 
 use dvs_base::{
@@ -66,9 +67,9 @@ pub fn write_head(line: &mut Line, plan: PlanLine)
 // Appends a position as `tick:offset`. Most positions are at the beginning of a tick, so their `:0` is a word.
 #[inline]
 fn push_at(to: &mut Line, pos: Pos)
-    requires { length to.old + 41 ≤ 256 }
+    requires { length to.old + POSITION_BYTES ≤ LINE_BYTES }
     ensures text { to.new ≡ to.old ++ position_text pos }
-    ensures most { length to.new ≤ length to.old + 41 }
+    ensures most { length to.new ≤ length to.old + POSITION_BYTES }
 {
     if pos.offset > 0 {
         push_position(to, pos);
@@ -81,9 +82,9 @@ fn push_at(to: &mut Line, pos: Pos)
 // Appends a name, or nothing where there is none.
 #[inline]
 fn push_task(to: &mut Line, name: Option<&Name>)
-    requires { length to.old + 32 ≤ 256 }
+    requires { length to.old + NAME_BYTES ≤ LINE_BYTES }
     ensures text { to.new ≡ to.old ++ name_text (option_copied name.entry) }
-    ensures most { length to.new ≤ length to.old + 32 }
+    ensures most { length to.new ≤ length to.old + NAME_BYTES }
 {
     match name {
         Some(name) => push_name(to, name),
@@ -94,9 +95,9 @@ fn push_task(to: &mut Line, name: Option<&Name>)
 // Appends the name of a task, a space, and the number of the job.
 #[inline]
 fn push_job(to: &mut Line, name: Option<&Name>, job: u64)
-    requires { length to.old + 53 ≤ 256 }
+    requires { length to.old + JOB_BYTES ≤ LINE_BYTES }
     ensures text { to.new ≡ to.old ++ name_text (option_copied name.entry) ++ codes " " ++ decimal job }
-    ensures most { length to.new ≤ length to.old + 53 }
+    ensures most { length to.new ≤ length to.old + JOB_BYTES }
 {
     push_task(to, name);
     push_word(to, b" ");
@@ -107,7 +108,7 @@ fn push_release(to: &mut Line, tick: u64, name: Option<&Name>, job: u64)
     requires empty { to.old ≡ [] }
     ensures text { to.new
         ≡ line (codes "release" ∷ decimal tick ∷ name_text (option_copied name.entry) ∷ decimal job ∷ []) }
-    ensures most { length to.new ≤ 203 }
+    ensures most { length to.new ≤ NOTE_LINE_BYTES }
 {
     push_word(to, b"release ");
     push_number(to, tick);
@@ -119,7 +120,7 @@ fn push_release(to: &mut Line, tick: u64, name: Option<&Name>, job: u64)
 fn push_speed(to: &mut Line, tick: u64, speed: u64, num: u128, den: u128)
     requires empty { to.old ≡ [] }
     ensures text { to.new ≡ line (codes "speed" ∷ decimal tick ∷ decimal speed ∷ fraction_text num den ∷ []) }
-    ensures most { length to.new ≤ 203 }
+    ensures most { length to.new ≤ NOTE_LINE_BYTES }
 {
     push_word(to, b"speed ");
     push_number(to, tick);
@@ -135,7 +136,7 @@ fn push_run(to: &mut Line, span: Span, name: Option<&Name>, job: u64, spent: (u6
     requires empty { to.old ≡ [] }
     ensures text { to.new
         ≡ line (run_fields span.from span.to (name_text (option_copied name.entry)) job spent.0 spent.1) }
-    ensures most { length to.new ≤ 203 }
+    ensures most { length to.new ≤ NOTE_LINE_BYTES }
 {
     push_word(to, b"run ");
     push_at(to, span.from);
@@ -153,7 +154,7 @@ fn push_run(to: &mut Line, span: Span, name: Option<&Name>, job: u64, spent: (u6
 fn push_idle(to: &mut Line, span: Span, units: u64, energy: u128)
     requires empty { to.old ≡ [] }
     ensures text { to.new ≡ line (idle_fields span.from span.to units energy) }
-    ensures most { length to.new ≤ 203 }
+    ensures most { length to.new ≤ NOTE_LINE_BYTES }
 {
     push_word(to, b"idle ");
     push_at(to, span.from);
@@ -169,7 +170,7 @@ fn push_idle(to: &mut Line, span: Span, units: u64, energy: u128)
 fn push_done(to: &mut Line, at: Pos, name: Option<&Name>, job: u64, used: u64)
     requires empty { to.old ≡ [] }
     ensures text { to.new ≡ line (done_fields at (name_text (option_copied name.entry)) job used) }
-    ensures most { length to.new ≤ 203 }
+    ensures most { length to.new ≤ NOTE_LINE_BYTES }
 {
     push_word(to, b"done ");
     push_at(to, at);
@@ -183,7 +184,7 @@ fn push_done(to: &mut Line, at: Pos, name: Option<&Name>, job: u64, used: u64)
 fn push_end(to: &mut Line, ticks: u64, run: u128, idle: u128)
     requires empty { to.old ≡ [] }
     ensures text { to.new ≡ line (codes "end" ∷ decimal ticks ∷ decimal run ∷ decimal idle ∷ []) }
-    ensures most { length to.new ≤ 203 }
+    ensures most { length to.new ≤ NOTE_LINE_BYTES }
 {
     push_word(to, b"end ");
     push_number(to, ticks);
@@ -198,7 +199,7 @@ fn push_end(to: &mut Line, ticks: u64, run: u128, idle: u128)
 fn push_note(to: &mut Line, note: &Note, name: Option<&Name>)
     requires empty { to.old ≡ [] }
     ensures text { to.new ≡ line (fields_with (name_text (option_copied name.entry)) note.now) }
-    ensures most { length to.new ≤ 203 }
+    ensures most { length to.new ≤ NOTE_LINE_BYTES }
 {
     match *note {
         Note::Release { tick, job, .. } => push_release(to, tick, name, job),
@@ -227,7 +228,7 @@ fn push_note(to: &mut Line, note: &Note, name: Option<&Name>)
     }
 }
 
-/// Writes the line of a note, with its line feed, at most 203 bytes. The name of a task without one is empty.
+/// Writes the line of a note, with its line feed, at most [`NOTE_LINE_BYTES`](crate::NOTE_LINE_BYTES) bytes. The name of a task without one is empty.
 #[tactic(auto, unfolding(crate::specs::TraceLines::note_text))]
 pub fn write_note(line: &mut Line, note: &Note, names: &[Name])
     requires { line.old ≡ [] }
@@ -243,7 +244,7 @@ pub fn write_note(line: &mut Line, note: &Note, names: &[Name])
 /// The line of a note, with its line feed, and with this name for its task. It takes no memory.
 pub fn note_line(note: &Note, name: Option<&Name>) -> Line
     ensures text { result ≡ line (fields_with (name_text (option_copied name.entry)) note.now) }
-    ensures most { length result ≤ 203 }
+    ensures most { length result ≤ NOTE_LINE_BYTES }
 {
     let mut text = Line::new();
     push_note(&mut text, note, name);

@@ -6,13 +6,13 @@ use Rattle.grid_fraction.specs.Numbers.{list_below}
 use Rattle.sched_model.specs.Plan.{count, names}
 use Rattle.sched_model.specs.Totals.{totals_of}
 use Rattle.sched_model.proofs.Schedules.{length-list_below}
-use Rattle.trace_reader.specs.TraceText.{noted, task_energy}
-use Rattle.event_kernel.specs.UnnotedLines.{sum_lines}
+use Rattle.trace_text.specs.TraceText.{noted, task_energy}
+use Rattle.trace_writer.specs.UnnotedLines.{sum_lines}
 use Rattle.event_kernel.specs.SpanNotes.{notes_before_end_of}
 use Rattle.event_kernel.proofs.RunAccount.{booked-tasks, booked-totals}
 use Rattle.event_kernel.proofs.Tellers.{heard-written, balked-written}
 use Rattle.event_kernel.proofs.Wholes.{told-lines, few-of}
-use Rattle.event_kernel.proofs.WrittenLines.{writes-then, lines-as, some-as, lines-some-more, stopped-exit}
+use Rattle.trace_writer.proofs.WrittenLines.{writes-then, lines-as, some-as, lines-some-more, stopped-exit}
 use Rattle.event_kernel.proofs.teller.notes_into.Goals as goal
 
 pub tell_tail-requires : goal.tell_tail-requires

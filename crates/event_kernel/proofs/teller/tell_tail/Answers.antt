@@ -1,9 +1,9 @@
 use Rattle.std.proofs.Common.{[], ◌∷◌, ap}
 use Rattle.dvs_base.specs.declared.note.Note.TheVariants.{End}
 use Rattle.sched_model.specs.Plan.{names}
-use Rattle.trace_reader.specs.TraceText.{noted}
-use Rattle.event_kernel.specs.UnnotedLines.{sum_lines}
-use Rattle.event_kernel.proofs.WrittenLines.{writes-then, lines-some-more, stopped-exit, all-as, some-as}
+use Rattle.trace_text.specs.TraceText.{noted}
+use Rattle.trace_writer.specs.UnnotedLines.{sum_lines}
+use Rattle.trace_writer.proofs.WrittenLines.{writes-then, lines-some-more, stopped-exit, all-as, some-as}
 use Rattle.event_kernel.proofs.teller.tell_tail.Goals as goal
 
 pub returns-clause-writes_tail : goal.returns-clause-writes_tail

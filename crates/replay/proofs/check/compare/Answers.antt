@@ -22,7 +22,7 @@ differs-requires-clause-some g c =
     let from : Compared = record { rest = c.deref.result; wanted = None; stops = 0 } in
     let t : TraceOf = c.args.trace.now in
     let notes : rest from ≡ t.notes = c.deref.ensures.value ∙ ap (λ (t : TraceOf). t.notes) c.trace.view_is in
-    let stopped = run-stopped rest wanted g.G.Governor.demand c.args.kernel t c.requires.ended from c.drive.new.to notes c.in-Err.ensures.broke_off in
+    let stopped = run-stopped rest wanted g.G.Governor.demand c.args.kernel t c.requires.ended from c.drive.new.to notes c.in_default.ensures.broke_off in
     let long : length (rest c.drive.new.to) ≡ length (stopped.found ∷ stopped.more) = ap length stopped.finds in
     omega (arith, long)
 
@@ -31,7 +31,7 @@ unreachable-requires g c =
     let from : Compared = record { rest = c.deref.result; wanted = None; stops = 0 } in
     let t : TraceOf = c.args.trace.now in
     let notes : rest from ≡ t.notes = c.deref.ensures.value ∙ ap (λ (t : TraceOf). t.notes) c.trace.view_is in
-    let stopped = run-stopped rest wanted g.G.Governor.demand c.args.kernel t c.requires.ended from c.drive.new.to notes c.in-Err.ensures.broke_off in
+    let stopped = run-stopped rest wanted g.G.Governor.demand c.args.kernel t c.requires.ended from c.drive.new.to notes c.in_default.ensures.broke_off in
     let both : None ≡ Some stopped.want = sym c.in-None.is ∙ stopped.wants in
     cc
 
@@ -44,13 +44,13 @@ returns-in-Ok g c =
     ap (λ (totals : Totals). Ok totals) c.in-Ok.ensures.totals
     ∙ sym (compared-same (count c.args.plan.now) t (notes_of_run g.G.Governor.demand c.args.kernel) same)
 
-pub returns-in-Some : goal.returns-in-Some
-returns-in-Some g c =
+pub returns : goal.returns
+returns g c =
     let from : Compared = record { rest = c.deref.result; wanted = None; stops = 0 } in
     let to : Compared = c.drive.new.to in
     let t : TraceOf = c.args.trace.now in
     let notes : rest from ≡ t.notes = c.deref.ensures.value ∙ ap (λ (t : TraceOf). t.notes) c.trace.view_is in
-    let stopped = run-stopped rest wanted g.G.Governor.demand c.args.kernel t c.requires.ended from to notes c.in-Err.ensures.broke_off in
+    let stopped = run-stopped rest wanted g.G.Governor.demand c.args.kernel t c.requires.ended from to notes c.in_default.ensures.broke_off in
     let place = length t.notes - length (rest to) in
     stopped-compared rest wanted (count c.args.plan.now) t from (notes_of_run g.G.Governor.demand c.args.kernel) to
     c.in-Some.wanted c.differs.result notes stopped c.in-Some.is

@@ -1,7 +1,7 @@
 use Rattle.std.proofs.Common.{◌≡◌, drop}
 use Rattle.trace_reader.specs.Fields.{parts}
 use Rattle.trace_reader.specs.Heads.{MayBeNext, parts_after_tasks}
-use Rattle.trace_reader.specs.Traces.{task_lines}
+use Rattle.trace_text.specs.TraceText.{task_lines}
 use Rattle.trace_reader.proofs.head.read_task_lines.Given as goal
 
 -- reading the lines of the tasks that are left, from the text that is left, gives what reading all of them does

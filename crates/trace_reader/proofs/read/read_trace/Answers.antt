@@ -3,7 +3,8 @@ use Rattle.dvs_base.specs.declared.kind.Version.TheVariants.{One}
 use Rattle.dvs_base.specs.Checks.{IsUnlessMemory}
 use Rattle.trace_reader.specs.declared.trace.TraceFault.TheVariants.{NoMemory}
 use Rattle.trace_reader.specs.TraceFile.{trace_file}
-use Rattle.trace_reader.specs.Traces.{task_lines, IsTextOf}
+use Rattle.trace_text.specs.TraceText.{task_lines}
+use Rattle.trace_reader.specs.Traces.{IsTextOf}
 use Rattle.trace_reader.proofs.LineTexts.{names-each}
 use Rattle.trace_reader.proofs.HeadTexts.{version-up_to, version-none}
 use Rattle.trace_reader.proofs.TraceTexts.{clause-found, reads-found, reads-only, one-text}

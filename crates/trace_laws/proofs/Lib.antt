@@ -1,0 +1,5 @@
+pub mod OneEnd
+pub mod DoneText
+pub mod TraceLimits
+pub mod Traces
+pub mod Examples

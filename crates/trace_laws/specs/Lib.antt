@@ -1,0 +1,2 @@
+pub mod DoneLines
+pub mod RunTraces

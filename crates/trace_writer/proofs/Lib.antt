@@ -1,0 +1,4 @@
+pub mod WrittenLines
+pub mod SumLines
+pub mod TracePuts
+pub mod MostLines

@@ -1,0 +1,3 @@
+pub mod RunText
+pub mod Lines
+pub mod UnnotedLines
