@@ -12,25 +12,25 @@ use Rattle.grid_fraction.proofs.Sums.{sum_below-same, sum_below-add, sum_below-o
 use Rattle.sched_model.specs.declared.state.Row.{Row}
 use Rattle.sched_model.specs.Plan.{Plan, count, period, offset, worst}
 use Rattle.sched_model.specs.Priority.{stands_before}
-use Rattle.sched_model.specs.States.{StateOf, row_at, no_row, opening, opening_row, after_run, after_finish, key_in, earliest_in}
+use Rattle.sched_model.specs.States.{StateView, row_at, no_row, opening, opening_row, after_run, after_finish, key_in, earliest_in}
 use Rattle.sched_model.proofs.Tables.{get-table}
 use Rattle.sched_model.proofs.Orders.{before-self, before-not, before-total}
 use Rattle.ready_queue.specs.declared.entry.Entry.{Entry}
 use Rattle.ready_queue.specs.Orders.{due_before}
-use Rattle.ready_queue.specs.Entries.{QueueOf, IsAbsent, IsOfFirst, placed, ComesFirst}
+use Rattle.ready_queue.specs.Entries.{QueueView, IsAbsent, IsOfFirst, with_entry, ComesFirst}
 use Rattle.ready_queue.proofs.EntryOrder.{All-at, Has-contains}
 use Rattle.agenda.specs.declared.agenda.Agenda.{Agenda}
 use Rattle.agenda.specs.Stands.{Stands}
-use Rattle.agenda.specs.Agenda.{before_of, task_entry, HoldsTasks, is_open, HoldsReady, HoldsCalendar, ReadyOf, StandFor, IsFirstUndone, IsFirstDue, NonePast, next_job_row, opened, due_left}
+use Rattle.agenda.specs.Agenda.{before_of, task_entry, HoldsTasks, is_open, HoldsReady, HoldsCalendar, ReadyView, StandFor, IsFirstUndone, IsFirstDue, NonePast, next_job_row, with_next_job, due_left}
 use Rattle.agenda.proofs.Tasks.{without, without-other, without-apart, held, absent, holds-keep, holds-drop, holds-without, holds-add}
 
 -- the entries of two tasks are ordered as the tasks are
-entries-before : (sch : Scheduler) (p : Plan) (s : StateOf) (i k : ℕ) → before_of sch (task_entry p s i) (task_entry p s k)
+entries-before : (sch : Scheduler) (p : Plan) (s : StateView) (i k : ℕ) → before_of sch (task_entry p s i) (task_entry p s k)
     ≡ stands_before (key_in sch p s) i k
 entries-before Edf p s i k = refl
 entries-before Rm p s i k = refl
 
-module _ (p : Plan) (s : StateOf) where
+module _ (p : Plan) (s : StateView) where
   is-open : (i : ℕ) → is_open s i ≡ true → (row_at s i).done ≡ false
   is-open i h = not-true (row_at s i).done h
 
@@ -126,16 +126,16 @@ module _ (p : Plan) (s : StateOf) where
     none-due past ne k lt is = omega (arith, next-least k lt, is, past x.task next-own.0, next-due, ne)
 
 -- the state with another row of task i
-abbrev with_row : StateOf → ℕ → Row → StateOf
+abbrev with_row : StateView → ℕ → Row → StateView
 with_row s i r = record s { rows = set s.rows i r }
 
-row-here : (s : StateOf) (i : ℕ) (r : Row) → i < length s.rows → row_at (with_row s i r) i ≡ r
+row-here : (s : StateView) (i : ℕ) (r : Row) → i < length s.rows → row_at (with_row s i r) i ≡ r
 row-here s i r lt = get_or-set_same s.rows i r no_row lt
 
-row-there : (s : StateOf) (i : ℕ) (r : Row) (k : ℕ) → k ≢ i → row_at (with_row s i r) k ≡ row_at s k
+row-there : (s : StateView) (i : ℕ) (r : Row) (k : ℕ) → k ≢ i → row_at (with_row s i r) k ≡ row_at s k
 row-there s i r k ne = get_or-set_other s.rows i k r no_row ne
 
-module _ (p : Plan) (s : StateOf) (i : ℕ) (r : Row) where
+module _ (p : Plan) (s : StateView) (i : ℕ) (r : Row) where
   entry-there : (k : ℕ) → k ≢ i → task_entry p s k ≡ task_entry p (with_row s i r) k
   entry-there k ne = ap (λ (q : Row). record { task = k; due = q.deadline; period = period p k }) (sym (row-there s i r k ne))
 
@@ -188,12 +188,12 @@ module _ (p : Plan) (s : StateOf) (i : ℕ) (r : Row) where
 
   -- where the job of task i is now incomplete, a ready queue with its entry is right
   ready-opened : (xs : List Entry) → i < count p → i < length s.rows → r.done ≡ false → HoldsTasks p s (without i (is_open s)) xs
-      → HoldsReady p (with_row s i r) (placed (before_of p.scheduler) (task_entry p (with_row s i r) i) xs)
+      → HoldsReady p (with_row s i r) (with_entry (before_of p.scheduler) (task_entry p (with_row s i r) i) xs)
   ready-opened xs lp lt unfinished h =
       holds-add p (with_row s i r) (is_open (with_row s i r)) (before_of p.scheduler) i xs lp
       (ap (λ (q : Row). not q.done) (row-here s i r lt) ∙ ap not unfinished) (ready-others xs h)
 
-module _ (p : Plan) (s : StateOf) (ready : ReadyOf) (calendar : QueueOf) (h : StandFor p s ready calendar) where
+module _ (p : Plan) (s : StateView) (ready : ReadyView) (calendar : QueueView) (h : StandFor p s ready calendar) where
   -- `State::run` changes neither the ready queue nor the calendar
   pub stand-run : (i units : ℕ) → i < length s.rows → StandFor p (after_run s i units) ready calendar
   stand-run i units lt = record {
@@ -208,7 +208,7 @@ module _ (p : Plan) (s : StateOf) (ready : ReadyOf) (calendar : QueueOf) (h : St
       r : Row
       r = record (row_at s i) { used = (row_at s i).used + units }
 
-      s' : StateOf
+      s' : StateView
       s' = after_run s i units
 
       go : (k : ℕ) → (k ≡ i) ⊎ (k ≢ i) → is_open s k ≡ is_open s' k
@@ -233,7 +233,7 @@ module _ (p : Plan) (s : StateOf) (ready : ReadyOf) (calendar : QueueOf) (h : St
   -- the first release of the calendar takes place
   module _ (x : Entry) (rest : List Entry) (i : ℕ) (is : calendar.entries ≡ x ∷ rest) (apart : IsAbsent x.task rest) (own : x.task ≡ i)
       (lp : i < count p) (lt : i < length s.rows) (done : (row_at s i).done ≡ true) where
-    opened-releases : (r : Row) → HoldsCalendar p (with_row s i r) (placed due_before (task_entry p (with_row s i r) i) rest)
+    opened-releases : (r : Row) → HoldsCalendar p (with_row s i r) (with_entry due_before (task_entry p (with_row s i r) i) rest)
     opened-releases r =
         holds-add p (with_row s i r) (λ k. true) due_before i rest lp refl
         (others-kept p s i r (λ k. true) rest
@@ -244,9 +244,9 @@ module _ (p : Plan) (s : StateOf) (ready : ReadyOf) (calendar : QueueOf) (h : St
     ready-absent = holds-without p s (is_open s) i ready.entries (absent p s (is_open s) i ready.entries h.ready_jobs (ap not done)) h.ready_jobs
 
     -- the job that is released needs some units: the ready queue and the calendar have its entry
-    pub stand-opened : StandFor p (opened p s i false)
-        (record ready { entries = placed (before_of p.scheduler) (task_entry p (opened p s i false) i) ready.entries })
-        (record calendar { entries = placed due_before (task_entry p (opened p s i false) i) rest })
+    pub stand-opened : StandFor p (with_next_job p s i false)
+        (record ready { entries = with_entry (before_of p.scheduler) (task_entry p (with_next_job p s i false) i) ready.entries })
+        (record calendar { entries = with_entry due_before (task_entry p (with_next_job p s i false) i) rest })
     stand-opened = record {
       scheduler = h.scheduler;
       ready_limit = h.ready_limit;
@@ -256,7 +256,8 @@ module _ (p : Plan) (s : StateOf) (ready : ReadyOf) (calendar : QueueOf) (h : St
     }
 
     -- the job that is released needs no units: the calendar alone has its entry
-    pub stand-closed : StandFor p (opened p s i true) ready (record calendar { entries = placed due_before (task_entry p (opened p s i true) i) rest })
+    pub stand-closed : StandFor p (with_next_job p s i true) ready (record calendar { entries =
+            with_entry due_before (task_entry p (with_next_job p s i true) i) rest })
     stand-closed = record {
       scheduler = h.scheduler;
       ready_limit = h.ready_limit;
@@ -266,7 +267,7 @@ module _ (p : Plan) (s : StateOf) (ready : ReadyOf) (calendar : QueueOf) (h : St
     }
 
 -- an agenda represents each state with the same rows: `State::advance` and `State::mark` change none
-pub stands-rows : (p : Plan) (s after : StateOf) (a : Agenda) → after.rows ≡ s.rows → Stands p s a → Stands p after a
+pub stands-rows : (p : Plan) (s after : StateView) (a : Agenda) → after.rows ≡ s.rows → Stands p s a → Stands p after a
 stands-rows p s after a same h =
     let q = h.queues in
     subst (λ (rows : List Row). Stands p (record after { rows = rows }) a) (sym same) (record {
@@ -281,25 +282,25 @@ stands-rows p s after a same h =
     })
 
 -- the first entry of a calendar is that of the first task that is due, and `rest` are the others
-pub record TakesDue (p : Plan) (s : StateOf) (i : ℕ) (xs rest : List Entry) : Type 0 where
+pub record TakesDue (p : Plan) (s : StateView) (i : ℕ) (xs rest : List Entry) : Type 0 where
   pub entry : Entry
   pub is : xs ≡ entry ∷ rest
   pub out : IsAbsent entry.task rest
   pub own : entry.task ≡ i
 
-pub takes-due : (p : Plan) (s : StateOf) (i : ℕ) (xs : List Entry) → IsOfFirst i xs → IsAbsent i (drop 1 xs) → TakesDue p s i xs (drop 1 xs)
+pub takes-due : (p : Plan) (s : StateView) (i : ℕ) (xs : List Entry) → IsOfFirst i xs → IsAbsent i (drop 1 xs) → TakesDue p s i xs (drop 1 xs)
 takes-due p s i [] f o = absurd f
 takes-due p s i (x ∷ xs) f o = record { entry = x; is = refl; out = subst (λ (t : ℕ). IsAbsent t xs) (sym f) o; own = f }
 
 -- the first entry of a calendar is that of the first task that is due
-pub first-is-due : (p : Plan) (s : StateOf) (i : ℕ) (xs : List Entry) (r : Option Entry) → HoldsCalendar p s xs → NonePast p s → IsFirstDue p s i
+pub first-is-due : (p : Plan) (s : StateView) (i : ℕ) (xs : List Entry) (r : Option Entry) → HoldsCalendar p s xs → NonePast p s → IsFirstDue p s i
     → r ≡ slice_get xs 0 → IfSome r (λ e. ComesFirst due_before e xs) → IsOfFirst i xs
 first-is-due p s i [] r h past d e f = absurd (Has-contains [] (task_entry p s i) (h.all i d.below refl))
 first-is-due p s i (x ∷ xs) r h past d e f =
     first-due-own p s (x ∷ xs) x h (subst (λ (o : Option Entry). IfSome o (λ z. ComesFirst due_before z (x ∷ xs))) e f) i past d
 
 -- the first entry of a ready queue is that of the first task with an incomplete job, and it can be taken out
-pub takes-undone : (p : Plan) (s : StateOf) (i : ℕ) (xs rest : List Entry) (r : Option Entry) (sch : Scheduler) → sch ≡ p.scheduler
+pub takes-undone : (p : Plan) (s : StateView) (i : ℕ) (xs rest : List Entry) (r : Option Entry) (sch : Scheduler) → sch ≡ p.scheduler
     → HoldsReady p s xs → IsFirstUndone p s (count p) i
     → MatchOption r ((xs ≡ []) × (rest ≡ [])) (λ e. xs ≡ e ∷ rest) → IfSome r (λ e. ComesFirst (before_of sch) e xs) → IfSome r (λ e. IsAbsent e.task rest)
     → TakesDue p s i xs rest
@@ -313,13 +314,13 @@ pub no-first : (xs : List Entry) → slice_get xs 0 ≡ None → xs ≡ []
 no-first [] e = refl
 no-first (x ∷ xs) e = absurd (cc)
 
-module _ (p : Plan) (s : StateOf) (ready : ReadyOf) (calendar : QueueOf) (h : StandFor p s ready calendar) where
+module _ (p : Plan) (s : StateView) (ready : ReadyView) (calendar : QueueView) (h : StandFor p s ready calendar) where
   -- a calendar of at least one task has a first entry
   pub calendar-some : 0 < count p → calendar.entries ≢ []
   calendar-some lt e = Has-contains [] (task_entry p s 0) (subst (λ (l : List Entry). Contains l (task_entry p s 0)) e (h.releases.all 0 lt refl))
 
   -- after a completion the new ready queue and the calendar represent the new state
-  pub after-finish : (i : ℕ) (ready' : ReadyOf) (r : Option Entry) → IsFirstUndone p s (count p) i → length s.rows ≡ count p
+  pub after-finish : (i : ℕ) (ready' : ReadyView) (r : Option Entry) → IsFirstUndone p s (count p) i → length s.rows ≡ count p
       → ready' ≡ record ready { entries = ready'.entries }
       → MatchOption r ((ready.entries ≡ []) × (ready'.entries ≡ [])) (λ e. ready.entries ≡ e ∷ ready'.entries)
       → IfSome r (λ e. ComesFirst (before_of ready.scheduler) e ready.entries) → IfSome r (λ e. IsAbsent e.task ready'.entries)
@@ -327,7 +328,7 @@ module _ (p : Plan) (s : StateOf) (ready : ReadyOf) (calendar : QueueOf) (h : St
   after-finish i ready' r u long same m f o =
       let t : TakesDue p s i ready.entries ready'.entries =
       takes-undone p s i ready.entries ready'.entries r ready.scheduler h.scheduler h.ready_jobs u m f o in
-      subst (λ (q : ReadyOf). StandFor p (after_finish s i) q calendar) (sym same)
+      subst (λ (q : ReadyView). StandFor p (after_finish s i) q calendar) (sym same)
       (stand-finish p s ready calendar h t.entry ready'.entries i t.is t.out t.own (omega (arith, u.below, long)))
 
   -- after a release the new ready queue and the new calendar represent the new state
@@ -336,42 +337,43 @@ module _ (p : Plan) (s : StateOf) (ready : ReadyOf) (calendar : QueueOf) (h : St
     taken : TakesDue p s i calendar.entries (drop 1 calendar.entries)
     taken = takes-due p s i calendar.entries first out
 
-    module _ (next : Entry) (calendar' : QueueOf) (limit : calendar'.limit ≡ calendar.limit)
-        (entries : calendar'.entries ≡ placed due_before next (drop 1 calendar.entries)) where
-      as_calendar : (e : Entry) → next ≡ e → calendar' ≡ record calendar { entries = placed due_before e (drop 1 calendar.entries) }
+    module _ (next : Entry) (calendar' : QueueView) (limit : calendar'.limit ≡ calendar.limit)
+        (entries : calendar'.entries ≡ with_entry due_before next (drop 1 calendar.entries)) where
+      as_calendar : (e : Entry) → next ≡ e → calendar' ≡ record calendar { entries = with_entry due_before e (drop 1 calendar.entries) }
       as_calendar e is = ap₂ (λ (l : ℕ) (xs : List Entry). record { limit = l; entries = xs }) limit
-          (entries ∙ ap (λ (x : Entry). placed due_before x (drop 1 calendar.entries)) is)
+          (entries ∙ ap (λ (x : Entry). with_entry due_before x (drop 1 calendar.entries)) is)
 
-      pub after-open : (ready' : ReadyOf) → next ≡ task_entry p (opened p s i false) i
-          → ready' ≡ record ready { entries = placed (before_of ready.scheduler) next ready.entries } → StandFor p (opened p s i false) ready' calendar'
+      pub after-open : (ready' : ReadyView) → next ≡ task_entry p (with_next_job p s i false) i
+          → ready' ≡ record ready { entries = with_entry (before_of ready.scheduler) next ready.entries }
+                  → StandFor p (with_next_job p s i false) ready' calendar'
       after-open ready' is put =
-          let all : StandFor p (opened p s i false)
-          (record ready { entries = placed (before_of p.scheduler) (task_entry p (opened p s i false) i) ready.entries })
-          (record calendar { entries = placed due_before (task_entry p (opened p s i false) i) (drop 1 calendar.entries) }) =
+          let all : StandFor p (with_next_job p s i false)
+          (record ready { entries = with_entry (before_of p.scheduler) (task_entry p (with_next_job p s i false) i) ready.entries })
+          (record calendar { entries = with_entry due_before (task_entry p (with_next_job p s i false) i) (drop 1 calendar.entries) }) =
           stand-opened p s ready calendar h taken.entry (drop 1 calendar.entries) i taken.is taken.out taken.own d.below lt done in
-          subst (λ (q : ReadyOf). StandFor p (opened p s i false) q calendar')
-          (ap₂ (λ (c : Scheduler) (x : Entry). record ready { entries = placed (before_of c) x ready.entries }) (sym h.scheduler) (sym is) ∙ sym put)
-          (subst (λ (q : QueueOf). StandFor p (opened p s i false)
-          (record ready { entries = placed (before_of p.scheduler) (task_entry p (opened p s i false) i) ready.entries }) q)
-          (sym (as_calendar (task_entry p (opened p s i false) i) is)) all)
+          subst (λ (q : ReadyView). StandFor p (with_next_job p s i false) q calendar')
+          (ap₂ (λ (c : Scheduler) (x : Entry). record ready { entries = with_entry (before_of c) x ready.entries }) (sym h.scheduler) (sym is) ∙ sym put)
+          (subst (λ (q : QueueView). StandFor p (with_next_job p s i false)
+          (record ready { entries = with_entry (before_of p.scheduler) (task_entry p (with_next_job p s i false) i) ready.entries }) q)
+          (sym (as_calendar (task_entry p (with_next_job p s i false) i) is)) all)
 
-      pub after-closed : next ≡ task_entry p (opened p s i true) i → StandFor p (opened p s i true) ready calendar'
+      pub after-closed : next ≡ task_entry p (with_next_job p s i true) i → StandFor p (with_next_job p s i true) ready calendar'
       after-closed is =
-          subst (λ (q : QueueOf). StandFor p (opened p s i true) ready q) (sym (as_calendar (task_entry p (opened p s i true) i) is))
+          subst (λ (q : QueueView). StandFor p (with_next_job p s i true) ready q) (sym (as_calendar (task_entry p (with_next_job p s i true) i) is))
           (stand-closed p s ready calendar h taken.entry (drop 1 calendar.entries) i taken.is taken.out taken.own d.below lt done)
 
 -- the entry that `renew` puts in is that of the task after its release
-pub opened-entry : (p : Plan) (s : StateOf) (i : ℕ) (done : Bool) (per due : ℕ) → i < length s.rows → per ≡ period p i → due ≡ (row_at s i).deadline
-    → record { task = i; due = due + per; period = per } ≡ task_entry p (opened p s i done) i
+pub opened-entry : (p : Plan) (s : StateView) (i : ℕ) (done : Bool) (per due : ℕ) → i < length s.rows → per ≡ period p i → due ≡ (row_at s i).deadline
+    → record { task = i; due = due + per; period = per } ≡ task_entry p (with_next_job p s i done) i
 opened-entry p s i done per due lt is same =
     ap₂ (λ (d n : ℕ). record { task = i; due = d; period = n })
     (ap₂ (λ (a b : ℕ). a + b) same is ∙ ap (λ (q : Row). q.deadline) (sym (row-here s i (next_job_row (period p i) done (row_at s i)) lt)))
     is
 
-pub more-held : (p : Plan) (s : StateOf) (m : ℕ) (e : Entry) (xs ys : List Entry) → m < count p → HoldsTasks p s (λ i. nat_lt i m) xs → e ≡ task_entry p s m
-    → ys ≡ placed due_before e xs → HoldsTasks p s (λ i. nat_lt i (m + 1)) ys
+pub more-held : (p : Plan) (s : StateView) (m : ℕ) (e : Entry) (xs ys : List Entry) → m < count p → HoldsTasks p s (λ i. nat_lt i m) xs → e ≡ task_entry p s m
+    → ys ≡ with_entry due_before e xs → HoldsTasks p s (λ i. nat_lt i (m + 1)) ys
 more-held p s m e xs ys lt h is put =
-    subst (HoldsTasks p s (λ i. nat_lt i (m + 1))) (sym (put ∙ ap (λ (z : Entry). placed due_before z xs) is))
+    subst (HoldsTasks p s (λ i. nat_lt i (m + 1))) (sym (put ∙ ap (λ (z : Entry). with_entry due_before z xs) is))
     (holds-add p s (λ i. nat_lt i (m + 1)) due_before m xs lt (grind (arith, nat_tests))
     (holds-keep p s (λ i. nat_lt i m) s (without m (λ i. nat_lt i (m + 1))) xs (λ k lk. go k (cases_eq k m)) (λ k lk t. refl) h))
   where
@@ -379,7 +381,7 @@ more-held p s m e xs ys lt h is put =
     go k (inl q) = grind (arith, nat_tests)
     go k (inr ne) = (let same : nat_lt k m ≡ nat_lt k (m + 1) = grind (arith, nat_tests) in same) ∙ sym (without-other m (λ i. nat_lt i (m + 1)) k ne)
 
-pub all-held : (p : Plan) (s : StateOf) (n : ℕ) (xs : List Entry) → count p ≤ n → HoldsTasks p s (λ i. nat_lt i n) xs → HoldsCalendar p s xs
+pub all-held : (p : Plan) (s : StateView) (n : ℕ) (xs : List Entry) → count p ≤ n → HoldsTasks p s (λ i. nat_lt i n) xs → HoldsCalendar p s xs
 all-held p s n xs le h = holds-keep p s (λ i. nat_lt i n) s (λ i. true) xs (λ k lt. grind (arith, nat_tests)) (λ k lt t. refl) h
 
 -- the opening state has no incomplete job, and an empty ready queue
@@ -396,15 +398,15 @@ opening-entry p m first per lt begins is =
     (begins ∙ ap (λ (q : Row). q.deadline) (sym (get-table (count p) (λ j. opening_row (offset p j) (worst p j)) m no_row lt))) is
 
 -- each release leaves fewer tasks that are still to be released now
-pub due-falls : (p : Plan) (s : StateOf) (i : ℕ) (done : Bool) → i < length s.rows → 0 < period p i → IsFirstDue p s i
-    → due_left p (opened p s i done) < due_left p s
+pub due-falls : (p : Plan) (s : StateView) (i : ℕ) (done : Bool) → i < length s.rows → 0 < period p i → IsFirstDue p s i
+    → due_left p (with_next_job p s i done) < due_left p s
 due-falls p s i done lt some d =
     let n : due_left p s ≡ sum_below (count p) (λ k. after k + own k) = sum_below-same (count p) before (λ k. after k + own k)
     (λ k lk. split k (cases_eq k i)) in
     omega (arith, n, sum_below-add (count p) after own, sum_below-own (count p) i (λ k. 1) d.below)
   where
-    s' : StateOf
-    s' = opened p s i done
+    s' : StateView
+    s' = with_next_job p s i done
 
     before : ℕ → ℕ
     before k = if nat_eq (row_at s k).deadline s.now then 1 else 0
@@ -432,7 +434,7 @@ due-falls p s i done lt some d =
         rw (row-there s i (next_job_row (period p i) done (row_at s i)) k ne, other) (omega arith)
 
 -- the next release is now exactly where some task is to be released now
-pub release-now : (p : Plan) (s : StateOf) → 0 < count p → NonePast p s
+pub release-now : (p : Plan) (s : StateView) → 0 < count p → NonePast p s
     → nat_eq (earliest_in p s) s.now ≡ any_below (count p) (λ i. nat_eq (row_at s i).deadline s.now)
 release-now p s some past = go (any_below (count p) (λ i. nat_eq (row_at s i).deadline s.now)) refl
   where

@@ -2,7 +2,7 @@
 ghost use Rattle.std.specs.Prelude.{◌≡◌, ◌≢◌, ◌<◌, ℕ, true, IfOk, IfNone, IfSome};
 ghost use Rattle.sched_model.specs.Plan.{count};
 ghost use Rattle.sched_model.specs.States.{row_at, opening, after_run, after_finish, after_mark, CanRelease, CanRun, IsOfPlan, earliest_in};
-ghost use Rattle.agenda.specs.Agenda.{IsFirstUndone, IsFirstDue, NonePast, opened};
+ghost use Rattle.agenda.specs.Agenda.{IsFirstUndone, IsFirstDue, NonePast, with_next_job};
 
 use crate::Ready;
 use dvs_base::NoMemory;
@@ -90,7 +90,7 @@ impl Agenda {
         requires past { NonePast plan.now state.now }
         requires due { IsFirstDue plan.now state.now task }
         requires can { CanRelease plan.now state.now task }
-        ensures { Stands plan.now (opened plan.now state.entry.now task done) self.new }
+        ensures { Stands plan.now (with_next_job plan.now state.entry.now task done) self.new }
     {
         let period = plan.period(task);
         let row = state.rows[task as usize];

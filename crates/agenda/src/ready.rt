@@ -1,6 +1,6 @@
 // The ready jobs, in the order of a scheduler.
 ghost use Rattle.std.specs.Prelude.{◌≡◌, ◌<◌, [], ◌∷◌, IfOk, IfSome, MatchOption, slice_get};
-ghost use Rattle.ready_queue.specs.Entries.{IsAbsent, placed, ComesFirst};
+ghost use Rattle.ready_queue.specs.Entries.{IsAbsent, with_entry, ComesFirst};
 ghost use Rattle.agenda.specs.Agenda.{before_of};
 
 use dvs_base::{NoMemory, Scheduler};
@@ -21,10 +21,10 @@ pub struct Ready {
 }
 
 impl Model for Ready {
-    ghost use Rattle.agenda.specs.Agenda.{ReadyOf};
+    ghost use Rattle.agenda.specs.Agenda.{ReadyView};
     ghost use Rattle.agenda.specs.Ready.{ready_of};
 
-    ghost Value = { ReadyOf };
+    ghost Value = { ReadyView };
 
     ghost view = { λ r. ready_of r.ordered };
 }
@@ -45,7 +45,7 @@ impl Ready {
     pub fn insert(&mut self, e: Entry)
         requires task { e.task < self.old.limit }
         requires absent { IsAbsent e.task self.old.entries }
-        ensures { self.new ≡ record self.old { entries = placed (before_of self.old.scheduler) e self.old.entries } }
+        ensures { self.new ≡ record self.old { entries = with_entry (before_of self.old.scheduler) e self.old.entries } }
     {
         match &mut self.ordered {
             Ordered::Edf(queue) => queue.insert(e),

@@ -2,7 +2,7 @@
 use Rattle.std.proofs.Common.{◌≡◌, inl, inr, ℕ, ◌+◌, ◌≤◌, Bool, List, [], ◌∷◌, length, Option, Some, None, Result, Ok, Err, subst, ◌∙◌, arith}
 use Rattle.std.proofs.lemmas.Bool.{cases_Bool}
 use Rattle.dvs_base.specs.Outside.{Files, ShelfView, SinkView, Rose}
-use Rattle.words.specs.Commands.{CommandOf}
+use Rattle.words.specs.Commands.{CommandView}
 use Rattle.words.specs.declared.command.WordFault.{WordFault}
 use Rattle.rtdvs_top.specs.Promises.{answer_of_command, Answers, IsAnswer, known_files, loads_asked, loads_wanted}
 use Rattle.command_files.specs.Files.{MakesLoads, passes, loads_while, NamedFile, files_of}
@@ -31,14 +31,14 @@ module _ {loads puts more_loads more_puts : Type 0} (of_loads : loads → more_l
   is-answer answer status.Write ends = (ends.0, of_puts ends.1)
   is-answer answer s ends = ends
 
-  answers-as : (files : Option Files) (c : Result CommandOf WordFault) (s : Status) → Answers files c loads puts s
+  answers-as : (files : Option Files) (c : Result CommandView WordFault) (s : Status) → Answers files c loads puts s
       → Answers files c more_loads more_puts s
   answers-as None c s answers = tt
   answers-as (Some files) (Err why) s answers = answers
   answers-as (Some files) (Ok c) s answers = is-answer (answer_of_command c files) s answers
 
 -- two calls over one shelf and one sink: both are seen before, between and after the calls
-module _ (old mid new : ShelfView) (out_old out_mid out_new : SinkView) (c : Result CommandOf WordFault) (s : Status) where
+module _ (old mid new : ShelfView) (out_old out_mid out_new : SinkView) (c : Result CommandView WordFault) (s : Status) where
   -- the first call's answer, where the counts are taken after the second
   pub first-answers : mid.faults ≤ new.faults → out_mid.faults ≤ out_new.faults
       → Answers (known_files old.held c) c (Rose old.faults mid.faults) (Rose out_old.faults out_mid.faults) s
@@ -63,12 +63,12 @@ while-few passed [] = omega arith
 while-few passed (f ∷ fs) =
     elim (cases_Bool (passed f)) [ inl on ↦ rw on (omega (arith, while-few passed fs)) | inr off ↦ rw off (omega arith) ]
 
-wanted-few : (files : Option Files) (c : Result CommandOf WordFault) → loads_wanted files c ≤ loads_asked c
+wanted-few : (files : Option Files) (c : Result CommandView WordFault) → loads_wanted files c ≤ loads_asked c
 wanted-few files (Ok c) = while-few (passes files c) (files_of c)
 wanted-few files (Err why) = omega arith
 
 -- no load fails where the shelf guarantees those that both commands name
-pub both-steady : (old mid new : ShelfView) (first second : Result CommandOf WordFault)
+pub both-steady : (old mid new : ShelfView) (first second : Result CommandView WordFault)
     → MakesLoads (loads_wanted old.held first) old mid
     → (loads_asked first ≤ old.sure → mid.faults ≡ old.faults)
     → (loads_asked second ≤ mid.sure → new.faults ≡ mid.faults)

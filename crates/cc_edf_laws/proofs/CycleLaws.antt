@@ -14,7 +14,7 @@ use Rattle.grid_fraction.proofs.Sums.{sum_below-le, sum_below-add, sum_below-zer
 use Rattle.sched_model.specs.Plan.{Plan, count, period, worst, hyper, rate, top_speed}
 use Rattle.sched_model.specs.Jobs.{JobDemands}
 use Rattle.sched_model.specs.Priority.{stands_before, sum_before, SharesOut}
-use Rattle.sched_model.specs.States.{StateOf, row_at, key_in, opening, IsOfPlan, no_row, released_row, after_release, after_run, after_finish}
+use Rattle.sched_model.specs.States.{StateView, row_at, key_in, opening, IsOfPlan, no_row, released_row, after_release, after_run, after_finish}
 use Rattle.sched_model.proofs.Allotments.{due_by_gets}
 use Rattle.sched_model.proofs.LevelSums.{sum_where-tight, sum_below-times, sum_where-term, sum_where-zero, sum_below-term}
 use Rattle.governor.specs.ServedSchedulers.{ServesEdf}
@@ -41,7 +41,7 @@ if-weaker : (a b : Bool) (x : ℕ) → (a ≡ true → b ≡ true) → (if a the
 if-weaker true b x h = rw (h refl) (omega arith)
 if-weaker false b x h = omega arith
 
-module _ (plan : Plan) (dem : JobDemands) (f : ℕ) (s : StateOf) (shares : List ℕ) (edf : ServesEdf plan.scheduler)
+module _ (plan : Plan) (dem : JobDemands) (f : ℕ) (s : StateView) (shares : List ℕ) (edf : ServesEdf plan.scheduler)
     (bel : Belongs plan dem s) (legal : IsLegalIn plan dem f s shares) where
   abbrev deadlines : ℕ → ℕ
   deadlines i = (row_at s i).deadline
@@ -96,34 +96,34 @@ cycle_opens plan d le =
     rw none (omega (arith, mul-zero (hyper plan)))
 
 -- each charge is at most the worst case, so the sum of the rates is at most that of the test
-pub cycle_within : (plan : Plan) (s : StateOf) → IsOfPlan plan s → (edf_cycle_demand plan s).num ≤ total_rate plan
+pub cycle_within : (plan : Plan) (s : StateView) → IsOfPlan plan s → (edf_cycle_demand plan s).num ≤ total_rate plan
 cycle_within plan s of =
     sum_below-le (count plan) (charged_rate_in plan s) (rate plan) (λ i h.
     let most : charged_of (row_at s i) ≤ worst plan i = (let m = charged_most (row_at s i) (of.used i h) in let w = of.worst i h in omega arith) in
     mul-le-mul_right (hyper plan / period plan i) most)
 
-pub cycle_fits : (plan : Plan) (s : StateOf) → IsAdmitted plan → ServesEdf plan.scheduler → IsOfPlan plan s
+pub cycle_fits : (plan : Plan) (s : StateView) → IsAdmitted plan → ServesEdf plan.scheduler → IsOfPlan plan s
     → (edf_cycle_demand plan s).num ≤ top_speed plan * hyper plan
 cycle_fits plan s adm edf of =
     let test : total_rate plan ≤ top_speed plan * hyper plan = (full_enough plan adm).edf edf in
     omega (arith, cycle_within plan s of, test)
 
 -- in each state of an admitted plan under EDF some entry meets the demand
-pub cycle_met : (plan : Plan) (s : StateOf) → IsAdmitted plan → ServesEdf plan.scheduler → IsOfPlan plan s
+pub cycle_met : (plan : Plan) (s : StateView) → IsAdmitted plan → ServesEdf plan.scheduler → IsOfPlan plan s
     → (lowest_pick plan.machine (edf_cycle_demand plan s)).met ≡ true
 cycle_met plan s adm edf of = picked_met plan.machine adm.limits.machine (edf_cycle_demand plan s) (cycle_fits plan s adm edf of)
 
-pub cycle_den : (plan : Plan) (s : StateOf) → IsWithinLimits plan → (0 < (edf_cycle_demand plan s).den) × ((edf_cycle_demand plan s).den ≤ 2 ^ 64)
+pub cycle_den : (plan : Plan) (s : StateView) → IsWithinLimits plan → (0 < (edf_cycle_demand plan s).den) × ((edf_cycle_demand plan s).den ≤ 2 ^ 64)
 cycle_den plan s lim = (some_hyper plan lim, let low = low_hyper plan lim in omega arith)
 
-cycle_chooses : (plan : Plan) (s : StateOf) → IsAdmitted plan → ServesEdf plan.scheduler → IsOfPlan plan s
+cycle_chooses : (plan : Plan) (s : StateView) → IsAdmitted plan → ServesEdf plan.scheduler → IsOfPlan plan s
     → CycleCalm plan s → CycleSafe plan s (lowest_entry plan.machine (edf_cycle_demand plan s))
 cycle_chooses plan s adm edf of calm = record {
   calm = calm;
   rate = picked_meets plan.machine adm.limits.machine (edf_cycle_demand plan s) (cycle_fits plan s adm edf of);
 }
 
-module _ (plan : Plan) (lim : IsWithinLimits plan) (dem : JobDemands) (s : StateOf) (bel : Belongs plan dem s) where
+module _ (plan : Plan) (lim : IsWithinLimits plan) (dem : JobDemands) (s : StateView) (bel : Belongs plan dem s) where
   -- H over the period of a task
   abbrev jobs : ℕ → ℕ
   jobs i = hyper plan / period plan i
@@ -153,7 +153,7 @@ module _ (plan : Plan) (lim : IsWithinLimits plan) (dem : JobDemands) (s : State
       omega (arith, each, calm d le, sum_below-times n h (λ i. owed d (row_at t i)), sum_below-times n h (λ i. owed d (row_at s i)))
 
   module _ (edf : ServesEdf plan.scheduler) (f : ℕ) (shares : List ℕ) (before : IsBeforeAll plan s) (legal : IsLegalIn plan dem f s shares) where
-    abbrev next : StateOf
+    abbrev next : StateView
     next = after_tick dem shares s
 
     -- an incomplete job isn't job 0, so it is due within a period
@@ -243,8 +243,8 @@ work_low plan adm =
     mul-le (top_speed plan) (hyper plan) TOP_SPEED (2 ^ 48) speed (low_hyper plan adm.limits)
 
 -- the row of task i is replaced by another row
-module _ (plan : Plan) (s : StateOf) (of : IsOfPlan plan s) (rates : List ℕ) (sum : ℕ) (counts : Counts rates sum plan s) (i : ℕ) (h : i < count plan) where
-  abbrev written : Row → StateOf
+module _ (plan : Plan) (s : StateView) (of : IsOfPlan plan s) (rates : List ℕ) (sum : ℕ) (counts : Counts rates sum plan s) (i : ℕ) (h : i < count plan) where
+  abbrev written : Row → StateView
   written row = record s { rows = slice_set s.rows i row }
 
   row-same : (row : Row) → row_at (written row) i ≡ row

@@ -8,7 +8,7 @@ use Rattle.grid_fraction.proofs.Sums.{sum_below-same}
 use Rattle.sched_model.specs.Plan.{Plan, count, period, worst, hyper}
 use Rattle.sched_model.specs.Jobs.{JobDemands, latest}
 use Rattle.sched_model.specs.Ticks.{PublishedDemand, Tick, exec, is_complete}
-use Rattle.sched_model.specs.CycleDemand.{charged, edf_cycle}
+use Rattle.sched_model.specs.CycleDemand.{cycle_units, edf_cycle}
 use Rattle.sched_model.specs.Demand.{demand_by, published}
 use Rattle.sched_model.specs.Schedule.{IsScheduleBy}
 use Rattle.sched_model.specs.States.{row_at, state_of}
@@ -26,7 +26,7 @@ charge-is false d u w e le = refl
 
 charged-state : (p : Plan) (dem : JobDemands) (ask : PublishedDemand) (past : List Tick)
     → IsScheduleBy p dem ask past → (i : ℕ) → i < count p
-    → charged p dem past i ≡ charged_of (row_at (state_of p dem past) i)
+    → cycle_units p dem past i ≡ charged_of (row_at (state_of p dem past) i)
 charged-state p dem ask past h i lt =
     let k = latest p i (length past) in
     charge-is (is_complete p dem past i) (dem i k) (exec p past i k) (worst p i) refl (exec-most p dem ask past h i k lt)
@@ -36,7 +36,7 @@ cycle-state : (p : Plan) (dem : JobDemands) (ask : PublishedDemand) (past : List
     → edf_cycle p dem past ≡ edf_cycle_demand p (state_of p dem past)
 cycle-state p dem ask past h =
     ap (λ (num : ℕ). record { num = num; den = hyper p })
-    (sum_below-same (count p) (λ i. charged p dem past i * (hyper p / period p i)) (charged_rate_in p (state_of p dem past))
+    (sum_below-same (count p) (λ i. cycle_units p dem past i * (hyper p / period p i)) (charged_rate_in p (state_of p dem past))
     (λ i lt. ap (λ v. v * (hyper p / period p i)) (charged-state p dem ask past h i lt)))
 
 pub published-cycle : (p : Plan) → ServesEdf p.scheduler → Publishes edf_cycle_demand Cycle p

@@ -4,7 +4,7 @@ use Rattle.grid_fraction.specs.declared.Frac.{Frac}
 use Rattle.sched_model.specs.declared.state.Row.{Row}
 use Rattle.sched_model.specs.Plan.{Plan, count}
 use Rattle.sched_model.specs.CycleDemand.{rate_for, edf_cycle_of}
-use Rattle.sched_model.specs.States.{StateOf, row_at}
+use Rattle.sched_model.specs.States.{StateView, row_at}
 use Rattle.governor.specs.ServedSchedulers.{ServesEdf}
 
 -- the units that a row's task is charged with: what its job had where it is complete, and otherwise its worst case
@@ -12,11 +12,11 @@ abbrev pub charged_of : Row → ℕ
 charged_of row = if row.done then row.used else row.worst
 
 -- the rate of task i: the work of H ticks, when each job takes what the task is charged with
-abbrev pub charged_rate_in : Plan → StateOf → ℕ → ℕ
+abbrev pub charged_rate_in : Plan → StateView → ℕ → ℕ
 charged_rate_in plan s i = rate_for plan i (charged_of (row_at s i))
 
 -- the published demand: the sum of the rates, over H
-abbrev pub edf_cycle_demand : Plan → StateOf → Frac
+abbrev pub edf_cycle_demand : Plan → StateView → Frac
 edf_cycle_demand plan s = edf_cycle_of plan (λ i. charged_of (row_at s i))
 
 -- the sum of the rates after task i is charged with `units` units
@@ -24,7 +24,7 @@ abbrev pub sum_charged : Plan → List ℕ → ℕ → ℕ → ℕ → ℕ
 sum_charged plan rates sum i units = sum - slice_index rates i + rate_for plan i units
 
 -- the counters are right for a state: the plan is under EDF, and the kept rates and their sum are the state's
-pub record Counts (rates : List ℕ) (sum : ℕ) (plan : Plan) (s : StateOf) : Type 0 where
+pub record Counts (rates : List ℕ) (sum : ℕ) (plan : Plan) (s : StateView) : Type 0 where
   pub served : ServesEdf plan.scheduler
   pub one_each : length rates ≡ count plan
   pub rate_is : (i : ℕ) → i < count plan → slice_index rates i ≡ charged_rate_in plan s i

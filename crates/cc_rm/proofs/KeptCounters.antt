@@ -10,11 +10,11 @@ use Rattle.sched_model.specs.declared.state.Row.{Row}
 use Rattle.sched_model.specs.Plan.{Plan, count, period}
 use Rattle.sched_model.specs.Priority.{allotment}
 use Rattle.sched_model.specs.StaticDemand.{static_speed}
-use Rattle.sched_model.specs.States.{StateOf, no_row, row_at, row_wleft, after_run, after_finish, after_mark, IsOfPlan, earliest_in}
+use Rattle.sched_model.specs.States.{StateView, no_row, row_at, row_wleft, after_run, after_finish, after_mark, IsOfPlan, earliest_in}
 use Rattle.governor.specs.Steps.{wleft_at}
 use Rattle.cc_rm_laws.specs.Allotments.{base_of, allotted_in, allotment_left_in}
 use Rattle.cc_rm.specs.declared.counters.Allotments.{Allotments}
-use Rattle.cc_rm.specs.Counters.{AreOf, AreCounters, lowered}
+use Rattle.cc_rm.specs.Counters.{AreOf, AreCounters, allotments_after}
 
 -- where one term of a sum falls, the sum falls by as much
 sum_below-fall : (n : ℕ) (f g : ℕ → ℕ) (i by : ℕ) → i < n → g i + by ≡ f i → ((k : ℕ) → k ≢ i → g k ≡ f k)
@@ -22,13 +22,13 @@ sum_below-fall : (n : ℕ) (f g : ℕ → ℕ) (i by : ℕ) → i < n → g i + 
 sum_below-fall n f g i by lt own other = omega (arith, own, sum_below-change n f g i lt (λ k l ne. other k ne))
 
 -- right after a mark the base of a task is what its job may still need
-pub marked-base : (s : StateOf) (i : ℕ) → i < length s.rows → base_of (after_mark s) i ≡ wleft_at s i
+pub marked-base : (s : StateView) (i : ℕ) → i < length s.rows → base_of (after_mark s) i ≡ wleft_at s i
 marked-base s i h = get_or-map row_wleft s.rows i no_row 0 h
 
 -- the row of task i is replaced by one with the same deadline
-module _ (plan : Plan) (s : StateOf) (of : IsOfPlan plan s) (i : ℕ)
+module _ (plan : Plan) (s : StateView) (of : IsOfPlan plan s) (i : ℕ)
     (h : i < count plan) (row : Row) (due : row.deadline ≡ (row_at s i).deadline) where
-  abbrev written : StateOf
+  abbrev written : StateView
   written = record s { rows = slice_set s.rows i row }
 
   row-same : row_at written i ≡ row
@@ -95,7 +95,7 @@ module _ (plan : Plan) (s : StateOf) (of : IsOfPlan plan s) (i : ℕ)
 
     counts-lowered : (speed : ℕ) (kept : Option Allotments) → AreCounters speed rests kept plan s
         → ((all : Allotments) → AreOf rests all plan s → left_with ≡ rest)
-        → AreCounters speed (slice_set rests i rest) (lowered (slice_index rests i - rest) kept) plan written
+        → AreCounters speed (slice_set rests i rest) (allotments_after (slice_index rests i - rest) kept) plan written
     counts-lowered speed kept counts is = record {
       served = counts.served;
       speed_is = counts.speed_is;
@@ -104,16 +104,16 @@ module _ (plan : Plan) (s : StateOf) (of : IsOfPlan plan s) (i : ℕ)
     }
       where
         go : (o : Option Allotments) → IfSome o (λ all. AreOf rests all plan s)
-            → IfSome (lowered (slice_index rests i - rest) o) (λ all. AreOf (slice_set rests i rest) all plan written)
+            → IfSome (allotments_after (slice_index rests i - rest) o) (λ all. AreOf (slice_set rests i rest) all plan written)
         go None none = none
         go (Some all) of_all = are-lowered all of_all (is all of_all)
 
-module _ (plan : Plan) (s : StateOf) (of : IsOfPlan plan s) (i : ℕ) (h : i < count plan) (speed : ℕ)
+module _ (plan : Plan) (s : StateView) (of : IsOfPlan plan s) (i : ℕ) (h : i < count plan) (speed : ℕ)
     (rests : List ℕ) (kept : Option Allotments) (counts : AreCounters speed rests kept plan s) where
   -- `State::run` of an incomplete job keeps the counters right
   pub counts-ran : (units : ℕ) → (row_at s i).done ≡ false → (row_at s i).used + units ≤ (row_at s i).worst
       → AreCounters speed (slice_set rests i (slice_index rests i - units))
-      (lowered (slice_index rests i - (slice_index rests i - units)) kept) plan (after_run s i units)
+      (allotments_after (slice_index rests i - (slice_index rests i - units)) kept) plan (after_run s i units)
   counts-ran units still room =
       counts-lowered plan s of i h row refl rests counts.one_each (slice_index rests i - units)
       (omega arith) (rw still (omega arith)) speed kept counts is
@@ -134,7 +134,7 @@ module _ (plan : Plan) (s : StateOf) (of : IsOfPlan plan s) (i : ℕ) (h : i < c
 
   -- `State::finish` of a job keeps the counters right
   pub counts-finished : AreCounters speed (slice_set rests i 0)
-      (lowered (slice_index rests i - 0) kept) plan (after_finish s i)
+      (allotments_after (slice_index rests i - 0) kept) plan (after_finish s i)
   counts-finished =
       counts-lowered plan s of i h (record (row_at s i) { done = true }) refl rests counts.one_each 0
       (omega arith) (omega arith) speed kept counts (λ all kept. refl)

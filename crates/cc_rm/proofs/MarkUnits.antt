@@ -6,7 +6,7 @@ use Rattle.std.proofs.lemmas.Bool.{cases_eq}
 use Rattle.grid_fraction.specs.Numbers.{sum_below}
 use Rattle.sched_model.specs.Plan.{Plan, count, period}
 use Rattle.sched_model.specs.Priority.{in_order, sum_before}
-use Rattle.sched_model.specs.States.{StateOf, row_at, after_mark, IsOfPlan}
+use Rattle.sched_model.specs.States.{StateView, row_at, after_mark, IsOfPlan}
 use Rattle.sched_model.proofs.Orders.{sum_list, sum_list-snoc, below-at, in_order-below, length-in_order, sum_list-in_order, sum_before-prefix, stands-in_order}
 use Rattle.cc_rm_laws.specs.Allotments.{base_of, allotted_units, allotted_in, had_since_mark, allotment_left_in}
 use Rattle.governor.specs.Steps.{wleft_at}
@@ -29,7 +29,7 @@ share_of : (units before need : ℕ) → min units (before + need) - min units b
 share_of units before need = omega arith
 
 -- the k-th task in RM order gets what the tasks before it leave, up to its base
-ranked-allotted : (p : Plan) (v : StateOf) (k : ℕ) → k < count p
+ranked-allotted : (p : Plan) (v : StateView) (k : ℕ) → k < count p
     → allotted_in p v (slice_index (order p) k)
     ≡ min (allotted_units p v - sum_list (base_of v) (take k (order p))) (base_of v (slice_index (order p) k))
 ranked-allotted p v k h =
@@ -43,7 +43,7 @@ ranked-allotted p v k h =
     ∙ ap (λ (b : ℕ). min (allotted_units p v - b) (base_of v i)) before
 
 -- after k tasks in RM order, `rest` units are not allotted, and `sum` is what is left of the k allotments
-pub record IsWalked (p : Plan) (v : StateOf) (units k rest sum : ℕ) : Type 0 where
+pub record IsWalked (p : Plan) (v : StateView) (units k rest sum : ℕ) : Type 0 where
   pub rest_is : rest ≡ units - sum_list (base_of v) (take k (order p))
   pub sum_is : sum ≡ sum_list (allotment_left_in p v) (take k (order p))
   pub within : sum + rest ≤ units
@@ -52,7 +52,7 @@ left_most : (done : Bool) (al had : ℕ) → (if done then 0 else al - had) ≤ 
 left_most true al had = omega arith
 left_most false al had = omega arith
 
-module _ (p : Plan) (v : StateOf) (units k rest sum given left : ℕ) (all : units ≡ allotted_units p v)
+module _ (p : Plan) (v : StateView) (units k rest sum given left : ℕ) (all : units ≡ allotted_units p v)
     (h : k < count p) (walked : IsWalked p v units k rest sum)
     (given_is : given ≡ min rest (base_of v (slice_index (order p) k)))
     (left_is : left ≡ (if (row_at v (slice_index (order p) k)).done then 0
@@ -80,7 +80,7 @@ module _ (p : Plan) (v : StateOf) (units k rest sum given left : ℕ) (all : uni
         within = omega (arith, walked.within, given_is, left_is, most);
       }
 
-pub walked-end : (p : Plan) (v : StateOf) (units rest sum : ℕ) → IsWalked p v units (count p) rest sum
+pub walked-end : (p : Plan) (v : StateView) (units rest sum : ℕ) → IsWalked p v units (count p) rest sum
     → sum ≡ sum_below (count p) (allotment_left_in p v)
 walked-end p v units rest sum walked =
     let all : take (count p) (order p) ≡ order p =
@@ -88,8 +88,8 @@ walked-end p v units rest sum walked =
     walked.sum_is ∙ (ap (sum_list (allotment_left_in p v)) all
     ∙ sum_list-in_order (allotment_left_in p v) (period p) (count p))
 
-module _ (plan : Plan) (s : StateOf) (units : ℕ) where
-  abbrev marked : StateOf
+module _ (plan : Plan) (s : StateView) (units : ℕ) where
+  abbrev marked : StateView
   marked = after_mark s
 
   abbrev place : ℕ → ℕ

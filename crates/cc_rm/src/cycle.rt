@@ -13,7 +13,7 @@ ghost use Rattle.cc_rm_laws.specs.Allotments.{rm_cycle_demand};
 ghost use Rattle.cc_rm_laws.specs.Conditions.{CcRmCalm, CcRmSafe};
 ghost use Rattle.cc_rm_laws.proofs.CcRmLaws.{cc_rm_laws};
 ghost use Rattle.cc_rm_laws.proofs.RmCyclePublished.{cycle_publishing};
-ghost use Rattle.cc_rm.specs.Counters.{AreCounters, lowered};
+ghost use Rattle.cc_rm.specs.Counters.{AreCounters, allotments_after};
 
 use crate::allotments::{left_in_all, static_speed};
 use crate::counters::{Allotments, allot};
@@ -60,7 +60,7 @@ impl CcRm {
         ensures speed { self.new.static_speed ≡ self.old.static_speed }
         ensures rests { self.new.rests.items ≡ slice_set self.old.rests.items task rest }
         ensures left { self.new.allotments ≡
-            lowered (slice_index self.old.rests.items task - rest) self.old.allotments }
+            allotments_after (slice_index self.old.rests.items task - rest) self.old.allotments }
     {
         let used = self.rests[task as usize] - rest;
         self.rests[task as usize] = rest;

@@ -15,7 +15,7 @@ use Rattle.sched_model.specs.Priority.{stands_before, SharesOut, allotment}
 use Rattle.sched_model.specs.StaticDemand.{static_speed, rm_static}
 use Rattle.sched_model.specs.Backlog.{backlog}
 use Rattle.sched_model.specs.Admission.{IsAdmitted}
-use Rattle.sched_model.specs.States.{StateOf, row_at, earliest_in, key_in}
+use Rattle.sched_model.specs.States.{StateView, row_at, earliest_in, key_in}
 use Rattle.sched_model.proofs.Orders.{before-total}
 use Rattle.sched_model.proofs.Allotments.{allotment_of, down-set-gets}
 use Rattle.sched_model.proofs.LevelSums.{sum_where-mono, sum_where-plus, sum_where-tight}
@@ -42,10 +42,10 @@ room_falls : (left_in left' f x y : ℕ) → x ≡ y + 1
 room_falls left_in left' f x y e (inl z) le = rw z (omega arith)
 room_falls left_in left' f x y e (inr g) le = (let le' = rw e at le in omega arith)
 
-module _ (plan : Plan) (adm : IsAdmitted plan) (rm : plan.scheduler ≡ Rm) (dem : JobDemands) (s : StateOf)
+module _ (plan : Plan) (adm : IsAdmitted plan) (rm : plan.scheduler ≡ Rm) (dem : JobDemands) (s : StateView)
     (bel : Belongs plan dem s) (f : ℕ) (shares : List ℕ)
     (before : IsBeforeAll plan s) (legal : IsLegalIn plan dem f s shares) where
-  abbrev ticked : StateOf
+  abbrev ticked : StateView
   ticked = after_tick dem shares s
 
   done_stays : (j : ℕ) → j < count plan → (row_at s j).done ≡ true → (row_at ticked j).done ≡ true
@@ -214,7 +214,7 @@ module _ (plan : Plan) (adm : IsAdmitted plan) (rm : plan.scheduler ≡ Rm) (dem
         done_stays i h (calm.since i h born' early' none);
   }
 
-module _ (plan : Plan) (adm : IsAdmitted plan) (s : StateOf) where
+module _ (plan : Plan) (adm : IsAdmitted plan) (s : StateView) where
   abbrev static_entry : ℕ
   static_entry = lowest_entry plan.machine (rm_static plan)
 

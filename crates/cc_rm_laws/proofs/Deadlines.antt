@@ -14,7 +14,7 @@ use Rattle.sched_model.specs.Jobs.{JobDemands, release, due, latest}
 use Rattle.sched_model.specs.StaticDemand.{static_speed}
 use Rattle.sched_model.specs.Backlog.{backlog}
 use Rattle.sched_model.specs.Admission.{IsAdmitted}
-use Rattle.sched_model.specs.States.{StateOf, row_at, row_wleft, earliest_in, no_row, opening}
+use Rattle.sched_model.specs.States.{StateView, row_at, row_wleft, earliest_in, no_row, opening}
 use Rattle.sched_model.proofs.Limits.{some_period}
 use Rattle.sched_model.proofs.JobLaws.{latest-is, latest-unique, latest_since-pos, release-suc, release-due, due-suc}
 use Rattle.sched_model.proofs.LevelSums.{sum_where-term, up_to-self, greatest-above, greatest-least, sum_where-mono, sum_where-plus, sum_where-zero, level-gets}
@@ -32,7 +32,7 @@ use Rattle.cc_rm_laws.proofs.AllottedUnits.{allotment-most}
 use Rattle.cc_rm_laws.proofs.Backlog.{lack, lack_after, lack-is, IsQuiet, quiet_row, lack-none, released-lack, after-least, backlog-empties, level_down, backlog-span, backlog-where}
 use Rattle.cc_rm_laws.proofs.Lefts.{left-marked}
 
-module _ (plan : Plan) (adm : IsAdmitted plan) (dem : JobDemands) (s : StateOf) (bel : Belongs plan dem s) where
+module _ (plan : Plan) (adm : IsAdmitted plan) (dem : JobDemands) (s : StateView) (bel : Belongs plan dem s) where
   pub first-due : (i : ℕ) → i < count plan → earliest_in plan s ≤ (row_at s i).deadline
   first-due i h = least-below (count plan) (λ i. (row_at s i).deadline) i h
 
@@ -198,7 +198,7 @@ rows-still plan dem now i (row ∷ rows) none =
     (or_parts (is_due now row) (list_any (is_due now) rows) none).1 in
     λ j. head j ∷ rest j
 
-state-still : (plan : Plan) (dem : JobDemands) (s : StateOf)
+state-still : (plan : Plan) (dem : JobDemands) (s : StateView)
     → list_any (is_due s.now) s.rows ≡ false → after_boundary plan dem s ≡ s
 state-still plan dem s none =
     let rows = rows-still plan dem s.now 0 s.rows none in
@@ -213,9 +213,9 @@ state-still plan dem s none =
 marked_level : (w left room a b : ℕ) → left ≡ min room w → w ≤ a → b ≡ a - room → w ≤ left + b
 marked_level w left room a b e le f = omega arith
 
-module _ (plan : Plan) (adm : IsAdmitted plan) (rm : plan.scheduler ≡ Rm) (dem : JobDemands) (s : StateOf)
+module _ (plan : Plan) (adm : IsAdmitted plan) (rm : plan.scheduler ≡ Rm) (dem : JobDemands) (s : StateView)
     (bel : Belongs plan dem s) (calm : CcRmCalm plan s) (some : list_any (is_due s.now) s.rows ≡ true) where
-  abbrev marked : StateOf
+  abbrev marked : StateView
   marked = after_boundary plan dem s
 
   abbrev room : ℕ
@@ -345,10 +345,10 @@ module _ (plan : Plan) (adm : IsAdmitted plan) (rm : plan.scheduler ≡ Rm) (dem
     since = marked_since;
   }
 
-pub cc_rm_releases : (plan : Plan) → IsAdmitted plan → plan.scheduler ≡ Rm → (dem : JobDemands) (s : StateOf)
+pub cc_rm_releases : (plan : Plan) → IsAdmitted plan → plan.scheduler ≡ Rm → (dem : JobDemands) (s : StateView)
     → Belongs plan dem s → CcRmCalm plan s → CcRmCalm plan (after_boundary plan dem s)
 cc_rm_releases plan adm rm dem s bel calm =
     elim (cases_Bool (list_any (is_due s.now) s.rows)) [
       | inl some ↦ marked_calm plan adm rm dem s bel calm some
-      | inr none ↦ subst (λ (v : StateOf). CcRmCalm plan v) (sym (state-still plan dem s none)) calm
+      | inr none ↦ subst (λ (v : StateView). CcRmCalm plan v) (sym (state-still plan dem s none)) calm
     ]

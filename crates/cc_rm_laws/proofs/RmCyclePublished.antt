@@ -13,12 +13,12 @@ use Rattle.sched_model.specs.declared.state.Row.{Row}
 use Rattle.sched_model.specs.Plan.{Plan, count, period, worst}
 use Rattle.sched_model.specs.Jobs.{release, due, latest, deadline, releases_at, is_release, last_release, earliest as earliest_at, IsWithin, JobDemands}
 use Rattle.sched_model.specs.Ticks.{Tick, at, exec, is_complete, wleft}
-use Rattle.sched_model.specs.CycleDemand.{allotted, had_since_release, allotment_left, rm_cycle}
+use Rattle.sched_model.specs.CycleDemand.{allotment_at_release, had_since_release, allotment_left, rm_cycle}
 use Rattle.sched_model.specs.Priority.{allotment}
 use Rattle.sched_model.specs.StaticDemand.{static_speed}
 use Rattle.sched_model.specs.Demand.{demand_by, published}
 use Rattle.sched_model.specs.Admission.{IsAdmitted}
-use Rattle.sched_model.specs.States.{StateOf, row_at, row_wleft, state_of, earliest_in}
+use Rattle.sched_model.specs.States.{StateView, row_at, row_wleft, state_of, earliest_in}
 use Rattle.sched_model.proofs.Limits.{some_period}
 use Rattle.sched_model.proofs.JobLaws.{lt-due, latest-stays, latest-next, release-suc, last_release-le}
 use Rattle.sched_model.proofs.Tables.{get-table}
@@ -77,7 +77,7 @@ module _ (p : Plan) (adm : IsAdmitted p) where
     abbrev mark : ℕ
     mark = last_release p now
 
-    abbrev here : StateOf
+    abbrev here : StateView
     here = state_of p dem past
 
     base-is : (i : ℕ) → i < count p → base_of here i ≡ wleft p dem (at mark past) i
@@ -92,7 +92,7 @@ module _ (p : Plan) (adm : IsAdmitted p) where
         least-same (count p) (λ i. deadline p i mark) (λ i. (row_at here i).deadline)
         (λ i h. ap (due p i) (since-release now i h) ∙ sym (ap (λ (row : Row). row.deadline) (row_at-state_of p dem past i h)))
 
-    allotted-is : (i : ℕ) → i < count p → allotted p dem past i ≡ allotted_in p here i
+    allotted-is : (i : ℕ) → i < count p → allotment_at_release p dem past i ≡ allotted_in p here i
     allotted-is i h =
         ap (λ (n : ℕ). allotment (count p) (period p) ((n - mark) * static_speed p) (wleft p dem (at mark past)) i)
         first-is
@@ -134,7 +134,7 @@ module _ (p : Plan) (adm : IsAdmitted p) where
         ∙ sym (ap (λ (row : Row). if row.done then 0 else allotted_in p here i - had_since_mark here i) (row_at-state_of p dem past i h))
       where
         go : (b : Bool) → is_complete p dem past i ≡ b
-            → (if is_complete p dem past i then 0 else allotted p dem past i - had_since_release p past i)
+            → (if is_complete p dem past i then 0 else allotment_at_release p dem past i - had_since_release p past i)
             ≡ (if is_complete p dem past i then 0 else allotted_in p here i - had_since_mark here i)
         go true e = rw e refl
         go false e = rw e (ap₂ (λ a b. a - b) (allotted-is i h) (had-is i h e))

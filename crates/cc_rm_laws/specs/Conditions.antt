@@ -8,7 +8,7 @@ use Rattle.sched_model.specs.Jobs.{worst_demand}
 use Rattle.sched_model.specs.Schedule.{schedule}
 use Rattle.sched_model.specs.StaticDemand.{static_speed}
 use Rattle.sched_model.specs.Backlog.{lacking, backlog}
-use Rattle.sched_model.specs.States.{StateOf, row_at, earliest_in}
+use Rattle.sched_model.specs.States.{StateView, row_at, earliest_in}
 use Rattle.governor.specs.Steps.{wleft_at, release_of}
 use Rattle.governor.specs.Rm.{level}
 use Rattle.cc_rm_laws.specs.Allotments.{allotment_left_in}
@@ -20,7 +20,7 @@ LacksNothing plan t i = lacking plan (schedule plan Fixed (worst_demand plan) t)
 -- A level needs at most what is left of its allotments and its worst static backlog at the earliest deadline.
 -- What is left in all fits at the static speed up to that deadline. A job released before the mark is complete if the
 -- worst static schedule had completed it by the mark.
-pub record CcRmCalm (plan : Plan) (s : StateOf) : Type 0 where
+pub record CcRmCalm (plan : Plan) (s : StateView) : Type 0 where
   pub levels : (i : ℕ) → i < count plan → sum_where (count plan) (level plan i) (wleft_at s)
       ≤ sum_where (count plan) (level plan i) (allotment_left_in plan s) + backlog plan (earliest_in plan s) i
   pub total : sum_below (count plan) (allotment_left_in plan s) ≤ static_speed plan * (earliest_in plan s - s.now)
@@ -29,7 +29,7 @@ pub record CcRmCalm (plan : Plan) (s : StateOf) : Type 0 where
 
 -- the condition CcRmCalm holds, and what is left in all fits at the speed of the entry k,
 -- which is at most the static speed
-pub record CcRmSafe (plan : Plan) (s : StateOf) (k : ℕ) : Type 0 where
+pub record CcRmSafe (plan : Plan) (s : StateView) (k : ℕ) : Type 0 where
   pub calm : CcRmCalm plan s
   pub enough : sum_below (count plan) (allotment_left_in plan s)
       ≤ speed_at plan.machine k * (earliest_in plan s - s.now)

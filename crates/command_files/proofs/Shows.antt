@@ -5,9 +5,9 @@ use Rattle.std.proofs.lemmas.Bool.Decides.{nat_tests}
 use Rattle.dvs_base.specs.Checks.{and_then, none_found}
 use Rattle.dvs_base.specs.Text.{number_below, short_of}
 use Rattle.task_model.specs.declared.task.Task.{Task}
-use Rattle.task_model.specs.DemandRows.{named}
+use Rattle.task_model.specs.DemandRows.{named_units}
 use Rattle.task_model.specs.TaskFile.{place_of}
-use Rattle.demand_list.specs.Demands.{DemandsOf}
+use Rattle.demand_list.specs.Demands.{DemandsView}
 use Rattle.demand_list.specs.DemandFile.{demand_of_row, with_checked, demands_from, worst_list, demand_file}
 use Rattle.demand_list.specs.declared.fault.Column.TheVariants as column
 use Rattle.demand_list.specs.declared.fault.DemandFault.{DemandFault}
@@ -53,14 +53,14 @@ none-shown : {A : Type 0} (refusal : A → DemandFault) (o : Option A) → ((a :
 none-shown refusal None each = tt
 none-shown refusal (Some a) each = each a
 
-checked-shown : (d : DemandsOf) (row task job units : ℕ) → IsShownStep (with_checked d row task job units)
+checked-shown : (d : DemandsView) (row task job units : ℕ) → IsShownStep (with_checked d row task job units)
 checked-shown d row task job units =
-    then-shown _ _ (none-shown _ (named d.rows task job) (λ earlier. tt)) (λ _.
+    then-shown _ _ (none-shown _ (named_units d.rows task job) (λ earlier. tt)) (λ _.
     then-shown _ _
     (choice-shown (nat_lt (slice_index d.worsts task) units)
     (Err (fault.OverWorst task job units (slice_index d.worsts task))) _ (λ h. grind (arith, nat_tests)) tt) (λ _. tt))
 
-rows-shown : (tasks : List Task) (row : ℕ) (d : DemandsOf) (rows : List (List (List ℕ)))
+rows-shown : (tasks : List Task) (row : ℕ) (d : DemandsView) (rows : List (List (List ℕ)))
     → IsShownStep (demands_from tasks row d rows)
 rows-shown tasks row d [] = tt
 rows-shown tasks row d (fields ∷ rest) =
@@ -73,5 +73,5 @@ file-shown tasks bytes = then-shown _ _ (found-shown _ fault.Header tt) (rows-sh
 pub demand-shown : (tasks : List Task) (bytes : List ℕ) (e : DemandFault)
     → (e ≢ fault.NoMemory → demand_file tasks bytes ≡ Err e) → IsShown (demand_status e)
 demand-shown tasks bytes (fault.OverWorst task job units worst) h =
-    subst (λ (r : Result DemandsOf DemandFault). IsShownStep r) (h (λ q. cc)) (file-shown tasks bytes)
+    subst (λ (r : Result DemandsView DemandFault). IsShownStep r) (h (λ q. cc)) (file-shown tasks bytes)
 demand-shown tasks bytes e h = tt

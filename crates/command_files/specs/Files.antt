@@ -2,7 +2,7 @@
 use Rattle.std.specs.Prelude.{◌≡◌, ℕ, ◌≤◌, ◌⊎◌, ◌<◌, List, ◌+◌, Bool, true, is_ok, Option, Some, None, [], ◌∷◌, if◌then◌else◌, length, IsTrue, Result, Ok, Err}
 use Rattle.dvs_base.specs.Outside.{Rose, ShelfView, Lacks, Files}
 use Rattle.dvs_base.specs.Checks.{◌>>=◌}
-use Rattle.words.specs.Commands.{CommandOf, poll, run, admit, traced, workload, response, constrain, least}
+use Rattle.words.specs.Commands.{CommandView, poll, run, admit, traced, workload, response, constrain, least}
 use Rattle.statuses.specs.declared.status.FileKind.{FileKind}
 use Rattle.statuses.specs.declared.status.FileKind.TheVariants as file
 use Rattle.statuses.specs.declared.status.Status.{Status}
@@ -19,7 +19,7 @@ pub record MakesLoads (most : ℕ) (old new : ShelfView) : Type 0 where
 
 -- whether the loads of a command go on after a file: its tasks and its machine have to be read, and one of the tasks of
 -- `poll` has to have the server's name too
-abbrev pub is_passed : CommandOf → FileKind → List ℕ → Files → Bool
+abbrev pub is_passed : CommandView → FileKind → List ℕ → Files → Bool
 is_passed (poll q) file.Tasks name files = is_ok (tasks_at name files >>= server_at q.server)
 is_passed c file.Tasks name files = is_ok (tasks_at name files)
 is_passed c file.Machine name files = is_ok (machine_at name files)
@@ -31,7 +31,7 @@ pub record NamedFile : Type 0 where
   pub name : List ℕ
 
 -- whether the loads of a command go on after one of its files; where the files are not known, they may
-abbrev pub passes : Option Files → CommandOf → NamedFile → Bool
+abbrev pub passes : Option Files → CommandView → NamedFile → Bool
 passes None c f = true
 passes (Some files) c f = is_passed c f.kind f.name files
 
@@ -50,7 +50,7 @@ if_named kind None = []
 if_named kind (Some name) = named_file kind name ∷ []
 
 -- the files of a command, in the order of its loads
-abbrev pub files_of : CommandOf → List NamedFile
+abbrev pub files_of : CommandView → List NamedFile
 files_of (run r) = named_file file.Tasks r.tasks ∷ named_file file.Machine r.machine ∷ if_named file.Demands r.demands
 files_of (admit a) = named_file file.Tasks a.tasks ∷ named_file file.Machine a.machine ∷ []
 files_of (traced r) = named_file file.Tasks r.tasks ∷ named_file file.Machine r.machine ∷ named_file file.Trace r.trace ∷ []
@@ -61,11 +61,11 @@ files_of (poll q) = named_file file.Tasks q.tasks ∷ named_file file.Machine q.
 files_of (least l) = named_file file.Machine l.machine ∷ []
 
 -- the most loads that a command's answer needs: each file after the first only where the answer gets that far
-abbrev pub loads_needed : Option Files → CommandOf → ℕ
+abbrev pub loads_needed : Option Files → CommandView → ℕ
 loads_needed files c = loads_while (passes files c) (files_of c)
 
 -- the number of files that a command loads
-abbrev pub loads_of : CommandOf → ℕ
+abbrev pub loads_of : CommandView → ℕ
 loads_of c = length (files_of c)
 
 -- the known files that an answer depends on: where no file is named, none is needed
@@ -74,7 +74,7 @@ files_needed held [] = Some []
 files_needed held (f ∷ fs) = held
 
 -- the files that a command's answer depends on: those that the shelf is known to hold; `workload` needs none
-abbrev pub files_for : Option Files → CommandOf → Option Files
+abbrev pub files_for : Option Files → CommandView → Option Files
 files_for held c = files_needed held (files_of c)
 
 -- The load of one of these files, which is of this kind, failed, and those before it are passed; the first of them is
@@ -98,7 +98,7 @@ tasks_first [] = None
 tasks_first (f ∷ fs) = name_if_tasks f.kind f.name
 
 -- the file of tasks that a command names, if it names one
-abbrev pub tasks_name : CommandOf → Option (List ℕ)
+abbrev pub tasks_name : CommandView → Option (List ℕ)
 tasks_name c = tasks_first (files_of c)
 
 -- the names of the tasks that a file gives
@@ -112,5 +112,5 @@ names_at None files = []
 names_at (Some name) files = names_from (tasks_at name files)
 
 -- the names of the tasks that a command's files give
-abbrev pub names_by : CommandOf → Files → List (List ℕ)
+abbrev pub names_by : CommandView → Files → List (List ℕ)
 names_by c files = names_at (tasks_name c) files

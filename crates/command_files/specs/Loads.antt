@@ -1,7 +1,7 @@
 -- What a step that loads files gives; for proofs alone.
 use Rattle.std.specs.Prelude.{Result, Bool, true, List, [], ◌∷◌, Option, ℕ, IfOk, IfErr}
 use Rattle.dvs_base.specs.Outside.{Files, ShelfView}
-use Rattle.words.specs.Commands.{CommandOf}
+use Rattle.words.specs.Commands.{CommandView}
 use Rattle.statuses.specs.declared.status.FileKind.{FileKind}
 use Rattle.statuses.specs.declared.status.Status.{Status}
 use Rattle.statuses.specs.Status.{OfLoad, IsShown}
@@ -28,7 +28,7 @@ but_first [] = []
 but_first (f ∷ fs) = fs
 
 -- the loads of a command after its first file, where these files may be known
-abbrev pub later_files : {A : Type 0} → Option Files → CommandOf → (Files → Result A Status) → LoadOf A
+abbrev pub later_files : {A : Type 0} → Option Files → CommandView → (Files → Result A Status) → LoadOf A
 later_files held c means = record { files = but_first (files_of c); passed = passes held c; means = means }
 
 -- What a step that loads files gives: the value that they mean, or a refusal. The value is seen through `see`.

@@ -7,7 +7,7 @@ use Rattle.task_model.specs.declared.task.Task.{Task}
 use Rattle.task_model.specs.TaskFile.{task_file, place_of}
 use Rattle.freq_table.specs.Tables.{Table}
 use Rattle.freq_table.specs.MachineFile.{machine_file}
-use Rattle.demand_list.specs.Demands.{DemandsOf}
+use Rattle.demand_list.specs.Demands.{DemandsView}
 use Rattle.demand_list.specs.DemandFile.{demand_file, worst_list}
 use Rattle.dvs_base.specs.declared.limits.TheConstants.{LONGEST_FILE, LONGEST_TRACE}
 use Rattle.statuses.specs.declared.status.FileKind.{FileKind}
@@ -48,7 +48,7 @@ machine_at name files = do
   or_status machine_status (machine_file bytes)
 
 -- the demands of a file; where none is named, every job needs its worst case
-abbrev pub demands_at : List Task → Option (List ℕ) → Files → Result DemandsOf Status
+abbrev pub demands_at : List Task → Option (List ℕ) → Files → Result DemandsView Status
 demands_at tasks None files = Ok (worst_list tasks)
 demands_at tasks (Some name) files = do
   bytes ← bytes_at file.Demands name files

@@ -6,17 +6,17 @@ use Rattle.dvs_base.specs.PlanWords.{IsPair}
 use Rattle.dvs_base.specs.declared.kind.GovernorKind.{GovernorKind}
 use Rattle.dvs_base.specs.declared.limits.TheConstants.{MOST_TICKS}
 use Rattle.task_model.specs.declared.task.Task.{Task}
-use Rattle.demand_list.specs.Demands.{DemandsOf, IsWithinWorsts}
+use Rattle.demand_list.specs.Demands.{DemandsView, IsWithinWorsts}
 use Rattle.sched_model.specs.Admission.{IsAdmitted}
 use Rattle.sched_model.specs.Plan.{Plan, plan_of}
 use Rattle.event_kernel.specs.Runs.{Run, IsListOf}
-use Rattle.words.specs.Commands.{RunOf}
+use Rattle.words.specs.Commands.{RunView}
 use Rattle.statuses.specs.declared.status.Status.{Status}
 use Rattle.command_files.specs.Admissions.{admission}
 use Rattle.command_files.specs.Meanings.{machine_at, demands_at}
 
 -- the admitted plan and the demands of `run`, after its tasks were read
-abbrev pub prepared_of : RunOf → List Task → Files → Result (Plan × DemandsOf) Status
+abbrev pub prepared_of : RunView → List Task → Files → Result (Plan × DemandsView) Status
 prepared_of r tasks files = do
   machine ← machine_at r.machine files
   demands ← demands_at tasks r.demands files
@@ -24,7 +24,7 @@ prepared_of r tasks files = do
   Ok (p, demands)
 
 -- the run of a plan and demands that the words of a run ask for
-abbrev pub run_with : RunOf → Plan → DemandsOf → Run
+abbrev pub run_with : RunView → Plan → DemandsView → Run
 run_with r p d = record { plan = p; demands = d; ticks = r.ticks }
 
 -- the demands of a run are those of its plan's tasks, and its number of ticks is within the limits

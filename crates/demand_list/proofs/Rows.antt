@@ -16,8 +16,8 @@ use Rattle.std.proofs.lemmas.List.{length-map}
 use Rattle.task_model.specs.declared.task.Task.{Task}
 use Rattle.task_model.specs.Tasks.{IsTaskSet, task_at, no_task}
 use Rattle.task_model.specs.TaskFile.{place_of}
-use Rattle.task_model.specs.DemandRows.{DemandRow, named}
-use Rattle.demand_list.specs.Demands.{DemandsOf, IsDemands, IsRow, IsWithinWorsts, AddsRow, rows_of, with_row, precedes, HasWorstsOf}
+use Rattle.task_model.specs.DemandRows.{DemandRow, named_units}
+use Rattle.demand_list.specs.Demands.{DemandsView, IsDemands, IsRow, IsWithinWorsts, AddsRow, rows_of, with_row, precedes, HasWorstsOf}
 use Rattle.std.specs.declared.cmp.Ordering.TheVariants as order
 
 module _ (tasks : List Task) (i : ℕ) (name : List ℕ) (known : IsTaskSet tasks) (lt : i < length tasks)
@@ -55,7 +55,7 @@ eq-comm a b = both_ways a b (eqb_tells a b) (eqb_tells b a)
 is_eq-job_cmp : (i k a b : ℕ) → is_eq (job_cmp (i, k) (a, b)) ≡ (nat_eq a i && nat_eq b k)
 is_eq-job_cmp i k a b = sym (tied_then (nat_cmp i a) (nat_cmp k b)) ∙ rw (unsigned_tied i a, unsigned_tied k b, eq-comm i a, eq-comm k b) refl
 
-pub named-rows_of : (es : List ((ℕ × ℕ) × ℕ)) (i k : ℕ) → named (rows_of es) i k ≡ lookup (is_at (job_cmp (i, k))) es
+pub named-rows_of : (es : List ((ℕ × ℕ) × ℕ)) (i k : ℕ) → named_units (rows_of es) i k ≡ lookup (is_at (job_cmp (i, k))) es
 named-rows_of [] i k = refl
 named-rows_of (e ∷ es) i k = rw (is_eq-job_cmp i k e.0.0 e.0.1, named-rows_of es i k) refl
 
@@ -68,11 +68,12 @@ one-within worsts r i rest true false e h p = p
 one-within worsts r i rest false job e h p = p
 
 pub named-within : (worsts : List ℕ) (rows : List DemandRow) (i k : ℕ) → AllByRecursion (IsRow worsts) rows
-    → unwrap_or (named rows i k) (slice_index worsts i) ≤ slice_index worsts i
+    → unwrap_or (named_units rows i k) (slice_index worsts i) ≤ slice_index worsts i
 named-within worsts [] i k h = omega arith
-named-within worsts (r ∷ rows) i k h = one-within worsts r i (named rows i k) (nat_eq r.task i) (nat_eq r.job k) refl h.0 (named-within worsts rows i k h.1)
+named-within worsts (r ∷ rows) i k h = one-within worsts r i (named_units rows i k) (nat_eq r.task i) (nat_eq r.job k) refl h.0 (named-within worsts rows i k
+        h.1)
 
-pub IsWithinWorsts-rows : (d : DemandsOf) → AllByRecursion (IsRow d.worsts) d.rows → IsWithinWorsts d
+pub IsWithinWorsts-rows : (d : DemandsView) → AllByRecursion (IsRow d.worsts) d.rows → IsWithinWorsts d
 IsWithinWorsts-rows d h i k _ = named-within d.worsts d.rows i k h
 
 is_lt-job_cmp_by : (p q s t : Bool) → is_lt (ordering_then (if p then order.Less else (if q then order.Equal else order.Greater))
@@ -102,13 +103,13 @@ by_order order.Equal lt r s rows k v e es rest p q l n h i = absurd (cc)
 by_order order.Greater true r s rows k v e es rest p q l n h i = absurd (cc)
 by_order order.Greater false r s rows k v e es rest p q l n h i = rw (q, i) refl
 
-pub rows_of-insert_entry : (es : List ((ℕ × ℕ) × ℕ)) (i k u : ℕ) → named (rows_of es) i k ≡ None
+pub rows_of-insert_entry : (es : List ((ℕ × ℕ) × ℕ)) (i k u : ℕ) → named_units (rows_of es) i k ≡ None
     → rows_of (insert_entry job_cmp es (i, k) u) ≡ with_row (rows_of es) (record { task = i; job = k; units = u })
 rows_of-insert_entry [] i k u h = refl
 rows_of-insert_entry (e ∷ es) i k u h =
     let r : DemandRow = record { task = i; job = k; units = u } in
     let s : DemandRow = record { task = e.0.0; job = e.0.1; units = e.1 } in
-    let a = absent (nat_eq s.task i && nat_eq s.job k) s.units (named (rows_of es) i k) h in
+    let a = absent (nat_eq s.task i && nat_eq s.job k) s.units (named_units (rows_of es) i k) h in
     by_order (job_cmp (i, k) e.0) (precedes r s) r s (rows_of es) (i, k) u e es (insert_entry job_cmp es (i, k) u) refl refl
     (is_lt-job_cmp r s) (is_eq-job_cmp i k s.task s.job ∙ a.0) refl (rows_of-insert_entry es i k u a.1)
 
@@ -137,7 +138,7 @@ each-with_row P (s ∷ rows) r h p = by (precedes r s) (each-with_row P rows r h
     by true more = (p, h)
     by false more = (h.0, more)
 
-pub IsDemands-with_row : (d : DemandsOf) (r : DemandRow) → IsDemands d → IsRow d.worsts r → IsDemands (record { worsts = d.worsts; rows = with_row d.rows r })
+pub IsDemands-with_row : (d : DemandsView) (r : DemandRow) → IsDemands d → IsRow d.worsts r → IsDemands (record { worsts = d.worsts; rows = with_row d.rows r })
 IsDemands-with_row d r h p = record { few = h.few; each = each-with_row (IsRow d.worsts) d.rows r h.each p }
 
 -- an added row is within its worst case, and where none is added the rows stay
@@ -155,14 +156,14 @@ is-free (Some units) h = absurd (cc)
 here : (i k : ℕ) → (nat_eq i i && nat_eq k k) ≡ true
 here i k = rw (eq-eqb i i refl, eq-eqb k k refl) refl
 
-named-with_row : (rows : List DemandRow) (r : DemandRow) → named rows r.task r.job ≡ None → named (with_row rows r) r.task r.job ≡ Some r.units
+named-with_row : (rows : List DemandRow) (r : DemandRow) → named_units rows r.task r.job ≡ None → named_units (with_row rows r) r.task r.job ≡ Some r.units
 named-with_row [] r h = rw (here r.task r.job) refl
 named-with_row (s ∷ rows) r h =
-    let a = absent (nat_eq s.task r.task && nat_eq s.job r.job) s.units (named rows r.task r.job) h in
+    let a = absent (nat_eq s.task r.task && nat_eq s.job r.job) s.units (named_units rows r.task r.job) h in
     by (precedes r s) a.0 (named-with_row rows r a.1)
   where
-    by : (b : Bool) → (nat_eq s.task r.task && nat_eq s.job r.job) ≡ false → named (with_row rows r) r.task r.job ≡ Some r.units
-        → named (if b then r ∷ s ∷ rows else s ∷ with_row rows r) r.task r.job ≡ Some r.units
+    by : (b : Bool) → (nat_eq s.task r.task && nat_eq s.job r.job) ≡ false → named_units (with_row rows r) r.task r.job ≡ Some r.units
+        → named_units (if b then r ∷ s ∷ rows else s ∷ with_row rows r) r.task r.job ≡ Some r.units
     by true other more = rw (here r.task r.job) refl
     by false other more = rw other more
 
@@ -171,15 +172,18 @@ elsewhere a b i k true true e f h = absurd (h (sym (eqb-true a i e)) (sym (eqb-t
 elsewhere a b i k true false e f h = refl
 elsewhere a b i k false job e f h = refl
 
-named-with_row_other : (rows : List DemandRow) (r : DemandRow) (i k : ℕ) → ((i ≡ r.task) → (k ≡ r.job) → ⊥) → named (with_row rows r) i k ≡ named rows i k
+named-with_row_other : (rows : List DemandRow) (r : DemandRow) (i k : ℕ) → ((i ≡ r.task) → (k ≡ r.job) → ⊥)
+        → named_units (with_row rows r) i k ≡ named_units rows i k
 named-with_row_other [] r i k h = rw (elsewhere r.task r.job i k (nat_eq r.task i) (nat_eq r.job k) refl refl h) refl
 named-with_row_other (s ∷ rows) r i k h = by (precedes r s) (named-with_row_other rows r i k h)
   where
-    by : (b : Bool) → named (with_row rows r) i k ≡ named rows i k → named (if b then r ∷ s ∷ rows else s ∷ with_row rows r) i k ≡ named (s ∷ rows) i k
+    by : (b : Bool) → named_units (with_row rows r) i k ≡ named_units rows i k
+            → named_units (if b then r ∷ s ∷ rows else s ∷ with_row rows r) i k ≡ named_units (s ∷ rows) i k
     by true more = rw (elsewhere r.task r.job i k (nat_eq r.task i) (nat_eq r.job k) refl refl h) refl
     by false more = rw more refl
 
-pub AddsRow-with_row : (d : DemandsOf) (r : DemandRow) → named d.rows r.task r.job ≡ None → AddsRow d (record { worsts = d.worsts; rows = with_row d.rows r }) r
+pub AddsRow-with_row : (d : DemandsView) (r : DemandRow) → named_units d.rows r.task r.job ≡ None
+        → AddsRow d (record { worsts = d.worsts; rows = with_row d.rows r }) r
 AddsRow-with_row d r h = record { worsts = refl; free = h; row = named-with_row d.rows r h; others = named-with_row_other d.rows r }
 
 worst-at : (ts : List Task) (i : ℕ) → i < length ts → slice_index (map (λ (t : Task). t.worst) ts) i ≡ (task_at ts i).worst
@@ -187,7 +191,7 @@ worst-at [] i lt = absurd (omega arith)
 worst-at (t ∷ ts) zero lt = refl
 worst-at (t ∷ ts) (suc i) lt = worst-at ts i (omega arith)
 
-module _ (tasks : List Task) (d : DemandsOf) (list : HasWorstsOf tasks d) where
+module _ (tasks : List Task) (d : DemandsView) (list : HasWorstsOf tasks d) where
   pub worst-listed : (i : ℕ) → i < length tasks → slice_index d.worsts i ≡ (task_at tasks i).worst
   worst-listed i lt = ap (λ ws. slice_index ws i) list ∙ worst-at tasks i lt
 

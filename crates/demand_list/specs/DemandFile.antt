@@ -6,9 +6,9 @@ use Rattle.dvs_base.specs.Text.{number_below, short_of}
 use Rattle.dvs_base.specs.Parts.{three_of}
 use Rattle.csv_text.specs.Rows.{text_rows}
 use Rattle.task_model.specs.declared.task.Task.{Task}
-use Rattle.task_model.specs.DemandRows.{demand_row, named}
+use Rattle.task_model.specs.DemandRows.{demand_row, named_units}
 use Rattle.task_model.specs.TaskFile.{place_of}
-use Rattle.demand_list.specs.Demands.{DemandsOf, with_row}
+use Rattle.demand_list.specs.Demands.{DemandsView, with_row}
 use Rattle.demand_list.specs.declared.fault.Column.TheVariants as column
 use Rattle.demand_list.specs.declared.fault.DemandFault.{DemandFault}
 use Rattle.demand_list.specs.declared.fault.DemandFault.TheVariants as fault
@@ -36,14 +36,14 @@ abbrev pub within_worst : ℕ → ℕ → ℕ → ℕ → Result ⊤ DemandFault
 within_worst task job units worst = if nat_lt worst units then Err (fault.OverWorst task job units worst) else Ok tt
 
 -- the list with one more row, after the checks that need the list
-abbrev pub with_checked : DemandsOf → ℕ → ℕ → ℕ → ℕ → Result DemandsOf DemandFault
+abbrev pub with_checked : DemandsView → ℕ → ℕ → ℕ → ℕ → Result DemandsView DemandFault
 with_checked d row task job units = do
-  none_found (λ earlier. fault.Repeated row task job) (named d.rows task job)
+  none_found (λ earlier. fault.Repeated row task job) (named_units d.rows task job)
   within_worst task job units (slice_index d.worsts task)
   Ok (record { worsts = d.worsts; rows = with_row d.rows (demand_row task job units) })
 
 -- the list so far with the rows from number `row` on, or the first refusal
-abbrev pub demands_from : List Task → ℕ → DemandsOf → List (List (List ℕ)) → Result DemandsOf DemandFault
+abbrev pub demands_from : List Task → ℕ → DemandsView → List (List (List ℕ)) → Result DemandsView DemandFault
 demands_from tasks row d [] = Ok d
 demands_from tasks row d (fields ∷ rest) = do
   r ← demand_of_row tasks row fields
@@ -51,7 +51,7 @@ demands_from tasks row d (fields ∷ rest) = do
   demands_from tasks (row + 1) more rest
 
 -- the list without rows, in which every job needs its declared worst case
-abbrev pub worst_list : List Task → DemandsOf
+abbrev pub worst_list : List Task → DemandsView
 worst_list tasks = record { worsts = map (λ t. t.worst) tasks; rows = [] }
 
 -- the fields of a demand file's header
@@ -59,7 +59,7 @@ abbrev pub demand_header : List (List ℕ)
 demand_header = codes "task" ∷ codes "job" ∷ codes "units" ∷ []
 
 -- the meaning of a demand file's bytes for these tasks: its header first, and then its rows, counted from 1
-abbrev pub demand_file : List Task → List ℕ → Result DemandsOf DemandFault
+abbrev pub demand_file : List Task → List ℕ → Result DemandsView DemandFault
 demand_file tasks bytes = do
   rows ← ok_or (text_rows demand_header bytes) fault.Header
   demands_from tasks 1 (worst_list tasks) rows

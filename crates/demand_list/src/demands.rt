@@ -1,6 +1,6 @@
 // Demand lists.
 ghost use Rattle.std.specs.Prelude.{◌≡◌, ◌<◌, ◌≤◌, ◌^◌, ◌↔◌, [], length, slice_index, IsTrue, IfOk, OnErr, OnOk, Ok, None, true, false, not, is_some};
-ghost use Rattle.task_model.specs.DemandRows.{demand_row, named};
+ghost use Rattle.task_model.specs.DemandRows.{demand_row, named_units};
 ghost use Rattle.demand_list.specs.Demands.{units_of, IsWithinWorsts, AddsRow, rows_of, with_row};
 
 use dvs_base::NoMemory;
@@ -17,9 +17,9 @@ pub struct Demands {
 }
 
 impl Model for Demands {
-    ghost use Rattle.demand_list.specs.Demands.{DemandsOf, IsDemands, rows_of};
+    ghost use Rattle.demand_list.specs.Demands.{DemandsView, IsDemands, rows_of};
 
-    ghost Value = { DemandsOf };
+    ghost Value = { DemandsView };
 
     ghost view = { λ d. record { worsts = d.worsts.items; rows = rows_of d.rows.entries } };
 
@@ -28,7 +28,7 @@ impl Model for Demands {
 
 // The units of a job's row in a map from tasks and jobs to units.
 fn row_of(rows: &BTreeMap<(u32, u64), u64>, task: u32, job: u64) -> Option<u64>
-    ensures { result ≡ named (rows_of rows.now.entries) task job }
+    ensures { result ≡ named_units (rows_of rows.now.entries) task job }
 {
     rows.get(&(task, job)).copied()
 }
@@ -40,7 +40,7 @@ fn add_row(
     job: u64,
     units: u64,
 ) -> Result<bool, NoMemory>
-    ensures answer { IfOk result (λ added. added ≡ not (is_some (named (rows_of rows.old.entries) task job))) }
+    ensures answer { IfOk result (λ added. added ≡ not (is_some (named_units (rows_of rows.old.entries) task job))) }
     ensures added { result ≡ Ok true → rows_of rows.new.entries
         ≡ with_row (rows_of rows.old.entries) (demand_row task job units) }
     ensures stays { result ≡ Ok false → rows.new.entries ≡ rows.old.entries }
@@ -81,7 +81,7 @@ impl Demands {
         requires task { task < length self.old.worsts }
         requires job { 1 ≤ job }
         requires units { units ≤ slice_index self.old.worsts task }
-        ensures answer { IfOk result (λ added. added ≡ not (is_some (named self.old.rows task job))) }
+        ensures answer { IfOk result (λ added. added ≡ not (is_some (named_units self.old.rows task job))) }
         ensures added { result ≡ Ok true → AddsRow self.old self.new (demand_row task job units) }
         ensures order { result ≡ Ok true → self.new.rows ≡ with_row self.old.rows (demand_row task job units) }
         ensures stays { result ≡ Ok false → self.new ≡ self.old }
@@ -100,7 +100,7 @@ impl Demands {
 
     // Whether a job has a row.
     pub(crate) fn has_row(&self, task: u32, job: u64) -> bool
-        ensures { result ≡ is_some (named self.now.rows task job) }
+        ensures { result ≡ is_some (named_units self.now.rows task job) }
     {
         row_of(&self.rows, task, job).is_some()
     }

@@ -8,7 +8,7 @@ use Rattle.std.proofs.lemmas.Bool.{and_parts}
 use Rattle.std.proofs.lemmas.Bool.Decides.{nat_tests}
 use Rattle.std.proofs.lemmas.List.{append-nil}
 use Rattle.std.proofs.lemmas.Fmt.{decimal_is_IsNumeral_wide, decimal_by_steps_wide, decimal_step_wide, decimal_digit}
-use Rattle.dvs_base.specs.Text.{is_spelled, number_below, read_on}
+use Rattle.dvs_base.specs.Text.{is_spelled, number_below, number_after}
 use Rattle.dvs_base.proofs.Numbers.{own}
 
 digit-range : (c : ℕ) → is_ascii_digit c ≡ true → (48 ≤ c) × (c ≤ 57)
@@ -28,7 +28,7 @@ leads = decimal_by_steps_wide Leads (λ n small. (omega arith, λ above. omega a
 digits : (n : ℕ) → n < 10 ^ 64 → list_all is_ascii_digit (decimal n) ≡ true
 digits n fits = own.from (decimal n) (decimal_is_IsNumeral_wide n fits).0.1
 
-pub read_on-decimal : (n : ℕ) → n < 10 ^ 64 → read_on 0 (decimal n) ≡ n
+pub read_on-decimal : (n : ℕ) → n < 10 ^ 64 → number_after 0 (decimal n) ≡ n
 read_on-decimal n fits = own.same (decimal n) (decimal_is_IsNumeral_wide n fits).0.1 ∙ (decimal_is_IsNumeral_wide n fits).1
 
 spelled-led : (ds : List ℕ) → list_all is_ascii_digit ds ≡ true → 0 < length ds → 48 < get_or ds 0 0 → is_spelled ds ≡ true
@@ -49,11 +49,12 @@ number_below-decimal limit n below fits =
     let less : nat_lt n limit ≡ true = grind (arith, nat_tests) in
     rw (is_spelled-decimal n fits, read_on-decimal n fits, less) refl
 
-read_on-le : (n : ℕ) (cs : List ℕ) → n ≤ read_on n cs
+read_on-le : (n : ℕ) (cs : List ℕ) → n ≤ number_after n cs
 read_on-le n [] = omega arith
 read_on-le n (c ∷ cs) = omega (arith, read_on-le (n * 10 + (c - 48)) cs)
 
-decimal-read_on : (m : ℕ) (cs : List ℕ) → 0 < m → list_all is_ascii_digit cs ≡ true → read_on m cs < 10 ^ 64 → decimal (read_on m cs) ≡ decimal m ++ cs
+decimal-read_on : (m : ℕ) (cs : List ℕ) → 0 < m → list_all is_ascii_digit cs ≡ true → number_after m cs < 10 ^ 64
+        → decimal (number_after m cs) ≡ decimal m ++ cs
 decimal-read_on m [] above h fits = sym (append-nil (decimal m))
 decimal-read_on m (c ∷ cs) above h fits =
     let parts = and_parts (is_ascii_digit c) (list_all is_ascii_digit cs) h in
@@ -66,7 +67,7 @@ decimal-read_on m (c ∷ cs) above h fits =
     decimal-read_on next cs (omega arith) parts.1 fits ∙ (ap (λ ds. ds ++ cs) step ∙ append_assoc (decimal m) (c ∷ []) cs)
 
 -- a spelled text is the decimal text of its value
-pub decimal-spelled : (bs : List ℕ) → is_spelled bs ≡ true → read_on 0 bs < 10 ^ 64 → decimal (read_on 0 bs) ≡ bs
+pub decimal-spelled : (bs : List ℕ) → is_spelled bs ≡ true → number_after 0 bs < 10 ^ 64 → decimal (number_after 0 bs) ≡ bs
 decimal-spelled [] h fits = absurd (cc)
 decimal-spelled (c ∷ []) h fits =
     let range = digit-range c h in
@@ -80,9 +81,9 @@ decimal-spelled (c ∷ d ∷ cs) h fits =
     ∙ ap (λ d. d ∷ []) (omega (arith, range.0, range.1)) in
     decimal-read_on (0 * 10 + (c - 48)) (d ∷ cs) (omega (arith, range.0, range.1)) all.1 fits ∙ ap (λ ds. ds ++ (d ∷ cs)) first
 
-number-found : (limit : ℕ) (bs : List ℕ) (n : ℕ) (spelled below : Bool) → is_spelled bs ≡ spelled → nat_lt (read_on 0 bs) limit ≡ below
-    → (if spelled && below then Some (read_on 0 bs) else None) ≡ Some n → (is_spelled bs ≡ true) × (read_on 0 bs ≡ n) × (n < limit)
-number-found limit bs n true true e f h = let same : read_on 0 bs ≡ n = cc in (e, same, grind (arith, nat_tests))
+number-found : (limit : ℕ) (bs : List ℕ) (n : ℕ) (spelled below : Bool) → is_spelled bs ≡ spelled → nat_lt (number_after 0 bs) limit ≡ below
+    → (if spelled && below then Some (number_after 0 bs) else None) ≡ Some n → (is_spelled bs ≡ true) × (number_after 0 bs ≡ n) × (n < limit)
+number-found limit bs n true true e f h = let same : number_after 0 bs ≡ n = cc in (e, same, grind (arith, nat_tests))
 number-found limit bs n true false e f h = absurd (cc)
 number-found limit bs n false below e f h = absurd (cc)
 

@@ -13,7 +13,7 @@ use Rattle.grid_fraction.proofs.Least.{least-below, least-above}
 use Rattle.sched_model.specs.Plan.{Plan, count, period, worst}
 use Rattle.ready_queue.specs.declared.entry.Entry.{Entry}
 use Rattle.ready_queue.specs.Orders.{due_before}
-use Rattle.ready_queue.specs.Entries.{QueueOf, IsAbsent, placed, ComesFirst}
+use Rattle.ready_queue.specs.Entries.{QueueView, IsAbsent, with_entry, ComesFirst}
 use Rattle.ready_queue.proofs.EntryOrder.{placed-All}
 use Rattle.grid_fraction.proofs.Sums.{sum_below-limit, sum_below-same, sum_below-add, sum_below-own, sum_below-zero, sum_where-le}
 use Rattle.sched_model.specs.Admission.{IsWithinLimits}
@@ -64,7 +64,7 @@ module _ (every within : ℕ) (some : 0 < every) where
 
 -- an entry of a task that wasn't in the list adds that task's deadline alone
 pub due_of-placed : (before : Entry → Entry → Bool) (e : Entry) (xs : List Entry) (i : ℕ) → IsAbsent e.task xs
-    → due_of (placed before e xs) i ≡ (if nat_eq i e.task then e.due else due_of xs i)
+    → due_of (with_entry before e xs) i ≡ (if nat_eq i e.task then e.due else due_of xs i)
 due_of-placed before e [] i a = refl
 due_of-placed before e (x ∷ xs) i a = grind (arith, nat_tests, due_of-placed before e xs i a.1, a.0)
 
@@ -82,7 +82,7 @@ pub front : (xs : List Entry) (e : Entry) → Some e ≡ slice_get xs 0 → (res
 front [] e is = absurd (cc)
 front (x ∷ xs) e is = (xs, cc)
 
-pub no-front : (q : QueueOf) → IsCalendar q → q.entries ≡ [] → ⊥
+pub no-front : (q : QueueView) → IsCalendar q → q.entries ≡ [] → ⊥
 no-front q c is =
     let none : due_of q.entries 0 ≡ 0 = ap (λ (xs : List Entry). due_of xs 0) is in
     absurd (omega (arith, none, c.each 0 (omega (arith, c.some))))
@@ -92,7 +92,7 @@ none-front [] is = refl
 none-front (x ∷ xs) is = absurd (cc)
 
 -- the first entry of a queue
-module _ (q : QueueOf) (c : IsCalendar q) (e : Entry) (rest : List Entry) (is : q.entries ≡ e ∷ rest)
+module _ (q : QueueView) (c : IsCalendar q) (e : Entry) (rest : List Entry) (is : q.entries ≡ e ∷ rest)
     (first : ComesFirst due_before e q.entries) where
   due-was : (i : ℕ) → due_of q.entries i ≡ (if nat_eq i e.task then e.due else due_of rest i)
   due-was i = ap (λ (xs : List Entry). due_of xs i) is
@@ -130,8 +130,8 @@ module _ (q : QueueOf) (c : IsCalendar q) (e : Entry) (rest : List Entry) (is : 
       omega (arith, low, high, first-due)
 
   -- the first entry's task is put back with its next deadline a period later
-  module _ (every : ℕ) (after : QueueOf) (out : IsAbsent e.task rest) (kept : after.limit ≡ q.limit)
-      (put : after.entries ≡ placed due_before (record { task = e.task; due = e.due + every; period = every }) rest) where
+  module _ (every : ℕ) (after : QueueView) (out : IsAbsent e.task rest) (kept : after.limit ≡ q.limit)
+      (put : after.entries ≡ with_entry due_before (record { task = e.task; due = e.due + every; period = every }) rest) where
     due-put : (i : ℕ) → due_of after.entries i ≡ (if nat_eq i e.task then e.due + every else due_of rest i)
     due-put i =
         ap (λ (xs : List Entry). due_of xs i) put
@@ -149,7 +149,7 @@ module _ (q : QueueOf) (c : IsCalendar q) (e : Entry) (rest : List Entry) (is : 
           subst (AllByRecursion (λ x. x.task < q.limit)) is c.below in
           subst (AllByRecursion (λ x. x.task < after.limit)) (sym put)
           (subst (λ (n : ℕ). AllByRecursion (λ x. x.task < n)
-          (placed due_before (record { task = e.task; due = e.due + every; period = every }) rest)) (sym kept)
+          (with_entry due_before (record { task = e.task; due = e.due + every; period = every }) rest)) (sym kept)
           (placed-All due_before (λ x. x.task < q.limit) (record { task = e.task; due = e.due + every; period = every })
           rest all.0 all.1));
       each = λ i lt. go i (omega (arith, lt, kept)) (nat_eq i e.task) (later i);
@@ -184,7 +184,7 @@ raised m n [] le a = tt
 raised m n (x ∷ xs) le a = (omega (arith, a.0), raised m n xs le a.1)
 
 module _ (m due every : ℕ) (f : ℕ → ℕ) (xs ys : List Entry) (below : AllByRecursion (λ e. e.task < m) xs)
-    (put : ys ≡ placed due_before (record { task = m; due = due; period = every }) xs) where
+    (put : ys ≡ with_entry due_before (record { task = m; due = due; period = every }) xs) where
   pub more-below : AllByRecursion (λ e. e.task < m + 1) ys
   more-below =
       subst (AllByRecursion (λ e. e.task < m + 1)) (sym put)
@@ -198,7 +198,7 @@ module _ (m due every : ℕ) (f : ℕ → ℕ) (xs ys : List Entry) (below : All
       ∙ grind (arith, nat_tests, here, before i)
 
 -- a queue with an entry for each task is a calendar
-pub all-in : (m n : ℕ) (f : ℕ → ℕ) (q : QueueOf) → 1 ≤ n → n ≤ m → m ≤ n → q.limit ≡ n
+pub all-in : (m n : ℕ) (f : ℕ → ℕ) (q : QueueView) → 1 ≤ n → n ≤ m → m ≤ n → q.limit ≡ n
     → AllByRecursion (λ e. e.task < m) q.entries → ((i : ℕ) → i < m → due_of q.entries i ≡ f i)
     → ((i : ℕ) → i < n → 1 ≤ f i) → IsCalendar q
 all-in m n f q one from to long below due some = record {

@@ -5,7 +5,7 @@ use Rattle.grid_fraction.specs.Numbers.{least_below}
 use Rattle.task_model.specs.declared.task.Task.{Task}
 use Rattle.sched_model.specs.Plan.{Plan, count, period, worst}
 use Rattle.ready_queue.specs.declared.entry.Entry.{Entry}
-use Rattle.ready_queue.specs.Entries.{QueueOf}
+use Rattle.ready_queue.specs.Entries.{QueueView}
 use Rattle.edf_demand_laws.specs.ProcessorDemand.{jobs_due}
 
 -- the first absolute deadline of task i after tick t
@@ -18,13 +18,13 @@ due_of [] i = 0
 due_of (e ∷ entries) i = if nat_eq i e.task then e.due else due_of entries i
 
 -- the queue has an entry for each task below its limit, at least one, with its next absolute deadline from 1 on
-pub record IsCalendar (q : QueueOf) : Type 0 where
+pub record IsCalendar (q : QueueView) : Type 0 where
   pub some : 1 ≤ q.limit
   pub below : AllByRecursion (λ e. e.task < q.limit) q.entries
   pub each : (i : ℕ) → i < q.limit → 1 ≤ due_of q.entries i
 
 -- the queue has an entry for each of these tasks, at least one, with its next absolute deadline from 1 on
-pub record IsQueueOf (tasks : List Task) (q : QueueOf) : Type 0 where
+pub record IsQueueOf (tasks : List Task) (q : QueueView) : Type 0 where
   pub one_each : q.limit ≡ length tasks
   pub calendar : IsCalendar q
 

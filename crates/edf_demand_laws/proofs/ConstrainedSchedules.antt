@@ -9,7 +9,7 @@ use Rattle.freq_table.specs.Tables.{Table, speed_at, IsTable}
 use Rattle.freq_table.proofs.Chosen.{speeds_rise}
 use Rattle.sched_model.specs.Plan.{Plan, count}
 use Rattle.sched_model.specs.Jobs.{JobDemands}
-use Rattle.sched_model.specs.Ticks.{Tick, left, share}
+use Rattle.sched_model.specs.Ticks.{Tick, units_left, share}
 use Rattle.sched_model.specs.Priority.{allotment}
 use Rattle.sched_model.proofs.Allotments.{allotment_of, allotment-shares, shares-same}
 use Rattle.sched_model.proofs.Tables.{length-list_below, get-table}
@@ -45,7 +45,7 @@ module _ (p : Plan) (relative : ℕ → ℕ) (dem : JobDemands) (e : ℕ) where
   key past = key_at p relative (length past)
 
   abbrev given : List Tick → ℕ → ℕ
-  given past = allotment (count p) (key past) f (left p dem past)
+  given past = allotment (count p) (key past) f (units_left p dem past)
 
   next-may : (past : List Tick) → IsNextAt p relative dem f past (constrained_tick p relative dem e past)
   next-may past =
@@ -53,8 +53,8 @@ module _ (p : Plan) (relative : ℕ → ℕ) (dem : JobDemands) (e : ℕ) where
       record {
         one_share_each = length-list_below n (given past);
         speed = refl;
-        legal = shares-same n (key past) f (left p dem past) (given past) (share (constrained_tick p relative dem e past))
-            (λ i lt. sym (get-table n (given past) i 0 lt)) (allotment-shares n (key past) f (left p dem past));
+        legal = shares-same n (key past) f (units_left p dem past) (given past) (share (constrained_tick p relative dem e past))
+            (λ i lt. sym (get-table n (given past) i 0 lt)) (allotment-shares n (key past) f (units_left p dem past));
       }
 
   pub schedule-exists : (t : ℕ)
@@ -73,7 +73,7 @@ module _ (p : Plan) (relative : ℕ → ℕ) (dem : JobDemands) (e : ℕ) where
             (h.one_share_each ∙ sym (length-list_below (count p) (given past)))
             (λ i l.
             let below : i < count p = omega (arith, h.one_share_each) in
-            allotment_of (count p) (key past) f (left p dem past) (share x) h.legal i below
+            allotment_of (count p) (key past) f (units_left p dem past) (share x) h.legal i below
             ∙ sym (get-table (count p) (given past) i 0 below))
 
     pub schedule-only : (ticks : List Tick) → IsScheduleAt p relative dem f ticks

@@ -8,7 +8,7 @@ use Rattle.grid_fraction.specs.Numbers.{sum_below, sum_where}
 use Rattle.grid_fraction.proofs.Sums.{sum_below-le, sum_below-add, sum_below-own, sum_below-up, sum_below-zero}
 use Rattle.sched_model.specs.Plan.{Plan, count, period, worst, offset}
 use Rattle.sched_model.specs.Jobs.{release, due, latest, is_in_window, JobDemands, worst_demand, IsWithin}
-use Rattle.sched_model.specs.Ticks.{Tick, exec, left, share, at}
+use Rattle.sched_model.specs.Ticks.{Tick, exec, units_left, share, at}
 use Rattle.sched_model.proofs.Allotments.{down-set-gets, due_by_gets}
 use Rattle.sched_model.proofs.JobLaws.{latest-is, release-due, latest-pos, latest-stays, latest-next, release-suc, lt-due, exec-latest}
 use Rattle.sched_model.proofs.Schedules.{exec-drop, exec-within, at-now, at-before}
@@ -66,8 +66,8 @@ all-served : (p : Plan) (relative : ℕ → ℕ) (dem : JobDemands) (f : ℕ) (p
 all-served p relative dem f [] h = omega (arith, sum_below-zero (count p) (λ k. 0) (λ k lt. refl))
 all-served p relative dem f (x ∷ past) h =
     let n = count p in
-    let tick : sum_where n (λ k. true) (share x) ≡ min f (sum_where n (λ k. true) (left p dem past)) =
-    down-set-gets n (key_at p relative (length past)) (λ k. true) f (left p dem past) (share x)
+    let tick : sum_where n (λ k. true) (share x) ≡ min f (sum_where n (λ k. true) (units_left p dem past)) =
+    down-set-gets n (key_at p relative (length past)) (λ k. true) f (units_left p dem past) (share x)
     (λ j i lj li b e. refl) h.1.legal in
     let more : length (x ∷ past) ≡ length past + 1 = omega arith in
     let whole : sum_below n (λ i. served past i + share x i) ≡ sum_below n (served past) + sum_below n (share x) =
@@ -105,9 +105,9 @@ needed p relative con f ticks h met =
 
 -- no job gets more in a tick than it needs, so it has had no more than its demand
 pub own-share : (p : Plan) (relative : ℕ → ℕ) (dem : JobDemands) (f : ℕ) (past : List Tick) (x : Tick)
-    → IsNextAt p relative dem f past x → (i : ℕ) → i < count p → share x i ≤ left p dem past i
+    → IsNextAt p relative dem f past x → (i : ℕ) → i < count p → share x i ≤ units_left p dem past i
 own-share p relative dem f past x next i lt =
-    share-most (count p) (key_at p relative (length past)) f (left p dem past) (share x) next.legal i lt
+    share-most (count p) (key_at p relative (length past)) f (units_left p dem past) (share x) next.legal i lt
 
 pub had-most : (p : Plan) (relative : ℕ → ℕ) (dem : JobDemands) (f : ℕ) (past : List Tick)
     → IsScheduleAt p relative dem f past → (i k : ℕ) → i < count p → exec p past i k ≤ dem i k
@@ -157,7 +157,7 @@ module _ (p : Plan) (relative : ℕ → ℕ) (dem : JobDemands) (f : ℕ) (perio
 
   -- the work still to do by d: of the latest jobs, and of the jobs after them
   abbrev open_work : List Tick → ℕ → ℕ
-  open_work past d = sum_where (count p) (is_near (length past) d) (λ i. left p dem past i + after (length past) d i)
+  open_work past d = sum_where (count p) (is_near (length past) d) (λ i. units_left p dem past i + after (length past) d i)
 
   -- the work of the jobs of task i that are due by d
   abbrev work_by : ℕ → ℕ → ℕ
@@ -170,7 +170,7 @@ module _ (p : Plan) (relative : ℕ → ℕ) (dem : JobDemands) (f : ℕ) (perio
   -- the work still to do by d after the tick x, before the next releases
   abbrev rest_work : Tick → List Tick → ℕ → ℕ
   rest_work x past d =
-      sum_where (count p) (is_near (length past) d) (λ i. (left p dem past i - share x i) + after (length past) d i)
+      sum_where (count p) (is_near (length past) d) (λ i. (units_left p dem past i - share x i) + after (length past) d i)
 
   -- each task has its first job from tick 0 on
   some-job : (i t : ℕ) → i < count p → 0 < latest p i t
@@ -187,11 +187,11 @@ module _ (p : Plan) (relative : ℕ → ℕ) (dem : JobDemands) (f : ℕ) (perio
       rw whole (omega (arith, fits d, all))
     where
       each : (i : ℕ) → i < count p → (b : Bool) → nat_le (key_at p relative 0 i) d ≡ b
-          → (if b then left p dem [] i + after 0 d i else 0) ≤ work_by d i
+          → (if b then units_left p dem [] i + after 0 d i else 0) ≤ work_by d i
       each i lt true e =
           let key : key_at p relative 0 i ≡ relative i =
           ap (absolute p relative i) (first-job i lt) ∙ omega (arith, first-release p i (con.first i lt)) in
-          let needs : left p dem [] i ≤ worst p i = omega (arith, within.most i (latest p i 0) lt) in
+          let needs : units_left p dem [] i ≤ worst p i = omega (arith, within.most i (latest p i 0) lt) in
           let near : nat_le (relative i) d ≡ true = subst (λ (k : ℕ). nat_le k d ≡ true) key e in
           let later : after 0 d i ≡ (d - relative i) / period p i * worst p i =
           ap (λ (k : ℕ). (d - k) / period p i * worst p i) key in
@@ -200,7 +200,7 @@ module _ (p : Plan) (relative : ℕ → ℕ) (dem : JobDemands) (f : ℕ) (perio
 
       all : open_work [] d ≤ sum_below (count p) (work_by d)
       all =
-          sum_below-le (count p) (λ i. if is_near 0 d i then left p dem [] i + after 0 d i else 0) (work_by d)
+          sum_below-le (count p) (λ i. if is_near 0 d i then units_left p dem [] i + after 0 d i else 0) (work_by d)
           (λ i lt. each i lt (is_near 0 d i) refl)
 
   -- after the tick x, before the next releases, the work still to do by d fits into what the speed does up to d
@@ -225,7 +225,7 @@ module _ (p : Plan) (relative : ℕ → ℕ) (dem : JobDemands) (f : ℕ) (perio
       near = is_near t d
 
       needs : ℕ → ℕ
-      needs = left p dem past
+      needs = units_left p dem past
 
       rest : ℕ → ℕ
       rest = λ i. needs i - share x i
@@ -261,18 +261,18 @@ module _ (p : Plan) (relative : ℕ → ℕ) (dem : JobDemands) (f : ℕ) (perio
 
   -- the releases after a tick add nothing to a task's work by d: the job released is one of those to come
   calm-task : (x : Tick) (past : List Tick) (d i : ℕ) → i < count p
-      → (if is_near (length past + 1) d i then left p dem (x ∷ past) i + after (length past + 1) d i else 0)
-      ≤ (if is_near (length past) d i then (left p dem past i - share x i) + after (length past) d i else 0)
+      → (if is_near (length past + 1) d i then units_left p dem (x ∷ past) i + after (length past + 1) d i else 0)
+      ≤ (if is_near (length past) d i then (units_left p dem past i - share x i) + after (length past) d i else 0)
   calm-task x past d i lt = elim (eq-or-lt_of_le later) [
     | inr stays ↦
         let same : latest p i (t + 1) ≡ k = latest-stays p i t (periods i) stays in
         let key : key_at p relative (t + 1) i ≡ key_at p relative t i = ap (absolute p relative i) same in
         let job : latest p i (length (x ∷ past)) ≡ k = subst (λ (m : ℕ). latest p i m ≡ k) (add-one t) same in
-        let needs : left p dem (x ∷ past) i ≡ dem i k - exec p (x ∷ past) i k =
+        let needs : units_left p dem (x ∷ past) i ≡ dem i k - exec p (x ∷ past) i k =
         ap (λ (m : ℕ). dem i m - exec p (x ∷ past) i m) job in
         let had : exec p (x ∷ past) i k ≡ exec p past i k + share x i =
         exec-latest p x past i (periods i) (some-job i t lt) in
-        let rest : left p dem (x ∷ past) i ≤ left p dem past i - share x i = omega (arith, needs, had) in
+        let rest : units_left p dem (x ∷ past) i ≤ units_left p dem past i - share x i = omega (arith, needs, had) in
         still (nat_le (key_at p relative t i) d) (nat_le (key_at p relative (t + 1) i) d)
         (ap (λ (m : ℕ). nat_le m d) key) rest (ap (λ (m : ℕ). jobs_after (period p i) m d * worst p i) key)
     | inl next ↦
@@ -280,7 +280,7 @@ module _ (p : Plan) (relative : ℕ → ℕ) (dem : JobDemands) (f : ℕ) (perio
         let long = release-due p i k (some-job i t lt) in
         let key : key_at p relative (t + 1) i ≡ key_at p relative t i + period p i =
         ap (absolute p relative i) same ∙ omega (arith, release-suc p i k, long) in
-        let needs : left p dem (x ∷ past) i ≤ worst p i =
+        let needs : units_left p dem (x ∷ past) i ≤ worst p i =
         omega (arith, within.most i (latest p i (length (x ∷ past))) lt) in
         moved (nat_le (key_at p relative (t + 1) i) d) refl key needs
   ]
@@ -294,17 +294,17 @@ module _ (p : Plan) (relative : ℕ → ℕ) (dem : JobDemands) (f : ℕ) (perio
       later : t + 1 ≤ due p i k
       later = omega (arith, lt-due p i t (periods i))
 
-      still : (b c : Bool) → c ≡ b → left p dem (x ∷ past) i ≤ left p dem past i - share x i
+      still : (b c : Bool) → c ≡ b → units_left p dem (x ∷ past) i ≤ units_left p dem past i - share x i
           → after (t + 1) d i ≡ after t d i
-          → (if c then left p dem (x ∷ past) i + after (t + 1) d i else 0)
-          ≤ (if b then (left p dem past i - share x i) + after t d i else 0)
+          → (if c then units_left p dem (x ∷ past) i + after (t + 1) d i else 0)
+          ≤ (if b then (units_left p dem past i - share x i) + after t d i else 0)
       still true c e rest same = rw e (omega arith)
       still false c e rest same = rw e (omega arith)
 
       moved : (b : Bool) → nat_le (key_at p relative (t + 1) i) d ≡ b
-          → key_at p relative (t + 1) i ≡ key_at p relative t i + period p i → left p dem (x ∷ past) i ≤ worst p i
-          → (if b then left p dem (x ∷ past) i + after (t + 1) d i else 0)
-          ≤ (if is_near t d i then (left p dem past i - share x i) + after t d i else 0)
+          → key_at p relative (t + 1) i ≡ key_at p relative t i + period p i → units_left p dem (x ∷ past) i ≤ worst p i
+          → (if b then units_left p dem (x ∷ past) i + after (t + 1) d i else 0)
+          ≤ (if is_near t d i then (units_left p dem past i - share x i) + after t d i else 0)
       moved true e key needs =
           let by : key_at p relative (t + 1) i ≤ d = leb-true (key_at p relative (t + 1) i) d e in
           let near : is_near t d i ≡ true = le-leb (key_at p relative t i) d (omega arith) in
@@ -321,10 +321,10 @@ module _ (p : Plan) (relative : ℕ → ℕ) (dem : JobDemands) (f : ℕ) (perio
       let t = length past in
       let e : length (x ∷ past) ≡ t + 1 = omega arith in
       let P : ℕ → Type 0 =
-      λ m. sum_where (count p) (is_near m d) (λ i. left p dem (x ∷ past) i + after m d i) ≤ f * (d - m) in
+      λ m. sum_where (count p) (is_near m d) (λ i. units_left p dem (x ∷ past) i + after m d i) ≤ f * (d - m) in
       let falls =
-      sum_below-le (count p) (λ i. if is_near (t + 1) d i then left p dem (x ∷ past) i + after (t + 1) d i else 0)
-      (λ i. if is_near t d i then (left p dem past i - share x i) + after t d i else 0) (calm-task x past d) in
+      sum_below-le (count p) (λ i. if is_near (t + 1) d i then units_left p dem (x ∷ past) i + after (t + 1) d i else 0)
+      (λ i. if is_near t d i then (units_left p dem past i - share x i) + after t d i else 0) (calm-task x past d) in
       subst P (sym e) (omega (arith, falls, calm-tick x past next calm d (omega arith)))
 
   calm : (past : List Tick) → IsScheduleAt p relative dem f past → IsCalm past
@@ -338,13 +338,13 @@ module _ (p : Plan) (relative : ℕ → ℕ) (dem : JobDemands) (f : ℕ) (perio
       let t = length past in
       let job : latest p i t ≡ k = latest-before p relative con i k t lt some e in
       let key : key_at p relative t i ≤ t + 1 = omega (arith, ap (absolute p relative i) job) in
-      let rest : ℕ → ℕ = λ j. (left p dem past j - share x j) + after t (t + 1) j in
+      let rest : ℕ → ℕ = λ j. (units_left p dem past j - share x j) + after t (t + 1) j in
       let mine =
       sum_where-term (count p) (is_near t (t + 1)) rest i lt (le-leb (key_at p relative t i) (t + 1) key) in
       let none : (t + 1) - (t + 1) ≡ 0 = omega arith in
       let now = calm-tick x past h.1 (calm past h.0) (t + 1) (omega arith) in
       let all : rest_work x past (t + 1) ≤ f * 0 = subst (λ (m : ℕ). rest_work x past (t + 1) ≤ f * m) none now in
-      let needs : left p dem past i ≡ dem i k - exec p past i k = ap (λ (m : ℕ). dem i m - exec p past i m) job in
+      let needs : units_left p dem past i ≡ dem i k - exec p past i k = ap (λ (m : ℕ). dem i m - exec p past i m) job in
       let had : exec p (x ∷ past) i k ≡ exec p past i k + share x i =
       subst (λ (m : ℕ). exec p (x ∷ past) i m ≡ exec p past i m + share x i) job
       (exec-latest p x past i (periods i) (some-job i t lt)) in

@@ -4,7 +4,7 @@ use Rattle.grid_fraction.specs.Numbers.{list_below}
 use Rattle.freq_table.specs.Tables.{speed_at}
 use Rattle.sched_model.specs.Plan.{Plan, count, period, offset}
 use Rattle.sched_model.specs.Jobs.{release, latest, JobDemands}
-use Rattle.sched_model.specs.Ticks.{Tick, at, exec, left, share}
+use Rattle.sched_model.specs.Ticks.{Tick, at, exec, units_left, share}
 use Rattle.sched_model.specs.Priority.{SharesOut, allotment}
 
 -- each task is first released at tick 0, and has a relative deadline from 1 to its period
@@ -25,7 +25,7 @@ key_at p relative t i = absolute p relative i (latest p i t)
 pub record IsNextAt (p : Plan) (relative : ℕ → ℕ) (dem : JobDemands) (f : ℕ) (past : List Tick) (x : Tick) : Type 0 where
   pub one_share_each : length x.shares ≡ count p
   pub speed : speed_at p.machine x.entry ≡ f
-  pub legal : SharesOut (count p) (key_at p relative (length past)) f (left p dem past) (share x)
+  pub legal : SharesOut (count p) (key_at p relative (length past)) f (units_left p dem past) (share x)
 
 -- every tick has speed f and is legal after the earlier ones; the last tick is first
 abbrev pub IsScheduleAt : Plan → (ℕ → ℕ) → JobDemands → ℕ → List Tick → Type 0
@@ -43,7 +43,7 @@ abbrev pub constrained_tick : Plan → (ℕ → ℕ) → JobDemands → ℕ → 
 constrained_tick p relative dem e past =
     let n = count p in
     let key = key_at p relative (length past) in
-    record { entry = e; shares = list_below n (allotment n key (speed_at p.machine e) (left p dem past)) }
+    record { entry = e; shares = list_below n (allotment n key (speed_at p.machine e) (units_left p dem past)) }
 
 -- the one schedule of t ticks with the entry e
 abbrev pub schedule_at : Plan → (ℕ → ℕ) → JobDemands → ℕ → ℕ → List Tick

@@ -13,7 +13,7 @@ use Rattle.sched_model.specs.Notes.{run_energy_told, idle_energy_told}
 use Rattle.sched_model.specs.Totals.{is_released, is_finished, is_decided}
 use Rattle.sched_model.proofs.Schedules.{length-list_below}
 use Rattle.sched_model.proofs.Tables.{get-table, set-table, table-same}
-use Rattle.energy.specs.Books.{Books, Told, energy_at_point, books_of, raised, booked, HasTask, HasRoom}
+use Rattle.energy.specs.Books.{Books, Told, energy_at_point, books_of, with_more_at, account_after, HasTask, HasRoom}
 use Rattle.dvs_base.specs.NoteTasks.{energy_of_task}
 
 -- the notes that were told, without their entries
@@ -30,7 +30,7 @@ books_by run idle released finished decisions tasks points = record {
 
 -- a table raised by `more` at place i is the table of a function that is greater by `more` there alone
 raised-table : (n i more : ℕ) (f g : ℕ → ℕ) → i < n → g i ≡ f i + more → ((k : ℕ) → k < n → k ≢ i → g k ≡ f k)
-    → raised (list_below n f) i more ≡ list_below n g
+    → with_more_at (list_below n f) i more ≡ list_below n g
 raised-table n i more f g lt here there =
     set-table n f g i (get_or (list_below n f) i 0 + more) lt (here ∙ ap (λ v. v + more) (sym (get-table n f i 0 lt))) there
 
@@ -88,13 +88,13 @@ same-table : (n : ℕ) (f g : ℕ → ℕ) → ((k : ℕ) → k < n → g k ≡ 
 same-table n f g h = table-same n f (λ k. f k + g k) (λ k lt. omega (arith, h k lt))
 
 -- a table to which something is added at one place is raised there
-added-table : (n i more : ℕ) (f : ℕ → ℕ) → i < n → raised (list_below n f) i more ≡ list_below n (λ k. f k + (if nat_eq i k then more else 0))
+added-table : (n i more : ℕ) (f : ℕ → ℕ) → i < n → with_more_at (list_below n f) i more ≡ list_below n (λ k. f k + (if nat_eq i k then more else 0))
 added-table n i more f lt =
     raised-table n i more f (λ k. f k + (if nat_eq i k then more else 0)) lt (grind (arith, nat_tests)) (λ k l ne. grind (arith, nat_tests))
 
 -- the energy of a note is added to the sum of its entry
 point-table : (points e : ℕ) (note : Note) (told : List Told) → e < points
-    → raised (list_below points (λ k. sum_by (energy_at_point k) told)) e (run_energy_told note + idle_energy_told note)
+    → with_more_at (list_below points (λ k. sum_by (energy_at_point k) told)) e (run_energy_told note + idle_energy_told note)
     ≡ list_below points (λ k. sum_by (energy_at_point k) told + energy_at_point k (note, e))
 point-table points e note told lt = added-table points e (run_energy_told note + idle_energy_told note) (λ k. sum_by (energy_at_point k) told) lt
 
@@ -123,7 +123,7 @@ books-still tasks points told note e released finished decisions run idle task r
 
 -- the account of some notes, with one more, is the account of all of them
 pub booked-sums : (tasks points : ℕ) (told : List Told) (note : Note) (e : ℕ) → HasTask (books_of tasks points told) note → e < points
-    → booked (books_of tasks points told) note e ≡ books_of tasks points (told ++ (note, e) ∷ [])
+    → account_after (books_of tasks points told) note e ≡ books_of tasks points (told ++ (note, e) ∷ [])
 booked-sums tasks points told (Release t i k) e h lt =
     books-still tasks points told (Release t i k) e _ _ _ refl refl (λ k. refl) refl (omega arith) (omega arith)
 booked-sums tasks points told (Speed t f num den) e h lt =
@@ -136,7 +136,7 @@ booked-sums tasks points told (Run from to i k units energy) e h lt = books-more
   decisions_is = omega arith;
   by_task_is = added-table tasks i energy (λ i. sum_by (λ (t : Told). energy_of_task i t.0) told)
       (omega (arith, length-list_below tasks (λ i. sum_by (λ (t : Told). energy_of_task i t.0) told)));
-  by_point_is = (let e : energy + 0 ≡ energy = omega arith in ap (raised (list_below points (λ k. sum_by (energy_at_point k) told)) _) (sym e))
+  by_point_is = (let e : energy + 0 ≡ energy = omega arith in ap (with_more_at (list_below points (λ k. sum_by (energy_at_point k) told)) _) (sym e))
       ∙ point-table points e (Run from to i k units energy) told lt;
 }
 booked-sums tasks points told (Idle from to units energy) e h lt = books-more tasks points told (Idle from to units energy) e _ _ _ _ _ _ _ record {
@@ -146,7 +146,7 @@ booked-sums tasks points told (Idle from to units energy) e h lt = books-more ta
   finished_is = omega arith;
   decisions_is = omega arith;
   by_task_is = same-table tasks _ _ (λ k lt. refl);
-  by_point_is = (let e : 0 + energy ≡ energy = omega arith in ap (raised (list_below points (λ k. sum_by (energy_at_point k) told)) _) (sym e))
+  by_point_is = (let e : 0 + energy ≡ energy = omega arith in ap (with_more_at (list_below points (λ k. sum_by (energy_at_point k) told)) _) (sym e))
       ∙ point-table points e (Idle from to units energy) told lt;
 }
 booked-sums tasks points told (Done q i k used) e h lt =
@@ -155,10 +155,10 @@ booked-sums tasks points told (End t run idle) e h lt =
     books-still tasks points told (End t run idle) e _ _ _ refl refl (λ k. refl) (omega arith) (omega arith) (omega arith)
 
 -- an account that had the sums over some notes has, after one more, the sums over them and it
-pub sums-after : (old new : Books) (note : Note) (e : ℕ) → HasTask old note → e < length old.by_point → new ≡ booked old note e
+pub sums-after : (old new : Books) (note : Note) (e : ℕ) → HasTask old note → e < length old.by_point → new ≡ account_after old note e
     → (tasks points : ℕ) (told : List Told) → old ≡ books_of tasks points told → new ≡ books_of tasks points (told ++ (note, e) ∷ [])
 sums-after old new note e h lt is tasks points told was =
-    is ∙ (ap (λ b. booked b note e) was
+    is ∙ (ap (λ b. account_after b note e) was
     ∙ booked-sums tasks points told note e (subst (λ b. HasTask b note) was h)
     (omega (arith, ap (λ (b : Books). length b.by_point) was, length-list_below points (λ k. sum_by (energy_at_point k) told))))
 
@@ -171,11 +171,11 @@ pub no-books : (tasks points : ℕ) → books_by 0 0 0 0 0 (replicate tasks 0) (
 no-books tasks points = ap₂ (books_by 0 0 0 0 0) (zeros-table tasks) (zeros-table points)
 
 -- a note changes neither the number of tasks nor that of entries
-pub booked-tasks : (b : Books) (note : Note) (e : ℕ) → length (booked b note e).by_task ≡ length b.by_task
+pub booked-tasks : (b : Books) (note : Note) (e : ℕ) → length (account_after b note e).by_task ≡ length b.by_task
 booked-tasks b (Run from to i k units energy) e = length-set b.by_task i (get_or b.by_task i 0 + energy)
 booked-tasks b _ e = refl
 
-pub booked-points : (b : Books) (note : Note) (e : ℕ) → length (booked b note e).by_point ≡ length b.by_point
+pub booked-points : (b : Books) (note : Note) (e : ℕ) → length (account_after b note e).by_point ≡ length b.by_point
 booked-points b (Run from to i k units energy) e = length-set b.by_point e (get_or b.by_point e 0 + energy)
 booked-points b (Idle from to units energy) e = length-set b.by_point e (get_or b.by_point e 0 + energy)
 booked-points b _ e = refl

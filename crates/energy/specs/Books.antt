@@ -37,25 +37,25 @@ KeepsSums old new note e = (tasks points : ℕ) (told : List Told)
     → old ≡ books_of tasks points told → new ≡ books_of tasks points (told ++ (note, e) ∷ [])
 
 -- the list with `more` added at place i
-abbrev pub raised : List ℕ → ℕ → ℕ → List ℕ
-raised xs i more = slice_set xs i (slice_index xs i + more)
+abbrev pub with_more_at : List ℕ → ℕ → ℕ → List ℕ
+with_more_at xs i more = slice_set xs i (slice_index xs i + more)
 
 -- the account after one more note
-abbrev pub booked : Books → Note → ℕ → Books
-booked b (Release tick i k) e = record b { totals = record b.totals { released = b.totals.released + 1 } }
-booked b (Speed tick speed num den) e = record b { totals = record b.totals { decisions = b.totals.decisions + 1 } }
-booked b (Run from to i k units energy) e = record {
+abbrev pub account_after : Books → Note → ℕ → Books
+account_after b (Release tick i k) e = record b { totals = record b.totals { released = b.totals.released + 1 } }
+account_after b (Speed tick speed num den) e = record b { totals = record b.totals { decisions = b.totals.decisions + 1 } }
+account_after b (Run from to i k units energy) e = record {
   totals = record b.totals { run = b.totals.run + energy };
-  by_task = raised b.by_task i energy;
-  by_point = raised b.by_point e energy;
+  by_task = with_more_at b.by_task i energy;
+  by_point = with_more_at b.by_point e energy;
 }
-booked b (Idle from to units energy) e = record {
+account_after b (Idle from to units energy) e = record {
   totals = record b.totals { idle = b.totals.idle + energy };
   by_task = b.by_task;
-  by_point = raised b.by_point e energy;
+  by_point = with_more_at b.by_point e energy;
 }
-booked b (Done at_end i k used) e = record b { totals = record b.totals { finished = b.totals.finished + 1 } }
-booked b (End ticks run idle) e = b
+account_after b (Done at_end i k used) e = record b { totals = record b.totals { finished = b.totals.finished + 1 } }
+account_after b (End ticks run idle) e = b
 
 -- the task that the note names is one of the account's tasks
 abbrev pub HasTask : Books → Note → Type 0

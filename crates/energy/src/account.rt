@@ -1,6 +1,6 @@
 // Accounts of a run's energy.
 ghost use Rattle.std.specs.Prelude.{◌≡◌, ◌<◌, [], IfOk, length, replicate, slice_index};
-ghost use Rattle.energy.specs.Books.{books_of, booked, HasTask, HasRoom, KeepsSums};
+ghost use Rattle.energy.specs.Books.{books_of, account_after, HasTask, HasRoom, KeepsSums};
 
 use dvs_base::{NoMemory, Note, Totals};
 use freq_table::Machine;
@@ -58,7 +58,7 @@ impl Account {
         requires task { HasTask self.old note.now }
         requires point { point < length self.old.by_point }
         requires room { HasRoom self.old note.now point }
-        ensures booked { self.new ≡ booked self.old note.now point }
+        ensures booked { self.new ≡ account_after self.old note.now point }
         // An account that had the sums over some notes has the sums over them and this one.
         ensures sums { KeepsSums self.old self.new note.now point }
     {

@@ -12,8 +12,8 @@ BoundsChoices m units ticks l =
     → n * l.energy ≤ l.rounds * total_cost m xs
 
 -- the choice of the low ticks at corner a, and then the high ticks at corner b
-abbrev pub mixed : Table → Least → ℕ → ℕ → List Choice
-mixed m l a b = replicate l.low_ticks (corner m a) ++ replicate l.high_ticks (corner m b)
+abbrev pub mix_of : Table → Least → ℕ → ℕ → List Choice
+mix_of m l a b = replicate l.low_ticks (corner m a) ++ replicate l.high_ticks (corner m b)
 
 -- the choice at corners a and b, with the low and the high speed, does the units in the ticks, `rounds` times each,
 -- and costs the energy
@@ -22,10 +22,10 @@ pub record IsReachedAt (m : Table) (units ticks : ℕ) (l : Least) (a b : ℕ) :
   pub low : corner_units m a ≡ l.low
   pub high_corner : b ≤ last_corner m
   pub high : corner_units m b ≡ l.high
-  pub choices : AreChoices m (mixed m l a b)
-  pub all_ticks : length (mixed m l a b) ≡ l.rounds * ticks
-  pub all_units : total_units (mixed m l a b) ≡ l.rounds * units
-  pub cost : total_cost m (mixed m l a b) ≡ l.energy
+  pub choices : AreChoices m (mix_of m l a b)
+  pub all_ticks : length (mix_of m l a b) ≡ l.rounds * ticks
+  pub all_units : total_units (mix_of m l a b) ≡ l.rounds * units
+  pub cost : total_cost m (mix_of m l a b) ≡ l.energy
 
 -- the bound is reached over `rounds` repetitions, which are at least one
 pub record IsReached (m : Table) (units ticks : ℕ) (l : Least) : Type 0 where

@@ -16,12 +16,12 @@ use Rattle.sched_model.specs.Plan.{Plan, count, period}
 use Rattle.sched_model.specs.Jobs.{JobDemands, latest, releases_at}
 use Rattle.sched_model.specs.Ticks.{Tick}
 use Rattle.sched_model.specs.Notes.{release_notes}
-use Rattle.sched_model.specs.States.{no_row, row_at, prior_row, prior_base_at, prior_base, released_row, prior_state, after_mark, after_release, after_finish, CanRelease, StateOf, row_of, state_of}
+use Rattle.sched_model.specs.States.{no_row, row_at, prior_row, prior_base_at, prior_base, released_row, prior_state, after_mark, after_release, after_finish, CanRelease, StateView, row_of, state_of}
 use Rattle.sched_model.proofs.Schedules.{length-list_below}
 use Rattle.sched_model.proofs.Tables.{get-table, table-same, set-table}
 use Rattle.sched_model.proofs.JobLaws.{latest-small, lt-due}
 use Rattle.sched_model.proofs.States.{next_job, prior-due, due_released, row-opened, row-kept, state-marked, state-unmarked}
-use Rattle.agenda.specs.Agenda.{NonePast, IsFirstDue, next_job_row, opened}
+use Rattle.agenda.specs.Agenda.{NonePast, IsFirstDue, next_job_row, with_next_job}
 use Rattle.event_kernel.specs.declared.span_trace.SpanTrace.{SpanTrace}
 use Rattle.event_kernel.specs.Segment.{with_notes}
 use Rattle.event_kernel.proofs.SpanBuffer.{with-append}
@@ -44,7 +44,7 @@ module _ (p : Plan) (dem : JobDemands) (past : List Tick) (m i : ℕ) where
   mixed-here le = let here : nat_lt i m ≡ false = grind (arith, nat_tests, le) in rw here refl
 
 -- the state at the boundary with these rows
-abbrev pub with_rows : Plan → JobDemands → List Tick → List Row → StateOf
+abbrev pub with_rows : Plan → JobDemands → List Tick → List Row → StateView
 with_rows p dem past rows = record {
   now = length past;
   rows = rows;
@@ -60,7 +60,7 @@ abbrev pub any_upto : Plan → List Tick → ℕ → Bool
 any_upto p past m = any_below m (λ i. releases_at p i (length past))
 
 -- the first m rows are released, and `any` says whether a job was
-pub record HasReleased (p : Plan) (dem : JobDemands) (past : List Tick) (m : ℕ) (any : Bool) (st : StateOf) : Type 0 where
+pub record HasReleased (p : Plan) (dem : JobDemands) (past : List Tick) (m : ℕ) (any : Bool) (st : StateView) : Type 0 where
   pub state : st ≡ with_rows p dem past (list_below (count p) (mixed p dem past m))
   pub any_is : any ≡ any_upto p past m
 
@@ -112,12 +112,12 @@ module _ (p : Plan) (dem : JobDemands) (past : List Tick) (periods : (i : ℕ) �
       )
 
 module _ {p : Plan} {dem : JobDemands} {past : List Tick} (periods : (i : ℕ) → 0 < period p i) where
-  module _ {m : ℕ} {any : Bool} {st : StateOf} (r : HasReleased p dem past m any st) where
+  module _ {m : ℕ} {any : Bool} {st : StateView} (r : HasReleased p dem past m any st) where
     now-is : st.now ≡ length past
-    now-is = ap (λ (s : StateOf). s.now) r.state
+    now-is = ap (λ (s : StateView). s.now) r.state
 
     row-at : (i : ℕ) → i < count p → row_at st i ≡ mixed p dem past m i
-    row-at i lt = ap (λ (s : StateOf). row_at s i) r.state ∙ get-table (count p) (mixed p dem past m) i no_row lt
+    row-at i lt = ap (λ (s : StateView). row_at s i) r.state ∙ get-table (count p) (mixed p dem past m) i no_row lt
 
     pub row-there : (i : ℕ) → i < count p → m ≤ i → row_at st i ≡ prior_row p dem past i
     row-there i lt le = row-at i lt ∙ mixed-here p dem past m i le
@@ -189,9 +189,9 @@ module _ {p : Plan} {dem : JobDemands} {past : List Tick} (periods : (i : ℕ) �
           ap₂ notes now-is (ap (λ (q : Row). q.job + 1) row ∙ sym (next_job p dem periods past m due_there))
           ∙ sym (ap (λ b. if b then notes (length past) (latest p m (length past)) else []) released_there)
 
-      pub opens : (next : StateOf) → next ≡ opened p st m (needs_nothing dem st m) → HasReleased p dem past (m + 1) true next
+      pub opens : (next : StateView) → next ≡ with_next_job p st m (needs_nothing dem st m) → HasReleased p dem past (m + 1) true next
       opens next is = record {
-        state = is ∙ (ap (λ (s : StateOf). opened p s m (needs_nothing dem s m)) r.state ∙ ap (with_rows p dem past)
+        state = is ∙ (ap (λ (s : StateView). with_next_job p s m (needs_nothing dem s m)) r.state ∙ ap (with_rows p dem past)
             (set-table (count p) (mixed p dem past m) (mixed p dem past (m + 1)) m _ lt here there));
         any_is = sym (or-true (any_upto p past m)) ∙ sym (more p dem past periods m true released_there).0;
       }
@@ -226,7 +226,7 @@ module _ {p : Plan} {dem : JobDemands} {past : List Tick} (periods : (i : ℕ) �
       pub can-release : Bounds p → length past < MOST_TICKS → ((prior_row p dem past m).deadline ≡ length past → (prior_row p dem past m).done ≡ true)
           → CanRelease p st m
       can-release adm early done = record {
-        task = omega (arith, lt, ap (λ (s : StateOf). length s.rows) r.state, length-list_below (count p) (mixed p dem past m));
+        task = omega (arith, lt, ap (λ (s : StateView). length s.rows) r.state, length-list_below (count p) (mixed p dem past m));
         below = lt;
         done = ap (λ (q : Row). q.done) row ∙ done due_there;
         due = due;
@@ -240,22 +240,22 @@ module _ {p : Plan} {dem : JobDemands} {past : List Tick} (periods : (i : ℕ) �
       }
 
   -- with all rows released, the state is that after the boundary
-  all-rows : {any : Bool} {st : StateOf} → HasReleased p dem past (count p) any st
+  all-rows : {any : Bool} {st : StateView} → HasReleased p dem past (count p) any st
       → st ≡ with_rows p dem past (list_below (count p) (row_of p dem past))
   all-rows r = r.state ∙ ap (with_rows p dem past)
       (table-same (count p) (mixed p dem past (count p)) (row_of p dem past)
       (λ i lt. mixed-done p dem past (count p) i lt))
 
-  pub released-marked : {any : Bool} {st : StateOf} → any ≡ true → HasReleased p dem past (count p) any st → after_mark st ≡ state_of p dem past
+  pub released-marked : {any : Bool} {st : StateView} → any ≡ true → HasReleased p dem past (count p) any st → after_mark st ≡ state_of p dem past
   released-marked some r = ap after_mark (all-rows r) ∙ state-marked p dem periods past (sym r.any_is ∙ some)
 
-  pub released-unmarked : {any : Bool} {st : StateOf} → ((i : ℕ) → dem i 0 ≡ 0) → any ≡ false → HasReleased p dem past (count p) any st
+  pub released-unmarked : {any : Bool} {st : StateView} → ((i : ℕ) → dem i 0 ≡ 0) → any ≡ false → HasReleased p dem past (count p) any st
       → st ≡ state_of p dem past
   released-unmarked unneeded none r = all-rows r ∙ state-unmarked p dem periods past unneeded (sym r.any_is ∙ none)
 
 -- a release whose job needs nothing
-pub opened-done : (p : Plan) (dem : JobDemands) (s : StateOf) (i : ℕ) → i < length s.rows → nat_eq (dem i ((row_at s i).job + 1)) 0 ≡ true
-    → after_finish (after_release p s i) i ≡ opened p s i (needs_nothing dem s i)
+pub opened-done : (p : Plan) (dem : JobDemands) (s : StateView) (i : ℕ) → i < length s.rows → nat_eq (dem i ((row_at s i).job + 1)) 0 ≡ true
+    → after_finish (after_release p s i) i ≡ with_next_job p s i (needs_nothing dem s i)
 opened-done p dem s i lt e =
     let row : Row = released_row (period p i) (row_at s i) in
     let read : row_at (after_release p s i) i ≡ row = get_or-set_same s.rows i row no_row lt in
@@ -264,7 +264,7 @@ opened-done p dem s i lt e =
     ∙ ap (λ b. record s { rows = set s.rows i (record row { done = b }) }) (sym e))
 
 -- at a boundary each due row is done
-module _ {demand : OwnDemand} {set : Setting} {s : StateOf} (b : IsAtBoundary set demand s) where
+module _ {demand : OwnDemand} {set : Setting} {s : StateView} (b : IsAtBoundary set demand s) where
   abbrev before : List Tick
   before = course demand set.plan.now (demands_of set.plan.now set.demands.now) s.now
 
@@ -273,12 +273,12 @@ module _ {demand : OwnDemand} {set : Setting} {s : StateOf} (b : IsAtBoundary se
 
   pub prior-done : (i : ℕ) → i < count set.plan.now → (row_before i).deadline ≡ length before → (row_before i).done ≡ true
   prior-done i lt due =
-      let is : row_at s i ≡ row_before i = ap (λ (v : StateOf). row_at v i) b.state ∙ get-table (count set.plan.now) row_before i no_row lt in
+      let is : row_at s i ≡ row_before i = ap (λ (v : StateView). row_at v i) b.state ∙ get-table (count set.plan.now) row_before i no_row lt in
       sym (ap (λ (r : Row). r.done) is)
-      ∙ b.due_done i lt (ap (λ (r : Row). r.deadline) is ∙ (due ∙ sym (ap (λ (v : StateOf). v.now) b.state)))
+      ∙ b.due_done i lt (ap (λ (r : Row). r.deadline) is ∙ (due ∙ sym (ap (λ (v : StateView). v.now) b.state)))
 
 -- the notes of the release of a job that needs nothing
-pub opening-done : (dem : JobDemands) (s : StateOf) (i : ℕ) → dem i ((row_at s i).job + 1) ≡ 0
+pub opening-done : (dem : JobDemands) (s : StateView) (i : ℕ) → dem i ((row_at s i).job + 1) ≡ 0
     → opening_notes dem s i
     ≡ Release s.now i ((row_at s i).job + 1) ∷ Done (record { tick = s.now; offset = 0 }) i ((row_at s i).job + 1) 0 ∷ []
 opening-done dem s i none =

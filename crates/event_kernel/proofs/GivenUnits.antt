@@ -12,11 +12,11 @@ use Rattle.sched_model.specs.declared.holder.Holder.TheVariants.{Nobody, Held}
 use Rattle.grid_fraction.specs.Numbers.{sum_below, any_below, list_below}
 use Rattle.sched_model.specs.Plan.{Plan, count, worst}
 use Rattle.sched_model.specs.Jobs.{JobDemands, latest, due}
-use Rattle.sched_model.specs.Ticks.{Tick, exec, left, share}
+use Rattle.sched_model.specs.Ticks.{Tick, exec, units_left, share}
 use Rattle.sched_model.specs.Priority.{in_order, key_of, stands_before, sum_before}
 use Rattle.sched_model.specs.Greedy.{IsFirstOpen}
 use Rattle.sched_model.specs.Notes.{same_holder, given_units}
-use Rattle.sched_model.specs.States.{no_row, row_at, StateOf, row_of, state_of, key_in}
+use Rattle.sched_model.specs.States.{no_row, row_at, StateView, row_of, state_of, key_in}
 use Rattle.grid_fraction.proofs.Sums.{sum_below-zero, sum_below-same, sum_below-add, sum_below-own}
 use Rattle.sched_model.proofs.Tables.{get-table, table-same, set-table}
 use Rattle.sched_model.proofs.Orders.{before-self, IsAhead, IsOrdered, AreBelow, Stands, first_ahead, stands-in_order, in_order-below, in_order-ordered}
@@ -24,7 +24,7 @@ use Rattle.sched_model.proofs.Allotments.{IsHandedOut, handed-start, handed-step
 use Rattle.grid_fraction.proofs.Searches.{any_below-none, any_below-same, any_below-found}
 use Rattle.sched_model.proofs.States.{row_by}
 use Rattle.agenda.specs.Agenda.{IsFirstUndone}
-use Rattle.event_kernel.specs.Tickwork.{served}
+use Rattle.event_kernel.specs.Tickwork.{after_service}
 use Rattle.event_kernel.proofs.OpenSegment.{Shows}
 
 pub given_units-same : (job given given' : ℕ → ℕ) (n : ℕ) (js : List ℕ) → AreBelow n js → ((j : ℕ) → j < n → given j ≡ given' j)
@@ -109,7 +109,7 @@ module _ (p : Plan) (dem : JobDemands) (past : List Tick) where
   abbrev pub given_row : (ℕ → ℕ) → ℕ → Row
   given_row given i = row_by (due p i (job i)) (job i) (had i + given i) (nat_le (dem i (job i)) (had i + given i)) (worst p i)
 
-  abbrev pub given_state : (ℕ → ℕ) → StateOf
+  abbrev pub given_state : (ℕ → ℕ) → StateView
   given_state given = record {
     now = length past;
     rows = list_below (count p) (given_row given);
@@ -120,8 +120,8 @@ module _ (p : Plan) (dem : JobDemands) (past : List Tick) where
   abbrev pub ends_in : (ℕ → ℕ) → ℕ → Bool
   ends_in given i = not (nat_le (dem i (job i)) (had i)) && nat_le (dem i (job i)) (had i + given i)
 
-  pub record HasHanded (f : ℕ) (given : ℕ → ℕ) (rest : ℕ) (completed : Bool) (st : StateOf) : Type 0 where
-    pub handed : IsHandedOut (count p) key f (left p dem past) given rest
+  pub record HasHanded (f : ℕ) (given : ℕ → ℕ) (rest : ℕ) (completed : Bool) (st : StateView) : Type 0 where
+    pub handed : IsHandedOut (count p) key f (units_left p dem past) given rest
     pub state : st ≡ given_state given
     pub sum : sum_below (count p) given + rest ≡ f
     pub ends : completed ≡ any_below (count p) (ends_in given)
@@ -139,7 +139,7 @@ module _ (p : Plan) (dem : JobDemands) (past : List Tick) where
 
   pub start : (f : ℕ) → HasHanded f (λ _. 0) f false (state_of p dem past)
   start f = record {
-    handed = handed-start (count p) key f (left p dem past);
+    handed = handed-start (count p) key f (units_left p dem past);
     state = start-state;
     sum = omega (arith, sum_below-zero (count p) (λ _. 0) (λ i lt. refl));
     ends = sym (any_below-none (count p) (ends_in (λ _. 0)) (λ i lt. none_ends i));
@@ -152,10 +152,10 @@ module _ (p : Plan) (dem : JobDemands) (past : List Tick) where
   pub start-units : units_by (λ _. 0) ≡ []
   start-units = laid_none (in_order key (count p))
 
-  module _ {f rest : ℕ} {given : ℕ → ℕ} {completed : Bool} {st : StateOf} (h : HasHanded f given rest completed st) where
+  module _ {f rest : ℕ} {given : ℕ → ℕ} {completed : Bool} {st : StateView} (h : HasHanded f given rest completed st) where
     -- each row of the state after some units
     pub row-is : (i : ℕ) → i < count p → row_at st i ≡ given_row given i
-    row-is i lt = ap (λ (s : StateOf). row_at s i) h.state ∙ get-table (count p) (given_row given) i no_row lt
+    row-is i lt = ap (λ (s : StateView). row_at s i) h.state ∙ get-table (count p) (given_row given) i no_row lt
 
     pub shows : ((i : ℕ) → i < count p → had i ≤ dem i (job i)) → Shows p dem (length past) st (λ i. had i + given i)
     shows within = record {
@@ -171,14 +171,14 @@ module _ (p : Plan) (dem : JobDemands) (past : List Tick) where
         go Edf = ap (λ (r : Row). r.deadline) (row-is i lt)
         go Rm = refl
 
-    all-had : (k : ℕ) → k < count p → (row_at st k).done ≡ true → left p dem past k ≤ given k
+    all-had : (k : ℕ) → k < count p → (row_at st k).done ≡ true → units_left p dem past k ≤ given k
     all-had k lt d =
         let done_row : nat_le (dem k (job k)) (had k + given k) ≡ true = sym (ap (λ (r : Row). r.done) (row-is k lt)) ∙ d in
         let enough : dem k (job k) ≤ had k + given k = grind (arith, nat_tests) in
         omega (arith, enough)
 
     -- the first row that is not done is the first open task
-    pub first-open : (i : ℕ) → IsFirstUndone p st (count p) i → IsFirstOpen (count p) key (left p dem past) given i
+    pub first-open : (i : ℕ) → IsFirstUndone p st (count p) i → IsFirstOpen (count p) key (units_left p dem past) given i
     first-open i u = record {
       below = u.below;
       needs =
@@ -189,30 +189,30 @@ module _ (p : Plan) (dem : JobDemands) (past : List Tick) where
           (ap₂ (λ x y. nat_lt x y || (nat_eq x y && nat_lt k i)) (key-is k lt) (key-is i u.below) ∙ b));
     }
 
-    pub none-open : ((k : ℕ) → k < count p → (row_at st k).done ≡ true) → (k : ℕ) → k < count p → left p dem past k ≤ given k
+    pub none-open : ((k : ℕ) → k < count p → (row_at st k).done ≡ true) → (k : ℕ) → k < count p → units_left p dem past k ≤ given k
     none-open d k lt = all-had k lt (d k lt)
 
     -- the units are handed out further after one task gets its share
-    pub gives : (next : StateOf) (i share : ℕ) (whole now : Bool) → 0 < rest
+    pub gives : (next : StateView) (i share : ℕ) (whole now : Bool) → 0 < rest
         → ((i : ℕ) → i < count p → had i ≤ dem i (job i))
-        → IsFirstOpen (count p) key (left p dem past) given i
+        → IsFirstOpen (count p) key (units_left p dem past) given i
         → share ≡ min rest (dem i (job i) - (had i + given i))
         → whole ≡ nat_eq share (dem i (job i) - (had i + given i))
-        → next ≡ served st i share whole
+        → next ≡ after_service st i share whole
         → now ≡ (completed || whole)
         → HasHanded f (raised given i share) (rest - share) now next
     gives next i share whole now pos within o se we ne ce = record {
-      handed = subst (λ v. IsHandedOut (count p) key f (left p dem past) (raised given i share) (rest - v)) (sym short)
-          (handed-step (count p) key f (left p dem past) given (raised given i share) rest i h.handed pos o
+      handed = subst (λ v. IsHandedOut (count p) key f (units_left p dem past) (raised given i share) (rest - v)) (sym short)
+          (handed-step (count p) key f (units_left p dem past) given (raised given i share) rest i h.handed pos o
           (raised-here given i share ∙ ap (λ v. given i + v) short) (λ k lt other. raised-there given i share k other));
-      state = ne ∙ (ap (λ (s : StateOf). served s i share whole) h.state
+      state = ne ∙ (ap (λ (s : StateView). after_service s i share whole) h.state
           ∙ ap (λ rows. record { now = length past; rows = rows; base_at = (state_of p dem past).base_at; base = (state_of p dem past).base })
           (set-table (count p) (given_row given) (given_row (raised given i share)) i _ o.below here there));
       sum = omega (arith, sum-raised (count p) given i share o.below, h.sum, se);
       ends = ce ∙ by_whole whole (sym we);
     }
       where
-        short : share ≡ min rest (left p dem past i - given i)
+        short : share ≡ min rest (units_left p dem past i - given i)
         short = se ∙ ap (λ v. min rest v) (omega arith)
 
         needs : had i + given i < dem i (job i)
@@ -267,7 +267,7 @@ module _ (p : Plan) (dem : JobDemands) (past : List Tick) where
                 ap (λ g. not (nat_le (dem k (job k)) (had k)) && nat_le (dem k (job k)) (had k + g)) (sym (raised-there given i share k other))
 
     -- the share of a task comes behind all units that were given
-    pub gives-units : (i share : ℕ) → 0 < rest → IsFirstOpen (count p) key (left p dem past) given i
+    pub gives-units : (i share : ℕ) → 0 < rest → IsFirstOpen (count p) key (units_left p dem past) given i
         → units_by (raised given i share) ≡ units_by given ++ replicate share (Held i (job i))
     gives-units i share pos o =
         subst (λ js. given_units (raised given i share) job js ≡ given_units given job js ++ replicate (raised given i share i) (Held i (job i)))
@@ -275,14 +275,14 @@ module _ (p : Plan) (dem : JobDemands) (past : List Tick) where
         (given_units-step key job given (raised given i share) (count p) i place.0 place.1.0
         (subst (AreBelow (count p)) place.1.1 (in_order-below key (count p))) (subst (IsOrdered key) place.1.1 (in_order-ordered key (count p)))
         now.0 (λ j lt other. raised-there given i share j other)
-        (λ j lt b. omega (arith, h.handed.given_is j lt, now.0, now.1, up_to-before (count p) key (left p dem past) i j o.below b)))
+        (λ j lt b. omega (arith, h.handed.given_is j lt, now.0, now.1, up_to-before (count p) key (units_left p dem past) i j o.below b)))
         ∙ ap (λ m. units_by given ++ replicate m (Held i (job i))) (raised-here given i share ∙ omega (arith, now.0))
       where
         place : Stands i (in_order key (count p))
         place = stands-in_order key (count p) i o.below
 
-        now : (given i ≡ 0) × (f - rest ≡ sum_before (count p) key (left p dem past) i)
-        now = handed_before (count p) key f (left p dem past) given rest h.handed pos i o
+        now : (given i ≡ 0) × (f - rest ≡ sum_before (count p) key (units_left p dem past) i)
+        now = handed_before (count p) key f (units_left p dem past) given rest h.handed pos i o
 
   -- what each task has had after the share
   pub gives-had : (given : ℕ → ℕ) (i share k : ℕ)

@@ -5,7 +5,7 @@ use Rattle.dvs_base.specs.declared.kind.GovernorKind.{GovernorKind}
 use Rattle.demand_list.specs.Demands.{IsWithinWorsts}
 use Rattle.sched_model.specs.Plan.{Plan}
 use Rattle.sched_model.specs.Admission.{IsAdmitted}
-use Rattle.sched_model.specs.States.{StateOf}
+use Rattle.sched_model.specs.States.{StateView}
 use Rattle.sched_model.specs.Totals.{totals_of}
 use Rattle.sched_model.proofs.Schedules.{schedule_exists}
 use Rattle.note_laws.specs.LineCounts.{AreFew}
@@ -18,8 +18,8 @@ use Rattle.event_kernel.specs.Runs.{Run, demands_of, run_ticks, notes_of_run, Is
 use Rattle.event_kernel.specs.MetRun.{IsMetRun}
 use Rattle.event_kernel.proofs.ListedDemands.{demand-within}
 
-pub run-met : (kind : GovernorKind) (serves : Scheduler → Type 0) (demand : OwnDemand) (calm : Plan → StateOf → Type 0)
-    (safe : Plan → StateOf → ℕ → Type 0) → GovernorLaws kind serves demand calm safe → (r : Run) → IsAdmitted r.plan → IsListOf r.plan r.demands
+pub run-met : (kind : GovernorKind) (serves : Scheduler → Type 0) (demand : OwnDemand) (calm : Plan → StateView → Type 0)
+    (safe : Plan → StateView → ℕ → Type 0) → GovernorLaws kind serves demand calm safe → (r : Run) → IsAdmitted r.plan → IsListOf r.plan r.demands
     → IsWithinWorsts r.demands → serves r.plan.scheduler → IsMetRun kind demand r
 run-met kind serves demand calm safe laws r adm list low served =
     let dem = demands_of r.plan r.demands in

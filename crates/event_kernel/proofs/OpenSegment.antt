@@ -12,11 +12,11 @@ use Rattle.sched_model.specs.Plan.{Plan, count, point}
 use Rattle.sched_model.specs.Jobs.{JobDemands, latest}
 use Rattle.sched_model.specs.Ticks.{PublishedDemand, exec}
 use Rattle.sched_model.specs.Notes.{same_holder, Span, Piece, pieces_of, position_of, run_energy, had_by, segment_notes, pieces_notes, all_release_notes}
-use Rattle.sched_model.specs.States.{row_at, StateOf}
+use Rattle.sched_model.specs.States.{row_at, StateView}
 use Rattle.sched_model.proofs.PieceLemmas.{piece, same_holder-eq, pieces_of-run, total, total-pieces}
 use Rattle.event_kernel.specs.declared.segment.Segment.{Segment}
 use Rattle.event_kernel.specs.declared.span_trace.SpanTrace.{SpanTrace}
-use Rattle.event_kernel.specs.Segment.{grown, notes_with, IsOpen, holder_notes, written_notes, after_segment, is_turn, with_units, entered}
+use Rattle.event_kernel.specs.Segment.{span_with, notes_with, IsOpen, holder_notes, written_notes, after_segment, is_turn, with_units, after_units}
 use Rattle.event_kernel.specs.SpanNotes.{kept_notes}
 use Rattle.event_kernel.proofs.SpanBuffer.{kept_notes-then}
 use Rattle.grid_fraction.proofs.Counts.{count-append}
@@ -24,7 +24,7 @@ use Rattle.event_kernel.specs.SpanTraces.{HeldNow, HoldsSpan}
 use Rattle.event_kernel.proofs.Pieces.{pieces_of-more, pieces_of-other, total-append, pieces_notes-append, pieces_notes-grown}
 
 -- the rows of a state show what the latest jobs have had
-pub record Shows (p : Plan) (dem : JobDemands) (t : ℕ) (st : StateOf) (used : ℕ → ℕ) : Type 0 where
+pub record Shows (p : Plan) (dem : JobDemands) (t : ℕ) (st : StateView) (used : ℕ → ℕ) : Type 0 where
   pub used_is : (i : ℕ) → i < count p → (row_at st i).used ≡ used i
   pub done_is : (i : ℕ) → i < count p → (row_at st i).done ≡ nat_le (dem i (latest p i t)) (used i)
   pub within : (i : ℕ) → i < count p → used i ≤ dem i (latest p i t)
@@ -34,7 +34,7 @@ test_same d u le = grind (arith, nat_tests, le)
 
 module _ (p : Plan) (dem : JobDemands) (ask : PublishedDemand) (t : ℕ) where
   -- the last segment's notes are those that the state's rows show
-  pub tells : (s : Span) (used : ℕ → ℕ) (st : StateOf) (q u : ℕ) (h : Holder) → HeldNow p t h → q + u ≡ length s.units
+  pub tells : (s : Span) (used : ℕ → ℕ) (st : StateView) (q u : ℕ) (h : Holder) → HeldNow p t h → q + u ≡ length s.units
       → ((i : ℕ) → i < count p → exec p s.past i (latest p i t) + count_by (same_holder (Held i (latest p i t))) s.units ≡ used i)
       → Shows p dem t st used
       → segment_notes p dem s q u h ≡ holder_notes p st (position_of (length s.past) ((point p s.entry).speed)) s.entry q u h
@@ -82,11 +82,11 @@ module _ (p : Plan) (dem : JobDemands) (ask : PublishedDemand) (t : ℕ) where
       omega (arith, total-pieces us, ap total e, total-append done (piece seg.holder seg.units ∷ []), place)
 
   -- the trace after units of a holder holds the longer span
-  pub enters : (s : Span) (used used' : ℕ → ℕ) (most : ℕ) (st : StateOf) (h : Holder) (n : ℕ) (trace : SpanTrace) → 0 < n
+  pub enters : (s : Span) (used used' : ℕ → ℕ) (most : ℕ) (st : StateView) (h : Holder) (n : ℕ) (trace : SpanTrace) → 0 < n
       → HoldsSpan p dem ask t s used most trace → Shows p dem t st used
       → HeldNow p t h
       → ((i : ℕ) → i < count p → used i + count_by (same_holder (Held i (latest p i t))) (replicate n h) ≡ used' i)
-      → HoldsSpan p dem ask t (grown s (replicate n h)) used' (most + n) (entered p st (length s.past) s.entry h n trace)
+      → HoldsSpan p dem ask t (span_with s (replicate n h)) used' (most + n) (after_units p st (length s.past) s.entry h n trace)
   enters s used used' most st h zero trace some w shows now more = absurd (omega arith)
   enters s used used' most st h (suc m) trace some w shows now more = go w.segments
     where
@@ -94,7 +94,7 @@ module _ (p : Plan) (dem : JobDemands) (ask : PublishedDemand) (t : ℕ) where
       n = suc m
 
       longer : Span
-      longer = grown s (replicate n h)
+      longer = span_with s (replicate n h)
 
       long : length longer.units ≡ length s.units + n
       long = omega (arith, length-append s.units (replicate n h), length-replicate n h)
@@ -114,7 +114,7 @@ module _ (p : Plan) (dem : JobDemands) (ask : PublishedDemand) (t : ℕ) where
 
       -- the holder of the open segment has the units: the segment grows
       grows : is_turn trace h ≡ false → pieces_of longer.units ≡ w.done ++ piece h (trace.segment.units + n) ∷ [] → total w.done ≤ length s.units
-          → HoldsSpan p dem ask t longer used' (most + n) (entered p st (length s.past) s.entry h n trace)
+          → HoldsSpan p dem ask t longer used' (most + n) (after_units p st (length s.past) s.entry h n trace)
       grows is e le = subst (λ b. HoldsSpan p dem ask t longer used' (most + n) (turned b)) (sym is) (record {
         done = w.done;
         segments = inr (omega arith, e);
@@ -127,7 +127,8 @@ module _ (p : Plan) (dem : JobDemands) (ask : PublishedDemand) (t : ℕ) where
 
       -- another holder has the units: the open segment ends
       turns : 0 < trace.segment.units → pieces_of s.units ≡ w.done ++ piece trace.segment.holder trace.segment.units ∷ []
-          → (b : Bool) → same_holder trace.segment.holder h ≡ b → HoldsSpan p dem ask t longer used' (most + n) (entered p st (length s.past) s.entry h n trace)
+          → (b : Bool) → same_holder trace.segment.holder h ≡ b
+                  → HoldsSpan p dem ask t longer used' (most + n) (after_units p st (length s.past) s.entry h n trace)
       turns pos e true same =
           let like : trace.segment.holder ≡ h = same_holder-eq trace.segment.holder h same in
           let some_units : nat_lt 0 trace.segment.units ≡ true = grind (arith, nat_tests) in
@@ -157,7 +158,7 @@ module _ (p : Plan) (dem : JobDemands) (ask : PublishedDemand) (t : ℕ) where
                 ∙ tells s used st trace.segment.start trace.segment.units trace.segment.holder w.taken w.place w.had shows))));
           })
 
-      go : IsOpen trace.segment w.done s.units → HoldsSpan p dem ask t longer used' (most + n) (entered p st (length s.past) s.entry h n trace)
+      go : IsOpen trace.segment w.done s.units → HoldsSpan p dem ask t longer used' (most + n) (after_units p st (length s.past) s.entry h n trace)
       go (inl q) =
           grows (ap (λ u. nat_lt 0 u && not (same_holder trace.segment.holder h)) q.2)
           (let same : n ≡ trace.segment.units + n = omega (arith, q.2) in

@@ -10,7 +10,7 @@ use Rattle.sched_model.specs.Jobs.{JobDemands}
 use Rattle.sched_model.specs.Ticks.{exec}
 use Rattle.sched_model.specs.Notes.{same_holder, Span, Piece, pieces_of, position_of, run_energy, segment_notes, pieces_notes}
 use Rattle.sched_model.proofs.PieceLemmas.{piece, same_holder-refl, with_unit, pieces_of-push, total}
-use Rattle.event_kernel.specs.Segment.{grown}
+use Rattle.event_kernel.specs.Segment.{span_with}
 
 unit-snoc : (done : List Piece) (r : Piece) (h : Holder) → with_unit (done ++ r ∷ []) h ≡ done ++ with_unit (r ∷ []) h
 unit-snoc [] r h = refl
@@ -56,7 +56,7 @@ pieces_notes-append p dem s q (r ∷ rs) qs =
 
 -- a segment's notes don't change as the span grows
 segment_notes-grown : (p : Plan) (dem : JobDemands) (s : Span) (more : List Holder) (q u : ℕ) (h : Holder) → q + u ≤ length s.units
-    → segment_notes p dem (grown s more) q u h ≡ segment_notes p dem s q u h
+    → segment_notes p dem (span_with s more) q u h ≡ segment_notes p dem s q u h
 segment_notes-grown p dem s more q u Nobody le = refl
 segment_notes-grown p dem s more q u (Held i k) le =
     let same : take (q + u) (s.units ++ more) ≡ take (q + u) s.units = take-append-le (q + u) s.units more le in
@@ -66,7 +66,7 @@ segment_notes-grown p dem s more q u (Held i k) le =
     (ap (λ us. exec p s.past i k + count_by (same_holder (Held i k)) us) same)
 
 pub pieces_notes-grown : (p : Plan) (dem : JobDemands) (s : Span) (more : List Holder) (q : ℕ) (rs : List Piece) → q + total rs ≤ length s.units
-    → pieces_notes p dem (grown s more) q rs ≡ pieces_notes p dem s q rs
+    → pieces_notes p dem (span_with s more) q rs ≡ pieces_notes p dem s q rs
 pieces_notes-grown p dem s more q [] le = refl
 pieces_notes-grown p dem s more q (r ∷ rs) le =
     ap₂ (λ a b. a ++ b) (segment_notes-grown p dem s more q r.units r.holder (omega arith)) (pieces_notes-grown p dem s more (q + r.units) rs (omega arith))

@@ -9,10 +9,10 @@ use Rattle.grid_fraction.proofs.Least.{least-below, least-above, least-found}
 use Rattle.sched_model.specs.declared.state.Row.{Row}
 use Rattle.sched_model.specs.Plan.{Plan, count, point}
 use Rattle.sched_model.specs.Jobs.{JobDemands, latest}
-use Rattle.sched_model.specs.Ticks.{Tick, exec, left, share}
+use Rattle.sched_model.specs.Ticks.{Tick, exec, units_left, share}
 use Rattle.sched_model.specs.Priority.{allotment, sum_before}
 use Rattle.sched_model.specs.Decision.{completes_in}
-use Rattle.sched_model.specs.States.{no_row, row_at, prior_row, prior_state, row_of, CanRun, IsOfPlan, StateOf, after_advance, earliest_in}
+use Rattle.sched_model.specs.States.{no_row, row_at, prior_row, prior_state, row_of, CanRun, IsOfPlan, StateView, after_advance, earliest_in}
 use Rattle.sched_model.specs.Greedy.{IsFirstOpen}
 use Rattle.sched_model.proofs.Tables.{get-table}
 use Rattle.sched_model.proofs.Allotments.{handed_before}
@@ -40,7 +40,7 @@ use Rattle.event_kernel.proofs.SpanSteps.{ends-span}
 use Rattle.event_kernel.proofs.QuietStep.{run_on, row-served, due-served, first-served}
 
 -- the first row that is not done, from the two clauses of the search for it
-pub is-first : (p : Plan) (s : StateOf) (r : Option ℕ) → IfNone r ((k : ℕ) → k < count p → (row_at s k).done ≡ true)
+pub is-first : (p : Plan) (s : StateView) (r : Option ℕ) → IfNone r ((k : ℕ) → k < count p → (row_at s k).done ≡ true)
     → IfSome r (λ i. IsFirstUndone p s (count p) i) → IsFirst p s r
 is-first p s None none first = none
 is-first p s (Some i) none first = first
@@ -55,7 +55,7 @@ module _ {set : Setting} (ok : IsSetting set) where
   adm : Bounds p
   adm = bounds p ok.admitted
 
-  module _ {demand : OwnDemand} {force : InForce} {st : StateOf} {trace : SpanTrace} (here : IsInSpan set demand force st.now st trace) where
+  module _ {demand : OwnDemand} {force : InForce} {st : StateView} {trace : SpanTrace} (here : IsInSpan set demand force st.now st trace) where
     abbrev f : ℕ
     f = (point p force.index).speed
 
@@ -67,14 +67,14 @@ module _ {set : Setting} (ok : IsSetting set) where
 
     pub of-plan : IsOfPlan p st
     of-plan =
-        subst (λ (s : StateOf). IsOfPlan p s) (sym here.state)
+        subst (λ (s : StateView). IsOfPlan p s) (sym here.state)
         (of-state p dem (course demand p dem st.now) (low-exec demand p dem st.now ok.within))
 
     now-is : st.now ≡ length (course demand p dem st.now)
-    now-is = ap (λ (s : StateOf). s.now) here.state
+    now-is = ap (λ (s : StateView). s.now) here.state
 
     before : IsBeforeAll p st
-    before = subst (λ (s : StateOf). IsBeforeAll p s) (sym here.state) (at-decision p adm dem (course demand p dem st.now)).before
+    before = subst (λ (s : StateView). IsBeforeAll p s) (sym here.state) (at-decision p adm dem (course demand p dem st.now)).before
 
     pub first-event : st.now < min set.ticks (earliest_in p st)
     first-event =
@@ -194,7 +194,7 @@ module _ {set : Setting} (ok : IsSetting set) where
         ))
 
   -- after the last tick the span ends
-  module _ {demand : OwnDemand} {force : InForce} {s0 s : StateOf} {trace0 trace : SpanTrace} {completed : Bool}
+  module _ {demand : OwnDemand} {force : InForce} {s0 s : StateView} {trace0 trace : SpanTrace} {completed : Bool}
       (here : IsInSpan set demand force s0.now s0 trace0) (h : HasWorked set demand s0.now s trace completed) where
     abbrev past : List Tick
     past = course demand p dem s0.now
@@ -203,18 +203,18 @@ module _ {set : Setting} (ok : IsSetting set) where
     x = tick_at demand p dem s0.now
 
     row-then : (i : ℕ) → i < count p → row_at s0 i ≡ row_of p dem past i
-    row-then i lt = ap (λ (v : StateOf). row_at v i) here.state ∙ get-table (count p) (row_of p dem past) i no_row lt
+    row-then i lt = ap (λ (v : StateView). row_at v i) here.state ∙ get-table (count p) (row_of p dem past) i no_row lt
 
     row-now : (i : ℕ) → i < count p → row_at s i ≡ prior_row p dem (x ∷ past) i
     row-now i lt =
-        ap (λ (v : StateOf). row_at v i) (h.state ∙ ap (prior_state p dem) (course-next demand p dem s0.now)) ∙ get-table (count p)
+        ap (λ (v : StateView). row_at v i) (h.state ∙ ap (prior_state p dem) (course-next demand p dem s0.now)) ∙ get-table (count p)
         (prior_row p dem (x ∷ past)) i no_row lt
 
     is-due : (i : ℕ) → i < count p → (row_at s0 i).deadline ≡ s0.now + 1 → some_due p s ≡ true
     is-due i lt d =
         let same : (row_at s i).deadline ≡ (row_at s0 i).deadline = ap (λ (r : Row). r.deadline) (row-now i lt)
         ∙ sym (ap (λ (r : Row). r.deadline) (row-then i lt)) in
-        let now : s.now ≡ s0.now + 1 = ap (λ (v : StateOf). v.now) h.state ∙ course-len demand p dem (s0.now + 1) in
+        let now : s.now ≡ s0.now + 1 = ap (λ (v : StateView). v.now) h.state ∙ course-len demand p dem (s0.now + 1) in
         any_below-found (count p) (λ k. nat_eq (row_at s k).deadline s.now) i lt (grind (arith, nat_tests, same, now, d))
 
     is-complete : (i : ℕ) → IsFirstUndone p s0 (count p) i → dem i (row_at s0 i).job ≤ (row_at s0 i).used + (point p force.index).speed → completed ≡ true
@@ -239,19 +239,19 @@ module _ {set : Setting} (ok : IsSetting set) where
         speed : (point p force.index).speed ≡ (point p x.entry).speed
         speed = ap (λ m. (point p m).speed) here.in_force
 
-        o : IsFirstOpen (count p) (key p dem past) (left p dem past) (λ _. 0) i
+        o : IsFirstOpen (count p) (key p dem past) (units_left p dem past) (λ _. 0) i
         o =
             let f = (point p force.index).speed in
-            first-open p dem past (subst (λ (v : StateOf). HasHanded p dem past f (λ _. 0) f false v) (sym here.state) (start p dem past f)) i first
+            first-open p dem past (subst (λ (v : StateView). HasHanded p dem past f (λ _. 0) f false v) (sym here.state) (start p dem past f)) i first
 
-        none : 0 ≡ sum_before (count p) (key p dem past) (left p dem past) i
-        none = (let b = (handed_before (count p) (key p dem past) (point p force.index).speed (left p dem past) (λ _. 0) (point p force.index).speed
+        none : 0 ≡ sum_before (count p) (key p dem past) (units_left p dem past) i
+        none = (let b = (handed_before (count p) (key p dem past) (point p force.index).speed (units_left p dem past) (λ _. 0) (point p force.index).speed
             (start p dem past (point p force.index).speed).handed (some-speed here) i o).1 in omega (arith, b))
 
-        gets : share x i ≡ allotment (count p) (key p dem past) (point p x.entry).speed (left p dem past) i
-        gets = get-table (count p) (allotment (count p) (key p dem past) (point p x.entry).speed (left p dem past)) i 0 first.below
+        gets : share x i ≡ allotment (count p) (key p dem past) (point p x.entry).speed (units_left p dem past) i
+        gets = get-table (count p) (allotment (count p) (key p dem past) (point p x.entry).speed (units_left p dem past)) i 0 first.below
 
-        own : share x i ≤ left p dem past i
+        own : share x i ≤ units_left p dem past i
         own = omega (arith, gets)
 
         all : had + share x i ≡ exec p (x ∷ past) i k

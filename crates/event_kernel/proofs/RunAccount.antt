@@ -12,7 +12,7 @@ use Rattle.sched_model.specs.Notes.{run_energy_told, idle_energy_told}
 use Rattle.sched_model.specs.Totals.{totals_of}
 use Rattle.sched_model.proofs.Schedules.{length-list_below}
 use Rattle.note_laws.proofs.FewNotes.{IsNoteIn}
-use Rattle.energy.specs.Books.{Books, Told, books_of, booked, energy_at_point, HasTask, HasRoom}
+use Rattle.energy.specs.Books.{Books, Told, books_of, account_after, energy_at_point, HasTask, HasRoom}
 use Rattle.dvs_base.specs.NoteTasks.{energy_of_task}
 use Rattle.energy.proofs.Books.{booked-sums, has-room, task-sums}
 use Rattle.event_kernel.specs.SpanNotes.{all_booked, CanBook, HasBooked}
@@ -29,11 +29,11 @@ module _ (p : Plan) where
 
   -- the account after one more note
   booked-next : (b : Books) (notes : List Note) (n : Note) (e : ℕ) → HasBooked p b notes → HasTask b n → e < points
-      → HasBooked p (booked b n e) (notes ++ n ∷ [])
+      → HasBooked p (account_after b n e) (notes ++ n ∷ [])
   booked-next b notes n e h task lt = record {
     told = h.told ++ (n, e) ∷ [];
     notes_are = map-append (λ (t : Told). t.0) h.told ((n, e) ∷ []) ∙ ap (λ ns. ns ++ n ∷ []) h.notes_are;
-    books = ap (λ (c : Books). booked c n e) h.books
+    books = ap (λ (c : Books). account_after c n e) h.books
         ∙ booked-sums (count p) points h.told n e (subst (λ (c : Books). HasTask c n) h.books task) lt;
   }
 
@@ -73,8 +73,8 @@ module _ (p : Plan) where
   book-all (n ∷ ns) b notes e h all lt =
       let room = note-fits b notes n ns e h all lt in
       let one : notes ++ n ∷ ns ≡ (notes ++ n ∷ []) ++ ns = sym (append_assoc notes (n ∷ []) ns) in
-      let more = book-all ns (booked b n e) (notes ++ n ∷ []) e (booked-next b notes n e h room.0 lt) (subst (AreBooked p) one all) lt in
-      ((room.0, room.1, more.0), subst (HasBooked p (all_booked (booked b n e) ns e)) (sym one) more.1)
+      let more = book-all ns (account_after b n e) (notes ++ n ∷ []) e (booked-next b notes n e h room.0 lt) (subst (AreBooked p) one all) lt in
+      ((room.0, room.1, more.0), subst (HasBooked p (all_booked (account_after b n e) ns e)) (sym one) more.1)
 
   -- an account has a sum for each entry
   pub booked-points : (b : Books) (notes : List Note) → HasBooked p b notes → length b.by_point ≡ points

@@ -14,7 +14,7 @@ use Rattle.sched_model.specs.Ticks.{Tick}
 use Rattle.governor.specs.Meanings.{OwnDemand}
 use Rattle.governor.specs.Schedule.{course}
 use Rattle.sched_model.specs.Notes.{notes_before_end, run_energy_told, idle_energy_told}
-use Rattle.sched_model.specs.States.{prior_state, StateOf}
+use Rattle.sched_model.specs.States.{prior_state, StateView}
 use Rattle.sched_model.specs.Totals.{totals_of, is_released, is_finished, is_decided}
 use Rattle.energy.specs.Books.{Books}
 use Rattle.event_kernel.specs.declared.span_trace.SpanTrace.{SpanTrace}
@@ -33,7 +33,7 @@ use Rattle.event_kernel.proofs.NoteRoom.{AreBooked, course-fits}
 use Rattle.event_kernel.proofs.SpanSteps.{closing-notes}
 use Rattle.event_kernel.proofs.Courses.{course-len}
 
-module _ {demand : OwnDemand} {set : Setting} (ok : IsSetting set) {force : InForce} {s : StateOf} {trace : SpanTrace}
+module _ {demand : OwnDemand} {set : Setting} (ok : IsSetting set) {force : InForce} {s : StateView} {trace : SpanTrace}
     (h : HasWalked set demand force (s.now - 1) s trace) where
   abbrev p : Plan
   p = set.plan.now
@@ -64,10 +64,10 @@ module _ (demand : OwnDemand) (set : Setting) where
   up_to = notes_before demand set.plan.now jobs
 
   -- the opening state is before the first span, at tick 0, and has no notes
-  pub first-between : {s : StateOf} → s ≡ prior_state set.plan.now jobs [] → IsBetween set demand s × (up_to s.now ≡ []) × (s.now ≡ 0)
+  pub first-between : {s : StateView} → s ≡ prior_state set.plan.now jobs [] → IsBetween set demand s × (up_to s.now ≡ []) × (s.now ≡ 0)
   unfolding schedule_by notes_before_end
   first-between {s} e =
-      let now : s.now ≡ 0 = ap (λ (v : StateOf). v.now) e in
+      let now : s.now ≡ 0 = ap (λ (v : StateView). v.now) e in
       let past : ℕ → List Tick = course demand set.plan.now jobs in (
         record {
           state = subst (λ n. s ≡ prior_state set.plan.now jobs (past n)) (sym now) e;

@@ -17,7 +17,7 @@ use Rattle.sched_model.specs.Ticks.{PublishedDemand, Tick, at, exec, IsMet}
 use Rattle.sched_model.specs.Decision.{is_decision}
 use Rattle.sched_model.specs.Schedule.{entry_in_force, schedule_by}
 use Rattle.sched_model.specs.Notes.{Span, spans_of, pieces_of, same_holder, position_of, all_release_notes, span_notes, segment_notes, notes_before_end}
-use Rattle.sched_model.specs.States.{row_at, prior_row, prior_state, StateOf, state_of}
+use Rattle.sched_model.specs.States.{row_at, prior_row, prior_state, StateView, state_of}
 use Rattle.sched_model.proofs.Schedules.{length-list_below, force-decided}
 use Rattle.sched_model.proofs.Limits.{every_period}
 use Rattle.sched_model.proofs.Spans.{notes-span, stays}
@@ -115,16 +115,16 @@ module _ (demand : OwnDemand) (p : Plan) (dem : JobDemands) where
 
   -- whether a decision follows a tick
   module _ (periods : (i : ℕ) → 0 < period p i) where
-    pub due-is : (past : List Tick) (s : StateOf) → s ≡ prior_state p dem past → some_due p s ≡ is_release p (length past)
+    pub due-is : (past : List Tick) (s : StateView) → s ≡ prior_state p dem past → some_due p s ≡ is_release p (length past)
     due-is past s e =
         any_below-same (count p) (λ i. nat_eq (row_at s i).deadline s.now) (λ i. releases_at p i (length past))
-        (λ i lt. one i (ap (λ (v : StateOf). row_at v i) e ∙ row_at-prior_state p dem past i lt)
+        (λ i lt. one i (ap (λ (v : StateView). row_at v i) e ∙ row_at-prior_state p dem past i lt)
         (nat_eq (prior_row p dem past i).deadline (length past)) refl)
       where
         one : (i : ℕ) → row_at s i ≡ prior_row p dem past i → (b : Bool) → nat_eq (prior_row p dem past i).deadline (length past) ≡ b
             → nat_eq (row_at s i).deadline s.now ≡ releases_at p i (length past)
         one i is b q =
-            ap₂ (λ x y. nat_eq x y) (ap (λ (r : Row). r.deadline) is) (ap (λ (v : StateOf). v.now) e) ∙
+            ap₂ (λ x y. nat_eq x y) (ap (λ (r : Row). r.deadline) is) (ap (λ (v : StateView). v.now) e) ∙
             (q ∙ sym (due_released p dem periods past i b q))
 
   -- a span begins with its releases and its decision
@@ -137,10 +137,10 @@ module _ (demand : OwnDemand) (p : Plan) (dem : JobDemands) where
       ∷ []) (course-len demand p dem t) (force-decided p dem asks (course demand p dem t) e)
 
   -- the note of a decision, by the state of the schedule
-  pub note-is : (t : ℕ) (s : StateOf) → s ≡ state_of p dem (course demand p dem t)
+  pub note-is : (t : ℕ) (s : StateView) → s ≡ state_of p dem (course demand p dem t)
       → speed_note p s.now (demand p s) ≡ speed_note p t (demand p (state_of p dem (course demand p dem t)))
   note-is t s e =
-      ap (λ (v : StateOf). speed_note p v.now (demand p v)) e
+      ap (λ (v : StateView). speed_note p v.now (demand p v)) e
       ∙ ap (λ n. speed_note p n (demand p (state_of p dem (course demand p dem t)))) (course-len demand p dem t)
 
 module _ {set : Setting} (ok : IsSetting set) where
@@ -154,7 +154,7 @@ module _ {set : Setting} (ok : IsSetting set) where
   adm = bounds p ok.admitted
 
   module _ {demand : OwnDemand} where
-    decision-is : {t : ℕ} {s : StateOf} {trace : SpanTrace} {completed : Bool} → HasWorked set demand t s trace completed
+    decision-is : {t : ℕ} {s : StateView} {trace : SpanTrace} {completed : Bool} → HasWorked set demand t s trace completed
         → is_decision p dem (course demand p dem (t + 1)) ≡ (some_due p s || completed)
     decision-is {t} {s} h =
         ap (is_decision p dem) (course-next demand p dem t)
@@ -164,17 +164,17 @@ module _ {set : Setting} (ok : IsSetting set) where
         (sym h.completes)
 
     -- the state between two spans is at a boundary
-    pub at-boundary : (s : StateOf) → s.now < MOST_TICKS → IsMet p dem (course demand p dem s.now)
+    pub at-boundary : (s : StateView) → s.now < MOST_TICKS → IsMet p dem (course demand p dem s.now)
         → s ≡ prior_state p dem (course demand p dem s.now) → IsAtBoundary set demand s
     at-boundary s early met e = record {
       early = early;
       state = e;
       due_done = λ i lt q. ap (λ (r : Row). r.done) (row-is i lt)
-          ∙ done (course demand p dem s.now) met i lt (sym (ap (λ (r : Row). r.deadline) (row-is i lt)) ∙ (q ∙ ap (λ (v : StateOf). v.now) e));
+          ∙ done (course demand p dem s.now) met i lt (sym (ap (λ (r : Row). r.deadline) (row-is i lt)) ∙ (q ∙ ap (λ (v : StateView). v.now) e));
     }
       where
         row-is : (i : ℕ) → i < count p → row_at s i ≡ prior_row p dem (course demand p dem s.now) i
-        row-is i lt = ap (λ (v : StateOf). row_at v i) e ∙ row_at-prior_state p dem (course demand p dem s.now) i lt
+        row-is i lt = ap (λ (v : StateView). row_at v i) e ∙ row_at-prior_state p dem (course demand p dem s.now) i lt
 
         done : (past : List Tick) → IsMet p dem past → (i : ℕ) → i < count p → (prior_row p dem past i).deadline ≡ length past
             → (prior_row p dem past i).done ≡ true
@@ -194,7 +194,7 @@ module _ {set : Setting} (ok : IsSetting set) where
                 let enough : dem i (latest p i (length past)) ≤ exec p (x ∷ past) i (latest p i (length past)) = omega (arith, all) in
                 grind (arith, nat_tests, enough)
 
-    pub begins-span : (force : InForce) (s0 s : StateOf) (trace : SpanTrace) → s0.now < set.ticks → IsBetween set demand s0 → force.from ≡ s0.now
+    pub begins-span : (force : InForce) (s0 s : StateView) (trace : SpanTrace) → s0.now < set.ticks → IsBetween set demand s0 → force.from ≡ s0.now
         → s ≡ state_of p dem (course demand p dem s0.now) → force.index ≡ lowest_entry p.machine (demand p s)
         → trace ≡ new_trace (kept_notes (all_release_notes p dem s0.now ++ speed_note p s.now (demand p s) ∷ []))
         → IsInSpan set demand force s.now s trace
@@ -222,7 +222,7 @@ module _ {set : Setting} (ok : IsSetting set) where
         t = s0.now
 
         same : s.now ≡ t
-        same = ap (λ (v : StateOf). v.now) is ∙ course-len demand p dem t
+        same = ap (λ (v : StateView). v.now) is ∙ course-len demand p dem t
 
         fresh : Span
         fresh = record { past = course demand p dem t; entry = entry_in_force p dem (ask_of demand p dem) (course demand p dem t); units = [] }
@@ -240,7 +240,7 @@ module _ {set : Setting} (ok : IsSetting set) where
             z ∙ ap (λ n. exec p (course demand p dem t) i (latest p i n)) (sym (course-len demand p dem t))
 
     -- the span goes on after a tick
-    pub goes-on : {force : InForce} {t : ℕ} {s0 s : StateOf} {trace0 trace : SpanTrace} → IsInSpan set demand force t s0 trace0
+    pub goes-on : {force : InForce} {t : ℕ} {s0 s : StateView} {trace0 trace : SpanTrace} → IsInSpan set demand force t s0 trace0
         → HasWorked set demand t s trace false → some_due p s ≡ false → t + 1 < set.ticks → IsInSpan set demand force (t + 1) s trace
     goes-on {force} {t} {s0} {s} {trace0} {trace} i h quiet lt = record {
       before_end = lt;
@@ -298,12 +298,12 @@ module _ {set : Setting} (ok : IsSetting set) where
         held (Held k j) q = (q.0, q.1 ∙ sym (steady k q.0))
 
     -- the span ends after a tick
-    pub ends-span : {force : InForce} {t : ℕ} {s0 s : StateOf} {trace0 trace : SpanTrace} {completed : Bool} → IsInSpan set demand force t s0 trace0
+    pub ends-span : {force : InForce} {t : ℕ} {s0 s : StateView} {trace0 trace : SpanTrace} {completed : Bool} → IsInSpan set demand force t s0 trace0
         → HasWorked set demand t s trace completed
         → (completed ≡ true) ⊎ ((t + 1 ≡ set.ticks) ⊎ (some_due p s ≡ true))
         → HasWalked set demand force t s trace
     ends-span {force} {t} {s0} {s} {trace0} {trace} {completed} i h why = record {
-      now = ap (λ (v : StateOf). v.now) h.state ∙ course-len demand p dem (t + 1);
+      now = ap (λ (v : StateView). v.now) h.state ∙ course-len demand p dem (t + 1);
       before_end = i.before_end;
       later = i.later;
       began = i.began;
@@ -319,13 +319,13 @@ module _ {set : Setting} (ok : IsSetting set) where
         go (inr (inr q)) lt = or_left (some_due p s) completed q
 
     -- whether the span ends, as the functions of the code compute it
-    module _ {force : InForce} {t : ℕ} {s0 s : StateOf} {trace0 trace : SpanTrace} {completed : Bool} (i : IsInSpan set demand force t s0 trace0)
+    module _ {force : InForce} {t : ℕ} {s0 s : StateView} {trace0 trace : SpanTrace} {completed : Bool} (i : IsInSpan set demand force t s0 trace0)
         (h : HasWorked set demand t s trace completed) where
       pub now-next : s.now ≡ t + 1
-      now-next = ap (λ (v : StateOf). v.now) h.state ∙ course-len demand p dem (t + 1)
+      now-next = ap (λ (v : StateView). v.now) h.state ∙ course-len demand p dem (t + 1)
 
       pub past-next : NonePast p s
-      past-next = subst (λ (v : StateOf). NonePast p v) (sym h.state) (prior-past p dem (course demand p dem (t + 1)) (every_period p adm.limits))
+      past-next = subst (λ (v : StateView). NonePast p v) (sym h.state) (prior-past p dem (course demand p dem (t + 1)) (every_period p adm.limits))
 
       last-is : t ≡ s.now - 1
       last-is = omega (arith, now-next)
@@ -350,7 +350,7 @@ module _ {set : Setting} (ok : IsSetting set) where
           (goes-on i (subst (λ b. HasWorked set demand t s trace b) none.0 h) more.1 lt)
 
     -- the end of a span
-    module _ {force : InForce} {last : ℕ} {s : StateOf} {trace : SpanTrace} (h : HasWalked set demand force last s trace) where
+    module _ {force : InForce} {last : ℕ} {s : StateView} {trace : SpanTrace} (h : HasWalked set demand force last s trace) where
       abbrev pub whole : Span
       whole = whole_span demand p dem last
 
@@ -362,7 +362,7 @@ module _ {set : Setting} (ok : IsSetting set) where
 
       row-last : (i : ℕ) → i < count p → row_at s i ≡ prior_row p dem (tick_at demand p dem last ∷ course demand p dem last) i
       row-last i lt =
-          ap (λ (v : StateOf). row_at v i) (h.worked.state ∙ ap (prior_state p dem) (course-next demand p dem last))
+          ap (λ (v : StateView). row_at v i) (h.worked.state ∙ ap (prior_state p dem) (course-next demand p dem last))
           ∙ row_at-prior_state p dem (tick_at demand p dem last ∷ course demand p dem last) i lt
 
       had-last : (i : ℕ)
@@ -419,7 +419,7 @@ module _ {set : Setting} (ok : IsSetting set) where
       }
         where
           rows : length s.rows ≡ count p
-          rows = ap (λ (v : StateOf). length v.rows) h.worked.state ∙ length-list_below (count p) (prior_row p dem (course demand p dem (last + 1)))
+          rows = ap (λ (v : StateView). length v.rows) h.worked.state ∙ length-list_below (count p) (prior_row p dem (course demand p dem (last + 1)))
 
           held : (k : Holder) → HeldNow p last k → HeldIn (length s.rows) k
           held Nobody q = tt

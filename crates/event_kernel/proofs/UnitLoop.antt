@@ -12,12 +12,12 @@ use Rattle.sched_model.specs.declared.holder.Holder.{Holder}
 use Rattle.sched_model.specs.declared.holder.Holder.TheVariants.{Nobody, Held}
 use Rattle.sched_model.specs.Plan.{Plan, count, worst, point}
 use Rattle.sched_model.specs.Jobs.{JobDemands, due, latest}
-use Rattle.sched_model.specs.Ticks.{Tick, exec, left, share}
+use Rattle.sched_model.specs.Ticks.{Tick, exec, units_left, share}
 use Rattle.sched_model.specs.Priority.{in_order, key_of, allotment}
 use Rattle.sched_model.specs.Decision.{completes_in}
 use Rattle.sched_model.specs.Schedule.{entry_in_force}
 use Rattle.sched_model.specs.Notes.{Span, tick_units, same_holder}
-use Rattle.sched_model.specs.States.{row_at, prior_row, prior_state, after_advance, CanRun, StateOf, state_of}
+use Rattle.sched_model.specs.States.{row_at, prior_row, prior_state, after_advance, CanRun, StateView, state_of}
 use Rattle.sched_model.specs.Greedy.{IsFirstOpen}
 use Rattle.sched_model.proofs.Schedules.{length-list_below, force-within}
 use Rattle.sched_model.proofs.Tables.{get-table, table-same}
@@ -30,9 +30,9 @@ use Rattle.agenda.specs.Agenda.{IsFirstUndone}
 use Rattle.governor.specs.Meanings.{OwnDemand}
 use Rattle.governor.specs.Schedule.{ask_of, course}
 use Rattle.event_kernel.specs.declared.span_trace.SpanTrace.{SpanTrace}
-use Rattle.event_kernel.specs.Segment.{entered, CanEnter, HeldIn}
+use Rattle.event_kernel.specs.Segment.{after_units, CanEnter, HeldIn}
 use Rattle.event_kernel.specs.SpanTraces.{HeldNow, HoldsSpan}
-use Rattle.event_kernel.specs.Tickwork.{served, span_at, tick_at, whole_span, most_units}
+use Rattle.event_kernel.specs.Tickwork.{after_service, span_at, tick_at, whole_span, most_units}
 use Rattle.event_kernel.specs.declared.progress.Setting.{Setting}
 use Rattle.event_kernel.specs.declared.in_force.InForce.{InForce}
 use Rattle.event_kernel.specs.Runs.{demands_of}
@@ -58,29 +58,29 @@ module _ (demand : OwnDemand) (p : Plan) (dem : JobDemands) (t : ℕ) where
       (λ i. had p dem past i + given i) (most_units (length past) + more) trace
 
   -- the units of the tick are handed out but for `rest`, and the trace holds those
-  pub record HoldsHanded (rest : ℕ) (completed : Bool) (st : StateOf) (trace : SpanTrace) : Type 0 where
+  pub record HoldsHanded (rest : ℕ) (completed : Bool) (st : StateView) (trace : SpanTrace) : Type 0 where
     pub given : ℕ → ℕ
     pub hand : HasHanded p dem past fast given rest completed st
     pub writing : Wrote given (units_by p dem past given) (sum_below (count p) given) trace
 
   -- the trace after n more units of one holder
-  wrote-more : (given given' : ℕ → ℕ) (us vs : List Holder) (more more' : ℕ) (st : StateOf) (h : Holder) (n : ℕ) (trace : SpanTrace) → 0 < n
+  wrote-more : (given given' : ℕ → ℕ) (us vs : List Holder) (more more' : ℕ) (st : StateView) (h : Holder) (n : ℕ) (trace : SpanTrace) → 0 < n
       → Wrote given us more trace → Shows p dem (length past) st (λ i. had p dem past i + given i) → HeldNow p (length past) h
       → ((i : ℕ) → i < count p → (had p dem past i + given i) + count_by (same_holder (Held i (job p dem past i))) (replicate n h)
       ≡ had p dem past i + given' i) → us ++ replicate n h ≡ vs → more + n ≡ more'
-      → Wrote given' vs more' (entered p st (length (span_at demand p dem t).past) (span_at demand p dem t).entry h n trace)
+      → Wrote given' vs more' (after_units p st (length (span_at demand p dem t).past) (span_at demand p dem t).entry h n trace)
   wrote-more given given' us vs more more' st h n trace some w sh now had_is units much =
       let s0 = span_at demand p dem t in
       let e = enters p dem (ask_of demand p dem) (length past) (record { past = s0.past; entry = s0.entry; units = s0.units ++ us })
       (λ i. had p dem past i + given i) (λ i. had p dem past i + given' i) (most_units (length past) + more) st h n trace some w sh now had_is in
       let all : most_units (length past) + more + n ≡ most_units (length past) + more' = omega (arith, much) in
       subst (λ m. HoldsSpan p dem (ask_of demand p dem) (length past) (record { past = s0.past; entry = s0.entry; units = s0.units ++ vs })
-      (λ i. had p dem past i + given' i) m (entered p st (length s0.past) s0.entry h n trace)) all
+      (λ i. had p dem past i + given' i) m (after_units p st (length s0.past) s0.entry h n trace)) all
       (subst (λ ls. HoldsSpan p dem (ask_of demand p dem) (length past) (record { past = s0.past; entry = s0.entry; units = ls })
-      (λ i. had p dem past i + given' i) (most_units (length past) + more + n) (entered p st (length s0.past) s0.entry h n trace))
+      (λ i. had p dem past i + given' i) (most_units (length past) + more + n) (after_units p st (length s0.past) s0.entry h n trace))
       (append_assoc s0.units us (replicate n h) ∙ ap (λ ls. s0.units ++ ls) units) e)
 
-module _ {demand : OwnDemand} {set : Setting} (ok : IsSetting set) {force : InForce} {t : ℕ} {st0 : StateOf} {trace0 : SpanTrace}
+module _ {demand : OwnDemand} {set : Setting} (ok : IsSetting set) {force : InForce} {t : ℕ} {st0 : StateView} {trace0 : SpanTrace}
     (at : IsInSpan set demand force t st0 trace0) where
   abbrev p : Plan
   p = set.plan.now
@@ -141,9 +141,9 @@ module _ {demand : OwnDemand} {set : Setting} (ok : IsSetting set) {force : InFo
         notes = w0.notes;
       }
 
-  module _ {rest : ℕ} {completed : Bool} {st : StateOf} {trace : SpanTrace} (w : HoldsHanded demand p dem t rest completed st trace) where
+  module _ {rest : ℕ} {completed : Bool} {st : StateView} {trace : SpanTrace} (w : HoldsHanded demand p dem t rest completed st trace) where
     pub rows-there : length st.rows ≡ count p
-    rows-there = ap (λ (s : StateOf). length s.rows) w.hand.state ∙ length-list_below (count p) (given_row p dem so_far w.given)
+    rows-there = ap (λ (s : StateView). length s.rows) w.hand.state ∙ length-list_below (count p) (given_row p dem so_far w.given)
 
     slow : fast demand p dem t ≤ TOP_SPEED
     slow = adm.low_speed (entry_in_force p dem (ask_of demand p dem) so_far)
@@ -166,15 +166,15 @@ module _ {demand : OwnDemand} {set : Setting} (ok : IsSetting set) {force : InFo
     sh : Shows p dem (length so_far) st (λ i. had p dem so_far i + w.given i)
     sh = shows p dem so_far w.hand within
 
-    entered-is : (h : Holder) (n : ℕ) → entered p st force.from force.index h n trace ≡ entered p st (length s0.past) s0.entry h n trace
-    entered-is h n = ap₂ (λ f m. entered p st f m h n trace) (sym (ap length at.began ∙ course-len demand p dem force.from)) at.entry
+    entered-is : (h : Holder) (n : ℕ) → after_units p st force.from force.index h n trace ≡ after_units p st (length s0.past) s0.entry h n trace
+    entered-is h n = ap₂ (λ f m. after_units p st f m h n trace) (sym (ap length at.began ∙ course-len demand p dem force.from)) at.entry
 
     -- the first task that is not done gets units
     module _ (i share : ℕ) (u : IsFirstUndone p st (count p) i) (se : share ≡ min rest (dem i (row_at st i).job - (row_at st i).used)) where
       row : row_at st i ≡ given_row p dem so_far w.given i
       row = row-is p dem so_far w.hand i u.below
 
-      o : IsFirstOpen (count p) (key p dem so_far) (left p dem so_far) w.given i
+      o : IsFirstOpen (count p) (key p dem so_far) (units_left p dem so_far) w.given i
       o = first-open p dem so_far w.hand i u
 
       need_is : dem i (row_at st i).job - (row_at st i).used ≡ dem i (job p dem so_far i) - (had p dem so_far i + w.given i)
@@ -194,8 +194,9 @@ module _ {demand : OwnDemand} {set : Setting} (ok : IsSetting set) {force : InFo
             λ pos. omega (arith, se, used, need, o.needs),
           )
 
-      pub turned : (whole now : Bool) (st' : StateOf) (trace' : SpanTrace) → 0 < rest → whole ≡ nat_eq share (dem i (row_at st i).job - (row_at st i).used)
-          → now ≡ (completed || whole) → st' ≡ served st i share whole → trace' ≡ entered p st force.from force.index (Held i (row_at st i).job) share trace
+      pub turned : (whole now : Bool) (st' : StateView) (trace' : SpanTrace) → 0 < rest → whole ≡ nat_eq share (dem i (row_at st i).job - (row_at st i).used)
+          → now ≡ (completed || whole) → st' ≡ after_service st i share whole
+                  → trace' ≡ after_units p st force.from force.index (Held i (row_at st i).job) share trace
           → HoldsHanded demand p dem t (rest - share) now st' trace'
       turned whole now st' trace' pos we ne sis pis = record {
         given = raised w.given i share;
@@ -205,7 +206,7 @@ module _ {demand : OwnDemand} {set : Setting} (ok : IsSetting set) {force : InFo
             let hold : Held i (row_at st i).job ≡ Held i (job p dem so_far i) = ap (λ (r : Row). Held i r.job) row in
             subst (λ q. Wrote demand p dem t (raised w.given i share) (units_by p dem so_far (raised w.given i share))
             (sum_below (count p) (raised w.given i share)) q)
-            (sym (pis ∙ (entered-is (Held i (row_at st i).job) share ∙ ap (λ h. entered p st (length s0.past) s0.entry h share trace) hold)))
+            (sym (pis ∙ (entered-is (Held i (row_at st i).job) share ∙ ap (λ h. after_units p st (length s0.past) s0.entry h share trace) hold)))
             (wrote-more demand p dem t w.given (raised w.given i share) (units_by p dem so_far w.given) _ (sum_below (count p) w.given) _ st
             (Held i (job p dem so_far i)) share trace (ready.2 pos) w.writing sh (u.below, refl) (λ k lt. gives-had p dem so_far w.given i share k)
             (sym (gives-units p dem so_far w.hand i share pos o))
@@ -223,7 +224,7 @@ module _ {demand : OwnDemand} {set : Setting} (ok : IsSetting set) {force : InFo
         (subst (λ us. Wrote demand p dem t w.given us (sum_below (count p) w.given) trace)
         (sym (ap (λ n. units_by p dem so_far w.given ++ replicate n Nobody) none ∙ append-nil (units_by p dem so_far w.given))) w.writing)
 
-    pub idled : (trace' : SpanTrace) → 0 < rest → trace' ≡ entered p st force.from force.index Nobody rest trace → HasIdled trace'
+    pub idled : (trace' : SpanTrace) → 0 < rest → trace' ≡ after_units p st force.from force.index Nobody rest trace → HasIdled trace'
     idled trace' pos pis =
         subst (λ q. HasIdled q) (sym (pis ∙ entered-is Nobody rest))
         (wrote-more demand p dem t w.given w.given (units_by p dem so_far w.given) _ (sum_below (count p) w.given) _ st Nobody rest trace pos w.writing sh
@@ -234,18 +235,18 @@ module _ {demand : OwnDemand} {set : Setting} (ok : IsSetting set) {force : InFo
       abbrev x : Tick
       x = tick_at demand p dem t
 
-      gets : (i : ℕ) → i < count p → share x i ≡ allotment (count p) (key_of p.scheduler p (length so_far)) (fast demand p dem t) (left p dem so_far) i
-      gets i lt = get-table (count p) (allotment (count p) (key_of p.scheduler p (length so_far)) (fast demand p dem t) (left p dem so_far)) i 0 lt
+      gets : (i : ℕ) → i < count p → share x i ≡ allotment (count p) (key_of p.scheduler p (length so_far)) (fast demand p dem t) (units_left p dem so_far) i
+      gets i lt = get-table (count p) (allotment (count p) (key_of p.scheduler p (length so_far)) (fast demand p dem t) (units_left p dem so_far)) i 0 lt
 
       same : (i : ℕ) → i < count p → w.given i ≡ share x i
       same i lt =
-          handed-end (count p) (key p dem so_far) (fast demand p dem t) (left p dem so_far) w.given rest w.hand.handed (go ends) i lt ∙ sym (gets i lt)
+          handed-end (count p) (key p dem so_far) (fast demand p dem t) (units_left p dem so_far) w.given rest w.hand.handed (go ends) i lt ∙ sym (gets i lt)
         where
-          go : (rest ≡ 0) ⊎ ((k : ℕ) → k < count p → (row_at st k).done ≡ true) → (rest ≡ 0) ⊎ ((k : ℕ) → k < count p → left p dem so_far k ≤ w.given k)
+          go : (rest ≡ 0) ⊎ ((k : ℕ) → k < count p → (row_at st k).done ≡ true) → (rest ≡ 0) ⊎ ((k : ℕ) → k < count p → units_left p dem so_far k ≤ w.given k)
           go (inl z) = inl z
           go (inr d) = inr (none-open p dem so_far w.hand d)
 
-      own : (i : ℕ) → i < count p → share x i ≤ left p dem so_far i
+      own : (i : ℕ) → i < count p → share x i ≤ units_left p dem so_far i
       own i lt = omega (arith, gets i lt)
 
       had-next : (i : ℕ) → i < count p → had p dem so_far i + w.given i ≡ exec p (x ∷ so_far) i (job p dem so_far i)
@@ -262,7 +263,7 @@ module _ {demand : OwnDemand} {set : Setting} (ok : IsSetting set) {force : InFo
 
       state : after_advance st (length so_far + 1) ≡ prior_state p dem (x ∷ so_far)
       state =
-          ap (λ (s : StateOf). after_advance s (length so_far + 1)) w.hand.state
+          ap (λ (s : StateView). after_advance s (length so_far + 1)) w.hand.state
           ∙ (ap (λ rows. record { now = length so_far + 1; rows = rows; base_at = (state_of p dem so_far).base_at; base = (state_of p dem so_far).base })
           (table-same (count p) (given_row p dem so_far w.given) (prior_row p dem (x ∷ so_far)) (λ i lt.
           ap (λ g. row_by (due p i (job p dem so_far i)) (job p dem so_far i) (had p dem so_far i + g)
@@ -291,7 +292,7 @@ module _ {demand : OwnDemand} {set : Setting} (ok : IsSetting set) {force : InFo
             notes = d.notes;
           }))
 
-      pub finished : (trace' : SpanTrace) (st' : StateOf) → HasIdled trace' → st' ≡ after_advance st (t + 1) → HasWorked set demand t st' trace' completed
+      pub finished : (trace' : SpanTrace) (st' : StateView) → HasIdled trace' → st' ≡ after_advance st (t + 1) → HasWorked set demand t st' trace' completed
       finished trace' st' d is =
           let later : x ∷ so_far ≡ course demand p dem (t + 1) = sym (course-next demand p dem t) in
           record {

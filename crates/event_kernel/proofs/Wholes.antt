@@ -26,10 +26,10 @@ use Rattle.governor.specs.Schedule.{ask_of}
 use Rattle.note_laws.specs.LineCounts.{AreFew}
 use Rattle.trace_writer.specs.RunText.{task_texts, run_lines, most_lines}
 use Rattle.note_laws.proofs.FewNotes.{has-few-notes, IsNoteIn}
-use Rattle.trace_text.specs.TraceText.{LineOf, unnoted, noted, task_energy, task_text, share_text, shares_from, for_tasks, head_lines, lines_of_note, note_lines}
+use Rattle.trace_text.specs.TraceText.{NotedLine, unnoted_line, line_of_note, task_energy, task_text, share_text, shares_from, for_tasks, head_lines, lines_of_note, note_lines}
 use Rattle.trace_writer.specs.UnnotedLines.{sum_lines}
 use Rattle.trace_writer.proofs.SumLines.{shares-below}
-use Rattle.event_kernel.specs.Runs.{Run as RunOf, demands_of, run_ticks, notes_of_run}
+use Rattle.event_kernel.specs.Runs.{Run as RunView, demands_of, run_ticks, notes_of_run}
 use Rattle.event_kernel.specs.SpanNotes.{notes_before_end_of}
 use Rattle.event_kernel.proofs.NoteRoom.{course-fits}
 use Rattle.event_kernel.proofs.Courses.{course-len, course-legal}
@@ -40,14 +40,14 @@ few-of (Err e) t few is = tt
 
 -- each note before the `End` has its own line alone
 own-lines : (v : Version) (ns : List (List ℕ)) (p : Plan) (all notes : List Note) → AllByRecursion (IsNoteIn p) notes
-    → flat_map (lines_of_note v ns all) notes ≡ map (noted ns) notes
+    → flat_map (lines_of_note v ns all) notes ≡ map (line_of_note ns) notes
 own-lines v ns p all [] h = refl
 own-lines v ns p all (n ∷ notes) h = go n h.0 (own-lines v ns p all notes h.1)
   where
-    go : (n : Note) → IsNoteIn p n → flat_map (lines_of_note v ns all) notes ≡ map (noted ns) notes
-        → lines_of_note v ns all n ++ flat_map (lines_of_note v ns all) notes ≡ noted ns n ∷ map (noted ns) notes
+    go : (n : Note) → IsNoteIn p n → flat_map (lines_of_note v ns all) notes ≡ map (line_of_note ns) notes
+        → lines_of_note v ns all n ++ flat_map (lines_of_note v ns all) notes ≡ line_of_note ns n ∷ map (line_of_note ns) notes
     go (End t run idle) b e = absurd b
-    go n b e = ap (λ ls. noted ns n ∷ ls) e
+    go n b e = ap (λ ls. line_of_note ns n ∷ ls) e
 
 -- few notes make few lines, with the two lines before them and those that a version has for the tasks
 few-lines : (v : Version) (p : Plan) (energies : List ℕ) (notes ticks : ℕ) → notes ≤ 7 * released_jobs p ticks + 3
@@ -61,10 +61,10 @@ few-lines Two p energies notes ticks few =
       each (λ i. share_text (name_of (names p) i) (slice_index energies i)),
     )
   where
-    each : (f : ℕ → List ℕ) → length (map unnoted (list_below (count p) f)) ≡ count p
-    each f = length-map (list_below (count p) f) unnoted ∙ length-list_below (count p) f
+    each : (f : ℕ → List ℕ) → length (map unnoted_line (list_below (count p) f)) ≡ count p
+    each f = length-map (list_below (count p) f) unnoted_line ∙ length-list_below (count p) f
 
-module _ (demand : OwnDemand) (r : RunOf) (v : Version) where
+module _ (demand : OwnDemand) (r : RunView) (v : Version) where
   abbrev before : List Note
   before = notes_before_end_of demand r
 
@@ -90,35 +90,35 @@ module _ (demand : OwnDemand) (r : RunOf) (v : Version) where
       more i = omega (arith, sum_by-append (energy_of_task i) before (end ∷ []), sum_by-cons (energy_of_task i) end [])
 
   -- the lines of all notes: those before the `End`, the energies, and the `End`
-  all-lines : IsAdmitted r.plan → map (noted (names r.plan)) before ++ (sum_lines v r.plan energies ++ noted (names r.plan) end ∷ [])
+  all-lines : IsAdmitted r.plan → map (line_of_note (names r.plan)) before ++ (sum_lines v r.plan energies ++ line_of_note (names r.plan) end ∷ [])
       ≡ note_lines v (names r.plan) (notes_of_run demand r)
   all-lines adm =
       let ns : List (List ℕ) = names r.plan in
       let all : List Note = notes_of_run demand r in
       sym (flat_map-append (lines_of_note v ns all) before (end ∷ [])
-      ∙ ap₂ (λ (x y : List LineOf). x ++ y)
+      ∙ ap₂ (λ (x y : List NotedLine). x ++ y)
       (own-lines v ns r.plan all before (course-fits demand r.plan (demands_of r.plan r.demands) adm (λ i. refl) r.ticks).each)
-      (append-nil (lines_of_note v ns all end) ∙ ap (λ (ls : List LineOf). ls ++ noted ns end ∷ []) (sym same-sums)))
+      (append-nil (lines_of_note v ns all end) ∙ ap (λ (ls : List NotedLine). ls ++ line_of_note ns end ∷ []) (sym same-sums)))
 
   -- the lines of all notes, from a teller's names, its plan, its ticks, its energies and its totals
   pub told-lines : (ns : List (List ℕ)) (p : Plan) (ticks : ℕ) (es : List ℕ) (t : Totals)
       → IsAdmitted p → ns ≡ names p → p ≡ r.plan → ticks ≡ r.ticks → es ≡ energies → t ≡ totals_of before
-      → map (noted ns) before ++ (sum_lines v p es ++ noted (names p) (End ticks t.run t.idle) ∷ [])
+      → map (line_of_note ns) before ++ (sum_lines v p es ++ line_of_note (names p) (End ticks t.run t.idle) ∷ [])
       ≡ note_lines v (names r.plan) (notes_of_run demand r)
   told-lines ns p ticks es t adm en ep et ee to =
       let whole : ticks ≡ length (run_ticks demand r) = et ∙ sym (course-len demand r.plan (demands_of r.plan r.demands) r.ticks) in
       let own : ns ≡ names r.plan = en ∙ ap names ep in
-      (λ j. map (noted (own j)) before ++ (sum_lines v (ep j) (ee j) ++ noted (names (ep j)) (End (whole j) ((to j).run) ((to j).idle)) ∷ []))
+      (λ j. map (line_of_note (own j)) before ++ (sum_lines v (ep j) (ee j) ++ line_of_note (names (ep j)) (End (whole j) ((to j).run) ((to j).idle)) ∷ []))
       ∙ all-lines (subst (λ (q : Plan). IsAdmitted q) ep adm)
 
   -- a run of few jobs has a trace of few lines
-  pub run-lines : (g : GovernorKind) {a : RunOf} → a ≡ r → IsAdmitted a.plan
+  pub run-lines : (g : GovernorKind) {a : RunView} → a ≡ r → IsAdmitted a.plan
       → length (run_lines v r.plan g r.ticks (notes_of_run demand r)) ≤ most_lines v r.plan r.ticks
   run-lines g is admitted =
-      let adm : IsAdmitted r.plan = subst (λ (x : RunOf). IsAdmitted x.plan) is admitted in
+      let adm : IsAdmitted r.plan = subst (λ (x : RunView). IsAdmitted x.plan) is admitted in
       let dem = demands_of r.plan r.demands in
       let ns : List (List ℕ) = names r.plan in
-      let sums : List LineOf = sum_lines v r.plan energies in
+      let sums : List NotedLine = sum_lines v r.plan energies in
       let notes : length before + 1 ≤ 7 * released_jobs r.plan r.ticks + 3 =
       omega (
         arith,
@@ -130,8 +130,8 @@ module _ (demand : OwnDemand) (r : RunOf) (v : Version) where
         arith,
         few-lines v r.plan energies (length before + 1) r.ticks notes,
         length-append (head_lines v r.plan.scheduler g r.ticks (task_texts r.plan)) (note_lines v ns (notes_of_run demand r)),
-        ap (λ (ls : List LineOf). length ls) (all-lines adm),
-        length-append (map (noted ns) before) (sums ++ noted ns end ∷ []),
-        length-append sums (noted ns end ∷ []),
-        length-map before (noted ns),
+        ap (λ (ls : List NotedLine). length ls) (all-lines adm),
+        length-append (map (line_of_note ns) before) (sums ++ line_of_note ns end ∷ []),
+        length-append sums (line_of_note ns end ∷ []),
+        length-map before (line_of_note ns),
       )

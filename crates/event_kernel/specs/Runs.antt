@@ -2,7 +2,7 @@
 use Rattle.std.specs.Prelude.{ℕ, List, ◌≡◌, ◌<◌, true}
 use Rattle.freq_table.specs.Tables.{lowest_pick}
 use Rattle.dvs_base.specs.declared.note.Note.{Note}
-use Rattle.demand_list.specs.Demands.{DemandsOf, HasWorstsOf}
+use Rattle.demand_list.specs.Demands.{DemandsView, HasWorstsOf}
 use Rattle.sched_model.specs.Plan.{Plan}
 use Rattle.sched_model.specs.Ticks.{Tick, IsMet}
 use Rattle.sched_model.specs.Jobs.{JobDemands, demand_of}
@@ -14,15 +14,15 @@ use Rattle.governor.specs.Schedule.{course, ask_of}
 -- a run: a plan, a demand list and a number of ticks
 pub record Run : Type 0 where
   pub plan : Plan
-  pub demands : DemandsOf
+  pub demands : DemandsView
   pub ticks : ℕ
 
 -- the list has the plan's declared worst cases
-abbrev pub IsListOf : Plan → DemandsOf → Type 0
+abbrev pub IsListOf : Plan → DemandsView → Type 0
 IsListOf p d = HasWorstsOf p.tasks d
 
 -- the demand of each job of a plan under a demand list
-abbrev pub demands_of : Plan → DemandsOf → JobDemands
+abbrev pub demands_of : Plan → DemandsView → JobDemands
 demands_of p d = demand_of p d.rows
 
 -- the ticks of a governor's schedule of a run

@@ -12,15 +12,15 @@ use Rattle.sched_model.specs.Ticks.{PublishedDemand, Tick}
 use Rattle.sched_model.specs.Decision.{is_decision}
 use Rattle.sched_model.specs.Schedule.{entry_in_force}
 use Rattle.sched_model.specs.Notes.{Span, spans_of, Piece, all_release_notes, pieces_notes, pieces_of, run_energy, idle_energy, position_of, same_holder}
-use Rattle.sched_model.specs.States.{row_at, StateOf}
+use Rattle.sched_model.specs.States.{row_at, StateView}
 use Rattle.agenda.specs.Agenda.{IsFirstUndone}
 use Rattle.event_kernel.specs.declared.segment.Segment.{Segment}
 use Rattle.event_kernel.specs.declared.span_trace.SpanTrace.{SpanTrace}
 use Rattle.event_kernel.specs.SpanNotes.{kept_notes}
 
 -- a span with more units
-abbrev pub grown : Span → List Holder → Span
-grown s us = record { past = s.past; entry = s.entry; units = s.units ++ us }
+abbrev pub span_with : Span → List Holder → Span
+span_with s us = record { past = s.past; entry = s.entry; units = s.units ++ us }
 
 -- the latest span, which is first in the list
 abbrev pub first_span : List Span → Span
@@ -48,14 +48,14 @@ IsOpen seg done us =
     ⊎ ((0 < seg.units) × (pieces_of us ≡ done ++ record { holder = seg.holder; units = seg.units } ∷ []))
 
 -- the notes of a holder's segment from the span's unit `q` on, with the completion that the holder's row shows
-abbrev pub holder_notes : Plan → StateOf → (ℕ → Pos) → ℕ → ℕ → ℕ → Holder → List Note
+abbrev pub holder_notes : Plan → StateView → (ℕ → Pos) → ℕ → ℕ → ℕ → Holder → List Note
 holder_notes p s at_unit e q units Nobody = Idle (at_unit q) (at_unit (q + units)) units (idle_energy p e units) ∷ []
 holder_notes p s at_unit e q units (Held i k) =
     Run (at_unit q) (at_unit (q + units)) i k units (run_energy p e units)
     ∷ (if (row_at s i).done then Done (at_unit (q + units)) i k (row_at s i).used ∷ [] else [])
 
 -- the notes of the open segment
-abbrev pub written_notes : Plan → StateOf → ℕ → ℕ → SpanTrace → List Note
+abbrev pub written_notes : Plan → StateView → ℕ → ℕ → SpanTrace → List Note
 written_notes p s from e trace = holder_notes p s (position_of from ((point p e).speed)) e trace.segment.start trace.segment.units trace.segment.holder
 
 -- the trace after these notes are added
@@ -63,7 +63,7 @@ abbrev pub with_notes : SpanTrace → List Note → SpanTrace
 with_notes trace notes = record { segment = trace.segment; notes = kept_notes (trace.notes ++ notes) }
 
 -- the trace after the notes of its segment are added: the holder's next segment is open, without units
-abbrev pub after_segment : Plan → StateOf → ℕ → ℕ → SpanTrace → SpanTrace
+abbrev pub after_segment : Plan → StateView → ℕ → ℕ → SpanTrace → SpanTrace
 after_segment p s from e trace = record {
   segment = record { holder = trace.segment.holder; start = trace.segment.start + trace.segment.units; units = 0 };
   notes = kept_notes (trace.notes ++ written_notes p s from e trace);
@@ -78,11 +78,11 @@ abbrev pub with_units : Holder → ℕ → SpanTrace → SpanTrace
 with_units h n trace = record { segment = record { holder = h; start = trace.segment.start; units = trace.segment.units + n }; notes = trace.notes }
 
 -- the trace after n units of the holder h: where another holder's segment is open, its notes are added first
-abbrev pub entered : Plan → StateOf → ℕ → ℕ → Holder → ℕ → SpanTrace → SpanTrace
-entered p s from e h n trace = with_units h n (if is_turn trace h then after_segment p s from e trace else trace)
+abbrev pub after_units : Plan → StateView → ℕ → ℕ → Holder → ℕ → SpanTrace → SpanTrace
+after_units p s from e h n trace = with_units h n (if is_turn trace h then after_segment p s from e trace else trace)
 
 -- the trace at the end of a span: the notes of the open segment are added
-abbrev pub ended_trace : Plan → StateOf → ℕ → ℕ → SpanTrace → SpanTrace
+abbrev pub ended_trace : Plan → StateView → ℕ → ℕ → SpanTrace → SpanTrace
 ended_trace p s from e trace = if nat_lt 0 trace.segment.units then after_segment p s from e trace else trace
 
 -- the holder is nobody, or a job of one of the first n tasks
@@ -91,13 +91,13 @@ HeldIn n Nobody = Unit {0}
 HeldIn n (Held i k) = i < n
 
 -- the open segment's entry and task exist, and its position fits into its number
-pub record CanAdd (p : Plan) (s : StateOf) (from e : ℕ) (trace : SpanTrace) : Type 0 where
+pub record CanAdd (p : Plan) (s : StateView) (from e : ℕ) (trace : SpanTrace) : Type 0 where
   pub entry : e < length p.machine.points
   pub place : from + trace.segment.start + trace.segment.units < 2 ^ 63
   pub task : HeldIn (length s.rows) trace.segment.holder
 
 -- units can be entered: the notes of the open segment can be added first, and its units with the new ones are few enough
-pub record CanEnter (p : Plan) (s : StateOf) (from e units : ℕ) (trace : SpanTrace) : Type 0 where
+pub record CanEnter (p : Plan) (s : StateView) (from e units : ℕ) (trace : SpanTrace) : Type 0 where
   pub can : CanAdd p s from e trace
   pub fits : trace.segment.units + units < u64_end
 
@@ -106,11 +106,11 @@ abbrev pub new_trace : List Note → SpanTrace
 new_trace notes = record { segment = record { holder = Nobody; start = 0; units = 0 }; notes = notes }
 
 -- the row is the first that is not done; `None`: every row is done
-abbrev pub IsFirst : Plan → StateOf → Option ℕ → Type 0
+abbrev pub IsFirst : Plan → StateView → Option ℕ → Type 0
 IsFirst p s None = (k : ℕ) → k < count p → (row_at s k).done ≡ true
 IsFirst p s (Some i) = IsFirstUndone p s (count p) i
 
 -- the holder that is the latest job of a task; `None`: nobody
-abbrev pub holder_at : StateOf → Option ℕ → Holder
+abbrev pub holder_at : StateView → Option ℕ → Holder
 holder_at s None = Nobody
 holder_at s (Some i) = Held i (row_at s i).job

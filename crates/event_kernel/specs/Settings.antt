@@ -8,7 +8,7 @@ use Rattle.sched_model.specs.Jobs.{JobDemands, latest, IsWithin}
 use Rattle.sched_model.specs.Ticks.{exec, IsMet}
 use Rattle.sched_model.specs.Decision.{is_decision, completes_in}
 use Rattle.sched_model.specs.Schedule.{entry_in_force}
-use Rattle.sched_model.specs.States.{row_at, prior_state, state_of, StateOf}
+use Rattle.sched_model.specs.States.{row_at, prior_state, state_of, StateView}
 use Rattle.governor.specs.Meanings.{OwnDemand}
 use Rattle.governor.specs.Schedule.{ask_of, course}
 use Rattle.agenda.specs.Agenda.{IsFirstUndone}
@@ -35,7 +35,7 @@ module _ (set : Setting) where
 
   -- The tick is the last of its span: the run ends after it, or a job is released at its end, or the first incomplete
   -- job gets all that it needs.
-  abbrev pub IsLastTick : InForce → StateOf → Type 0
+  abbrev pub IsLastTick : InForce → StateView → Type 0
   IsLastTick force s =
       (s.now + 1 ≡ set.ticks)
       ⊎ (((i : ℕ) × (i < count p) × ((row_at s i).deadline ≡ s.now + 1))
@@ -43,7 +43,7 @@ module _ (set : Setting) where
 
   -- The tick after n more is the last of its span: the run ends after it, or a job is released at its end, or the first
   -- job, which has all units up to then, gets all that it needs.
-  abbrev pub IsLastAfter : InForce → StateOf → Option ℕ → ℕ → Type 0
+  abbrev pub IsLastAfter : InForce → StateView → Option ℕ → ℕ → Type 0
   IsLastAfter force s first n =
       (s.now + n + 1 ≡ set.ticks)
       ⊎ (((i : ℕ) × (i < count p) × ((row_at s i).deadline ≡ s.now + n + 1))
@@ -52,7 +52,7 @@ module _ (set : Setting) where
 
   -- The n ticks after a state are quiet: the run doesn't end in them, no job is released in them or at their end, and
   -- the first job is not completed in them. The tick after them is the last of its span.
-  pub record AreQuiet (force : InForce) (s : StateOf) (first : Option ℕ) (n : ℕ) : Type 0 where
+  pub record AreQuiet (force : InForce) (s : StateView) (first : Option ℕ) (n : ℕ) : Type 0 where
     pub before_end : s.now + n < set.ticks
     pub no_release : (k : ℕ) → k < count p → s.now + n < (row_at s k).deadline
     pub not_done : (i : ℕ) → first ≡ Some i → (row_at s i).used + n * (point p force.index).speed < dem i (row_at s i).job
@@ -60,7 +60,7 @@ module _ (set : Setting) where
 
   module _ (demand : OwnDemand) where
     -- the state at the tick t of a governor's schedule, after its releases
-    abbrev pub state_at : ℕ → StateOf
+    abbrev pub state_at : ℕ → StateView
     state_at t = state_of p dem (course demand p dem t)
 
     -- every deadline before the tick t is met
@@ -68,18 +68,18 @@ module _ (set : Setting) where
     IsMetBy t = IsMet p dem (course demand p dem t)
 
     -- the state is at the boundary of its tick, before the releases, and every due row is done
-    pub record IsAtBoundary (s : StateOf) : Type 0 where
+    pub record IsAtBoundary (s : StateView) : Type 0 where
       pub early : s.now < MOST_TICKS
       pub state : s ≡ prior_state p dem (course demand p dem s.now)
       pub due_done : (i : ℕ) → i < count p → (row_at s i).deadline ≡ s.now → (row_at s i).done ≡ true
 
     -- the state is between two spans: a decision comes next, or the end of the run
-    pub record IsBetween (s : StateOf) : Type 0 where
+    pub record IsBetween (s : StateView) : Type 0 where
       pub state : s ≡ prior_state p dem (course demand p dem s.now)
       pub decision : s.now < set.ticks → is_decision p dem (course demand p dem s.now) ≡ true
 
     -- the state is in a span, at tick t, after the releases and the decision; the trace holds the span up to there
-    pub record IsInSpan (force : InForce) (t : ℕ) (s : StateOf) (trace : SpanTrace) : Type 0 where
+    pub record IsInSpan (force : InForce) (t : ℕ) (s : StateView) (trace : SpanTrace) : Type 0 where
       pub before_end : t < set.ticks
       pub later : force.from ≤ t
       pub state : s ≡ state_of p dem (course demand p dem t)
@@ -89,14 +89,14 @@ module _ (set : Setting) where
       pub writing : HoldsSpan p dem (ask_of demand p dem) t (span_at demand p dem t) (had_at p (course demand p dem t)) (most_units t) trace
 
     -- the state is after the units of tick t, the trace holds them, and `completed` says whether a job completed in it
-    pub record HasWorked (t : ℕ) (s : StateOf) (trace : SpanTrace) (completed : Bool) : Type 0 where
+    pub record HasWorked (t : ℕ) (s : StateView) (trace : SpanTrace) (completed : Bool) : Type 0 where
       pub state : s ≡ prior_state p dem (course demand p dem (t + 1))
       pub writing : HoldsSpan p dem (ask_of demand p dem) t (whole_span demand p dem t)
           (λ i. exec p (course demand p dem (t + 1)) i (latest p i t)) (most_units (t + 1)) trace
       pub completes : completed ≡ any_below (count p) (completes_in p dem (tick_at demand p dem t) (course demand p dem t))
 
     -- the state is at the end of its span, whose last tick is `last`
-    pub record HasWalked (force : InForce) (last : ℕ) (s : StateOf) (trace : SpanTrace) : Type 0 where
+    pub record HasWalked (force : InForce) (last : ℕ) (s : StateView) (trace : SpanTrace) : Type 0 where
       pub now : s.now ≡ last + 1
       pub before_end : last < set.ticks
       pub later : force.from ≤ last

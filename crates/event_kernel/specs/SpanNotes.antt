@@ -6,7 +6,7 @@ use Rattle.sched_model.specs.Plan.{Plan, count}
 use Rattle.sched_model.specs.Notes.{notes_before_end}
 use Rattle.governor.specs.Meanings.{OwnDemand}
 use Rattle.governor.specs.Schedule.{ask_of}
-use Rattle.energy.specs.Books.{Books, booked, HasTask, HasRoom, Told, books_of}
+use Rattle.energy.specs.Books.{Books, account_after, HasTask, HasRoom, Told, books_of}
 use Rattle.event_kernel.specs.declared.notes.TheConstants.{MOST_NOTES}
 use Rattle.event_kernel.specs.Heard.{HasHeard, HasBalked}
 use Rattle.event_kernel.specs.Runs.{demands_of, Run, run_ticks}
@@ -33,12 +33,12 @@ kept_notes notes = take MOST_NOTES notes
 -- the account after these notes are added under the entry e
 abbrev pub all_booked : Books → List Note → ℕ → Books
 all_booked b [] e = b
-all_booked b (note ∷ notes) e = all_booked (booked b note e) notes e
+all_booked b (note ∷ notes) e = all_booked (account_after b note e) notes e
 
 -- the account has each note's task, and room for each note after those before it, under the entry e
 abbrev pub CanBook : Books → List Note → ℕ → Type 0
 CanBook b [] e = Unit {0}
-CanBook b (note ∷ notes) e = HasTask b note × HasRoom b note e × CanBook (booked b note e) notes e
+CanBook b (note ∷ notes) e = HasTask b note × HasRoom b note e × CanBook (account_after b note e) notes e
 
 -- the account of a plan's tasks and entries is the sums over these notes, each under some entry
 pub record HasBooked (p : Plan) (b : Books) (notes : List Note) : Type 0 where

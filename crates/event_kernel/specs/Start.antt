@@ -2,7 +2,7 @@
 use Rattle.std.specs.Prelude.{ℕ, ◌≡◌, []}
 use Rattle.dvs_base.specs.declared.kind.GovernorKind.{GovernorKind}
 use Rattle.sched_model.specs.Plan.{Plan}
-use Rattle.sched_model.specs.States.{opening, StateOf}
+use Rattle.sched_model.specs.States.{opening, StateView}
 use Rattle.energy.specs.Books.{Books}
 use Rattle.governor.specs.Meanings.{OwnDemand}
 use Rattle.event_kernel.specs.declared.progress.Setting.{Setting}
@@ -18,7 +18,7 @@ abbrev pub run_of : Setting → Run
 run_of set = record { plan = set.plan.now; demands = set.demands.now; ticks = set.ticks }
 
 -- a governor's run is at its start
-pub record IsAtStart {G : Type 0} (stands : G → Plan → StateOf → Type 0) (kind : GovernorKind) (demand : OwnDemand)
+pub record IsAtStart {G : Type 0} (stands : G → Plan → StateView → Type 0) (kind : GovernorKind) (demand : OwnDemand)
     (set : Setting) (progress : Progress G) (account : Books) : Type 0 where
   -- its plan, its demands and its ticks are those of a run
   pub setting : IsSetting set

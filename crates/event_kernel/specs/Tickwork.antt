@@ -7,19 +7,19 @@ use Rattle.sched_model.specs.Jobs.{JobDemands, latest}
 use Rattle.sched_model.specs.Ticks.{Tick, exec}
 use Rattle.sched_model.specs.Schedule.{next_tick}
 use Rattle.sched_model.specs.Notes.{Span, tick_units, notes_before_end}
-use Rattle.sched_model.specs.States.{row_at, StateOf}
+use Rattle.sched_model.specs.States.{row_at, StateView}
 use Rattle.governor.specs.Meanings.{OwnDemand}
 use Rattle.governor.specs.Schedule.{ask_of, course}
-use Rattle.event_kernel.specs.Segment.{open_span, grown}
+use Rattle.event_kernel.specs.Segment.{open_span, span_with}
 
 -- the state after units of a task's latest job, which is done then or not
-abbrev pub served : StateOf → ℕ → ℕ → Bool → StateOf
-served s i units ends = record s { rows = slice_set s.rows i (record (row_at s i) { used = (row_at s i).used + units; done = ends }) }
+abbrev pub after_service : StateView → ℕ → ℕ → Bool → StateView
+after_service s i units ends = record s { rows = slice_set s.rows i (record (row_at s i) { used = (row_at s i).used + units; done = ends }) }
 
 -- the state after units of a task's latest job, which is still not done; `None`: the state itself
-abbrev pub gives : StateOf → Option ℕ → ℕ → StateOf
+abbrev pub gives : StateView → Option ℕ → ℕ → StateView
 gives s None units = s
-gives s (Some i) units = served s i units false
+gives s (Some i) units = after_service s i units false
 
 -- the units that the latest job of a task has had
 abbrev pub had_at : Plan → List Tick → ℕ → ℕ
@@ -39,7 +39,7 @@ tick_at demand p dem t = next_tick p dem (ask_of demand p dem) (course demand p 
 
 -- the span that tick t of a governor's schedule belongs to, with the units of that tick
 abbrev pub whole_span : OwnDemand → Plan → JobDemands → ℕ → Span
-whole_span demand p dem t = grown (span_at demand p dem t) (tick_units p (course demand p dem t) (tick_at demand p dem t))
+whole_span demand p dem t = span_with (span_at demand p dem t) (tick_units p (course demand p dem t) (tick_at demand p dem t))
 
 -- the notes of a governor's schedule before tick t
 abbrev pub notes_before : OwnDemand → Plan → JobDemands → ℕ → List Note

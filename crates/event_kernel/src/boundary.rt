@@ -2,7 +2,7 @@
 ghost use Rattle.std.specs.Prelude.{◌≡◌, ◌<◌, [], ◌∷◌, ◌++◌};
 ghost use Rattle.freq_table.specs.Tables.{lowest_entry};
 ghost use Rattle.sched_model.specs.States.{CanRelease, IsOfPlan};
-ghost use Rattle.agenda.specs.Agenda.{NonePast, IsFirstDue, opened};
+ghost use Rattle.agenda.specs.Agenda.{NonePast, IsFirstDue, with_next_job};
 ghost use Rattle.sched_model.specs.Notes.{all_release_notes};
 ghost use Rattle.governor.specs.Steps.{IsAtDecision};
 ghost use Rattle.event_kernel.specs.SpanNotes.{kept_notes};
@@ -51,7 +51,7 @@ impl<G: Governor> Progress<G> {
         requires current { IsCurrent G.stands set.now.plan.now self.old }
         ensures trace { self.new.trace ≡ with_notes self.old.trace
             (opening_notes (demands_of set.now.plan.now set.now.demands.now) self.old.state task) }
-        ensures state { self.new.state ≡ opened set.now.plan.now self.old.state task
+        ensures state { self.new.state ≡ with_next_job set.now.plan.now self.old.state task
             (needs_nothing (demands_of set.now.plan.now set.now.demands.now) self.old.state task) }
         ensures of { IsOfPlan set.now.plan.now self.new.state }
         ensures current { IsCurrent G.stands set.now.plan.now self.new }

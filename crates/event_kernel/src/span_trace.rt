@@ -4,7 +4,7 @@ ghost use Rattle.dvs_base.specs.Widths.{u64_end};
 ghost use Rattle.sched_model.specs.declared.holder.Holder.TheVariants.{Nobody, Held};
 ghost use Rattle.sched_model.specs.Plan.{point};
 ghost use Rattle.sched_model.specs.Notes.{position_of};
-ghost use Rattle.event_kernel.specs.Segment.{after_segment, is_turn, entered, ended_trace, new_trace, with_notes, written_notes, CanAdd, CanEnter};
+ghost use Rattle.event_kernel.specs.Segment.{after_segment, is_turn, after_units, ended_trace, new_trace, with_notes, written_notes, CanAdd, CanEnter};
 
 use crate::in_force::InForce;
 use crate::notes::SpanNotes;
@@ -146,7 +146,7 @@ impl SpanTrace {
     /// Adds units of a holder. Where another holder's segment is open, its notes are added first.
     pub(crate) fn enter(&mut self, at: Moment<'_>, holder: Holder, units: u64)
         requires { CanEnter at.plan.now at.state.now at.force.from at.force.index units self.old }
-        ensures { self.new ≡ entered at.entry.plan.now at.entry.state.now at.entry.force.from
+        ensures { self.new ≡ after_units at.entry.plan.now at.entry.state.now at.entry.force.from
             at.entry.force.index holder units self.old }
     {
         if turns(self, holder) {

@@ -7,7 +7,7 @@ ghost use Rattle.trace_writer.specs.RunText.{run_lines, most_lines};
 ghost use Rattle.sched_model.specs.Demand.{IsAlwaysMet};
 ghost use Rattle.sched_model.specs.Plan.{count, names};
 ghost use Rattle.sched_model.specs.Totals.{totals_of};
-ghost use Rattle.trace_text.specs.TraceText.{noted, note_lines, text_of_lines};
+ghost use Rattle.trace_text.specs.TraceText.{line_of_note, note_lines, text_of_lines};
 ghost use Rattle.trace_writer.specs.Lines.{WritesLines, WroteLines, StoppedIn};
 ghost use Rattle.trace_writer.specs.UnnotedLines.{sum_lines};
 ghost use Rattle.event_kernel.specs.Runs.{notes_of_run, MeetsDeadlines, MeetsDemands};
@@ -48,12 +48,12 @@ struct Teller<'a, 'b, 'c, W: Sink, P: Probe> {
 
 impl<'a, 'b, 'c, W: Sink, P: Probe> Listener for Teller<'a, 'b, 'c, W, P> {
     ghost heard = { λ a n b. WroteLines (W.shows a.out.now) (W.shows b.out.now)
-        (map P.seen a.probes.now.items) (map P.seen b.probes.now.items) (noted a.names.now n ∷ [])
+        (map P.seen a.probes.now.items) (map P.seen b.probes.now.items) (line_of_note a.names.now n ∷ [])
         × (b.out.ghost_name ≡ a.out.ghost_name) × (b.probes.ghost_name ≡ a.probes.ghost_name)
         × (b.names.now ≡ a.names.now) };
 
     ghost balked = { λ a n b. StoppedIn (W.shows a.out.now) (W.shows b.out.now)
-        (map P.seen a.probes.now.items) (map P.seen b.probes.now.items) (noted a.names.now n ∷ [])
+        (map P.seen a.probes.now.items) (map P.seen b.probes.now.items) (line_of_note a.names.now n ∷ [])
         × (b.out.ghost_name ≡ a.out.ghost_name) × (b.probes.ghost_name ≡ a.probes.ghost_name)
         × (b.names.now ≡ a.names.now) };
 
@@ -77,7 +77,7 @@ fn tell_end<W: Sink, P: Probe>(
     ensures totals { IfOk result (λ t. t ≡ account.now.totals) }
     ensures writes { WritesLines (W.shows out.old) (W.shows out.new)
         (map P.seen probes.old.items) (map P.seen probes.new.items)
-        (noted (names head.entry.plan.now)
+        (line_of_note (names head.entry.plan.now)
         (End head.entry.ticks account.now.totals.run account.now.totals.idle) ∷ []) result }
 {
     let (totals, end) = ending(head.ticks, account);
@@ -98,7 +98,7 @@ fn tell_tail<W: Sink, P: Probe>(
     ensures totals { IfOk result (λ t. t ≡ account.now.totals) }
     ensures writes_tail { WritesLines (W.shows out.old) (W.shows out.new)
         (map P.seen probes.old.items) (map P.seen probes.new.items)
-        (sum_lines head.entry.version head.entry.plan.now account.now.by_task ++ noted (names head.entry.plan.now)
+        (sum_lines head.entry.version head.entry.plan.now account.now.by_task ++ line_of_note (names head.entry.plan.now)
         (End head.entry.ticks account.now.totals.run account.now.totals.idle) ∷ []) result }
 {
     put_sums(head, account.by_task(), out)?;

@@ -4,7 +4,7 @@ ghost use Rattle.sched_model.specs.Plan.{count};
 ghost use Rattle.sched_model.specs.States.{CanRun, IsOfPlan};
 ghost use Rattle.agenda.specs.Agenda.{IsFirstUndone};
 ghost use Rattle.event_kernel.specs.Current.{IsCurrent};
-ghost use Rattle.event_kernel.specs.Tickwork.{served};
+ghost use Rattle.event_kernel.specs.Tickwork.{after_service};
 ghost use Rattle.event_kernel.specs.Settings.{IsSetting, IsInSpan, HasWorked};
 
 use crate::in_force::InForce;
@@ -21,7 +21,7 @@ impl<G: Governor> Progress<G> {
         requires can { CanRun self.old.state task units }
         requires first { IsFirstUndone plan.now self.old.state (count plan.now) task }
         requires current { IsCurrent G.stands plan.now self.old }
-        ensures state { self.new.state ≡ served self.old.state task units ends }
+        ensures state { self.new.state ≡ after_service self.old.state task units ends }
         ensures current { IsCurrent G.stands plan.now self.new }
         ensures of { IsOfPlan plan.now self.new.state }
         ensures trace { self.new.trace ≡ self.old.trace }

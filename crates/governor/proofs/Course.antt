@@ -13,7 +13,7 @@ use Rattle.sched_model.specs.Admission.{IsAdmitted, IsWithinLimits}
 use Rattle.sched_model.specs.Ticks.{PublishedDemand, IsMet, Tick, at, exec}
 use Rattle.sched_model.specs.Decision.{is_decision}
 use Rattle.sched_model.specs.Schedule.{entry_in_force, next_tick, schedule_by, IsNext}
-use Rattle.sched_model.specs.States.{StateOf, row_at, prior_state, state_of}
+use Rattle.sched_model.specs.States.{StateView, row_at, prior_state, state_of}
 use Rattle.sched_model.proofs.Limits.{every_period}
 use Rattle.sched_model.proofs.Schedules.{next_tick-may, schedule_exists, schedule-none, schedule-suc, force-decided, force-within, share-legal}
 use Rattle.sched_model.proofs.JobLaws.{latest-is, release-due}
@@ -63,7 +63,7 @@ due-had p lim dem (x ∷ past) bel i k lt pos e closes =
 module _ (kind : GovernorKind) (serves : Serving) (demand : OwnDemand) (calm : Condition) (safe : EntryCondition)
     (laws : GovernorLaws kind serves demand calm safe) (p : Plan) (dem : JobDemands) (adm : IsAdmitted p) (within : IsWithin p dem)
     (served : serves p.scheduler) where
-  in_run : {s : StateOf} → Belongs p dem s → InRun serves p dem s
+  in_run : {s : StateView} → Belongs p dem s → InRun serves p dem s
   in_run bel = record { admitted = adm; served = served; belongs = bel }
 
   abbrev pub ask : PublishedDemand

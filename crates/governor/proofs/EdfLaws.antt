@@ -16,7 +16,7 @@ use Rattle.sched_model.specs.Plan.{Plan, count, period, offset, worst, hyper, ra
 use Rattle.sched_model.specs.Jobs.{JobDemands}
 use Rattle.sched_model.specs.Tests.{total_rate}
 use Rattle.sched_model.specs.Admission.{IsWithinLimits}
-use Rattle.sched_model.specs.States.{StateOf, row_at, row_wleft, opening, opening_row, earliest_in, key_in}
+use Rattle.sched_model.specs.States.{StateView, row_at, row_wleft, opening, opening_row, earliest_in, key_in}
 use Rattle.sched_model.proofs.Limits.{some_task, some_hyper, period_divides}
 use Rattle.sched_model.proofs.LevelSums.{sum_where-plus, sum_where-times, sum_where-term, sum_where-zero, sum_where-all, sum_below-times}
 use Rattle.governor.specs.Steps.{boundary_row, opened_row, after_boundary, wleft_at, IsLegalIn, after_tick, IsBeforeAll, Belongs}
@@ -40,7 +40,7 @@ abbrev term : ℕ → ℕ → ℕ → Row → ℕ
 term h d u row = if nat_le row.deadline d then h * row_wleft row + u * (d - row.deadline) else 0
 
 -- the load is the sum of the tasks' parts
-pub load_is : (plan : Plan) (s : StateOf) (d : ℕ)
+pub load_is : (plan : Plan) (s : StateView) (d : ℕ)
     → load plan s d ≡ sum_below (count plan) (λ i. term (hyper plan) d (rate plan i) (row_at s i))
 load_is plan s d =
     let n = count plan in
@@ -95,7 +95,7 @@ module _ (F : ℕ) (plan : Plan) (lim : IsWithinLimits plan) where
       let whole : d - (opening plan).now ≡ d = sub-zero d in
       rw whole (omega (arith, load_is plan (opening plan) d, each, sum_below-times n d (rate plan), mul-le-mul_left d fits))
 
-  module _ (dem : JobDemands) (s : StateOf) (bel : Belongs plan dem s) where
+  module _ (dem : JobDemands) (s : StateView) (bel : Belongs plan dem s) where
     -- no task is due before the earliest deadline
     none_due : (d : ℕ) → d < earliest_in plan s → load plan s d ≡ 0
     none_due d lt =

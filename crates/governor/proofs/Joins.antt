@@ -12,7 +12,7 @@ use Rattle.grid_fraction.specs.Numbers.{any_below, list_below}
 use Rattle.grid_fraction.proofs.Sums.{sum_below-same}
 use Rattle.sched_model.specs.Plan.{Plan, count, period}
 use Rattle.sched_model.specs.Jobs.{JobDemands, releases_at, is_release}
-use Rattle.sched_model.specs.Ticks.{Tick, left as left_at, share as share_at}
+use Rattle.sched_model.specs.Ticks.{Tick, units_left as left_at, share as share_at}
 use Rattle.sched_model.specs.Priority.{SharesOut, sum_up_to, key_of as key_at}
 use Rattle.sched_model.specs.States.{prior_row, prior_state, row_of, state_of, key_in}
 use Rattle.sched_model.proofs.Tables.{length-list_below, table-same}

@@ -9,7 +9,7 @@ use Rattle.grid_fraction.specs.Numbers.{sum_where}
 use Rattle.grid_fraction.proofs.Sums.{sum_where-same}
 use Rattle.sched_model.specs.Plan.{Plan, count, period, offset, worst, point}
 use Rattle.sched_model.specs.Jobs.{due, latest, worst_demand}
-use Rattle.sched_model.specs.Ticks.{PublishedDemand, Tick, exec, share, left}
+use Rattle.sched_model.specs.Ticks.{PublishedDemand, Tick, exec, share, units_left}
 use Rattle.sched_model.specs.Priority.{stands_before, is_up_to, SharesOut, sum_up_to, key_of}
 use Rattle.sched_model.specs.Schedule.{entry_in_force, next_tick, schedule_by}
 use Rattle.sched_model.specs.Backlog.{lacking}
@@ -36,7 +36,7 @@ lack p ask (suc t) i = lacking p (worst_ticks p ask (suc t)) i
 
 -- what the latest job of task i lacks at t, right after the releases of t
 abbrev pub lack_after : Plan → PublishedDemand → ℕ → ℕ → ℕ
-lack_after p ask t i = left p (worst_demand p) (worst_ticks p ask t) i
+lack_after p ask t i = units_left p (worst_demand p) (worst_ticks p ask t) i
 
 -- a set of tasks that has, with each task, those before it in RM order
 abbrev pub IsDown : Plan → (ℕ → Bool) → Type 0

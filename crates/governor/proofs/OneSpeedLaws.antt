@@ -5,7 +5,7 @@ use Rattle.dvs_base.specs.declared.kind.Scheduler.TheVariants.{Rm, Edf}
 use Rattle.sched_model.specs.Plan.{Plan, count, period, top_speed}
 use Rattle.sched_model.specs.Jobs.{JobDemands}
 use Rattle.sched_model.specs.Admission.{IsWithinLimits, IsAdmitted}
-use Rattle.sched_model.specs.States.{StateOf, row_at, opening}
+use Rattle.sched_model.specs.States.{StateView, row_at, opening}
 use Rattle.dvs_base.specs.declared.kind.Scheduler.{Scheduler}
 use Rattle.dvs_base.specs.declared.kind.GovernorKind.{GovernorKind}
 use Rattle.dvs_base.specs.declared.kind.GovernorKind.TheVariants.{Plain, Fixed}
@@ -30,7 +30,7 @@ module _ (F : ℕ) (span : ℕ → ℕ) (plan : Plan) (lim : IsWithinLimits plan
   pub rm_opens : StretchCalm F span plan (opening plan)
   rm_opens i h = level_opens F (span i) plan lim i h
 
-  module _ (dem : JobDemands) (s : StateOf) (bel : Belongs plan dem s) where
+  module _ (dem : JobDemands) (s : StateView) (bel : Belongs plan dem s) where
     pub rm_completes : ((i : ℕ) → i < count plan → span i ≤ period plan i) → StretchCalm F span plan s → (i : ℕ)
         → i < count plan → (row_at s i).deadline ≡ s.now → (row_at s i).done ≡ true
     rm_completes within calm i h = level_completes F (span i) plan lim i h dem s bel (within i h) (calm i h)
@@ -56,7 +56,7 @@ module _ (F : ℕ) (plan : Plan) (lim : IsWithinLimits plan) (enough : IsEnough 
   within : (i : ℕ) → i < count plan → period plan i ≤ period plan i
   within i h = omega arith
 
-  module _ (dem : JobDemands) (s : StateOf) (bel : Belongs plan dem s) where
+  module _ (dem : JobDemands) (s : StateView) (bel : Belongs plan dem s) where
     releases_by : (sch : Scheduler) → CalmBy sch F plan s → CalmBy sch F plan (after_boundary plan dem s)
     releases_by Edf calm = edf_releases F plan lim dem s bel calm
     releases_by Rm calm = rm_releases F (period plan) plan lim dem s bel (some_period plan lim) within calm

@@ -12,7 +12,7 @@ use Rattle.sched_model.specs.Jobs.{release, latest_since, due as due_at, JobDema
 use Rattle.sched_model.specs.Priority.{stands_before}
 use Rattle.sched_model.specs.Plan.{Plan, count, period, worst}
 use Rattle.sched_model.specs.Admission.{IsWithinLimits}
-use Rattle.sched_model.specs.States.{StateOf, row_at, row_wleft, opening, key_in}
+use Rattle.sched_model.specs.States.{StateView, row_at, row_wleft, opening, key_in}
 use Rattle.sched_model.proofs.JobLaws.{due-suc, release-suc, release-due, latest_since-pos}
 use Rattle.sched_model.proofs.Limits.{some_period}
 use Rattle.sched_model.proofs.LevelSums.{sum_where-mono, sum_where-plus, sum_where-term, up_to-self, up_to-trans, sum_up_to-where}
@@ -70,7 +70,7 @@ module _ (F long : ℕ) (plan : Plan) (lim : IsWithinLimits plan) (i : ℕ) (h :
   pub level_opens : LevelCalm F long plan (opening plan) i
   level_opens = inl (λ j hj on. rw (opening_at plan j hj) refl)
 
-  module _ (dem : JobDemands) (s : StateOf) (bel : Belongs plan dem s) where
+  module _ (dem : JobDemands) (s : StateView) (bel : Belongs plan dem s) where
     pub level_completes : long ≤ period plan i → LevelCalm F long plan s i → (row_at s i).deadline ≡ s.now
         → (row_at s i).done ≡ true
     level_completes within calm e = grind (arith, nat_tests, up_to-self, cases_Bool, cases_lt, latest_since-pos, release-due, unborn_done)

@@ -8,7 +8,7 @@ use Rattle.std.proofs.lemmas.List.Folds.{Any-from_list_any}
 use Rattle.std.proofs.Math.Nat.{le_trans}
 use Rattle.std.specs.Prelude.{◌==◌, ◌||◌, map, slice_index}
 use Rattle.sched_model.specs.declared.state.Row.{Row}
-use Rattle.sched_model.specs.States.{no_row, row_wleft, StateOf, row_at, opening, opening_row, earliest_in, key_in}
+use Rattle.sched_model.specs.States.{no_row, row_wleft, StateView, row_at, opening, opening_row, earliest_in, key_in}
 use Rattle.task_model.specs.declared.limits.TheConstants.{LONGEST_PERIOD, LATEST_OFFSET}
 use Rattle.grid_fraction.specs.Numbers.{greatest_below}
 use Rattle.grid_fraction.proofs.Least.{least-above}
@@ -67,23 +67,23 @@ pub record RowOk (plan : Plan) (dem : JobDemands) (now i : ℕ) (row : Row) : Ty
   pub open_job : row.done ≡ false → row.used < dem i row.job
   pub closed_job : row.done ≡ true → 0 < row.job → row.used ≡ dem i row.job
 
-pub row_ok : (plan : Plan) (dem : JobDemands) (s : StateOf) → Belongs plan dem s → (i : ℕ) → i < count plan
+pub row_ok : (plan : Plan) (dem : JobDemands) (s : StateView) → Belongs plan dem s → (i : ℕ) → i < count plan
     → RowOk plan dem s.now i (row_at s i)
 row_ok plan dem s bel i h = grind (arith, nat_tests)
 
-belongs_of_rows : (plan : Plan) (dem : JobDemands) (s : StateOf) → length s.rows ≡ count plan
+belongs_of_rows : (plan : Plan) (dem : JobDemands) (s : StateView) → length s.rows ≡ count plan
     → length s.base ≡ count plan → s.base_at ≡ last_marked plan s
     → ((i : ℕ) → i < count plan → row_wleft (row_at s i) ≤ slice_index s.base i) → IsWithin plan dem
     → ((i : ℕ) → i < count plan → RowOk plan dem s.now i (row_at s i)) → Belongs plan dem s
 belongs_of_rows plan dem s rows base marked bases demand each = grind (arith, nat_tests)
 
 -- job 0 has no demand, so its row is complete
-pub unborn_done : (plan : Plan) (dem : JobDemands) (s : StateOf) → Belongs plan dem s → (i : ℕ) → i < count plan
+pub unborn_done : (plan : Plan) (dem : JobDemands) (s : StateView) → Belongs plan dem s → (i : ℕ) → i < count plan
     → (row_at s i).job ≡ 0 → (row_at s i).done ≡ true
 unborn_done plan dem s bel i h none = grind (arith, nat_tests)
 
 -- the number of a task is the place of a row
-pub in_rows : (plan : Plan) (dem : JobDemands) (s : StateOf) → Belongs plan dem s → (i : ℕ) → i < count plan → i < length s.rows
+pub in_rows : (plan : Plan) (dem : JobDemands) (s : StateView) → Belongs plan dem s → (i : ℕ) → i < count plan → i < length s.rows
 in_rows plan dem s bel i h = omega (arith, bel.of.rows)
 
 pub opening_at : (plan : Plan) (i : ℕ) → i < count plan → row_at (opening plan) i ≡ opening_row (offset plan i) (worst plan i)
@@ -127,29 +127,29 @@ pub boundary_row-by : (plan : Plan) (dem : JobDemands) (now i : ℕ) (row : Row)
     → (row.deadline ≡ now → P (opened_row plan dem i row)) → (row.deadline ≢ now → P row) → P (boundary_row plan dem now i row)
 boundary_row-by plan dem now i row P opened still = grind (arith, nat_tests)
 
-pub boundary_at : (plan : Plan) (dem : JobDemands) (s : StateOf) → Belongs plan dem s → (i : ℕ) → i < count plan
+pub boundary_at : (plan : Plan) (dem : JobDemands) (s : StateView) → Belongs plan dem s → (i : ℕ) → i < count plan
     → row_at (after_boundary plan dem s) i ≡ boundary_row plan dem s.now i (row_at s i)
 boundary_at plan dem s bel i h = get-each_row (boundary_row plan dem s.now) s.rows i (in_rows plan dem s bel i h)
 
 -- a fact of the opened row, where a row is due, and of the row itself, where it isn't,
 -- is a fact of the row in the state after the boundary
-pub boundary-by : (plan : Plan) (dem : JobDemands) (s : StateOf) → Belongs plan dem s → (i : ℕ) → i < count plan → (P : Row → Type 0)
+pub boundary-by : (plan : Plan) (dem : JobDemands) (s : StateView) → Belongs plan dem s → (i : ℕ) → i < count plan → (P : Row → Type 0)
     → ((row_at s i).deadline ≡ s.now → P (opened_row plan dem i (row_at s i))) → ((row_at s i).deadline ≢ s.now → P (row_at s i))
     → P (row_at (after_boundary plan dem s) i)
 boundary-by plan dem s bel i h P opened still =
     subst P (sym (boundary_at plan dem s bel i h)) (boundary_row-by plan dem s.now i (row_at s i) P opened still)
 
-pub boundary_long : (plan : Plan) (dem : JobDemands) (s : StateOf) → length (after_boundary plan dem s).rows ≡ length s.rows
+pub boundary_long : (plan : Plan) (dem : JobDemands) (s : StateView) → length (after_boundary plan dem s).rows ≡ length s.rows
 boundary_long plan dem s = length-each_row (boundary_row plan dem s.now) 0 s.rows
 
-pub tick_at : (plan : Plan) (dem : JobDemands) (shares : List ℕ) (s : StateOf) → Belongs plan dem s → (i : ℕ) → i < count plan
+pub tick_at : (plan : Plan) (dem : JobDemands) (shares : List ℕ) (s : StateView) → Belongs plan dem s → (i : ℕ) → i < count plan
     → row_at (after_tick dem shares s) i ≡ tick_row dem shares i (row_at s i)
 tick_at plan dem shares s bel i h = get-each_row (tick_row dem shares) s.rows i (in_rows plan dem s bel i h)
 
-pub tick_long : (dem : JobDemands) (shares : List ℕ) (s : StateOf) → length (after_tick dem shares s).rows ≡ length s.rows
+pub tick_long : (dem : JobDemands) (shares : List ℕ) (s : StateView) → length (after_tick dem shares s).rows ≡ length s.rows
 tick_long dem shares s = length-each_row (tick_row dem shares) 0 s.rows
 
-boundary_rows_ok : (plan : Plan) (dem : JobDemands) (s : StateOf) → Belongs plan dem s → (i : ℕ) → i < count plan
+boundary_rows_ok : (plan : Plan) (dem : JobDemands) (s : StateView) → Belongs plan dem s → (i : ℕ) → i < count plan
     → RowOk plan dem s.now i (row_at (after_boundary plan dem s) i)
 boundary_rows_ok plan dem s bel i h =
     let ok = row_ok plan dem s bel i h in
@@ -160,13 +160,13 @@ length_if true xs ys n p q = p
 length_if false xs ys n p q = q
 
 -- after a boundary the base of each row covers what its job may still need
-base_covers : (plan : Plan) (dem : JobDemands) (s : StateOf) → Belongs plan dem s → (i : ℕ) → i < count plan
+base_covers : (plan : Plan) (dem : JobDemands) (s : StateView) → Belongs plan dem s → (i : ℕ) → i < count plan
     → (b : Bool) → list_any (is_due s.now) s.rows ≡ b
     → row_wleft (row_at (after_boundary plan dem s) i) ≤ slice_index (if b then map row_wleft (after_boundary plan dem s).rows else s.base) i
 base_covers plan dem s bel i h b some = grind (arith, nat_tests, boundary_long, get_or-map, none_due_at, in_rows, boundary_at)
 
 -- after a boundary the mark is the last release
-marked_at : (plan : Plan) (dem : JobDemands) (s : StateOf) → Belongs plan dem s → (b : Bool)
+marked_at : (plan : Plan) (dem : JobDemands) (s : StateView) → Belongs plan dem s → (b : Bool)
     → list_any (is_due s.now) s.rows ≡ b
     → (if b then s.now else s.base_at) ≡ last_marked plan (after_boundary plan dem s)
 marked_at plan dem s bel true some =
@@ -192,7 +192,7 @@ marked_at plan dem s bel false none =
     let P : Bool → Type 0 = λ (b : Bool). release_of plan i (row_at s i) ≡ release_of plan i (if b then opened_row plan dem i (row_at s i) else row_at s i) in
     rw (boundary_at plan dem s bel i h) (subst P (sym still) refl))
 
-pub belongs_boundary : (plan : Plan) (dem : JobDemands) (s : StateOf) → Belongs plan dem s → Belongs plan dem (after_boundary plan dem s)
+pub belongs_boundary : (plan : Plan) (dem : JobDemands) (s : StateView) → Belongs plan dem s → Belongs plan dem (after_boundary plan dem s)
 belongs_boundary plan dem s bel = grind (arith, nat_tests, boundary_long, belongs_of_rows, length_if, length-map, marked_at, base_covers, boundary_rows_ok)
 
 -- the deadline of a job but job 0 is at most a period after its release
@@ -204,7 +204,7 @@ due_low : (plan : Plan) → IsWithinLimits plan → (i job : ℕ) → i < count 
 due_low plan lim i zero h = let first : offset plan i ≤ LATEST_OFFSET = (lim.tasks.each i h).low_offset in omega (arith, due-none plan i, first)
 due_low plan lim i (suc k) h = omega (arith, due_soon plan i (suc k) (omega arith), low_period plan lim i h)
 
-pub decision_boundary : (plan : Plan) (dem : JobDemands) (s : StateOf) → IsWithinLimits plan → Belongs plan dem s
+pub decision_boundary : (plan : Plan) (dem : JobDemands) (s : StateView) → IsWithinLimits plan → Belongs plan dem s
     → IsAtDecision plan (after_boundary plan dem s)
 decision_boundary plan dem s lim bel =
     let t = after_boundary plan dem s in
@@ -240,12 +240,12 @@ row_after_tick : (plan : Plan) (dem : JobDemands) (shares : List ℕ) (now i : �
 row_after_tick plan dem shares now i row fits before most ok = grind (arith, nat_tests)
 
 -- in a legal tick no task gets more than it needs
-pub legal_most : (plan : Plan) (dem : JobDemands) (f : ℕ) (s : StateOf) (shares : List ℕ)
+pub legal_most : (plan : Plan) (dem : JobDemands) (f : ℕ) (s : StateView) (shares : List ℕ)
     → IsLegalIn plan dem f s shares → (i : ℕ) → i < count plan → share_in shares i ≤ left_in dem s i
 legal_most plan dem f s shares legal i h =
     share-most (count plan) (key_in plan.scheduler plan s) f (left_in dem s) (share_in shares) legal.out i h
 
-pub belongs_tick : (plan : Plan) (dem : JobDemands) (f : ℕ) (s : StateOf) (shares : List ℕ) → Belongs plan dem s
+pub belongs_tick : (plan : Plan) (dem : JobDemands) (f : ℕ) (s : StateView) (shares : List ℕ) → Belongs plan dem s
     → IsBeforeAll plan s → IsLegalIn plan dem f s shares → Belongs plan dem (after_tick dem shares s)
 belongs_tick plan dem f s shares bel before legal =
     let t = after_tick dem shares s in
@@ -261,9 +261,9 @@ belongs_tick plan dem f s shares bel before legal =
     (before i h) (legal_most plan dem f s shares legal i h) (row_ok plan dem s bel i h)))
 
 -- where the present tick is before every deadline, it is before the earliest one
-pub earliest-later : (plan : Plan) → IsWithinLimits plan → (s : StateOf) → IsBeforeAll plan s → s.now < earliest_in plan s
+pub earliest-later : (plan : Plan) → IsWithinLimits plan → (s : StateView) → IsBeforeAll plan s → s.now < earliest_in plan s
 earliest-later plan lim s before = least-above (count plan) (λ i. (row_at s i).deadline) (suc s.now) (some_task plan lim) before
 
 -- in a state that belongs no deadline is before the present tick
-pub earliest-from : (plan : Plan) → IsWithinLimits plan → (dem : JobDemands) (s : StateOf) → Belongs plan dem s → s.now ≤ earliest_in plan s
+pub earliest-from : (plan : Plan) → IsWithinLimits plan → (dem : JobDemands) (s : StateView) → Belongs plan dem s → s.now ≤ earliest_in plan s
 earliest-from plan lim dem s bel = least-above (count plan) (λ i. (row_at s i).deadline) s.now (some_task plan lim) bel.due

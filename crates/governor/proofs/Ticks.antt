@@ -6,7 +6,7 @@ use Rattle.grid_fraction.specs.Numbers.{sum_where}
 use Rattle.sched_model.specs.Plan.{Plan, count}
 use Rattle.sched_model.specs.Jobs.{JobDemands}
 use Rattle.sched_model.specs.Priority.{stands_before}
-use Rattle.sched_model.specs.States.{StateOf, row_at, key_in}
+use Rattle.sched_model.specs.States.{StateView, row_at, key_in}
 use Rattle.sched_model.proofs.Allotments.{down-set-gets}
 use Rattle.sched_model.proofs.LevelSums.{sum_where-mono, sum_where-plus, sum_where-tight}
 use Rattle.governor.specs.Steps.{wleft_at, share_in, left_in, IsLegalIn, after_tick, Belongs}
@@ -28,12 +28,12 @@ tick_closes true used need sh o le all = refl
 tick_closes false used need sh o le all = let e : used + sh ≡ need = omega (arith, o refl) in eq-eqb (used + sh) need e
 
 -- the demand of a row's job is at most its worst case
-pub demand_most : (plan : Plan) (dem : JobDemands) (s : StateOf) → Belongs plan dem s → (i : ℕ) → i < count plan
+pub demand_most : (plan : Plan) (dem : JobDemands) (s : StateView) → Belongs plan dem s → (i : ℕ) → i < count plan
     → dem i (row_at s i).job ≤ (row_at s i).worst
 demand_most plan dem s bel i h = let m = bel.demand.most i (row_at s i).job h in let w = bel.of.worst i h in omega arith
 
 -- what a task may still need falls by at least its units
-pub tick-falls : (plan : Plan) (dem : JobDemands) (f : ℕ) (s : StateOf) (shares : List ℕ) → Belongs plan dem s
+pub tick-falls : (plan : Plan) (dem : JobDemands) (f : ℕ) (s : StateView) (shares : List ℕ) → Belongs plan dem s
     → IsLegalIn plan dem f s shares → (i : ℕ) → i < count plan
     → wleft_at (after_tick dem shares s) i + share_in shares i ≤ wleft_at s i
 tick-falls plan dem f s shares bel legal i h =
@@ -42,7 +42,7 @@ tick-falls plan dem f s shares bel legal i h =
     (share_in shares i) (bel.open_job i h) (demand_most plan dem s bel i h) (legal_most plan dem f s shares legal i h))
 
 -- a task that got all that it needs is complete
-pub tick-closes : (plan : Plan) (dem : JobDemands) (f : ℕ) (s : StateOf) (shares : List ℕ) → Belongs plan dem s
+pub tick-closes : (plan : Plan) (dem : JobDemands) (f : ℕ) (s : StateView) (shares : List ℕ) → Belongs plan dem s
     → IsLegalIn plan dem f s shares → (i : ℕ) → i < count plan → left_in dem s i ≤ share_in shares i
     → (row_at (after_tick dem shares s) i).done ≡ true
 tick-closes plan dem f s shares bel legal i h all =
@@ -51,7 +51,7 @@ tick-closes plan dem f s shares bel legal i h all =
     (bel.open_job i h) (legal_most plan dem f s shares legal i h) all)
 
 -- after the tick each task of the set is complete, or the set may need at least f units less
-pub tick_set : (plan : Plan) (dem : JobDemands) (f : ℕ) (s : StateOf) (shares : List ℕ) (test : ℕ → Bool)
+pub tick_set : (plan : Plan) (dem : JobDemands) (f : ℕ) (s : StateView) (shares : List ℕ) (test : ℕ → Bool)
     → Belongs plan dem s → IsLegalIn plan dem f s shares
     → ((j i : ℕ) → j < count plan → i < count plan → stands_before (key_in plan.scheduler plan s) j i ≡ true → test i ≡ true → test j ≡ true)
     → ((i : ℕ) → i < count plan → test i ≡ true → (row_at (after_tick dem shares s) i).done ≡ true)

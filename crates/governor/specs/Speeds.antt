@@ -4,10 +4,10 @@ use Rattle.grid_fraction.specs.declared.Frac.{Frac}
 use Rattle.freq_table.specs.Tables.{speed_at, lowest_entry}
 use Rattle.sched_model.specs.Plan.{Plan}
 use Rattle.sched_model.specs.StaticDemand.{static_demand}
-use Rattle.sched_model.specs.States.{StateOf}
+use Rattle.sched_model.specs.States.{StateView}
 
 -- a published demand of the plan alone, the same in every state
-abbrev pub unchanging : (Plan → Frac) → Plan → StateOf → Frac
+abbrev pub unchanging : (Plan → Frac) → Plan → StateView → Frac
 unchanging demand plan s = demand plan
 
 -- the speed of the lowest entry that meets the plan's static demand

@@ -8,7 +8,7 @@ use Rattle.sched_model.specs.Priority.{SharesOut}
 use Rattle.sched_model.specs.Plan.{Plan, period, count}
 use Rattle.sched_model.specs.Jobs.{JobDemands, latest_since, due as due_at, IsWithin}
 use Rattle.grid_fraction.specs.Numbers.{greatest_below}
-use Rattle.sched_model.specs.States.{released_row, StateOf, row_wleft, row_at, key_in, IsOfPlan}
+use Rattle.sched_model.specs.States.{released_row, StateView, row_wleft, row_at, key_in, IsOfPlan}
 
 -- the rows, each changed by a function of its place and itself; the first place is i
 abbrev pub each_row : (ℕ → Row → Row) → ℕ → List Row → List Row
@@ -28,11 +28,11 @@ abbrev pub boundary_row : Plan → JobDemands → ℕ → ℕ → Row → Row
 boundary_row plan dem now i row = if is_due now row then opened_row plan dem i row else row
 
 -- all rows of a state after a boundary
-abbrev pub boundary_rows : Plan → JobDemands → StateOf → List Row
+abbrev pub boundary_rows : Plan → JobDemands → StateView → List Row
 boundary_rows plan dem s = each_row (boundary_row plan dem s.now) 0 s.rows
 
 -- the state after the releases of a boundary, and after its mark where some task is released
-abbrev pub after_boundary : Plan → JobDemands → StateOf → StateOf
+abbrev pub after_boundary : Plan → JobDemands → StateView → StateView
 after_boundary plan dem s = record {
   now = s.now;
   rows = boundary_rows plan dem s;
@@ -45,7 +45,7 @@ abbrev pub release_of : Plan → ℕ → Row → ℕ
 release_of plan i row = latest_since plan i row.job
 
 -- the last release of the rows' jobs; 0 where there is none
-abbrev pub last_marked : Plan → StateOf → ℕ
+abbrev pub last_marked : Plan → StateView → ℕ
 last_marked plan s = greatest_below (count plan) (λ i. release_of plan i (row_at s i))
 
 -- the units that the row's job of task i still needs; 0 where it is complete
@@ -53,11 +53,11 @@ abbrev pub left_of : JobDemands → ℕ → Row → ℕ
 left_of dem i row = if row.done then 0 else dem i row.job - row.used
 
 -- the units that the job of task i still needs in a state; 0 where it is complete
-abbrev pub left_in : JobDemands → StateOf → ℕ → ℕ
+abbrev pub left_in : JobDemands → StateView → ℕ → ℕ
 left_in dem s i = left_of dem i (row_at s i)
 
 -- the units that the job of task i may still need at most; 0 where it is complete
-abbrev pub wleft_at : StateOf → ℕ → ℕ
+abbrev pub wleft_at : StateView → ℕ → ℕ
 wleft_at s i = row_wleft (row_at s i)
 
 -- the units of task i in a list of shares
@@ -65,7 +65,7 @@ abbrev pub share_in : List ℕ → ℕ → ℕ
 share_in shares i = slice_index shares i
 
 -- the f units of a tick are shared out by priority, to each task up to what its job needs
-pub record IsLegalIn (plan : Plan) (dem : JobDemands) (f : ℕ) (s : StateOf) (shares : List ℕ) : Type 0 where
+pub record IsLegalIn (plan : Plan) (dem : JobDemands) (f : ℕ) (s : StateView) (shares : List ℕ) : Type 0 where
   pub one_each : length shares ≡ count plan
   pub out : SharesOut (count plan) (key_in plan.scheduler plan s) f (left_in dem s) (share_in shares)
 
@@ -76,23 +76,23 @@ tick_row dem shares i row =
     record row { used = used; done = (row.done || (used == dem i row.job)) }
 
 -- the state after a tick with these shares
-abbrev pub after_tick : JobDemands → List ℕ → StateOf → StateOf
+abbrev pub after_tick : JobDemands → List ℕ → StateView → StateView
 after_tick dem shares s = record s { now = s.now + 1; rows = each_row (tick_row dem shares) 0 s.rows }
 
 -- the present tick is before every deadline
-abbrev pub IsBeforeAll : Plan → StateOf → Type 0
+abbrev pub IsBeforeAll : Plan → StateView → Type 0
 IsBeforeAll plan s = (i : ℕ) → i < count plan → s.now < (row_at s i).deadline
 
 -- a tick with these shares may follow with the entry k in force: it is legal at the entry's speed, and the present
 -- tick is before every deadline
-pub record MayFollow (plan : Plan) (dem : JobDemands) (s : StateOf) (k : ℕ) (shares : List ℕ) : Type 0 where
+pub record MayFollow (plan : Plan) (dem : JobDemands) (s : StateView) (k : ℕ) (shares : List ℕ) : Type 0 where
   pub before : IsBeforeAll plan s
   pub entry : k < length plan.machine.points
   pub legal : IsLegalIn plan dem (speed_at plan.machine k) s shares
 
 -- the state is at a decision: before every deadline, each of which is within the longest period,
 -- and with a mark no earlier than any release, whose bases cover what each job may still need
-pub record IsAtDecision (plan : Plan) (s : StateOf) : Type 0 where
+pub record IsAtDecision (plan : Plan) (s : StateView) : Type 0 where
   pub before : IsBeforeAll plan s
   pub soon : (i : ℕ) → i < count plan → (row_at s i).deadline ≤ s.now + LONGEST_PERIOD
   pub marked : s.base_at ≤ s.now
@@ -101,7 +101,7 @@ pub record IsAtDecision (plan : Plan) (s : StateOf) : Type 0 where
 
 -- the state is one of a run of the plan with these demands: its rows have the plan's deadlines and releases,
 -- its mark is the last release, and a job is complete exactly where it has had its demand
-pub record Belongs (plan : Plan) (dem : JobDemands) (s : StateOf) : Type 0 where
+pub record Belongs (plan : Plan) (dem : JobDemands) (s : StateView) : Type 0 where
   pub of : IsOfPlan plan s
   pub demand : IsWithin plan dem
   pub due : (i : ℕ) → i < count plan → s.now ≤ (row_at s i).deadline

@@ -8,7 +8,7 @@ ghost use Rattle.std.specs.Prelude.{◌≡◌, ℕ, ◌≤◌, IfOk};
 ghost use Rattle.dvs_base.specs.declared.kind.GovernorKind.{GovernorKind as KindOf};
 ghost use Rattle.freq_table.specs.Tables.{lowest_entry, lowest_pick};
 ghost use Rattle.sched_model.specs.Plan.{Plan};
-ghost use Rattle.sched_model.specs.States.{StateOf, opening, after_release, after_run, after_finish, after_mark, after_advance, IsOfPlan, CanRelease, CanRun, CanFinish};
+ghost use Rattle.sched_model.specs.States.{StateView, opening, after_release, after_run, after_finish, after_mark, after_advance, IsOfPlan, CanRelease, CanRun, CanFinish};
 ghost use Rattle.governor.specs.Meanings.{Serving, OwnDemand, Condition, EntryCondition};
 ghost use Rattle.governor.specs.Steps.{IsAtDecision};
 ghost use Rattle.governor.specs.Laws.{GovernorLaws};
@@ -41,7 +41,7 @@ pub trait Governor: Drop {
     ghost safe: { EntryCondition };
 
     /// The governor's counters are right for this plan and state.
-    ghost stands: { Self → Plan → StateOf → Type 0 };
+    ghost stands: { Self → Plan → StateView → Type 0 };
 
     /// The kind of this governor.
     fn kind(&self) -> GovernorKind
@@ -85,10 +85,10 @@ pub trait Governor: Drop {
         ensures met { result.met ≡ (lowest_pick plan.now.machine (demand plan.now view.entry.now)).met };
 
     /// A governor whose counters are right for a state of a plan serves the plan's scheduler.
-    ghost serves_plan: { (g : Self) (plan : Plan) (s : StateOf) → stands g plan s → serves plan.scheduler };
+    ghost serves_plan: { (g : Self) (plan : Plan) (s : StateView) → stands g plan s → serves plan.scheduler };
 
     /// The counters stay right while time alone passes.
-    ghost waits: { (g : Self) (plan : Plan) (s : StateOf) (to : ℕ) → s.now ≤ to → stands g plan s → stands g plan (after_advance s to) };
+    ghost waits: { (g : Self) (plan : Plan) (s : StateView) (to : ℕ) → s.now ≤ to → stands g plan s → stands g plan (after_advance s to) };
 
     /// The laws of the two conditions and the demand.
     ghost laws: { GovernorLaws the_kind serves demand calm safe };

@@ -6,7 +6,7 @@ use Rattle.sched_model.specs.declared.state.Row.{Row}
 use Rattle.sched_model.specs.Plan.{Plan, count, period, offset, worst}
 use Rattle.sched_model.specs.Admission.{IsAdmitted}
 use Rattle.sched_model.proofs.Limits.{every_period}
-use Rattle.sched_model.specs.States.{StateOf, opening, state_of, after_release, after_mark, no_row, row_at, released_row, IsOfPlan, CanRelease}
+use Rattle.sched_model.specs.States.{StateView, opening, state_of, after_release, after_mark, no_row, row_at, released_row, IsOfPlan, CanRelease}
 use Rattle.governor.specs.Steps.{IsAtDecision}
 use Rattle.event_kernel.proofs.Bounds.{Bounds, bounds}
 use Rattle.event_kernel.proofs.BoundaryReleases.{HasReleased, releasing-start, row-there, skips, opens, can-release, released-marked, released-unmarked}
@@ -15,7 +15,7 @@ use Rattle.event_kernel.proofs.Ofplan.{of-prior, of-state}
 
 module _ (p : Plan) where
   -- a state of a plan stays one with another row of task i, of the same worst case and no more units than that
-  of-set : (s : StateOf) (i : ℕ) (r : Row) → IsOfPlan p s → i < length s.rows → r.worst ≡ (row_at s i).worst → r.used ≤ (row_at s i).worst
+  of-set : (s : StateView) (i : ℕ) (r : Row) → IsOfPlan p s → i < length s.rows → r.worst ≡ (row_at s i).worst → r.used ≤ (row_at s i).worst
       → IsOfPlan p (record s { rows = set s.rows i r })
   of-set s i r o lt w u = record {
     rows = length-set s.rows i r ∙ o.rows;
@@ -51,7 +51,7 @@ module _ (p : Plan) where
             o.used k l,
           )
 
-  of-release : (s : StateOf) (i : ℕ) → IsOfPlan p s → CanRelease p s i → IsOfPlan p (after_release p s i)
+  of-release : (s : StateView) (i : ℕ) → IsOfPlan p s → CanRelease p s i → IsOfPlan p (after_release p s i)
   of-release s i o c = of-set s i _ o c.task refl (omega arith)
 
 -- the demands with one unit for every job; 0 for job 0
@@ -63,11 +63,11 @@ needed : (i k : ℕ) → nat_eq (one_unit i (k + 1)) 0 ≡ false
 needed i k = rw (add-one k) refl
 
 -- of the first m tasks, those without an offset are released; `any` says whether there are any
-pub record HasFirstReleased (p : Plan) (m : ℕ) (any : Bool) (s : StateOf) : Type 0 where
+pub record HasFirstReleased (p : Plan) (m : ℕ) (any : Bool) (s : StateView) : Type 0 where
   pub rows : HasReleased p one_unit [] m any s
   pub of : IsOfPlan p s
 
-pub none-released : (p : Plan) (s : StateOf) → s ≡ opening p → HasFirstReleased p 0 false s
+pub none-released : (p : Plan) (s : StateView) → s ≡ opening p → HasFirstReleased p 0 false s
 none-released p s is = subst (HasFirstReleased p 0 false) (sym is) (record {
   rows = releasing-start p one_unit [];
   of = of-prior p one_unit [] (λ i k lt. omega arith);
@@ -77,12 +77,12 @@ module _ (p : Plan) (adm : IsAdmitted p) where
   b : Bounds p
   b = bounds p adm
 
-  module _ (m : ℕ) (any : Bool) (s : StateOf) (h : HasFirstReleased p m any s) (lt : m < count p) where
+  module _ (m : ℕ) (any : Bool) (s : StateView) (h : HasFirstReleased p m any s) (lt : m < count p) where
     deadline-is : (row_at s m).deadline ≡ offset p m
     deadline-is = ap (λ (r : Row). r.deadline) (row-there (every_period p adm.limits) h.rows m lt (omega arith))
 
     now-is : s.now ≡ 0
-    now-is = ap (λ (v : StateOf). v.now) h.rows.state
+    now-is = ap (λ (v : StateView). v.now) h.rows.state
 
     due-now : offset p m ≡ 0 → (row_at s m).deadline ≡ s.now
     due-now first = deadline-is ∙ (first ∙ sym now-is)
@@ -112,7 +112,7 @@ module _ (p : Plan) (adm : IsAdmitted p) where
         record { rows = (skips (every_period p adm.limits) h.rows (m + 1) (λ i. refl) (omega arith) (omega (arith, lt)) only).0; of = h.of }
 
   -- all tasks without an offset are released, and the tick is marked where there are any
-  module _ (m : ℕ) (s : StateOf) (all : m ≡ count p) where
+  module _ (m : ℕ) (s : StateView) (all : m ≡ count p) where
     marked-is : HasFirstReleased p m true s → after_mark s ≡ state_of p one_unit []
     marked-is h = released-marked (every_period p adm.limits) refl (subst (λ n. HasReleased p one_unit [] n true s) all h.rows)
 

@@ -7,7 +7,7 @@ use Rattle.grid_fraction.specs.Numbers.{list_below}
 use Rattle.sched_model.specs.declared.state.Row.{Row}
 use Rattle.sched_model.specs.Plan.{Plan, count, period, offset, rate}
 use Rattle.sched_model.specs.Priority.{in_order}
-use Rattle.sched_model.specs.States.{StateOf, no_row, row_at, row_wleft, released_row, opening, after_release, after_run, after_finish, CanRelease, CanRun}
+use Rattle.sched_model.specs.States.{StateView, no_row, row_at, row_wleft, released_row, opening, after_release, after_run, after_finish, CanRelease, CanRun}
 use Rattle.sched_model.proofs.Orders.{in_order-same}
 use Rattle.sched_model.proofs.States.{left-opening, left-set, left-run}
 use Rattle.sched_model.proofs.Tables.{get-table, length-list_below}
@@ -20,7 +20,7 @@ use Rattle.look_ahead.proofs.MovedTask.{moved_back, moved_back-in_order}
 abbrev due_of : Row → ℕ
 due_of row = row.deadline
 
-module _ (plan : Plan) (s : StateOf) (left order rates : List ℕ) (keeps : Keeps left order rates plan s) (i : ℕ) where
+module _ (plan : Plan) (s : StateView) (left order rates : List ℕ) (keeps : Keeps left order rates plan s) (i : ℕ) where
   -- there is a rate for each task
   pub rates_long : length rates ≡ count plan
   rates_long = ap (λ (xs : List ℕ). length xs) keeps.rates_are ∙ length-list_below (count plan) (rate plan)
@@ -31,7 +31,7 @@ module _ (plan : Plan) (s : StateOf) (left order rates : List ℕ) (keeps : Keep
       read ∙ (ap (λ (xs : List ℕ). get_or xs i u) keeps.rates_are ∙ get-table (count plan) (rate plan) i u lt)
 
   -- the state with a new row for task i
-  abbrev written : Row → StateOf
+  abbrev written : Row → StateView
   written row = record s { rows = slice_set s.rows i row }
 
   -- a new row with the same deadline changes no deadline
@@ -76,7 +76,7 @@ module _ (plan : Plan) (s : StateOf) (left order rates : List ℕ) (keeps : Keep
   }
 
 -- after a release the released task is due a period later, and no other deadline changes
-module _ (plan : Plan) (s : StateOf) (i : ℕ) (can : CanRelease plan s i) where
+module _ (plan : Plan) (s : StateView) (i : ℕ) (can : CanRelease plan s i) where
   pub due-released : deadline_at (after_release plan s i) i ≡ deadline_at s i + period plan i
   due-released =
       ap due_of (get_or-set_same s.rows i (released_row (period plan i) (row_at s i)) no_row can.task)

@@ -10,7 +10,7 @@ use Rattle.grid_fraction.specs.Numbers.{ceil_div}
 use Rattle.grid_fraction.proofs.Ceilings.{ceil-at}
 use Rattle.sched_model.specs.Plan.{Plan, hyper, rate, top_speed, count}
 use Rattle.sched_model.specs.AheadDemand.{slack, put_off, spread_rate, spread_rates, due_first}
-use Rattle.sched_model.specs.States.{StateOf, row_at, IsOfPlan, earliest_in}
+use Rattle.sched_model.specs.States.{StateView, row_at, IsOfPlan, earliest_in}
 use Rattle.sched_model.proofs.Orders.{sum_list, sum_list-snoc, in_order-below, length-in_order, below-at}
 use Rattle.governor.specs.Steps.{wleft_at}
 use Rattle.look_ahead_laws.specs.Ahead.{deadline_at, edf_order}
@@ -39,7 +39,7 @@ none_spare h own ticks spare some =
 put_is : (w room : ℕ) → w - (w - room) ≡ min w room
 put_is w room = omega arith
 
-module _ (plan : Plan) (s : StateOf) where
+module _ (plan : Plan) (s : StateView) where
   abbrev due : ℕ → ℕ
   due = deadline_at s
 
@@ -124,7 +124,7 @@ most_low plan lim =
     let product = mul-le (top_speed plan) (hyper plan) TOP_SPEED LONGEST_HYPERPERIOD speed (low_hyper plan lim) in
     omega (arith, product)
 
-module _ (plan : Plan) (s : StateOf) where
+module _ (plan : Plan) (s : StateView) where
   order_long : length (edf_order plan s) ≡ count plan
   order_long = length-in_order (deadline_at s) (count plan)
 

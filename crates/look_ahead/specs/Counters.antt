@@ -2,13 +2,13 @@
 use Rattle.std.specs.Prelude.{◌≡◌, ℕ, ◌||◌, ◌&&◌, nat_eq, nat_lt, Bool, List, map}
 use Rattle.grid_fraction.specs.Numbers.{list_below}
 use Rattle.sched_model.specs.Plan.{Plan, count, rate}
-use Rattle.sched_model.specs.States.{StateOf, row_wleft}
+use Rattle.sched_model.specs.States.{StateView, row_wleft}
 use Rattle.governor.specs.ServedSchedulers.{ServesEdf}
 use Rattle.look_ahead_laws.specs.Ahead.{edf_order}
 
 -- the counters are right for a state: the plan is under EDF, `left` is what each job may still need at most, `order`
 -- is the tasks in EDF order, and `rates` is the rate of each task
-pub record Keeps (left order rates : List ℕ) (plan : Plan) (s : StateOf) : Type 0 where
+pub record Keeps (left order rates : List ℕ) (plan : Plan) (s : StateView) : Type 0 where
   pub served : ServesEdf plan.scheduler
   pub left_is : left ≡ map row_wleft s.rows
   pub order_is : order ≡ edf_order plan s

@@ -16,7 +16,7 @@ use Rattle.sched_model.specs.Priority.{sum_before}
 use Rattle.sched_model.specs.Tests.{total_rate}
 use Rattle.sched_model.specs.AheadDemand.{spread_rates}
 use Rattle.sched_model.specs.Admission.{IsAdmitted}
-use Rattle.sched_model.specs.States.{StateOf, earliest_in}
+use Rattle.sched_model.specs.States.{StateView, earliest_in}
 use Rattle.sched_model.proofs.Limits.{some_task, some_hyper}
 use Rattle.sched_model.proofs.Orders.{sum_list, sum_list-in_order, in_order-below, sum_list-append}
 use Rattle.governor.specs.Steps.{wleft_at, IsAtDecision, Belongs}
@@ -36,7 +36,7 @@ last_picked m table d over =
     let low : speed_at m j * d.den ≤ highest_speed m * d.den = mul-le-mul_right d.den (below_highest m table j lt) in
     lt-leb d.num (speed_at m j * d.den) (omega (arith, low, over)))))
 
-module _ (plan : Plan) (s : StateOf) where
+module _ (plan : Plan) (s : StateView) where
   -- the sum of all rates is the sum over the tasks in EDF order
   pub total_is : total_rate plan ≡ sum_list (rate plan) (edf_order plan s)
   total_is = sym (sum_list-in_order (rate plan) (deadline_at s) (count plan))

@@ -9,7 +9,7 @@ use Rattle.freq_table.specs.Tables.{Table, lowest_pick}
 use Rattle.sched_model.specs.declared.state.Row.{Row}
 use Rattle.sched_model.specs.Plan.{Plan}
 use Rattle.sched_model.specs.Priority.{in_order}
-use Rattle.sched_model.specs.States.{StateOf}
+use Rattle.sched_model.specs.States.{StateView}
 use Rattle.look_ahead_laws.specs.Ahead.{ahead_demand}
 
 abbrev task_of : List ℕ → ℕ → ℕ → Task
@@ -35,7 +35,7 @@ three_tasks = record {
   scheduler = Edf;
 }
 
-abbrev all_released : StateOf
+abbrev all_released : StateView
 all_released = record { now = 0; rows = job 8 0 false 12 ∷ job 10 0 false 12 ∷ job 14 0 false 4 ∷ []; base_at = 0; base = 12 ∷ 12 ∷ 4 ∷ [] }
 
 demand_at_start : ahead_demand three_tasks all_released ≡ fraction 21 8
@@ -50,7 +50,7 @@ full_load = record {
   scheduler = Edf;
 }
 
-abbrev two_complete : StateOf
+abbrev two_complete : StateView
 two_complete = record {
   now = 2;
   rows = job 3 12 true 12 ∷ job 4 12 true 12 ∷ job 12 0 false 60 ∷ [];

@@ -8,7 +8,7 @@ use Rattle.sched_model.specs.Plan.{Plan, count, hyper, rate, top_speed}
 use Rattle.sched_model.specs.Priority.{stands_before}
 use Rattle.sched_model.specs.AheadDemand.{slack, put_off, spread_rate, spread_rates, due_first}
 use Rattle.sched_model.specs.Admission.{IsAdmitted}
-use Rattle.sched_model.specs.States.{StateOf}
+use Rattle.sched_model.specs.States.{StateView}
 use Rattle.sched_model.proofs.Orders.{before-self, sum_list, sum_list-in_order, IsOrdered, in_order-ordered, AreBelow, in_order-below, below-from, stands-in_order, first_ahead}
 use Rattle.governor.specs.Steps.{wleft_at}
 use Rattle.governor.specs.ServedSchedulers.{ServesEdf}
@@ -17,7 +17,7 @@ use Rattle.look_ahead_laws.specs.Whole.{rates_before, rates_after, IsSpreadIn, H
 use Rattle.look_ahead_laws.proofs.PutOffWork.{sum_after-suffix}
 use Rattle.look_ahead_laws.proofs.AheadLaws.{each_rate}
 
-module _ (plan : Plan) (s : StateOf) where
+module _ (plan : Plan) (s : StateView) where
   abbrev due : ℕ → ℕ
   due = deadline_at s
 

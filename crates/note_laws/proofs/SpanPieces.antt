@@ -6,7 +6,7 @@ use Rattle.std.proofs.lemmas.List.{replicate-append-replicate}
 use Rattle.sched_model.specs.declared.holder.Holder.{Holder}
 use Rattle.sched_model.specs.declared.holder.Holder.TheVariants.{Nobody, Held}
 use Rattle.sched_model.specs.Priority.{SharesOut, in_order, key_of}
-use Rattle.sched_model.specs.Notes.{Piece, before_pieces, pieces_of, given_units, Span, spans_of, lengthened, tick_units}
+use Rattle.sched_model.specs.Notes.{Piece, before_pieces, pieces_of, given_units, Span, spans_of, spans_with, tick_units}
 use Rattle.sched_model.proofs.Orders.{sum_list, sum_list-snoc, AreBelow, below-from, in_order-below, sum_before-prefix, sum_list-in_order, in_order-same}
 use Rattle.sched_model.proofs.PieceLemmas.{piece, same_holder-refl}
 use Rattle.dvs_base.specs.declared.kind.Scheduler.{Scheduler}
@@ -15,7 +15,7 @@ use Rattle.grid_fraction.proofs.Sums.{sum_below-le, sum_below-zero}
 use Rattle.grid_fraction.proofs.Searches.{any_below-false}
 use Rattle.sched_model.specs.Plan.{Plan, count, point}
 use Rattle.sched_model.specs.Jobs.{JobDemands, latest, due, is_release}
-use Rattle.sched_model.specs.Ticks.{PublishedDemand, Tick, exec, is_done, share, left}
+use Rattle.sched_model.specs.Ticks.{PublishedDemand, Tick, exec, is_done, share, units_left}
 use Rattle.sched_model.specs.Decision.{completes_in, is_decision}
 use Rattle.sched_model.specs.Schedule.{IsNext, IsScheduleBy}
 use Rattle.sched_model.specs.Admission.{IsWithinLimits}
@@ -96,10 +96,10 @@ module _ (n : ℕ) (key : ℕ → ℕ) (room : ℕ) (need given : ℕ → ℕ) (
       let both : sum_list given before + given i ≡ min room (sum_list need before + need i) =
       omega (arith, shares i lt, taken, needed) in
       let own : given i ≡ min (room - sum_list given before) (need i) = omega (arith, both, so_far) in
-      let left : room - sum_list given (before ++ i ∷ []) ≡ room - sum_list given before - given i =
+      let units_left : room - sum_list given (before ++ i ∷ []) ≡ room - sum_list given before - given i =
       omega (arith, sum_list-snoc given before i) in (
         own,
-        subst (λ r. TakeTurns need given r rest) left
+        subst (λ r. TakeTurns need given r rest) units_left
             (turns-from (before ++ i ∷ []) rest (e ∙ sym (append_assoc before (i ∷ []) rest))
             (omega (arith, both, sum_list-snoc given before i, sum_list-snoc need before i))),
       )
@@ -236,24 +236,24 @@ module _ (p : Plan) (dem : JobDemands) (ask : PublishedDemand) (lim : IsWithinLi
       ∙ laid-out (share x) (job_at past) (speed x) (order_at past)
 
   turns : (past : List Tick) (x : Tick) → IsNext p dem ask past x
-      → TakeTurns (left p dem past) (share x) (speed x) (order_at past)
-  turns past x next = take-turns (count p) (key_at past) (speed x) (left p dem past) (share x) next.legal
+      → TakeTurns (units_left p dem past) (share x) (speed x) (order_at past)
+  turns past x next = take-turns (count p) (key_at past) (speed x) (units_left p dem past) (share x) next.legal
 
   -- a job that gets all it needs completes
   served-completes : (past : List Tick) (x : Tick) → IsNext p dem ask past x → (i : ℕ) → i < count p
-      → served (left p dem past) (share x) i ≤ one_if (completes_in p dem x past i)
-  served-completes past x next i lt = go (nat_lt 0 (left p dem past i) && nat_le (left p dem past i) (share x i)) refl
+      → served (units_left p dem past) (share x) i ≤ one_if (completes_in p dem x past i)
+  served-completes past x next i lt = go (nat_lt 0 (units_left p dem past i) && nat_le (units_left p dem past i) (share x i)) refl
     where
-      go : (b : Bool) → (nat_lt 0 (left p dem past i) && nat_le (left p dem past i) (share x i)) ≡ b
-          → served (left p dem past) (share x) i ≤ one_if (completes_in p dem x past i)
+      go : (b : Bool) → (nat_lt 0 (units_left p dem past i) && nat_le (units_left p dem past i) (share x i)) ≡ b
+          → served (units_left p dem past) (share x) i ≤ one_if (completes_in p dem x past i)
       go false e = rw e (omega arith)
       go true e =
           let k = latest p i (length past) in
-          let parts = and_parts (nat_lt 0 (left p dem past i)) (nat_le (left p dem past i) (share x i)) e in
-          let some : 0 < left p dem past i = (let h = parts.0 in grind (arith, nat_tests)) in
-          let whole : left p dem past i ≤ share x i = (let h = parts.1 in grind (arith, nat_tests)) in
-          let most : share x i ≤ left p dem past i =
-          share-most (count p) (key_at past) (speed x) (left p dem past) (share x) next.legal i lt in
+          let parts = and_parts (nat_lt 0 (units_left p dem past i)) (nat_le (units_left p dem past i) (share x i)) e in
+          let some : 0 < units_left p dem past i = (let h = parts.0 in grind (arith, nat_tests)) in
+          let whole : units_left p dem past i ≤ share x i = (let h = parts.1 in grind (arith, nat_tests)) in
+          let most : share x i ≤ units_left p dem past i =
+          share-most (count p) (key_at past) (speed x) (units_left p dem past) (share x) next.legal i lt in
           let had : exec p (x ∷ past) i k ≡ exec p past i k + share x i =
           exec-legal p dem x past i (every_period p lim i) (needless i) most in
           let undone : is_done p dem past i k ≡ false = grind (arith, nat_tests, some) in
@@ -272,21 +272,21 @@ module _ (p : Plan) (dem : JobDemands) (ask : PublishedDemand) (lim : IsWithinLi
       omega (
         arith,
         ap segments (units-laid past x),
-        segments-most (left p dem past) (share x) (job_at past) (speed x) (order_at past) (turns past x next),
-        sum_list-in_order (served (left p dem past) (share x)) (key_at past) (count p),
-        sum_below-le (count p) (served (left p dem past) (share x)) (λ i. one_if (completes_in p dem x past i)) (served-completes past x next),
+        segments-most (units_left p dem past) (share x) (job_at past) (speed x) (order_at past) (turns past x next),
+        sum_list-in_order (served (units_left p dem past) (share x)) (key_at past) (count p),
+        sum_below-le (count p) (served (units_left p dem past) (share x)) (λ i. one_if (completes_in p dem x past i)) (served-completes past x next),
       )
 
   -- the holder of the first unit of the tick after `past`
   abbrev pub first_at : List Tick → Holder
-  first_at past = first_holder (left p dem past) (job_at past) (order_at past)
+  first_at past = first_holder (units_left p dem past) (job_at past) (order_at past)
 
   tick-leads : (past : List Tick) (x : Tick) → IsNext p dem ask past x → Leads (first_at past) (tick_units p past x)
   tick-leads past x next = grind (arith, nat_tests, units-laid, first-leads, turns)
 
   -- where no decision follows a tick, no job completes in it
   none-served : (past : List Tick) (x : Tick) → IsNext p dem ask past x → is_decision p dem (x ∷ past) ≡ false
-      → (i : ℕ) → i < count p → served (left p dem past) (share x) i ≡ 0
+      → (i : ℕ) → i < count p → served (units_left p dem past) (share x) i ≡ 0
   none-served past x next e i lt =
       let none : completes_in p dem x past i ≡ false =
       any_below-false (count p) (completes_in p dem x past) (or_parts (is_release p (length (x ∷ past))) _ e).1 i lt in
@@ -302,9 +302,9 @@ module _ (p : Plan) (dem : JobDemands) (ask : PublishedDemand) (lim : IsWithinLi
   first-stays : (past : List Tick) (x : Tick) → IsNext p dem ask past x → is_decision p dem (x ∷ past) ≡ false
       → first_at (x ∷ past) ≡ first_at past
   first-stays past x next e =
-      first-same (count p) (left p dem (x ∷ past)) (left p dem past) (job_at (x ∷ past)) (job_at past) (order_at (x ∷ past))
+      first-same (count p) (units_left p dem (x ∷ past)) (units_left p dem past) (job_at (x ∷ past)) (job_at past) (order_at (x ∷ past))
       (in_order-below (key_at (x ∷ past)) (count p)) needs same-job
-      ∙ ap (first_holder (left p dem past) (job_at past))
+      ∙ ap (first_holder (units_left p dem past) (job_at past))
       (in_order-same (key_at (x ∷ past)) (key_at past) (count p) (same-key p.scheduler))
     where
       same-job : (i : ℕ) → i < count p → job_at (x ∷ past) i ≡ job_at past i
@@ -318,10 +318,10 @@ module _ (p : Plan) (dem : JobDemands) (ask : PublishedDemand) (lim : IsWithinLi
           → nat_eq (need - given) 0 ≡ nat_eq need 0
       part need given none = grind (arith, nat_tests, cases_lt)
 
-      needs : (i : ℕ) → i < count p → nat_eq (left p dem (x ∷ past) i) 0 ≡ nat_eq (left p dem past i) 0
+      needs : (i : ℕ) → i < count p → nat_eq (units_left p dem (x ∷ past) i) 0 ≡ nat_eq (units_left p dem past i) 0
       needs i lt =
           ap (λ n. nat_eq n 0) (left-stays p dem x past i (every_period p lim i) (needless i) (same-job i lt))
-          ∙ part (left p dem past i) (share x i) (none-served past x next e i lt)
+          ∙ part (units_left p dem past i) (share x i) (none-served past x next e i lt)
 
   -- the span that ends with tick x has few segments; where no decision follows, it has one holder
   pub record HasFew (x : Tick) (past : List Tick) (s : Span) : Type 0 where
@@ -341,7 +341,7 @@ module _ (p : Plan) (dem : JobDemands) (ask : PublishedDemand) (lim : IsWithinLi
   LastHasFew x past (s ∷ spans) = HasFew x past s
 
   longer-few : (x y : Tick) (past : List Tick) (spans : List Span) → IsNext p dem ask (y ∷ past) x
-      → is_decision p dem (y ∷ past) ≡ false → LastHasFew y past spans → LastHasFew x (y ∷ past) (lengthened (tick_units p (y ∷ past) x) spans)
+      → is_decision p dem (y ∷ past) ≡ false → LastHasFew y past spans → LastHasFew x (y ∷ past) (spans_with (tick_units p (y ∷ past) x) spans)
   longer-few x y past [] next e h = absurd h
   longer-few x y past (s ∷ spans) next e h =
       let (n, run) = h.alone e in

@@ -7,10 +7,10 @@ use Rattle.request_list.specs.declared.requests.Request.{Request}
 use Rattle.sched_model.specs.Plan.{Plan, plan_of}
 use Rattle.sched_model.specs.Jobs.{release, due}
 use Rattle.task_model.specs.declared.task.Task.{Task}
-use Rattle.poll_server.specs.ServerJobs.{ServerOf, server_of, taken_up_to, taken, polled_demand}
+use Rattle.poll_server.specs.ServerJobs.{ServerView, server_of, taken_up_to, taken_units, polled_demand}
 use Rattle.poll_server.specs.declared.served.Outcome.{Outcome}
 use Rattle.poll_server.specs.declared.served.Outcome.TheVariants.{Served, Pending}
-use Rattle.poll_server.specs.Outcomes.{ServedOf, outcome_at}
+use Rattle.poll_server.specs.Outcomes.{ServedView, outcome_at}
 use Rattle.poll_server.specs.Bound.{jobs_before, request_backlog, latest_job, latest_end, IsServedBy, KeepsBound}
 use Rattle.poll_server.specs.EachOutcome.{job_of}
 
@@ -26,11 +26,11 @@ plan = plan_of (task_with 5 4 ∷ task_with 10 10 ∷ []) machine Edf
 abbrev request : ℕ → ℕ → Request
 request arrival units = record { arrival = arrival; units = units }
 
-abbrev server : ServerOf
+abbrev server : ServerView
 server = server_of plan 0 (request 0 3 ∷ request 1 6 ∷ request 12 1 ∷ [])
 
 -- a request that arrives with the release counts, and one that arrives after it waits for the next
-takes : (taken server 1 ∷ taken server 2 ∷ taken server 3 ∷ taken server 4 ∷ taken server 5 ∷ []) ≡ (3 ∷ 4 ∷ 2 ∷ 1 ∷ 0 ∷ [])
+takes : (taken_units server 1 ∷ taken_units server 2 ∷ taken_units server 3 ∷ taken_units server 4 ∷ taken_units server 5 ∷ []) ≡ (3 ∷ 4 ∷ 2 ∷ 1 ∷ 0 ∷ [])
 unfolding taken_up_to release
 takes = refl
 
@@ -54,7 +54,7 @@ releases_before : (jobs_before server 0 ∷ jobs_before server 5 ∷ jobs_before
 releases_before = refl
 
 -- a request of 9 units takes three jobs, at the budget 4
-long : (taken (server_of plan 0 (request 0 9 ∷ [])) 1 ∷ taken (server_of plan 0 (request 0 9 ∷ [])) 3
+long : (taken_units (server_of plan 0 (request 0 9 ∷ [])) 1 ∷ taken_units (server_of plan 0 (request 0 9 ∷ [])) 3
     ∷ job_of (server_of plan 0 (request 0 9 ∷ [])) 0 ∷ latest_job (server_of plan 0 (request 0 9 ∷ [])) 0 ∷ []) ≡ (4 ∷ 1 ∷ 3 ∷ 3 ∷ [])
 unfolding taken_up_to release
 long = refl
@@ -72,7 +72,7 @@ served_in_time = (inr (refl, refl), late, λ none. none)
     late (inr at_tick) = omega (arith, at_tick.1)
 
 -- the bound of the second request holds in a run of 15 ticks: it isn't pending there
-bound_at_the_end : (r : ServedOf) → r.outcomes ≡ (served_at 5 0 ∷ Pending ∷ Pending ∷ []) → KeepsBound server 15 r → ⊥
+bound_at_the_end : (r : ServedView) → r.outcomes ≡ (served_at 5 0 ∷ Pending ∷ Pending ∷ []) → KeepsBound server 15 r → ⊥
 unfolding taken_up_to release due
 bound_at_the_end r outcomes keeps =
     subst (λ (os : List Outcome). IsServedBy 15 (outcome_at os 1)) outcomes (keeps 1 (omega arith) (omega arith))

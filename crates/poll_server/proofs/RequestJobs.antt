@@ -11,7 +11,7 @@ use Rattle.request_list.specs.Requests.{AreRequests}
 use Rattle.sched_model.specs.Plan.{period}
 use Rattle.dvs_base.specs.declared.note.Note.{Note}
 use Rattle.dvs_base.specs.declared.note.Pos.{Pos}
-use Rattle.poll_server.specs.ServerJobs.{ServerOf, budget, request_count, arrival, units, asked_with, taken_up_to, asked_below}
+use Rattle.poll_server.specs.ServerJobs.{ServerView, budget, request_count, arrival, units, asked_with, taken_up_to, asked_below}
 use Rattle.poll_server.specs.Outcomes.{BelongsTo, done_at}
 use Rattle.poll_server.specs.Bound.{jobs_before, request_backlog, latest_job, HaveJobs}
 use Rattle.poll_server.specs.EachOutcome.{job_of, outcome_by, outcome_of}
@@ -21,11 +21,11 @@ use Rattle.poll_server.specs.declared.outcomes.Reached.{Reached}
 use Rattle.poll_server.specs.Walks.{AreEnds, HasReached, end_at}
 
 -- more requests ask for no fewer units
-pub asked-up : (s : ServerOf) (m n : ℕ) → m ≤ n → asked_with s m ≤ asked_with s n
+pub asked-up : (s : ServerView) (m n : ℕ) → m ≤ n → asked_with s m ≤ asked_with s n
 asked-up s m n le = sum_below-up (suc m) (suc n) (units s) (omega arith)
 
 -- a later request never belongs to an earlier job
-pub in-order : (s : ServerOf) (m n j k : ℕ) → m ≤ n → BelongsTo s m j → BelongsTo s n k → j ≤ k
+pub in-order : (s : ServerView) (m n j k : ℕ) → m ≤ n → BelongsTo s m j → BelongsTo s n k → j ≤ k
 in-order s m n j k le first later = go (cases_lt k j)
   where
     go : (k < j) ⊎ (j ≤ k) → j ≤ k
@@ -33,11 +33,11 @@ in-order s m n j k le first later = go (cases_lt k j)
     go (inr ge) = ge
 
 -- a request belongs to at most one job
-pub one-job : (s : ServerOf) (m j k : ℕ) → BelongsTo s m j → BelongsTo s m k → j ≡ k
+pub one-job : (s : ServerView) (m j k : ℕ) → BelongsTo s m j → BelongsTo s m k → j ≡ k
 one-job s m j k a b = omega (arith, in-order s m m j k (omega arith) a b, in-order s m m k j (omega arith) b a)
 
 -- a server with a period and a budget, whose requests are in order and need some units
-module _ (s : ServerOf) (h : AreRequests s.requests) (some : 0 < period s.plan s.task) (room : 0 < budget s)
+module _ (s : ServerView) (h : AreRequests s.requests) (some : 0 < period s.plan s.task) (room : 0 < budget s)
     (m : ℕ) (lt : m < request_count s) where
   pub asked-some : 0 < asked_with s m
   asked-some = omega (arith, (h.each m lt).some)
@@ -83,7 +83,7 @@ module _ (s : ServerOf) (h : AreRequests s.requests) (some : 0 < period s.plan s
           grind (arith, nat_tests)
 
 -- each request belongs to a job, and a later request never to an earlier job
-pub have-jobs : (s : ServerOf) → AreRequests s.requests → 0 < period s.plan s.task → 0 < budget s → HaveJobs s
+pub have-jobs : (s : ServerView) → AreRequests s.requests → 0 < period s.plan s.task → 0 < budget s → HaveJobs s
 have-jobs s h some room = record {
   before = λ t k first le. released-before s t k some first le;
   after = λ t k lt. before-released s t k some lt;
@@ -92,7 +92,7 @@ have-jobs s h some room = record {
 }
 
 -- a server with a period and a budget, and one of its requests
-module _ (s : ServerOf) (h : AreRequests s.requests) (some : 0 < period s.plan s.task) (room : 0 < budget s)
+module _ (s : ServerView) (h : AreRequests s.requests) (some : 0 < period s.plan s.task) (room : 0 < budget s)
     (n m : ℕ) (lt : m < request_count s) (r : Reached) (reached : HasReached s n (m + 1) r) where
   asked_below-is : r.asked ≡ asked_with s m
   asked_below-is = reached.asked_for ∙ ap (asked_below s) (add-one m)

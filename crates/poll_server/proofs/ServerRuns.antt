@@ -6,19 +6,19 @@ use Rattle.std.specs.Prelude.{Some, None}
 use Rattle.std.proofs.lemmas.Bool.{cases_lt}
 use Rattle.sched_model.specs.Plan.{worst, Plan, count, period}
 use Rattle.sched_model.specs.Jobs.{IsWithin, JobDemands, release, demand_of}
-use Rattle.task_model.specs.DemandRows.{DemandRow, named}
+use Rattle.task_model.specs.DemandRows.{DemandRow, named_units}
 use Rattle.sched_model.specs.Ticks.{Tick}
 use Rattle.governor.specs.Meanings.{OwnDemand}
 use Rattle.governor.specs.Schedule.{ask_of}
 use Rattle.replay_laws.specs.OwnList.{ticks_by, notes_by, TellSame, LooksAtNone}
-use Rattle.poll_server.specs.ServerJobs.{ServerOf, budget, taken, polled_demand, job_release}
+use Rattle.poll_server.specs.ServerJobs.{ServerView, budget, taken_units, polled_demand, job_release}
 use Rattle.poll_server.specs.Bound.{jobs_before}
 use Rattle.poll_server.specs.Polled.{polled_notes}
 use Rattle.poll_server.specs.Walks.{AreTaken}
 use Rattle.poll_server.proofs.Takings.{before-released}
 
-module _ (s : ServerOf) where
-  most-taken : (k : ℕ) → taken s k ≤ budget s
+module _ (s : ServerView) where
+  most-taken : (k : ℕ) → taken_units s k ≤ budget s
   most-taken k = omega arith
 
   most : (i k : ℕ) → polled_demand s i k ≤ worst s.plan i
@@ -26,7 +26,7 @@ module _ (s : ServerOf) where
   most i (suc k) = go (nat_eq i s.task) refl
     where
       go : (b : Bool) → nat_eq i s.task ≡ b
-          → (if b then taken s (suc k) + 2 * s.plan.machine.charge else worst s.plan i) ≤ worst s.plan i
+          → (if b then taken_units s (suc k) + 2 * s.plan.machine.charge else worst s.plan i) ≤ worst s.plan i
       go false e = omega arith
       go true e =
           let same : i ≡ s.task = grind (arith, nat_tests) in
@@ -36,23 +36,23 @@ module _ (s : ServerOf) where
   polled-within = record { most = λ i k lt. most i k; none = λ i. refl }
 
 -- a job with a row needs the units of the row and the charge, and a job without a row needs its worst case
-demand-row : (p : Plan) (rows : List DemandRow) (i k u : ℕ) → named rows i (suc k) ≡ Some u
+demand-row : (p : Plan) (rows : List DemandRow) (i k u : ℕ) → named_units rows i (suc k) ≡ Some u
     → demand_of p rows i (suc k) ≡ u + 2 * p.machine.charge
 demand-row p rows i k u e = rw e refl
 
-demand-none : (p : Plan) (rows : List DemandRow) (i k : ℕ) → named rows i (suc k) ≡ None
+demand-none : (p : Plan) (rows : List DemandRow) (i k : ℕ) → named_units rows i (suc k) ≡ None
     → demand_of p rows i (suc k) ≡ worst p i
 demand-none p rows i k e = rw e refl
 
 -- a list of what the server's first jobs take has the demands of all jobs that are released within the ticks
-pub same-demand : (s : ServerOf) → 0 < period s.plan s.task → (ticks : ℕ) (rows : List DemandRow)
+pub same-demand : (s : ServerView) → 0 < period s.plan s.task → (ticks : ℕ) (rows : List DemandRow)
     → AreTaken s (jobs_before s ticks) rows → (i k : ℕ) → i < count s.plan → 1 ≤ k → release s.plan i k < ticks
     → demand_of s.plan rows i k ≡ polled_demand s i k
 same-demand s some ticks rows are i zero lt first began = absurd (omega arith)
 same-demand s some ticks rows are i (suc k) lt first began = go (nat_eq i s.task) refl
   where
     go : (b : Bool) → nat_eq i s.task ≡ b
-        → demand_of s.plan rows i (suc k) ≡ (if b then taken s (suc k) + 2 * s.plan.machine.charge else worst s.plan i)
+        → demand_of s.plan rows i (suc k) ≡ (if b then taken_units s (suc k) + 2 * s.plan.machine.charge else worst s.plan i)
     go true e =
         let same : i ≡ s.task = grind (arith, nat_tests) in
         let own : release s.plan s.task (suc k) < ticks = subst (λ (j : ℕ). release s.plan j (suc k) < ticks) same began in
@@ -60,8 +60,9 @@ same-demand s some ticks rows are i (suc k) lt first began = go (nat_eq i s.task
           | inl over ↦ let late : ticks ≤ job_release s (suc k) = before-released s ticks (suc k) some over in absurd (omega (arith, late, own))
           | inr most ↦ most
         ] in
-        let row : named rows i (suc k) ≡ Some (taken s (suc k)) = ap (λ (j : ℕ). named rows j (suc k)) same ∙ are.taken_by (suc k) first within in
-        demand-row s.plan rows i k (taken s (suc k)) row
+        let row : named_units rows i (suc k) ≡ Some (taken_units s (suc k)) =
+                ap (λ (j : ℕ). named_units rows j (suc k)) same ∙ are.taken_by (suc k) first within in
+        demand-row s.plan rows i k (taken_units s (suc k)) row
     go false e =
         let other : i ≡ s.task → ⊥ = grind (arith, nat_tests) in
         demand-none s.plan rows i k (are.no_other i (suc k) lt other)
@@ -78,7 +79,7 @@ tell-same p dem other ticks none other_none same = record {
 }
 
 -- the run with a list of what the server's first jobs take has the same notes as the run of all that they take
-pub same-notes : (demand : OwnDemand) (s : ServerOf) → 0 < period s.plan s.task → LooksAtNone s.plan (ask_of demand s.plan)
+pub same-notes : (demand : OwnDemand) (s : ServerView) → 0 < period s.plan s.task → LooksAtNone s.plan (ask_of demand s.plan)
     → (ticks : ℕ) (rows : List DemandRow) → AreTaken s (jobs_before s ticks) rows
     → length (ticks_by s.plan (ask_of demand s.plan) (demand_of s.plan rows) ticks) ≡ ticks
     → polled_notes demand s ticks ≡ notes_by s.plan (ask_of demand s.plan) (demand_of s.plan rows) ticks

@@ -4,9 +4,9 @@ use Rattle.std.specs.Prelude.{Option, unwrap_or, slice_index}
 use Rattle.std.proofs.Math.Nat.{mul-le-mul_right, mul-le-mul_left}
 use Rattle.std.proofs.lemmas.Bool.{cases_lt}
 use Rattle.dvs_base.specs.declared.limits.TheConstants.{MOST_JOBS}
-use Rattle.task_model.specs.DemandRows.{DemandRow, named}
+use Rattle.task_model.specs.DemandRows.{DemandRow, named_units}
 use Rattle.task_model.specs.declared.limits.TheConstants.{MOST_WORK}
-use Rattle.demand_list.specs.Demands.{DemandsOf, units_of}
+use Rattle.demand_list.specs.Demands.{DemandsView, units_of}
 use Rattle.request_list.specs.Requests.{AreRequests}
 use Rattle.sched_model.specs.Plan.{count, period}
 use Rattle.sched_model.specs.Jobs.{release}
@@ -14,36 +14,36 @@ use Rattle.sched_model.specs.Admission.{IsAdmitted}
 use Rattle.sched_model.proofs.Limits.{every_period}
 use Rattle.poll_server.specs.declared.taking.Waiting.{Waiting}
 use Rattle.poll_server.specs.declared.outcomes.Reached.{Reached}
-use Rattle.poll_server.specs.ServerJobs.{ServerOf, budget, job_release, request_count, arrival, units, arrived, taken_up_to, taken, asked_below}
+use Rattle.poll_server.specs.ServerJobs.{ServerView, budget, job_release, request_count, arrival, units, arrived_units, taken_up_to, taken_units, asked_below}
 use Rattle.poll_server.specs.Walks.{HasPassed, StandsAfter, AreTaken, IsServable, HasReached}
 use Rattle.poll_server.proofs.Takings.{taken-none, taken-more, taken-low, asked_below-low, arrived-counted}
 
 -- the server has some budget and some period
-pub some-budget : (s : ServerOf) → IsAdmitted s.plan → s.task < count s.plan → 0 < budget s
+pub some-budget : (s : ServerView) → IsAdmitted s.plan → s.task < count s.plan → 0 < budget s
 some-budget s adm lt = (adm.limits.tasks.each s.task lt).some_worst
 
-pub some-period : (s : ServerOf) → IsAdmitted s.plan → 0 < period s.plan s.task
+pub some-period : (s : ServerView) → IsAdmitted s.plan → 0 < period s.plan s.task
 some-period s adm = every_period s.plan adm.limits s.task
 
 -- the units of the requests up to and including request m are below 2^128
-pub asked_below-fits : (s : ServerOf) → AreRequests s.requests → (m : ℕ) → m < request_count s → asked_below s m + units s m < 2 ^ 128
+pub asked_below-fits : (s : ServerView) → AreRequests s.requests → (m : ℕ) → m < request_count s → asked_below s m + units s m < 2 ^ 128
 asked_below-fits s h m lt = omega (arith, asked_below-low s h m (omega arith), (h.each m lt).low, h.few)
 
 -- the units that the first k jobs take are at most 2^80
-pub taken-fits : (s : ServerOf) → IsAdmitted s.plan → s.task < count s.plan → (k : ℕ) → k ≤ MOST_JOBS → taken_up_to s k ≤ 2 ^ 80
+pub taken-fits : (s : ServerView) → IsAdmitted s.plan → s.task < count s.plan → (k : ℕ) → k ≤ MOST_JOBS → taken_up_to s k ≤ 2 ^ 80
 taken-fits s adm lt k few =
     let low : budget s ≤ MOST_WORK = (adm.limits.tasks.each s.task lt).low_worst in
     let most : k * budget s ≤ k * MOST_WORK = mul-le-mul_left k low in
     omega (arith, taken-low s k, most, few)
 
 -- where the next request arrives after tick t, the units of the requests passed are those that arrived by t
-pub passed-arrived : (s : ServerOf) → AreRequests s.requests → (t : ℕ) (w : Waiting) → HasPassed s t w
-    → (w.next < request_count s → t < arrival s w.next) → w.arrived ≡ arrived s t
+pub passed-arrived : (s : ServerView) → AreRequests s.requests → (t : ℕ) (w : Waiting) → HasPassed s t w
+    → (w.next < request_count s → t < arrival s w.next) → w.arrived ≡ arrived_units s t
 passed-arrived s h t w passed late =
     passed.counted ∙ sym (arrived-counted s h t w.next passed.within passed.early late)
 
 -- the release of a job is not before that of the job before it
-release-up : (s : ServerOf) (k : ℕ) → job_release s (k + 1) ≤ job_release s (k + 1 + 1)
+release-up : (s : ServerView) (k : ℕ) → job_release s (k + 1) ≤ job_release s (k + 1 + 1)
 unfolding release
 release-up s k =
     let more : (k + 1 - 1) * period s.plan s.task ≤ (k + 1 + 1 - 1) * period s.plan s.task =
@@ -51,15 +51,15 @@ release-up s k =
     omega (arith, more)
 
 -- a job takes the smaller of what waits and the budget
-pub takes-is : (s : ServerOf) (k a before room u : ℕ) → a ≡ arrived s (job_release s (k + 1)) → before ≡ taken_up_to s k
-    → room ≡ budget s → u ≡ min (a - before) room → u ≡ taken s (k + 1)
+pub takes-is : (s : ServerView) (k a before room u : ℕ) → a ≡ arrived_units s (job_release s (k + 1)) → before ≡ taken_up_to s k
+    → room ≡ budget s → u ≡ min (a - before) room → u ≡ taken_units s (k + 1)
 takes-is s k a before room u all had most is =
     let back : k + 1 - 1 ≡ k = omega arith in
     omega (arith, all, had, most, is, ap (taken_up_to s) back)
 
 -- after the next job the walk counts what that job takes
-pub stands-next : (s : ServerOf) (k t u : ℕ) (w : Waiting) → HasPassed s t w → t ≡ job_release s (k + 1)
-    → w.taken ≡ taken_up_to s k → u ≡ taken s (k + 1)
+pub stands-next : (s : ServerView) (k t u : ℕ) (w : Waiting) → HasPassed s t w → t ≡ job_release s (k + 1)
+    → w.taken ≡ taken_up_to s k → u ≡ taken_units s (k + 1)
     → StandsAfter s (k + 1) (record { next = w.next; arrived = w.arrived; taken = w.taken + u })
 stands-next s k t u w passed at_release before takes = record {
   passed = record {
@@ -70,27 +70,27 @@ stands-next s k t u w passed at_release before takes = record {
   counted = omega (arith, before, takes, taken-more s k);
 }
 
-pub stands-first : (s : ServerOf) → StandsAfter s 0 (record { next = 0; arrived = 0; taken = 0 })
+pub stands-first : (s : ServerView) → StandsAfter s 0 (record { next = 0; arrived = 0; taken = 0 })
 stands-first s = record {
   passed = record { within = omega arith; counted = refl; early = λ m lt. absurd (omega arith) };
   counted = sym (taken-none s);
 }
 
-pub taken-first : (s : ServerOf) (rows : List DemandRow) → rows ≡ [] → AreTaken s 0 rows
+pub taken-first : (s : ServerView) (rows : List DemandRow) → rows ≡ [] → AreTaken s 0 rows
 taken-first s rows none = record {
   taken_by = λ k first most. absurd (omega arith);
-  no_later = λ k later. ap (λ (l : List DemandRow). named l s.task k) none;
-  no_other = λ i k lt other. ap (λ (l : List DemandRow). named l i k) none;
+  no_later = λ k later. ap (λ (l : List DemandRow). named_units l s.task k) none;
+  no_other = λ i k lt other. ap (λ (l : List DemandRow). named_units l i k) none;
 }
 
 -- the demand list has what job k of the server takes
-pub units-taken : (s : ServerOf) (n : ℕ) (d : DemandsOf) → IsServable s n d → (k : ℕ) → 1 ≤ k → k ≤ n
-    → units_of d s.task k ≡ taken s k
+pub units-taken : (s : ServerView) (n : ℕ) (d : DemandsView) → IsServable s n d → (k : ℕ) → 1 ≤ k → k ≤ n
+    → units_of d s.task k ≡ taken_units s k
 units-taken s n d h k first most = ap (λ (o : Option ℕ). unwrap_or o (slice_index d.worsts s.task)) (h.rows.taken_by k first most)
 
 -- the walk over the requests goes one job further
-pub reached-next : (s : ServerOf) (n m u : ℕ) (r : Reached) → HasReached s n m r → r.job < n → r.taken < r.asked
-    → u ≡ taken s (r.job + 1)
+pub reached-next : (s : ServerView) (n m u : ℕ) (r : Reached) → HasReached s n m r → r.job < n → r.taken < r.asked
+    → u ≡ taken_units s (r.job + 1)
     → HasReached s n m (record { job = r.job + 1; taken = r.taken + u; asked = r.asked })
 reached-next s n m u r h lt less takes = record {
   within = omega arith;
@@ -105,7 +105,7 @@ reached-next s n m u r h lt less takes = record {
         let e : j ≡ r.job = omega arith in
         rw e (omega (arith, h.counted, h.asked_for, less))
 
-pub reached-first : (s : ServerOf) (n : ℕ) → HasReached s n 0 (record { job = 0; taken = 0; asked = 0 })
+pub reached-first : (s : ServerView) (n : ℕ) → HasReached s n 0 (record { job = 0; taken = 0; asked = 0 })
 reached-first s n = record {
   within = omega arith;
   counted = sym (taken-none s);

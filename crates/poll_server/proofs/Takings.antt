@@ -9,7 +9,7 @@ use Rattle.request_list.specs.declared.limits.TheConstants.{MOST_REQUEST_UNITS}
 use Rattle.request_list.specs.Requests.{AreRequests}
 use Rattle.sched_model.specs.Plan.{period, offset}
 use Rattle.sched_model.specs.Jobs.{release}
-use Rattle.poll_server.specs.ServerJobs.{ServerOf, budget, job_release, request_count, arrival, units, arrived, taken_up_to, taken, asked_below, asked_with}
+use Rattle.poll_server.specs.ServerJobs.{ServerView, budget, job_release, request_count, arrival, units, arrived_units, taken_up_to, taken_units, asked_below, asked_with}
 use Rattle.poll_server.specs.Bound.{jobs_before}
 
 -- a sum whose terms from n on are 0 is the sum of its first n terms
@@ -26,27 +26,27 @@ sum_below-cut (suc c) n f g le same none = go (eq-or-lt_of_le le) (sum_below-cut
     go (inr l) ih =
         omega (arith, ih (omega arith) same (λ k low high. none k low (omega arith)), none c (omega arith) (omega arith))
 
-pub taken-none : (s : ServerOf) → taken_up_to s 0 ≡ 0
+pub taken-none : (s : ServerView) → taken_up_to s 0 ≡ 0
 unfolding taken_up_to
 taken-none s = refl
 
-pub taken-suc : (s : ServerOf) (k : ℕ)
-    → taken_up_to s (suc k) ≡ taken_up_to s k + min (budget s) (arrived s (job_release s (suc k)) - taken_up_to s k)
+pub taken-suc : (s : ServerView) (k : ℕ)
+    → taken_up_to s (suc k) ≡ taken_up_to s k + min (budget s) (arrived_units s (job_release s (suc k)) - taken_up_to s k)
 unfolding taken_up_to
 taken-suc s k = refl
 
 -- with one job more, the units taken grow by what that job takes
-pub taken-more : (s : ServerOf) (k : ℕ) → taken_up_to s (k + 1) ≡ taken_up_to s k + taken s (k + 1)
+pub taken-more : (s : ServerView) (k : ℕ) → taken_up_to s (k + 1) ≡ taken_up_to s k + taken_units s (k + 1)
 taken-more s k =
     let one : k + 1 ≡ suc k = add-one k in
     let back : k + 1 - 1 ≡ k = omega arith in
     ap (taken_up_to s) one
     ∙ (taken-suc s k ∙ sym (
-    ap (λ (j : ℕ). taken_up_to s k + min (budget s) (arrived s (job_release s (k + 1)) - taken_up_to s j)) back
-    ∙ ap (λ (j : ℕ). taken_up_to s k + min (budget s) (arrived s (job_release s j) - taken_up_to s k)) one))
+    ap (λ (j : ℕ). taken_up_to s k + min (budget s) (arrived_units s (job_release s (k + 1)) - taken_up_to s j)) back
+    ∙ ap (λ (j : ℕ). taken_up_to s k + min (budget s) (arrived_units s (job_release s j) - taken_up_to s k)) one))
 
 -- more jobs take no fewer units
-pub taken-up : (s : ServerOf) (j k : ℕ) → j ≤ k → taken_up_to s j ≤ taken_up_to s k
+pub taken-up : (s : ServerView) (j k : ℕ) → j ≤ k → taken_up_to s j ≤ taken_up_to s k
 taken-up s j zero le = let e : j ≡ 0 = omega arith in rw e (omega arith)
 taken-up s j (suc k) le = go (eq-or-lt_of_le le) (taken-up s j k)
   where
@@ -55,16 +55,16 @@ taken-up s j (suc k) le = go (eq-or-lt_of_le le) (taken-up s j k)
     go (inr l) ih = omega (arith, ih (omega arith), taken-suc s k)
 
 -- k jobs take at most k times the budget
-pub taken-low : (s : ServerOf) (k : ℕ) → taken_up_to s k ≤ k * budget s
+pub taken-low : (s : ServerView) (k : ℕ) → taken_up_to s k ≤ k * budget s
 taken-low s zero = omega (arith, taken-none s)
 taken-low s (suc k) = omega (arith, taken-low s k, taken-suc s k)
 
 -- the units of the first n requests are at most n times the limit on a request's units
-pub asked_below-low : (s : ServerOf) → AreRequests s.requests → (n : ℕ) → n ≤ request_count s → asked_below s n ≤ n * MOST_REQUEST_UNITS
+pub asked_below-low : (s : ServerView) → AreRequests s.requests → (n : ℕ) → n ≤ request_count s → asked_below s n ≤ n * MOST_REQUEST_UNITS
 asked_below-low s h n le = sum_below-limit n MOST_REQUEST_UNITS (units s) (λ k lt. (h.each k (omega arith)).low)
 
 -- a later request arrives no earlier
-pub arrival-up : (s : ServerOf) → AreRequests s.requests → (m n : ℕ) → m ≤ n → n < request_count s → arrival s m ≤ arrival s n
+pub arrival-up : (s : ServerView) → AreRequests s.requests → (m n : ℕ) → m ≤ n → n < request_count s → arrival s m ≤ arrival s n
 arrival-up s h m n le lt = go (eq-or-lt_of_le le)
   where
     go : (m ≡ n) ⊎ (m < n) → arrival s m ≤ arrival s n
@@ -72,18 +72,18 @@ arrival-up s h m n le lt = go (eq-or-lt_of_le le)
     go (inr l) = h.in_order m n l lt
 
 -- the units of request m that have arrived by tick t: all or none
-abbrev counts : ServerOf → ℕ → ℕ → ℕ
+abbrev counts : ServerView → ℕ → ℕ → ℕ
 counts s t m = if nat_le (arrival s m) t then units s m else 0
 
-counts-early : (s : ServerOf) (t m : ℕ) → arrival s m ≤ t → counts s t m ≡ units s m
+counts-early : (s : ServerView) (t m : ℕ) → arrival s m ≤ t → counts s t m ≡ units s m
 counts-early s t m le = let e : nat_le (arrival s m) t ≡ true = grind (arith, nat_tests) in rw e refl
 
-counts-late : (s : ServerOf) (t m : ℕ) → t < arrival s m → counts s t m ≡ 0
+counts-late : (s : ServerView) (t m : ℕ) → t < arrival s m → counts s t m ≡ 0
 counts-late s t m lt = let e : nat_le (arrival s m) t ≡ false = grind (arith, nat_tests) in rw e refl
 
 -- where the requests before n arrived by tick t and the others didn't, the units arrived are those of the first n
-pub arrived-counted : (s : ServerOf) → AreRequests s.requests → (t n : ℕ) → n ≤ request_count s
-    → ((m : ℕ) → m < n → arrival s m ≤ t) → (n < request_count s → t < arrival s n) → arrived s t ≡ asked_below s n
+pub arrived-counted : (s : ServerView) → AreRequests s.requests → (t n : ℕ) → n ≤ request_count s
+    → ((m : ℕ) → m < n → arrival s m ≤ t) → (n < request_count s → t < arrival s n) → arrived_units s t ≡ asked_below s n
 arrived-counted s h t n le early late =
     sum_below-cut (request_count s) n (counts s t) (units s) le (λ m lt. counts-early s t m (early m lt))
     (λ m low high. counts-late s t m (
@@ -91,8 +91,8 @@ arrived-counted s h t n le early late =
     omega (arith, first, arrival-up s h n m low high)))
 
 -- where a request has arrived, all units up to and including it have arrived
-pub arrived-all : (s : ServerOf) → AreRequests s.requests → (m t : ℕ) → m < request_count s → arrival s m ≤ t
-    → asked_with s m ≤ arrived s t
+pub arrived-all : (s : ServerView) → AreRequests s.requests → (m t : ℕ) → m < request_count s → arrival s m ≤ t
+    → asked_with s m ≤ arrived_units s t
 arrived-all s h m t lt le =
     let same : sum_below (suc m) (counts s t) ≡ asked_with s m =
     sum_below-same (suc m) (counts s t) (units s) (λ k low. counts-early s t k (
@@ -100,7 +100,7 @@ arrived-all s h m t lt le =
     omega (arith, same, sum_below-up (suc m) (request_count s) (counts s t) (omega arith))
 
 -- a job after those released before tick t is released at t or later
-pub before-released : (s : ServerOf) (t k : ℕ) → 0 < period s.plan s.task → jobs_before s t < k → t ≤ job_release s k
+pub before-released : (s : ServerView) (t k : ℕ) → 0 < period s.plan s.task → jobs_before s t < k → t ≤ job_release s k
 unfolding release
 before-released s t k some lt =
     let covers : t - offset s.plan s.task ≤ jobs_before s t * period s.plan s.task =
@@ -110,7 +110,7 @@ before-released s t k some lt =
     omega (arith, covers, more)
 
 -- the jobs released before tick t are released before it
-pub released-before : (s : ServerOf) (t k : ℕ) → 0 < period s.plan s.task → 1 ≤ k → k ≤ jobs_before s t → job_release s k < t
+pub released-before : (s : ServerView) (t k : ℕ) → 0 < period s.plan s.task → 1 ≤ k → k ≤ jobs_before s t → job_release s k < t
 unfolding release
 released-before s t k some first le =
     let p = period s.plan s.task in
@@ -126,7 +126,7 @@ released-before s t k some first le =
 
 -- Where all units up to and including a request have arrived by the release of each job after the first b, d jobs more
 -- take d times the budget, or reach the request.
-pub reach : (s : ServerOf) (m b : ℕ) → ((k : ℕ) → b < k → asked_with s m ≤ arrived s (job_release s k)) → (d k : ℕ)
+pub reach : (s : ServerView) (m b : ℕ) → ((k : ℕ) → b < k → asked_with s m ≤ arrived_units s (job_release s k)) → (d k : ℕ)
     → k ≡ b + d → min (asked_with s m) (taken_up_to s b + d * budget s) ≤ taken_up_to s k
 reach s m b all zero k is = let e : k ≡ b = omega arith in rw e (omega arith)
 reach s m b all (suc d) zero is = absurd (omega arith)

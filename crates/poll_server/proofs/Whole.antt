@@ -12,8 +12,8 @@ use Rattle.sched_model.proofs.Schedules.{length-list_below, schedule_exists}
 use Rattle.sched_model.proofs.Tables.{get-table}
 use Rattle.note_laws.specs.InTime.{IsBy}
 use Rattle.poll_server.specs.declared.served.Outcome.TheVariants.{Pending}
-use Rattle.poll_server.specs.ServerJobs.{ServerOf, budget, request_count, server_of, polled_demand, job_release}
-use Rattle.poll_server.specs.Outcomes.{done_at, IsOutcome, ServedOf}
+use Rattle.poll_server.specs.ServerJobs.{ServerView, budget, request_count, server_of, polled_demand, job_release}
+use Rattle.poll_server.specs.Outcomes.{done_at, IsOutcome, ServedView}
 use Rattle.poll_server.specs.Bound.{latest_job, latest_end, IsServedBy, KeepsBound, jobs_before, HaveJobs}
 use Rattle.poll_server.specs.Polled.{IsPolled, polled_notes}
 use Rattle.poll_server.specs.EachOutcome.{job_of, outcome_by, outcome_of, served_by, outcomes_of, served_of}
@@ -22,7 +22,7 @@ use Rattle.poll_server.proofs.JobEnds.{IsEndBy, ends-never, ends-in-time, HearsA
 use Rattle.std.specs.Option.{option_or}
 use Rattle.std.proofs.lemmas.List.{length-replicate}
 use Rattle.dvs_base.specs.declared.note.Totals.{Totals}
-use Rattle.demand_list.specs.Demands.{DemandsOf}
+use Rattle.demand_list.specs.Demands.{DemandsView}
 use Rattle.grid_fraction.specs.Numbers.{ceil_div}
 use Rattle.grid_fraction.proofs.Sums.{sum_where-other}
 use Rattle.sched_model.specs.Ticks.{Tick}
@@ -57,7 +57,7 @@ by-later t u q le (inr (at_tick, none)) = go (eq-or-lt_of_le le)
     go (inr l) = inl (omega arith)
 
 -- a server with a period and a budget, and the notes of a run
-module _ (s : ServerOf) (h : AreRequests s.requests) (some : 0 < period s.plan s.task) (room : 0 < budget s) (notes : List Note) where
+module _ (s : ServerView) (h : AreRequests s.requests) (some : 0 < period s.plan s.task) (room : 0 < budget s) (notes : List Note) where
   outcome-is : (m : ℕ) → m < request_count s → (o : Option Pos) → done_at notes s.task (job_of s m) ≡ o
       → IsOutcome s notes m (outcome_by (job_of s m) o)
   outcome-is m lt None e = λ k own. ap (done_at notes s.task) (one-job s m k (job_of s m) own (belongs s h some room m lt)) ∙ e
@@ -87,7 +87,7 @@ module _ (s : ServerOf) (h : AreRequests s.requests) (some : 0 < period s.plan s
       (served-by (due s.plan s.task (job_of s m)) (latest_end s m) m (done_at notes s.task (job_of s m)) soon by)
 
 -- the run of a server's plan for `ticks` ticks, with a list of what its first jobs take
-abbrev pub run_of : ServerOf → DemandsOf → ℕ → Run
+abbrev pub run_of : ServerView → DemandsView → ℕ → Run
 run_of s d ticks = record { plan = s.plan; demands = d; ticks = ticks }
 
 -- each request of a server belongs to a job, and a later request never to an earlier job
@@ -102,13 +102,13 @@ jobs-within p i ticks lt =
     omega (arith, sum_where-other (count p) (λ j. false) (λ j. ceil_div (ticks - offset p j) (period p j)) i lt refl)
 
 -- what `poll` returns is the function of its arguments, each request has its outcome, and the bound is kept
-pub record Answered (demand : OwnDemand) (s : ServerOf) (ticks : ℕ) (r : ServedOf) : Type 0 where
+pub record Answered (demand : OwnDemand) (s : ServerView) (ticks : ℕ) (r : ServedView) : Type 0 where
   pub served : r ≡ served_of demand s ticks
   pub outcomes : IsPolled s (polled_notes demand s ticks) r
   pub bound : KeepsBound s ticks r
 
 -- a run by a governor's demand of a server and a list of what its first n jobs take
-module _ (demand : OwnDemand) (s : ServerOf) (d : DemandsOf) (n ticks : ℕ) (n_is : n ≡ jobs_before s ticks)
+module _ (demand : OwnDemand) (s : ServerView) (d : DemandsView) (n ticks : ℕ) (n_is : n ≡ jobs_before s ticks)
     (servable : IsServable s n d) (run : Run) (run_is : run ≡ run_of s d ticks) where
   some : 0 < period s.plan s.task
   some = every_period s.plan servable.plan.limits s.task
@@ -169,7 +169,7 @@ module _ (demand : OwnDemand) (s : ServerOf) (d : DemandsOf) (n ticks : ℕ) (n_
   answers : (from to : Ends) → from.task ≡ s.task → from.ends.items ≡ replicate n None
       → HasHeard Hears from (notes_of_run demand run) to → (outcomes : List Outcome) (totals : Totals)
       → ((notes : List Note) → AreEnds s notes n to.ends.items → outcomes ≡ outcomes_of s notes)
-      → totals ≡ totals_of (notes_of_run demand run) → (r : ServedOf) → r ≡ record { outcomes = outcomes; totals = totals }
+      → totals ≡ totals_of (notes_of_run demand run) → (r : ServedView) → r ≡ record { outcomes = outcomes; totals = totals }
       → r ≡ served_of demand s ticks
   answers from to task empty heard outcomes totals each sums r is =
       is
@@ -177,13 +177,13 @@ module _ (demand : OwnDemand) (s : ServerOf) (d : DemandsOf) (n ticks : ℕ) (n_
       (each (polled_notes demand s ticks) (ends-are from to task empty heard)) (sums ∙ ap totals_of notes-are)
 
   -- each request has its outcome by the notes
-  answers-polled : (r : ServedOf) → r ≡ served_of demand s ticks → IsPolled s (polled_notes demand s ticks) r
+  answers-polled : (r : ServedView) → r ≡ served_of demand s ticks → IsPolled s (polled_notes demand s ticks) r
   answers-polled r is =
       subst (IsPolled s (polled_notes demand s ticks)) (sym is)
       (are-polled s servable.requests some (some-budget s servable.plan servable.task) (polled_notes demand s ticks))
 
   -- where the deadlines are met, the bound is kept
-  answers-bound : MeetsDeadlines demand run → (r : ServedOf) → r ≡ served_of demand s ticks → KeepsBound s ticks r
+  answers-bound : MeetsDeadlines demand run → (r : ServedView) → r ≡ served_of demand s ticks → KeepsBound s ticks r
   answers-bound met r is =
       subst (KeepsBound s ticks) (sym is)
       (keeps-bound s servable.requests some (some-budget s servable.plan servable.task) (polled_notes demand s ticks) ticks (ends-met met))
@@ -191,7 +191,7 @@ module _ (demand : OwnDemand) (s : ServerOf) (d : DemandsOf) (n ticks : ℕ) (n_
   pub answered : MeetsDeadlines demand run → (from to : Ends) → from.task ≡ s.task → from.ends.items ≡ replicate n None
       → HasHeard Hears from (notes_of_run demand run) to → (outcomes : List Outcome) (totals : Totals)
       → ((notes : List Note) → AreEnds s notes n to.ends.items → outcomes ≡ outcomes_of s notes)
-      → totals ≡ totals_of (notes_of_run demand run) → (r : ServedOf) → r ≡ record { outcomes = outcomes; totals = totals }
+      → totals ≡ totals_of (notes_of_run demand run) → (r : ServedView) → r ≡ record { outcomes = outcomes; totals = totals }
       → Answered demand s ticks r
   answered met from to task empty heard outcomes totals each sums r is =
       let served : r ≡ served_of demand s ticks = answers from to task empty heard outcomes totals each sums r is in

@@ -8,11 +8,11 @@ use Rattle.dvs_base.specs.declared.note.Pos.{Pos}
 use Rattle.dvs_base.specs.declared.note.Totals.{Totals}
 use Rattle.poll_server.specs.declared.served.Outcome.{Outcome}
 use Rattle.poll_server.specs.declared.served.Outcome.TheVariants.{Served, Pending}
-use Rattle.poll_server.specs.ServerJobs.{ServerOf, asked_with, taken_up_to}
+use Rattle.poll_server.specs.ServerJobs.{ServerView, asked_with, taken_up_to}
 
 -- Request m belongs to job k: the first one such that it and the jobs before it take at least the units up to and
 -- including the request.
-pub record BelongsTo (s : ServerOf) (m k : ℕ) : Type 0 where
+pub record BelongsTo (s : ServerView) (m k : ℕ) : Type 0 where
   pub reached : asked_with s m ≤ taken_up_to s k
   pub first : (j : ℕ) → j < k → taken_up_to s j < asked_with s m
 
@@ -28,12 +28,12 @@ done_at (note ∷ notes) i k = option_or (done_position note i k) (done_at notes
 
 -- Whether this is the outcome of request m by these notes: served by its job, at the position where the notes have
 -- that job as done, and pending where they don't.
-abbrev pub IsOutcome : ServerOf → List Note → ℕ → Outcome → Type 0
+abbrev pub IsOutcome : ServerView → List Note → ℕ → Outcome → Type 0
 IsOutcome s notes m (Served job at_end) = BelongsTo s m job × (done_at notes s.task job ≡ Some at_end)
 IsOutcome s notes m Pending = (k : ℕ) → BelongsTo s m k → done_at notes s.task k ≡ None
 
 -- the outcomes of all requests, and the totals of the run
-pub record ServedOf : Type 0 where
+pub record ServedView : Type 0 where
   pub outcomes : List Outcome
   pub totals : Totals
 

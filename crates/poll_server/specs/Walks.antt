@@ -8,34 +8,34 @@ use Rattle.dvs_base.specs.declared.limits.TheConstants.{MOST_JOBS}
 use Rattle.request_list.specs.Requests.{AreRequests}
 use Rattle.sched_model.specs.Plan.{count}
 use Rattle.sched_model.specs.Admission.{IsAdmitted}
-use Rattle.demand_list.specs.Demands.{DemandsOf, HasWorstsOf}
-use Rattle.task_model.specs.DemandRows.{DemandRow, named}
+use Rattle.demand_list.specs.Demands.{DemandsView, HasWorstsOf}
+use Rattle.task_model.specs.DemandRows.{DemandRow, named_units}
 use Rattle.poll_server.specs.declared.taking.Waiting.{Waiting}
 use Rattle.poll_server.specs.declared.ends.Ends.{Ends}
 use Rattle.poll_server.specs.declared.outcomes.Reached.{Reached}
-use Rattle.poll_server.specs.ServerJobs.{ServerOf, request_count, arrival, asked_below, job_release, taken, taken_up_to}
+use Rattle.poll_server.specs.ServerJobs.{ServerView, request_count, arrival, asked_below, job_release, taken_units, taken_up_to}
 use Rattle.poll_server.specs.Outcomes.{done_position, done_at}
 
 -- the requests passed have arrived by tick t, and their units are counted
-pub record HasPassed (s : ServerOf) (t : ℕ) (w : Waiting) : Type 0 where
+pub record HasPassed (s : ServerView) (t : ℕ) (w : Waiting) : Type 0 where
   pub within : w.next ≤ request_count s
   pub counted : w.arrived ≡ asked_below s w.next
   pub early : (m : ℕ) → m < w.next → arrival s m ≤ t
 
 -- what is counted after the first k jobs: the requests passed arrived by the next job's release; the k jobs' units
-pub record StandsAfter (s : ServerOf) (k : ℕ) (w : Waiting) : Type 0 where
+pub record StandsAfter (s : ServerView) (k : ℕ) (w : Waiting) : Type 0 where
   pub passed : HasPassed s (job_release s (k + 1)) w
   pub counted : w.taken ≡ taken_up_to s k
 
 -- the rows are those of the server's first n jobs, with the units that each takes
-pub record AreTaken (s : ServerOf) (n : ℕ) (rows : List DemandRow) : Type 0 where
-  pub taken_by : (k : ℕ) → 1 ≤ k → k ≤ n → named rows s.task k ≡ Some (taken s k)
-  pub no_later : (k : ℕ) → n < k → named rows s.task k ≡ None
-  pub no_other : (i k : ℕ) → i < count s.plan → (i ≡ s.task → ⊥) → named rows i k ≡ None
+pub record AreTaken (s : ServerView) (n : ℕ) (rows : List DemandRow) : Type 0 where
+  pub taken_by : (k : ℕ) → 1 ≤ k → k ≤ n → named_units rows s.task k ≡ Some (taken_units s k)
+  pub no_later : (k : ℕ) → n < k → named_units rows s.task k ≡ None
+  pub no_other : (i k : ℕ) → i < count s.plan → (i ≡ s.task → ⊥) → named_units rows i k ≡ None
 
 -- A server of a task of an admitted plan, with requests within the limits; the demand list has the units that the first
 -- n jobs take.
-pub record IsServable (s : ServerOf) (n : ℕ) (d : DemandsOf) : Type 0 where
+pub record IsServable (s : ServerView) (n : ℕ) (d : DemandsView) : Type 0 where
   pub plan : IsAdmitted s.plan
   pub task : s.task < count s.plan
   pub requests : AreRequests s.requests
@@ -55,13 +55,13 @@ pub record Hears (a : Ends) (note : Note) (b : Ends) : Type 0 where
       → end_at b.ends.items k ≡ option_or (end_at a.ends.items k) (done_position note a.task (k + 1))
 
 -- the ends of the first n jobs are those in the notes, and no later job is done in the notes
-pub record AreEnds (s : ServerOf) (notes : List Note) (n : ℕ) (ends : List (Option Pos)) : Type 0 where
+pub record AreEnds (s : ServerView) (notes : List Note) (n : ℕ) (ends : List (Option Pos)) : Type 0 where
   pub long : length ends ≡ n
   pub told : (k : ℕ) → k < n → end_at ends k ≡ done_at notes s.task (k + 1)
   pub no_later : (k : ℕ) → n < k → done_at notes s.task k ≡ None
 
 -- the walk over the first m requests is at a job of the first n: the jobs before it take less than the requests ask for
-pub record HasReached (s : ServerOf) (n m : ℕ) (r : Reached) : Type 0 where
+pub record HasReached (s : ServerView) (n m : ℕ) (r : Reached) : Type 0 where
   pub within : r.job ≤ n
   pub counted : r.taken ≡ taken_up_to s r.job
   pub asked_for : r.asked ≡ asked_below s m

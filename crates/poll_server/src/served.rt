@@ -22,9 +22,9 @@ pub struct Served {
 }
 
 impl Model for Served {
-    ghost use Rattle.poll_server.specs.Outcomes.{ServedOf};
+    ghost use Rattle.poll_server.specs.Outcomes.{ServedView};
 
-    ghost Value = { ServedOf };
+    ghost Value = { ServedView };
 
     ghost view = { λ s. record { outcomes = s.outcomes.items; totals = s.totals } };
 

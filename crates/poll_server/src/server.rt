@@ -18,9 +18,9 @@ pub(crate) struct Server<'a> {
 }
 
 impl<'a> Model for Server<'a> {
-    ghost use Rattle.poll_server.specs.ServerJobs.{ServerOf, server_of};
+    ghost use Rattle.poll_server.specs.ServerJobs.{ServerView, server_of};
 
-    ghost Value = { ServerOf };
+    ghost Value = { ServerView };
 
     ghost view = { λ s. server_of s.plan.now s.task s.requests.now };
 

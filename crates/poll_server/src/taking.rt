@@ -3,7 +3,7 @@ ghost use Rattle.std.specs.Prelude.{◌≡◌, ◌+◌, ◌<◌, ◌≤◌, IfOk
 ghost use Rattle.dvs_base.specs.declared.limits.TheConstants.{MOST_JOBS};
 ghost use Rattle.request_list.specs.Requests.{AreRequests};
 ghost use Rattle.sched_model.specs.Plan.{count};
-ghost use Rattle.poll_server.specs.ServerJobs.{server_of, arrived, job_release, taken};
+ghost use Rattle.poll_server.specs.ServerJobs.{server_of, arrived_units, job_release, taken_units};
 ghost use Rattle.poll_server.specs.Walks.{HasPassed, StandsAfter, IsServable};
 
 use crate::server::Server;
@@ -27,7 +27,7 @@ impl Waiting {
         requires requests { AreRequests server.now.requests }
         requires passed { HasPassed server.now tick self.old }
         ensures passed { HasPassed server.now tick self.new }
-        ensures arrived { self.new.arrived ≡ arrived server.now tick }
+        ensures arrived { self.new.arrived ≡ arrived_units server.now tick }
         ensures taken { self.new.taken ≡ self.old.taken }
     {
         while self.next < server.requests.len() && server.requests[self.next].arrival <= tick {
@@ -42,7 +42,7 @@ impl Waiting {
         requires requests { AreRequests server.now.requests }
         requires few { jobs < MOST_JOBS }
         requires stands { StandsAfter server.now jobs self.old }
-        ensures taken { result ≡ taken server.now (jobs + 1) }
+        ensures taken { result ≡ taken_units server.now (jobs + 1) }
         ensures stands { StandsAfter server.now (jobs + 1) self.new }
     {
         self.arrive(server, server.release_after(jobs));

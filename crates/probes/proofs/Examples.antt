@@ -7,17 +7,17 @@ use Rattle.dvs_base.specs.declared.note.Pos.{Pos}
 use Rattle.probes.specs.declared.rule.What.{What}
 use Rattle.probes.specs.declared.rule.What.TheVariants as what
 use Rattle.probes.specs.declared.rule.Stay.TheVariants.{Stay, Leave}
-use Rattle.probes.specs.Tallies.{ProbeOf, stay_of, told, told_all}
+use Rattle.probes.specs.Tallies.{ProbeView, stay_of, probe_after, told_all}
 
-abbrev probe : What → Option ℕ → Option ℕ → ℕ → ProbeOf
+abbrev probe : What → Option ℕ → Option ℕ → ℕ → ProbeView
 probe counted task limit tally = record { rule = record { what = counted; task = task; limit = limit }; tally = tally }
 
 -- a probe that counts runs of task 1 and leaves at 3
-abbrev three_runs : ℕ → ProbeOf
+abbrev three_runs : ℕ → ProbeView
 three_runs tally = probe what.Runs (Some 1) (Some 3) tally
 
 -- a probe of the units of all tasks, without a limit
-abbrev all_units : ℕ → ProbeOf
+abbrev all_units : ℕ → ProbeView
 all_units tally = probe what.Units None None tally
 
 abbrev at_tick : ℕ → Pos
@@ -44,15 +44,15 @@ third_run = refl
 
 -- a probe of units counts those of each run, and no idle ones
 units :
-    (told (five_units_of 2) (all_units 4) ∷ told idle_units (all_units 4) ∷ []) ≡ (all_units 9 ∷ all_units 4 ∷ [])
+    (probe_after (five_units_of 2) (all_units 4) ∷ probe_after idle_units (all_units 4) ∷ []) ≡ (all_units 9 ∷ all_units 4 ∷ [])
 units = refl
 
 -- an idle segment names no task, so a probe of task 1 doesn't count it
-of_no_task : told idle_units (probe what.Idles (Some 1) None 0) ≡ probe what.Idles (Some 1) None 0
+of_no_task : probe_after idle_units (probe what.Idles (Some 1) None 0) ≡ probe what.Idles (Some 1) None 0
 of_no_task = refl
 
 -- a tally stops at 2^64 - 1
-highest : told (five_units_of 0) (all_units (u64_end - 2)) ≡ all_units (u64_end - 1)
+highest : probe_after (five_units_of 0) (all_units (u64_end - 2)) ≡ all_units (u64_end - 1)
 highest = refl
 
 -- a probe with limit 0 leaves at the first note, even one that it doesn't count

@@ -12,7 +12,7 @@ use Rattle.probes.specs.declared.rule.Stay.{Stay}
 use Rattle.probes.specs.declared.rule.Stay.TheVariants as stay
 
 -- what contracts see of a probe: its rule and its tally
-pub record ProbeOf : Type 0 where
+pub record ProbeView : Type 0 where
   pub rule : Rule
   pub tally : ℕ
 
@@ -42,12 +42,12 @@ abbrev pub most : ℕ
 most = u64_end - 1
 
 -- a count, at most the highest
-abbrev pub capped : ℕ → ℕ
-capped n = min n most
+abbrev pub capped_count : ℕ → ℕ
+capped_count n = min n most
 
 -- a probe after one note
-abbrev pub told : Note → ProbeOf → ProbeOf
-told note p = record { rule = p.rule; tally = capped (p.tally + weight p.rule note) }
+abbrev pub probe_after : Note → ProbeView → ProbeView
+probe_after note p = record { rule = p.rule; tally = capped_count (p.tally + weight p.rule note) }
 
 -- a probe leaves exactly where its rule has a limit and the tally is at least that
 abbrev pub stay_at : Option ℕ → ℕ → Stay
@@ -55,20 +55,20 @@ stay_at None tally = stay.Stay
 stay_at (Some limit) tally = if nat_le limit tally then stay.Leave else stay.Stay
 
 -- whether a probe stays, by its tally
-abbrev pub stay_of : ProbeOf → Stay
+abbrev pub stay_of : ProbeView → Stay
 stay_of p = stay_at p.rule.limit p.tally
 
 -- the other probes, with this one before them where it stays
-abbrev pub kept : Stay → ProbeOf → List ProbeOf → List ProbeOf
-kept stay.Stay p ps = p ∷ ps
-kept stay.Leave p ps = ps
+abbrev pub with_staying : Stay → ProbeView → List ProbeView → List ProbeView
+with_staying stay.Stay p ps = p ∷ ps
+with_staying stay.Leave p ps = ps
 
 -- a list of probes after one note: each was told it, and those that stay keep their order
-abbrev pub told_all : Note → List ProbeOf → List ProbeOf
+abbrev pub told_all : Note → List ProbeView → List ProbeView
 told_all note [] = []
-told_all note (p ∷ ps) = kept (stay_of (told note p)) (told note p) (told_all note ps)
+told_all note (p ∷ ps) = with_staying (stay_of (probe_after note p)) (probe_after note p) (told_all note ps)
 
 -- a list of probes after these notes, told one by one
-abbrev pub told_notes : List Note → List ProbeOf → List ProbeOf
+abbrev pub told_notes : List Note → List ProbeView → List ProbeView
 told_notes [] ps = ps
 told_notes (note ∷ notes) ps = told_notes notes (told_all note ps)

@@ -1,6 +1,6 @@
 // The trait of probes.
 ghost use Rattle.std.specs.Prelude.{◌≡◌};
-ghost use Rattle.probes.specs.Tallies.{ProbeOf, told, stay_of};
+ghost use Rattle.probes.specs.Tallies.{ProbeView, probe_after, stay_of};
 
 use crate::rule::{Rule, Stay};
 use dvs_base::Note;
@@ -8,7 +8,7 @@ use dvs_base::Note;
 /// A counter of notes, by a rule.
 pub trait Probe: Drop {
     /// What contracts see of a probe: its rule and its tally.
-    ghost seen: { Self → ProbeOf };
+    ghost seen: { Self → ProbeView };
 
     /// What the probe counts, and until when.
     fn rule(&self) -> Rule
@@ -21,7 +21,7 @@ pub trait Probe: Drop {
     /// Adds the weight of the note under the rule. Leave comes exactly where the rule has a limit and the tally is now
     /// at least the limit.
     fn tell(&mut self, note: &Note) -> Stay
-        ensures seen { seen self.new ≡ told note.now (seen self.old) }
+        ensures seen { seen self.new ≡ probe_after note.now (seen self.old) }
         ensures stay { result ≡ stay_of (seen self.new) };
 }
 

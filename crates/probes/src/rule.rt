@@ -1,7 +1,7 @@
 // What a probe counts, and until when.
 ghost use Rattle.std.specs.Prelude.{◌≡◌, ◌≤◌, ◌^◌};
 ghost use Rattle.dvs_base.specs.NoteTasks.{note_task};
-ghost use Rattle.probes.specs.Tallies.{is_about, weight, weight_of_kind, stay_at, most, capped};
+ghost use Rattle.probes.specs.Tallies.{is_about, weight, weight_of_kind, stay_at, most, capped_count};
 
 use dvs_base::Note;
 

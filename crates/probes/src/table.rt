@@ -1,6 +1,6 @@
 // A probe with a counter for each task.
 ghost use Rattle.std.specs.Prelude.{◌≡◌, ◌≤◌, ◌+◌, sum};
-ghost use Rattle.probes.specs.Tallies.{ProbeOf, told, stay_of, capped};
+ghost use Rattle.probes.specs.Tallies.{ProbeView, probe_after, stay_of, capped_count};
 ghost use Rattle.probes.specs.Seen.{seen_table};
 
 use crate::probe::Probe;
@@ -17,7 +17,7 @@ pub struct TableProbe {
 
 // The sum of the counts, at most 2^64 - 1.
 fn capped_sum(counts: &[u64]) -> u64
-    ensures { result ≡ capped (sum counts.now) }
+    ensures { result ≡ capped_count (sum counts.now) }
 {
     let mut total: u64 = 0;
     for count in counts {

@@ -5,7 +5,7 @@ use Rattle.std.proofs.lemmas.List.{length_push, get_or_append_left, take_at}
 use Rattle.std.proofs.lemmas.List.Sorted.{IsPermutation-sym, IsPermutation-trans, IsPermutation-to_front, IsPermutation-cons, IsPermutation-swap_remove, length_permutation}
 use Rattle.ready_queue.specs.declared.entry.Entry.{Entry}
 use Rattle.ready_queue.specs.Orders.{OrderLaws}
-use Rattle.ready_queue.specs.Entries.{QueueOf, IsAbsent, IsOfFirst, AreApart, placed, sorted, ComesFirst}
+use Rattle.ready_queue.specs.Entries.{QueueView, IsAbsent, IsOfFirst, AreApart, with_entry, ordered_entries, ComesFirst}
 use Rattle.ready_queue.specs.Heaps.{entry_at, IsHeap, IsRising, CanSink, HoldsQueue}
 use Rattle.ready_queue.proofs.Apart.{AreApart-permutation, length-apart}
 use Rattle.ready_queue.proofs.EntryOrder.{Has, All-at, All-of, Has-permutation, Contains-has, placed-first, sorted-All, Has-in_order, sorted-permutation}
@@ -19,20 +19,21 @@ whole : (n : ℕ) (from ws l : List Entry) → n ≡ length from → IsPermutati
 whole n from ws l e s = take_at ws (drop (length ws) l) n (length_permutation from ws s ∙ sym e)
 
 module _ (before : Entry → Entry → Bool) where
-  length-placed : (e : Entry) (xs : List Entry) → length (placed before e xs) ≡ suc (length xs)
+  length-placed : (e : Entry) (xs : List Entry) → length (with_entry before e xs) ≡ suc (length xs)
   length-placed e [] = refl
   length-placed e (x ∷ xs) = go (before e x) (length-placed e xs)
     where
-      go : (b : Bool) → length (placed before e xs) ≡ suc (length xs) → length (if b then e ∷ x ∷ xs else x ∷ placed before e xs) ≡ suc (suc (length xs))
+      go : (b : Bool) → length (with_entry before e xs) ≡ suc (length xs)
+              → length (if b then e ∷ x ∷ xs else x ∷ with_entry before e xs) ≡ suc (suc (length xs))
       go true ih = refl
       go false ih = ap suc ih
 
-  pub length-in_order : (xs : List Entry) → length (sorted before xs) ≡ length xs
+  pub length-in_order : (xs : List Entry) → length (ordered_entries before xs) ≡ length xs
   length-in_order [] = refl
-  length-in_order (x ∷ xs) = length-placed x (sorted before xs) ∙ ap suc (length-in_order xs)
+  length-in_order (x ∷ xs) = length-placed x (ordered_entries before xs) ∙ ap suc (length-in_order xs)
 
-  pub absent_held : (task : ℕ) (xs : List Entry) → IsAbsent task (sorted before xs) → IsAbsent task xs
-  absent_held task xs a = All-of (λ e. e.task ≢ task) xs (λ e h. All-at (λ z. z.task ≢ task) (sorted before xs) e a (Has-in_order before xs e h))
+  pub absent_held : (task : ℕ) (xs : List Entry) → IsAbsent task (ordered_entries before xs) → IsAbsent task xs
+  absent_held task xs a = All-of (λ e. e.task ≢ task) xs (λ e h. All-at (λ z. z.task ≢ task) (ordered_entries before xs) e a (Has-in_order before xs e h))
 
   pub holds_none : (limit : ℕ) (xs : List Entry) → limit < 2 ^ 32 → xs ≡ [] → HoldsQueue before limit xs
   unfolding IsHeap
@@ -44,11 +45,11 @@ module _ (before : Entry → Entry → Bool) where
   })
 
   -- what `insert` requires of the queue's entries holds of the heap's
-  pub asked : (limit : ℕ) (e : Entry) (xs : List Entry) (q : QueueOf) → record { limit = limit; entries = sorted before xs } ≡ q
+  pub asked : (limit : ℕ) (e : Entry) (xs : List Entry) (q : QueueView) → record { limit = limit; entries = ordered_entries before xs } ≡ q
       → e.task < q.limit → IsAbsent e.task q.entries → (e.task < limit) × IsAbsent e.task xs
   asked limit e xs q view lt a = (
-    omega (arith, ap (λ (r : QueueOf). r.limit) view),
-    absent_held e.task xs (subst (IsAbsent e.task) (sym (ap (λ (r : QueueOf). r.entries) view)) a),
+    omega (arith, ap (λ (r : QueueView). r.limit) view),
+    absent_held e.task xs (subst (IsAbsent e.task) (sym (ap (λ (r : QueueView). r.entries) view)) a),
   )
 
   -- there is room for an entry of a task that is not in the queue
@@ -86,37 +87,39 @@ module _ (before : Entry → Entry → Bool) where
 
   module _ (laws : OrderLaws before) where
     pub entries_more : (limit : ℕ) (e : Entry) (xs ys : List Entry) → HoldsQueue before limit xs → IsAbsent e.task xs
-        → IsPermutation (xs ++ e ∷ []) ys → sorted before ys ≡ placed before e (sorted before xs)
+        → IsPermutation (xs ++ e ∷ []) ys → ordered_entries before ys ≡ with_entry before e (ordered_entries before xs)
     entries_more limit e xs ys h n s =
         sym (sorted-permutation before laws (e ∷ xs) ys (n, h.apart)
         (IsPermutation-trans (e ∷ xs) (xs ++ e ∷ []) ys (IsPermutation-sym (xs ++ e ∷ []) (e ∷ xs) (IsPermutation-to_front xs e)) s))
 
     -- the queue after `insert`
-    pub inserted : (limit more n : ℕ) (e : Entry) (xs lent ys l : List Entry) (q : QueueOf) → HoldsQueue before limit xs
-        → record { limit = limit; entries = sorted before xs } ≡ q → e.task < q.limit → IsAbsent e.task q.entries
+    pub inserted : (limit more n : ℕ) (e : Entry) (xs lent ys l : List Entry) (q : QueueView) → HoldsQueue before limit xs
+        → record { limit = limit; entries = ordered_entries before xs } ≡ q → e.task < q.limit → IsAbsent e.task q.entries
         → lent ≡ xs ++ e ∷ [] → n ≡ length lent → IsPermutation lent ys → IsHeap before ys → more ≡ limit
-        → HoldsQueue before more (take n (ys ++ drop (length ys) l)) × (sorted before (take n (ys ++ drop (length ys) l)) ≡ placed before e q.entries)
+        → HoldsQueue before more (take n (ys ++ drop (length ys) l)) × (ordered_entries before (take n (ys ++ drop (length ys) l)) ≡ with_entry before e
+                q.entries)
     inserted limit more n e xs lent ys l q h view lt a put long moved heap room =
         let can = asked limit e xs q view lt a in
         let same = whole n lent ys l long moved in
         let s : IsPermutation (xs ++ e ∷ []) ys = subst (λ (zs : List Entry). IsPermutation zs ys) put moved in (
           subst (λ (m : ℕ). HoldsQueue before m (take n (ys ++ drop (length ys) l))) (sym room)
               (subst (HoldsQueue before limit) (sym same) (holds_more limit e xs ys h can.0 can.1 s heap)),
-          ap (sorted before) same ∙ entries_more limit e xs ys h can.1 s ∙ ap (λ (r : QueueOf). placed before e r.entries) view,
+          ap (ordered_entries before) same ∙ entries_more limit e xs ys h can.1 s ∙ ap (λ (r : QueueView). with_entry before e r.entries) view,
         )
 
     -- in a heap the entry at the top is the first in order
-    pub top_entries : (limit : ℕ) (x : Entry) (xs : List Entry) → HoldsQueue before limit (x ∷ xs) → sorted before (x ∷ xs) ≡ x ∷ sorted before xs
-    top_entries limit x xs h = placed-first before x (sorted before xs)
+    pub top_entries : (limit : ℕ) (x : Entry) (xs : List Entry) → HoldsQueue before limit (x ∷ xs)
+            → ordered_entries before (x ∷ xs) ≡ x ∷ ordered_entries before xs
+    top_entries limit x xs h = placed-first before x (ordered_entries before xs)
         (sorted-All before (λ z. before x z ≡ true) xs (heap_first before laws x xs h.apart h.heap))
 
-    pub first_entry : (limit : ℕ) (xs : List Entry) → HoldsQueue before limit xs → slice_get xs 0 ≡ slice_get (sorted before xs) 0
+    pub first_entry : (limit : ℕ) (xs : List Entry) → HoldsQueue before limit xs → slice_get xs 0 ≡ slice_get (ordered_entries before xs) 0
     first_entry limit [] h = refl
     first_entry limit (x ∷ xs) h = ap (λ (l : List Entry). slice_get l 0) (sym (top_entries limit x xs h))
 
-    comes_first : (limit : ℕ) (x : Entry) (xs : List Entry) → HoldsQueue before limit (x ∷ xs) → ComesFirst before x (sorted before (x ∷ xs))
+    comes_first : (limit : ℕ) (x : Entry) (xs : List Entry) → HoldsQueue before limit (x ∷ xs) → ComesFirst before x (ordered_entries before (x ∷ xs))
     comes_first limit x xs h = subst (ComesFirst before x) (sym (top_entries limit x xs h)) (record {
-      among = Contains-has (x ∷ sorted before xs) x (inl refl);
+      among = Contains-has (x ∷ ordered_entries before xs) x (inl refl);
       others = (
         λ ne. absurd (ne refl),
         sorted-All before (λ z. z.task ≢ x.task → before x z ≡ true) xs
@@ -125,7 +128,8 @@ module _ (before : Entry → Entry → Bool) where
       );
     })
 
-    pub first_comes : (limit : ℕ) (xs : List Entry) → HoldsQueue before limit xs → IfSome (slice_get xs 0) (λ e. ComesFirst before e (sorted before xs))
+    pub first_comes : (limit : ℕ) (xs : List Entry) → HoldsQueue before limit xs
+            → IfSome (slice_get xs 0) (λ e. ComesFirst before e (ordered_entries before xs))
     first_comes limit [] h = tt
     first_comes limit (x ∷ xs) h = comes_first limit x xs h
 
@@ -179,17 +183,17 @@ module _ (before : Entry → Entry → Bool) where
             go z g (inl e) = absurd (All-at (λ y. y.task ≢ x.task) ys z apart_top.0 g (ap (λ (y : Entry). y.task) e))
             go z g (inr t) = t
 
-        pub entries_less : sorted before xs ≡ x ∷ sorted before ys
+        pub entries_less : ordered_entries before xs ≡ x ∷ ordered_entries before ys
         entries_less =
             sorted-permutation before laws xs (x ∷ ys) h.apart with_top
-            ∙ placed-first before x (sorted before ys) (sorted-All before (λ z. before x z ≡ true) ys first_left)
+            ∙ placed-first before x (ordered_entries before ys) (sorted-All before (λ z. before x z ≡ true) ys first_left)
 
-        pub taken_out : IsAbsent x.task (sorted before ys)
+        pub taken_out : IsAbsent x.task (ordered_entries before ys)
         taken_out = sorted-All before (λ z. z.task ≢ x.task) ys apart_top.0
 
-        pub taken_first : ComesFirst before x (sorted before xs)
+        pub taken_first : ComesFirst before x (ordered_entries before xs)
         taken_first = subst (ComesFirst before x) (sym entries_less) (record {
-          among = Contains-has (x ∷ sorted before ys) x (inl refl);
+          among = Contains-has (x ∷ ordered_entries before ys) x (inl refl);
           others = (
             λ ne. absurd (ne refl),
             sorted-All before (λ z. z.task ≢ x.task → before x z ≡ true) ys
@@ -198,24 +202,24 @@ module _ (before : Entry → Entry → Bool) where
         })
 
         -- the queue after `take_first`
-        pub taken : (more n : ℕ) (lent l : List Entry) (q : QueueOf) → record { limit = limit; entries = sorted before xs } ≡ q
+        pub taken : (more n : ℕ) (lent l : List Entry) (q : QueueView) → record { limit = limit; entries = ordered_entries before xs } ≡ q
             → lent ≡ rest → n ≡ length lent → IsHeap before ys → more ≡ limit
             → HoldsQueue before more (take n (ys ++ drop (length ys) l))
-            × (q.entries ≡ x ∷ sorted before (take n (ys ++ drop (length ys) l)))
+            × (q.entries ≡ x ∷ ordered_entries before (take n (ys ++ drop (length ys) l)))
             × ComesFirst before x q.entries
-            × IsAbsent x.task (sorted before (take n (ys ++ drop (length ys) l)))
+            × IsAbsent x.task (ordered_entries before (take n (ys ++ drop (length ys) l)))
         taken more n lent l q view is long heap room =
             let same : take n (ys ++ drop (length ys) l) ≡ ys = whole n lent ys l long (subst (λ (zs : List Entry). IsPermutation zs ys) (sym is) s) in (
               subst (λ (m : ℕ). HoldsQueue before m (take n (ys ++ drop (length ys) l))) (sym room)
                   (subst (HoldsQueue before limit) (sym same) (holds_less heap)),
-              sym (ap (λ (r : QueueOf). r.entries) view) ∙ entries_less ∙ ap (λ (zs : List Entry). x ∷ sorted before zs) (sym same),
-              subst (ComesFirst before x) (ap (λ (r : QueueOf). r.entries) view) taken_first,
-              subst (λ (zs : List Entry). IsAbsent x.task (sorted before zs)) (sym same) taken_out,
+              sym (ap (λ (r : QueueView). r.entries) view) ∙ entries_less ∙ ap (λ (zs : List Entry). x ∷ ordered_entries before zs) (sym same),
+              subst (ComesFirst before x) (ap (λ (r : QueueView). r.entries) view) taken_first,
+              subst (λ (zs : List Entry). IsAbsent x.task (ordered_entries before zs)) (sym same) taken_out,
             )
 
     -- the entry at the top is replaced by another of its task
     module _ (limit : ℕ) (e : Entry) where
-      first_is : (x : Entry) (xs : List Entry) → HoldsQueue before limit (x ∷ xs) → IsOfFirst e.task (sorted before (x ∷ xs)) → x.task ≡ e.task
+      first_is : (x : Entry) (xs : List Entry) → HoldsQueue before limit (x ∷ xs) → IsOfFirst e.task (ordered_entries before (x ∷ xs)) → x.task ≡ e.task
       first_is x xs h f = subst (IsOfFirst e.task) (top_entries limit x xs h) f
 
       apart_top_replaced : (x : Entry) (xs : List Entry) → x.task ≡ e.task → AreApart (x ∷ xs) → AreApart (e ∷ xs)
@@ -225,11 +229,11 @@ module _ (before : Entry → Entry → Bool) where
       below_top x y xs zero ne = absurd (ne refl)
       below_top x y xs (suc k) ne = refl
 
-      pub some_held : (xs : List Entry) → HoldsQueue before limit xs → IsOfFirst e.task (sorted before xs) → 0 < length xs
+      pub some_held : (xs : List Entry) → HoldsQueue before limit xs → IsOfFirst e.task (ordered_entries before xs) → 0 < length xs
       some_held [] h f = absurd f
       some_held (x ∷ xs) h f = omega arith
 
-      pub replaced_sinks : (xs : List Entry) → HoldsQueue before limit xs → IsOfFirst e.task (sorted before xs) → CanSink before (slice_set xs 0 e) 0
+      pub replaced_sinks : (xs : List Entry) → HoldsQueue before limit xs → IsOfFirst e.task (ordered_entries before xs) → CanSink before (slice_set xs 0 e) 0
       unfolding IsHeap
       replaced_sinks [] h f = absurd f
       replaced_sinks (x ∷ xs) h f = record {
@@ -242,7 +246,7 @@ module _ (before : Entry → Entry → Bool) where
       }
 
       -- the queue after `replace_first`
-      held_after : (xs ys : List Entry) → HoldsQueue before limit xs → IsOfFirst e.task (sorted before xs) → IsPermutation (slice_set xs 0 e) ys
+      held_after : (xs ys : List Entry) → HoldsQueue before limit xs → IsOfFirst e.task (ordered_entries before xs) → IsPermutation (slice_set xs 0 e) ys
           → IsHeap before ys → HoldsQueue before limit ys
       held_after [] ys h f s heap = absurd f
       held_after (x ∷ xs) ys h f s heap =
@@ -254,29 +258,31 @@ module _ (before : Entry → Entry → Bool) where
             low_limit = h.low_limit;
           }
 
-      entries_after : (xs ys : List Entry) → HoldsQueue before limit xs → IsOfFirst e.task (sorted before xs) → IsPermutation (slice_set xs 0 e) ys
-          → sorted before ys ≡ placed before e (drop 1 (sorted before xs))
+      entries_after : (xs ys : List Entry) → HoldsQueue before limit xs → IsOfFirst e.task (ordered_entries before xs) → IsPermutation (slice_set xs 0 e) ys
+          → ordered_entries before ys ≡ with_entry before e (drop 1 (ordered_entries before xs))
       entries_after [] ys h f s = absurd f
       entries_after (x ∷ xs) ys h f s =
           sym (sorted-permutation before laws (e ∷ xs) ys (apart_top_replaced x xs (first_is x xs h f) h.apart) s)
-          ∙ ap (λ (zs : List Entry). placed before e (drop 1 zs)) (sym (top_entries limit x xs h))
+          ∙ ap (λ (zs : List Entry). with_entry before e (drop 1 zs)) (sym (top_entries limit x xs h))
 
-      absent_after : (xs : List Entry) → HoldsQueue before limit xs → IsOfFirst e.task (sorted before xs) → IsAbsent e.task (drop 1 (sorted before xs))
+      absent_after : (xs : List Entry) → HoldsQueue before limit xs → IsOfFirst e.task (ordered_entries before xs)
+              → IsAbsent e.task (drop 1 (ordered_entries before xs))
       absent_after [] h f = absurd f
       absent_after (x ∷ xs) h f =
           subst (λ (zs : List Entry). IsAbsent e.task (drop 1 zs)) (sym (top_entries limit x xs h))
           (sorted-All before (λ z. z.task ≢ e.task) xs (subst (λ (t : ℕ). IsAbsent t xs) (first_is x xs h f) h.apart.0))
 
-      pub replaced : (n : ℕ) (xs ys l : List Entry) (q : QueueOf) → HoldsQueue before limit xs → record { limit = limit; entries = sorted before xs } ≡ q
+      pub replaced : (n : ℕ) (xs ys l : List Entry) (q : QueueView) → HoldsQueue before limit xs
+              → record { limit = limit; entries = ordered_entries before xs } ≡ q
           → IsOfFirst e.task q.entries → n ≡ length (slice_set xs 0 e) → IsPermutation (slice_set xs 0 e) ys → IsHeap before ys
           → HoldsQueue before limit (take n (ys ++ drop (length ys) l))
-          × (sorted before (take n (ys ++ drop (length ys) l)) ≡ placed before e (drop 1 q.entries))
+          × (ordered_entries before (take n (ys ++ drop (length ys) l)) ≡ with_entry before e (drop 1 q.entries))
           × IsAbsent e.task (drop 1 q.entries)
       replaced n xs ys l q h view f long s heap =
           let same = whole n (slice_set xs 0 e) ys l long s in
-          let entries = ap (λ (r : QueueOf). r.entries) view in
-          let f' : IsOfFirst e.task (sorted before xs) = subst (IsOfFirst e.task) (sym entries) f in (
+          let entries = ap (λ (r : QueueView). r.entries) view in
+          let f' : IsOfFirst e.task (ordered_entries before xs) = subst (IsOfFirst e.task) (sym entries) f in (
             subst (HoldsQueue before limit) (sym same) (held_after xs ys h f' s heap),
-            ap (sorted before) same ∙ entries_after xs ys h f' s ∙ ap (λ (zs : List Entry). placed before e (drop 1 zs)) entries,
+            ap (ordered_entries before) same ∙ entries_after xs ys h f' s ∙ ap (λ (zs : List Entry). with_entry before e (drop 1 zs)) entries,
             subst (λ (zs : List Entry). IsAbsent e.task (drop 1 zs)) entries (absent_after xs h f'),
           )

@@ -1,6 +1,6 @@
 // The queue.
 ghost use Rattle.std.specs.Prelude.{◌≡◌, ◌<◌, [], ◌∷◌, length, drop, IfOk, IfSome, MatchOption, slice_get};
-ghost use Rattle.ready_queue.specs.Entries.{IsAbsent, IsOfFirst, placed, ComesFirst};
+ghost use Rattle.ready_queue.specs.Entries.{IsAbsent, IsOfFirst, with_entry, ComesFirst};
 
 use crate::heap::{rise, sink};
 use crate::{Entry, Order};
@@ -17,12 +17,12 @@ pub struct Queue<O: Order> {
 
 impl<O: Order> Model for Queue<O> {
     ghost use Rattle.std.specs.Prelude.{vec_capacity};
-    ghost use Rattle.ready_queue.specs.Entries.{QueueOf, sorted};
+    ghost use Rattle.ready_queue.specs.Entries.{QueueView, ordered_entries};
     ghost use Rattle.ready_queue.specs.Heaps.{HoldsQueue};
 
-    ghost Value = { QueueOf };
+    ghost Value = { QueueView };
 
-    ghost view = { λ q. record { limit = vec_capacity q.heap; entries = sorted O.comes_before q.heap.items } };
+    ghost view = { λ q. record { limit = vec_capacity q.heap; entries = ordered_entries O.comes_before q.heap.items } };
 
     ghost invariant = { λ q. HoldsQueue O.comes_before (vec_capacity q.heap) q.heap.items };
 }
@@ -40,7 +40,7 @@ impl<O: Order> Queue<O> {
     pub fn insert(&mut self, e: Entry)
         requires task { e.task < self.old.limit }
         requires absent { IsAbsent e.task self.old.entries }
-        ensures entries { self.new.entries ≡ placed O.comes_before e self.old.entries }
+        ensures entries { self.new.entries ≡ with_entry O.comes_before e self.old.entries }
         ensures limit { self.new.limit ≡ self.old.limit }
     {
         let at = self.heap.len();
@@ -75,7 +75,7 @@ impl<O: Order> Queue<O> {
     /// Replaces the entry that comes before all others by another of the same task.
     pub fn replace_first(&mut self, e: Entry)
         requires { IsOfFirst e.task self.old.entries }
-        ensures entries { self.new.entries ≡ placed O.comes_before e (drop 1 self.old.entries) }
+        ensures entries { self.new.entries ≡ with_entry O.comes_before e (drop 1 self.old.entries) }
         ensures out { IsAbsent e.task (drop 1 self.old.entries) }
         ensures limit { self.new.limit ≡ self.old.limit }
     {

@@ -5,9 +5,9 @@ use Rattle.dvs_base.specs.declared.note.Note.{Note}
 use Rattle.dvs_base.specs.declared.note.Note.TheVariants.{Release, Speed, Run, Idle, Done, End}
 use Rattle.sched_model.specs.Totals.{totals_of}
 use Rattle.event_kernel.specs.Heard.{HasHeard, HasBalked}
-use Rattle.trace_reader.specs.Traces.{TraceOf, is_end, IsEnded}
+use Rattle.trace_reader.specs.Traces.{TraceView, is_end, IsEnded}
 use Rattle.trace_laws.proofs.OneEnd.{whole-prefix, schedule-ended}
-use Rattle.replay.specs.Comparison.{same_note, IsOther, first_unequal, differs, unless_unequal, compared}
+use Rattle.replay.specs.Comparison.{same_note, IsOther, first_unequal, differs, unless_unequal, comparison}
 use Rattle.replay.specs.declared.fault.ReplayFault.{ReplayFault}
 use Rattle.governor.specs.Meanings.{OwnDemand}
 use Rattle.governor.specs.Schedule.{ask_of}
@@ -112,10 +112,10 @@ module _ {L : Type 0} (rest : L → List Note) (wanted : L → Option Note) wher
       (balked-first (at + 1) later.0 (m ∷ notes) to once.1 (tail-once n (rest later.0) once.0 (subst IsEnded later.1 ends)) later.2)
 
   -- where a listener stopped, comparing the notes gives the refusal at the first two unequal ones
-  pub stopped-compared : (tasks : ℕ) (t : TraceOf) (from : L) (notes : List Note) (to : L) (w : Note) (why : ReplayFault)
+  pub stopped-compared : (tasks : ℕ) (t : TraceView) (from : L) (notes : List Note) (to : L) (w : Note) (why : ReplayFault)
       → rest from ≡ t.notes → StoppedAt 0 from notes to → wanted to ≡ Some w
       → ((found : Note) (more : List Note) → rest to ≡ found ∷ more → why ≡ differs tasks t (length t.notes - length (rest to)) w found)
-      → Err why ≡ compared tasks t notes
+      → Err why ≡ comparison tasks t notes
   stopped-compared tasks t from notes to w why is s wants told =
       let want : w ≡ s.want = ap (λ (o : Option Note). unwrap_or o w) (sym wants ∙ s.wants) in
       let long : length (rest from) ≡ length t.notes = ap length is in
@@ -124,15 +124,15 @@ module _ {L : Type 0} (rest : L → List Note) (wanted : L → Option Note) wher
       ∙ sym (ap (λ (l : List Note). unless_unequal tasks t (first_unequal 0 notes l)) (sym is) ∙ ap (unless_unequal tasks t) s.differ)
 
 -- a trace compared with its own notes
-pub compared-same : (tasks : ℕ) (t : TraceOf) (notes : List Note) → t.notes ≡ notes
-    → compared tasks t notes ≡ Ok (totals_of notes)
+pub compared-same : (tasks : ℕ) (t : TraceView) (notes : List Note) → t.notes ≡ notes
+    → comparison tasks t notes ≡ Ok (totals_of notes)
 compared-same tasks t notes is =
-    subst (λ (l : List Note). compared tasks t l ≡ Ok (totals_of l)) is
+    subst (λ (l : List Note). comparison tasks t l ≡ Ok (totals_of l)) is
     (rw (unequal-self 0 t.notes) refl)
 
 -- the run, by a governor's own demand; the trace; and the listener before and after
 module _ {L : Type 0} (rest : L → List Note) (wanted : L → Option Note)
-    (demand : OwnDemand) (run : KernelRun) (t : TraceOf) (ended : IsEnded t.notes) (from to : L) (notes_are : rest from ≡ t.notes) where
+    (demand : OwnDemand) (run : KernelRun) (t : TraceView) (ended : IsEnded t.notes) (from to : L) (notes_are : rest from ≡ t.notes) where
   once : IsEnded (notes_of_run demand run)
   once =
       let dem = demands_of run.plan run.demands in

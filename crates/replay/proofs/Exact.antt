@@ -14,7 +14,7 @@ use Rattle.sched_model.specs.Plan.{Plan, count, worst}
 use Rattle.sched_model.specs.Jobs.{JobDemands, released_jobs, demand_of}
 use Rattle.sched_model.specs.Totals.{totals_of}
 use Rattle.sched_model.specs.Admission.{IsWithinLimits}
-use Rattle.trace_reader.specs.Traces.{TraceOf, is_end, IsEnded}
+use Rattle.trace_reader.specs.Traces.{TraceView, is_end, IsEnded}
 use Rattle.replay_laws.specs.FixedDemands.{fixed_of}
 use Rattle.replay_laws.specs.OwnList.{Asking, ticks_by, AreNotesFor, AreOwn, HasOwnList}
 use Rattle.trace_laws.proofs.OneEnd.{schedule-ended}
@@ -172,7 +172,7 @@ other-fault : (why : ReplayFault) (line : ℕ) (w f : Note) → IsErrOf (result_
     → why ≢ fault.NoMemory
 other-fault why line w f is memory = cc
 
-module _ (p : Plan) (lim : IsWithinLimits p) (asked : Asking) (t : TraceOf) (ends : IsEnded t.notes) where
+module _ (p : Plan) (lim : IsWithinLimits p) (asked : Asking) (t : TraceView) (ends : IsEnded t.notes) where
   once : IsEnded (own_notes p asked t)
   once =
       let own : JobDemands = demand_of p (fixed_of p t.notes) in

@@ -14,20 +14,20 @@ use Rattle.sched_model.specs.Jobs.{JobDemands, release, due, latest, demand_of}
 use Rattle.sched_model.specs.Priority.{in_order}
 use Rattle.sched_model.specs.Schedule.{schedule_by}
 use Rattle.sched_model.specs.Notes.{notes_before_end}
-use Rattle.trace_reader.specs.Traces.{TraceOf, IsTrace}
+use Rattle.trace_reader.specs.Traces.{TraceView, IsTrace}
 use Rattle.trace_writer.specs.RunText.{task_texts}
 use Rattle.replay_laws.specs.OwnList.{Asking, notes_by}
 use Rattle.replay.specs.declared.fault.ReplayFault.TheVariants.{OverWorst, TooManyJobs, Differs}
-use Rattle.replay.specs.Comparison.{compared}
+use Rattle.replay.specs.Comparison.{comparison}
 use Rattle.replay.specs.Replays.{replay_of}
 use Rattle.replay.specs.SameTexts.{HasTextFor}
 
 -- a trace of a number of ticks with these notes
-abbrev trace_over : ℕ → Version → List Note → TraceOf
+abbrev trace_over : ℕ → Version → List Note → TraceView
 trace_over ticks version notes =
     record { version = version; plan = record { scheduler = Edf; governor = Plain; ticks = ticks }; notes = notes }
 
-abbrev trace : Version → List Note → TraceOf
+abbrev trace : Version → List Note → TraceView
 trace = trace_over 2
 
 abbrev at_tick : ℕ → Pos
@@ -44,24 +44,24 @@ abbrev last : Note
 last = End 2 0 0
 
 -- in version 1 the second note is on line 4, after the version, the plan and the first note
-version_1 : compared 3 (trace One (first ∷ idle ∷ last ∷ [])) (first ∷ last ∷ []) ≡ Err (Differs 4 last idle)
+version_1 : comparison 3 (trace One (first ∷ idle ∷ last ∷ [])) (first ∷ last ∷ []) ≡ Err (Differs 4 last idle)
 version_1 = refl
 
 -- in version 2 it is after the lines of three tasks too, also where the run has its end there
-end_wanted : compared 3 (trace Two (first ∷ idle ∷ last ∷ [])) (first ∷ last ∷ []) ≡ Err (Differs 7 last idle)
+end_wanted : comparison 3 (trace Two (first ∷ idle ∷ last ∷ [])) (first ∷ last ∷ []) ≡ Err (Differs 7 last idle)
 end_wanted = refl
 
 -- the end of the trace is after the energies of the three tasks too
-end_found : compared 3 (trace Two (first ∷ last ∷ [])) (first ∷ idle ∷ last ∷ []) ≡ Err (Differs 10 idle last)
+end_found : comparison 3 (trace Two (first ∷ last ∷ [])) (first ∷ idle ∷ last ∷ []) ≡ Err (Differs 10 idle last)
 end_found = refl
 
 -- an end differs where its energy does
-energy_of_end : compared 3 (trace One (last ∷ [])) (End 2 0 1 ∷ []) ≡ Err (Differs 3 (End 2 0 1) last)
+energy_of_end : comparison 3 (trace One (last ∷ [])) (End 2 0 1 ∷ []) ≡ Err (Differs 3 (End 2 0 1) last)
 energy_of_end = refl
 
 -- for equal notes the totals are the answer
 equal_notes :
-    compared 3 (trace Two (first ∷ idle ∷ last ∷ [])) (first ∷ idle ∷ last ∷ [])
+    comparison 3 (trace Two (first ∷ idle ∷ last ∷ [])) (first ∷ idle ∷ last ∷ [])
     ≡ Ok (record { run = 0; idle = 0; released = 1; finished = 0; decisions = 0 })
 equal_notes = refl
 

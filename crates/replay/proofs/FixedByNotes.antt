@@ -8,8 +8,8 @@ use Rattle.std.proofs.lemmas.Bool.Decides.{nat_tests}
 use Rattle.dvs_base.specs.declared.note.Note.{Note}
 use Rattle.dvs_base.specs.declared.note.Note.TheVariants.{Done}
 use Rattle.dvs_base.proofs.Options.{or-none, or-assoc}
-use Rattle.task_model.specs.DemandRows.{DemandRow, named}
-use Rattle.demand_list.specs.Demands.{DemandsOf}
+use Rattle.task_model.specs.DemandRows.{DemandRow, named_units}
+use Rattle.demand_list.specs.Demands.{DemandsView}
 use Rattle.sched_model.specs.Plan.{Plan, worst}
 use Rattle.sched_model.specs.Jobs.{demand_of}
 use Rattle.replay_laws.specs.FixedDemands.{fixed_before, fixed_of}
@@ -44,47 +44,47 @@ fit-over p (n ∷ notes) fit = fit-over p notes fit.1
 
 -- the row that a note fixes comes before those that the notes after it fix
 fixed-first : (p : Plan) (n : Note) (rows : List DemandRow) (i k : ℕ)
-    → named (fixed_before p n rows) i k ≡ option_or (named (fixed_before p n []) i k) (named rows i k)
+    → named_units (fixed_before p n rows) i k ≡ option_or (named_units (fixed_before p n []) i k) (named_units rows i k)
 fixed-first p (Done q j (suc l) used) rows i k = go (nat_eq j i && nat_eq (suc l) k)
   where
     go : (b : Bool)
-        → (if b then Some (used - 2 * p.machine.charge) else named rows i k)
-        ≡ option_or (if b then Some (used - 2 * p.machine.charge) else None) (named rows i k)
+        → (if b then Some (used - 2 * p.machine.charge) else named_units rows i k)
+        ≡ option_or (if b then Some (used - 2 * p.machine.charge) else None) (named_units rows i k)
     go true = refl
     go false = refl
 fixed-first p _ rows i k = refl
 
 -- the rows of a list, then those that the notes from place `at` on fix, give each job what all the notes fix for it
-abbrev pub AreFixedFrom : Plan → List Note → ℕ → DemandsOf → Type 0
+abbrev pub AreFixedFrom : Plan → List Note → ℕ → DemandsView → Type 0
 AreFixedFrom p notes at d =
-    (i k : ℕ) → option_or (named d.rows i k) (named (fixed_of p (drop at notes)) i k) ≡ named (fixed_of p notes) i k
+    (i k : ℕ) → option_or (named_units d.rows i k) (named_units (fixed_of p (drop at notes)) i k) ≡ named_units (fixed_of p notes) i k
 
 -- a list without rows, then the rows that all the notes fix, give each job what the notes fix for it
-pub fixed-none : (p : Plan) (notes : List Note) (d : DemandsOf) → d.rows ≡ [] → AreFixedFrom p notes 0 d
-fixed-none p notes d none i k = ap (λ (rows : List DemandRow). option_or (named rows i k) (named (fixed_of p notes) i k)) none
+pub fixed-none : (p : Plan) (notes : List Note) (d : DemandsView) → d.rows ≡ [] → AreFixedFrom p notes 0 d
+fixed-none p notes d none i k = ap (λ (rows : List DemandRow). option_or (named_units rows i k) (named_units (fixed_of p notes) i k)) none
 
-pub fixed-next : (p : Plan) (notes : List Note) (at : ℕ) (n : Note) (old new : DemandsOf)
+pub fixed-next : (p : Plan) (notes : List Note) (at : ℕ) (n : Note) (old new : DemandsView)
     → drop at notes ≡ n ∷ drop (at + 1) notes
     → AreFixedFrom p notes at old → Fixes (fixed_before p n []) old new → AreFixedFrom p notes (at + 1) new
 fixed-next p notes at n old new is before h i k =
-    ap (λ (o : Option ℕ). option_or o (named (fixed_of p (drop (at + 1) notes)) i k)) (h i k)
-    ∙ (or-assoc (named old.rows i k) (named (fixed_before p n []) i k) (named (fixed_of p (drop (at + 1) notes)) i k)
-    ∙ (ap (option_or (named old.rows i k)) (sym (fixed-first p n (fixed_of p (drop (at + 1) notes)) i k)
-    ∙ ap (λ (l : List Note). named (fixed_of p l) i k) (sym is))
+    ap (λ (o : Option ℕ). option_or o (named_units (fixed_of p (drop (at + 1) notes)) i k)) (h i k)
+    ∙ (or-assoc (named_units old.rows i k) (named_units (fixed_before p n []) i k) (named_units (fixed_of p (drop (at + 1) notes)) i k)
+    ∙ (ap (option_or (named_units old.rows i k)) (sym (fixed-first p n (fixed_of p (drop (at + 1) notes)) i k)
+    ∙ ap (λ (l : List Note). named_units (fixed_of p l) i k) (sym is))
     ∙ before i k))
 
 -- rows that give each job the same units make the same demands
-same-demand : (p : Plan) (rows others : List DemandRow) → ((i k : ℕ) → named rows i k ≡ named others i k) → (i k : ℕ)
+same-demand : (p : Plan) (rows others : List DemandRow) → ((i k : ℕ) → named_units rows i k ≡ named_units others i k) → (i k : ℕ)
     → demand_of p rows i k ≡ demand_of p others i k
 same-demand p rows others same i zero = refl
 same-demand p rows others same i (suc k) =
     ap (λ (o : Option ℕ). unwrap_or (option_map (λ u. u + 2 * p.machine.charge) o) (worst p i)) (same i (suc k))
 
-pub fixed-whole : (p : Plan) (notes : List Note) (at : ℕ) (d : DemandsOf) → drop at notes ≡ []
+pub fixed-whole : (p : Plan) (notes : List Note) (at : ℕ) (d : DemandsView) → drop at notes ≡ []
     → AreFixedFrom p notes at d
     → demand_of p d.rows ≡ demand_of p (fixed_of p notes)
 fixed-whole p notes at d none h =
     let same : (i k : ℕ) → demand_of p d.rows i k ≡ demand_of p (fixed_of p notes) i k =
-    same-demand p d.rows (fixed_of p notes) (λ i k. sym (or-none (named d.rows i k))
-    ∙ (ap (λ (l : List Note). option_or (named d.rows i k) (named (fixed_of p l) i k)) (sym none) ∙ h i k)) in
+    same-demand p d.rows (fixed_of p notes) (λ i k. sym (or-none (named_units d.rows i k))
+    ∙ (ap (λ (l : List Note). option_or (named_units d.rows i k) (named_units (fixed_of p l) i k)) (sym none) ∙ h i k)) in
     λ n i k. same i k n

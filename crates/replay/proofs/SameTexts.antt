@@ -10,7 +10,7 @@ use Rattle.sched_model.specs.Demand.{published}
 use Rattle.sched_model.specs.Jobs.{demand_of}
 use Rattle.sched_model.specs.Plan.{Plan, count, names, task, period, offset}
 use Rattle.sched_model.proofs.Tables.{each-below}
-use Rattle.trace_reader.specs.Traces.{TraceOf, text_of}
+use Rattle.trace_reader.specs.Traces.{TraceView, text_of}
 use Rattle.trace_text.specs.TraceText.{task_text}
 use Rattle.trace_reader.proofs.HeadTexts.{IsLine, AreLines, task_lines-lines}
 use Rattle.trace_reader.proofs.TraceTexts.{one-text}
@@ -41,7 +41,7 @@ same-text-by p set ask same g v ticks rows others h k = (
       (texts-lines p set) (trace_by v p ask g (demand_of p others) ticks) (trace_by v p ask g (demand_of p rows) ticks) []
       k.trace h.trace
       (append-nil (text_by v p ask g (demand_of p others) ticks) ∙ e) in
-      (same rows others ticks h.within k.within).0 (ap (λ (t : TraceOf). t.notes) texts.0),
+      (same rows others ticks h.within k.within).0 (ap (λ (t : TraceView). t.notes) texts.0),
   λ told.
       ap (λ (notes : List Note). text_of (names p) (task_texts p)
       (record { version = v; plan = record { scheduler = p.scheduler; governor = g; ticks = ticks }; notes = notes }))

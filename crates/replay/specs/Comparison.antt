@@ -7,7 +7,7 @@ use Rattle.dvs_base.specs.declared.note.Totals.{Totals}
 use Rattle.dvs_base.specs.declared.kind.Version.{Version}
 use Rattle.sched_model.specs.Totals.{totals_of}
 use Rattle.trace_text.specs.TraceText.{has_task_lines}
-use Rattle.trace_reader.specs.Traces.{TraceOf}
+use Rattle.trace_reader.specs.Traces.{TraceView}
 use Rattle.replay.specs.declared.fault.ReplayFault.{ReplayFault}
 use Rattle.replay.specs.declared.fault.ReplayFault.TheVariants as fault
 
@@ -45,17 +45,17 @@ line_of v tasks place (End ticks run idle) = place + 3 + (if has_task_lines v th
 line_of v tasks place n = place + 3 + (if has_task_lines v then tasks else 0)
 
 -- the refusal of a trace of `tasks` tasks at the note at this place
-abbrev pub differs : ℕ → TraceOf → ℕ → Note → Note → ReplayFault
+abbrev pub differs : ℕ → TraceView → ℕ → Note → Note → ReplayFault
 differs tasks t place wanted found = fault.Differs (line_of t.version tasks place found) wanted found
 
 -- the totals of a trace of `tasks` tasks where its notes differ nowhere from those wanted, else the first difference
-abbrev pub unless_unequal : ℕ → TraceOf → Option (ℕ × Note × Note) → Result Totals ReplayFault
+abbrev pub unless_unequal : ℕ → TraceView → Option (ℕ × Note × Note) → Result Totals ReplayFault
 unless_unequal tasks t None = Ok (totals_of t.notes)
 unless_unequal tasks t (Some (place, wanted, found)) = Err (differs tasks t place wanted found)
 
 -- the comparison of a trace of `tasks` tasks with the notes wanted: its totals, or the first difference
-abbrev pub compared : ℕ → TraceOf → List Note → Result Totals ReplayFault
-compared tasks t wanted = unless_unequal tasks t (first_unequal 0 wanted t.notes)
+abbrev pub comparison : ℕ → TraceView → List Note → Result Totals ReplayFault
+comparison tasks t wanted = unless_unequal tasks t (first_unequal 0 wanted t.notes)
 
 -- after `place` equal notes the lists have w and f, which are unequal
 pub record FirstUnequal (wanted found : List Note) (place : ℕ) (w f : Note) : Type 0 where

@@ -5,17 +5,17 @@ use Rattle.dvs_base.specs.declared.note.Note.{Note}
 use Rattle.dvs_base.specs.declared.note.Note.TheVariants.{Release, Run, Done}
 use Rattle.dvs_base.specs.declared.note.Totals.{Totals}
 use Rattle.dvs_base.specs.declared.limits.TheConstants.{MOST_JOBS}
-use Rattle.task_model.specs.DemandRows.{DemandRow, named}
-use Rattle.demand_list.specs.Demands.{DemandsOf, IsDemands}
+use Rattle.task_model.specs.DemandRows.{DemandRow, named_units}
+use Rattle.demand_list.specs.Demands.{DemandsView, IsDemands}
 use Rattle.sched_model.specs.Plan.{Plan, count, worst}
 use Rattle.sched_model.specs.Jobs.{released_jobs, demand_of}
 use Rattle.sched_model.specs.Totals.{totals_of}
 use Rattle.event_kernel.specs.declared.kernel.KernelFault.{KernelFault}
 use Rattle.event_kernel.specs.declared.kernel.KernelFault.TheVariants as kernel
-use Rattle.trace_reader.specs.Traces.{TraceOf}
+use Rattle.trace_reader.specs.Traces.{TraceView}
 use Rattle.replay_laws.specs.FixedDemands.{fixed_of, fixed_list}
 use Rattle.replay_laws.specs.OwnList.{Asking, notes_by, AreNotesFor}
-use Rattle.replay.specs.Comparison.{compared, line_of, FirstUnequal}
+use Rattle.replay.specs.Comparison.{comparison, line_of, FirstUnequal}
 use Rattle.replay.specs.declared.fault.ReplayFault.{ReplayFault}
 use Rattle.replay.specs.declared.fault.ReplayFault.TheVariants as fault
 
@@ -42,8 +42,8 @@ first_over p [] = None
 first_over p (n ∷ notes) = option_or (over_in p n) (first_over p notes)
 
 -- each job keeps its row, and one without a row gets its row in `rows`
-abbrev pub Fixes : List DemandRow → DemandsOf → DemandsOf → Type 0
-Fixes rows old new = (i k : ℕ) → named new.rows i k ≡ option_or (named old.rows i k) (named rows i k)
+abbrev pub Fixes : List DemandRow → DemandsView → DemandsView → Type 0
+Fixes rows old new = (i k : ℕ) → named_units new.rows i k ≡ option_or (named_units old.rows i k) (named_units rows i k)
 
 -- the refusal of a run that releases more jobs than the limit
 abbrev pub too_many : Plan → ℕ → Option ReplayFault
@@ -56,16 +56,16 @@ unless (Some why) next = Err why
 unless None next = next
 
 -- the notes of the schedule for the demands that a trace fixes
-abbrev pub own_notes : Plan → Asking → TraceOf → List Note
+abbrev pub own_notes : Plan → Asking → TraceView → List Note
 own_notes p asked t = notes_by p asked (demand_of p (fixed_of p t.notes)) t.plan.ticks
 
 -- What a replay answers: the refusal of the first end over its worst case; else of too many jobs; else of the first
 -- difference from the schedule for the demands that the trace fixes; else the totals of its notes.
-abbrev pub replay_of : Plan → Asking → TraceOf → Result Totals ReplayFault
+abbrev pub replay_of : Plan → Asking → TraceView → Result Totals ReplayFault
 replay_of p asked t =
     unless (first_over p t.notes) (
     unless (too_many p t.plan.ticks) (
-    compared (count p) t (own_notes p asked t)))
+    comparison (count p) t (own_notes p asked t)))
 
 -- the numbers and the notes of a refusal show its cause
 abbrev pub IsCause : ReplayFault → Type 0
@@ -76,14 +76,14 @@ IsCause fault.NoMemory = ⊤
 
 -- the trace has these totals, its notes are those of the schedule for the list that they fix, and that list is a demand
 -- list of the plan
-pub record IsReplayed (p : Plan) (asked : Asking) (t : TraceOf) (totals : Totals) : Type 0 where
+pub record IsReplayed (p : Plan) (asked : Asking) (t : TraceView) (totals : Totals) : Type 0 where
   pub totals_are : totals ≡ totals_of t.notes
   pub notes : AreNotesFor p asked t.plan.ticks t.notes (fixed_of p t.notes)
   pub list : IsDemands (fixed_list p t.notes)
 
 -- the first two unequal notes of the schedule for the demands that the trace fixes and of the trace; `line` is of the
 -- second one
-abbrev pub IsFirstDifference : Plan → Asking → TraceOf → ℕ → Note → Note → Type 0
+abbrev pub IsFirstDifference : Plan → Asking → TraceView → ℕ → Note → Note → Type 0
 IsFirstDifference p asked t line wanted found =
     (place : ℕ) × (line ≡ line_of t.version (count p) place found)
     × FirstUnequal (own_notes p asked t) t.notes place wanted found

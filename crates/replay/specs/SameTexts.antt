@@ -6,13 +6,13 @@ use Rattle.task_model.specs.DemandRows.{DemandRow}
 use Rattle.sched_model.specs.Plan.{Plan, names}
 use Rattle.sched_model.specs.Jobs.{JobDemands, demand_of, IsWithin}
 use Rattle.sched_model.specs.Schedule.{schedule}
-use Rattle.trace_reader.specs.Traces.{TraceOf, IsTrace, text_of}
+use Rattle.trace_reader.specs.Traces.{TraceView, IsTrace, text_of}
 use Rattle.trace_writer.specs.RunText.{task_texts, run_text_in}
 use Rattle.replay_laws.specs.OwnList.{Asking, ticks_by, notes_by, TellSame}
 use Rattle.trace_laws.specs.RunTraces.{IsLimitedRun}
 
 -- the trace, in a version, of the schedule under a published demand, where the plan line names this governor
-abbrev pub trace_by : Version → Plan → Asking → GovernorKind → JobDemands → ℕ → TraceOf
+abbrev pub trace_by : Version → Plan → Asking → GovernorKind → JobDemands → ℕ → TraceView
 trace_by v p ask g dem ticks = record {
   version = v;
   plan = record { scheduler = p.scheduler; governor = g; ticks = ticks };

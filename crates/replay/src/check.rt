@@ -13,7 +13,7 @@ ghost use Rattle.governor.specs.Schedule.{ask_of};
 ghost use Rattle.event_kernel.specs.Runs.{notes_of_run};
 ghost use Rattle.trace_reader.specs.Traces.{IsEnded};
 ghost use Rattle.replay_laws.specs.OwnList.{AreNotesFor, HasSameNotes};
-ghost use Rattle.replay.specs.Comparison.{line_of, differs, compared};
+ghost use Rattle.replay.specs.Comparison.{line_of, differs, comparison};
 ghost use Rattle.replay.specs.Replays.{NamesTask, replay_of, IsCause, IsReplayed, IsFirstDifference};
 ghost use Rattle.replay.specs.SameTexts.{HasSameTextBy, HasSameText};
 
@@ -66,7 +66,7 @@ fn compare<G: Governor>(
 ) -> Result<Totals, ReplayFault>
     requires plan { kernel.plan ≡ plan.now }
     requires ended { IsEnded trace.now.notes }
-    ensures { result ≡ compared (count plan.now) trace.now (notes_of_run G.demand kernel.entry) }
+    ensures { result ≡ comparison (count plan.now) trace.now (notes_of_run G.demand kernel.entry) }
 {
     let _admitted = plan.scheduler();
     let mut compared = Compared {

@@ -11,7 +11,7 @@ use Rattle.sched_model.specs.Jobs.{JobDemands, latest, deadline, earliest, last_
 use Rattle.sched_model.specs.Ticks.{Tick, at, is_complete, wleft}
 use Rattle.sched_model.specs.Priority.{sum_before, in_order}
 use Rattle.sched_model.specs.StaticDemand.{static_speed}
-use Rattle.sched_model.specs.CycleDemand.{charged, edf_cycle, allotted, had_since_release, allotment_left, rm_cycle}
+use Rattle.sched_model.specs.CycleDemand.{cycle_units, edf_cycle, allotment_at_release, had_since_release, allotment_left, rm_cycle}
 use Rattle.sched_model.specs.AheadDemand.{first_due, slack, put_off, spread_rate, spread_rates, due_first, edf_ahead}
 use Rattle.sched_model.specs.Demand.{demand_by, published}
 use Rattle.sched_model.specs.Admission.{IsWithinLimits}
@@ -44,10 +44,11 @@ module _ (p : Plan) (due left other : ℕ → ℕ) (same : (i : ℕ) → i < cou
 
 module _ (p : Plan) (lim : IsWithinLimits p) (dem other : JobDemands) (past : List Tick) (h : Alike p dem other past (suc (length past))) where
   -- the charged units of a task are the same by both demands
-  charged-same : (i : ℕ) → i < count p → charged p dem past i ≡ charged p other past i
+  charged-same : (i : ℕ) → i < count p → cycle_units p dem past i ≡ cycle_units p other past i
   charged-same i lt = go (is_complete p dem past i) refl (same-complete p lim dem other past h i lt)
     where
-      go : (b : Bool) → is_complete p dem past i ≡ b → is_complete p dem past i ≡ is_complete p other past i → charged p dem past i ≡ charged p other past i
+      go : (b : Bool) → is_complete p dem past i ≡ b → is_complete p dem past i ≡ is_complete p other past i
+              → cycle_units p dem past i ≡ cycle_units p other past i
       go true e same =
           ap₂ (λ (b : Bool) (n : ℕ). if b then n else worst p i) same (((h i (latest p i (length past)) lt (latest-early p lim i (length past) lt)).0) e)
       go false e same =
@@ -57,11 +58,11 @@ module _ (p : Plan) (lim : IsWithinLimits p) (dem other : JobDemands) (past : Li
   edf_cycle-same : edf_cycle p dem past ≡ edf_cycle p other past
   edf_cycle-same =
       ap (λ (n : ℕ). record { num = n; den = hyper p })
-      (sum_below-same (count p) (λ i. charged p dem past i * (hyper p / period p i)) (λ i. charged p other past i * (hyper p / period p i))
+      (sum_below-same (count p) (λ i. cycle_units p dem past i * (hyper p / period p i)) (λ i. cycle_units p other past i * (hyper p / period p i))
       (λ i lt. ap (λ n. n * (hyper p / period p i)) (charged-same i lt)))
 
   -- the units allotted at the last release are the same by both demands
-  allotted-same : (i : ℕ) → i < count p → allotted p dem past i ≡ allotted p other past i
+  allotted-same : (i : ℕ) → i < count p → allotment_at_release p dem past i ≡ allotment_at_release p other past i
   allotted-same i lt =
       let r = last_release p (length past) in
       allotment-same (count p) (period p) ((earliest p r - r) * static_speed p) (wleft p dem (at r past)) (wleft p other (at r past))

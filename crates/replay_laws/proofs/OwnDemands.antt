@@ -7,7 +7,7 @@ use Rattle.std.proofs.lemmas.Bool.Decides.{nat_tests}
 use Rattle.std.specs.List.{AllByRecursion}
 use Rattle.dvs_base.specs.declared.note.Note.{Note}
 use Rattle.dvs_base.specs.declared.note.Note.TheVariants.{Done}
-use Rattle.task_model.specs.DemandRows.{named, DemandRow}
+use Rattle.task_model.specs.DemandRows.{named_units, DemandRow}
 use Rattle.sched_model.specs.Plan.{Plan, worst, count}
 use Rattle.sched_model.specs.Jobs.{JobDemands, latest, release, demand_of, IsWithin}
 use Rattle.sched_model.specs.Ticks.{PublishedDemand, Tick, exec, is_done}
@@ -28,15 +28,15 @@ use Rattle.replay_laws.proofs.SameNotes.{had-most, same-notes, Alike, IsBlind, s
 
 -- the row of a job has the units of its first completion, without the charge
 named-fixed : (p : Plan) (notes : List Note) (i k : ℕ) → 1 ≤ k
-    → named (fixed_of p notes) i k ≡ option_map (λ used. used - 2 * p.machine.charge) (first_end notes i k)
+    → named_units (fixed_of p notes) i k ≡ option_map (λ used. used - 2 * p.machine.charge) (first_end notes i k)
 named-fixed p [] i k some = refl
 named-fixed p (Done at_end j zero used ∷ notes) i k some =
     let other : (nat_eq j i && nat_eq 0 k) ≡ false = grind (arith, nat_tests, some) in
     rw other (named-fixed p notes i k some)
 named-fixed p (Done at_end j (suc l) used ∷ notes) i k some = go (nat_eq j i && nat_eq (suc l) k) (named-fixed p notes i k some)
   where
-    go : (b : Bool) → named (fixed_of p notes) i k ≡ option_map (λ n. n - 2 * p.machine.charge) (first_end notes i k)
-        → (if b then Some (used - 2 * p.machine.charge) else named (fixed_of p notes) i k) ≡ option_map
+    go : (b : Bool) → named_units (fixed_of p notes) i k ≡ option_map (λ n. n - 2 * p.machine.charge) (first_end notes i k)
+        → (if b then Some (used - 2 * p.machine.charge) else named_units (fixed_of p notes) i k) ≡ option_map
         (λ n. n - 2 * p.machine.charge) (option_or (if b then Some used else None) (first_end notes i k))
     go true ih = refl
     go false ih = ih
@@ -91,10 +91,10 @@ module _ (p : Plan) (dem : JobDemands) (ask : PublishedDemand) (lim : IsWithinLi
 
   -- these notes fix nothing of the job where it has no end, and else its demand
   abbrev AreFixed : ℕ → List Note → ℕ → Type 0
-  AreFixed had notes ends = Fixes p dem i k had (named (fixed_of p notes) i k) ends
+  AreFixed had notes ends = Fixes p dem i k had (named_units (fixed_of p notes) i k) ends
 
   -- true notes fix nothing of a job, or its demand
-  pub fixes : (had : ℕ) (notes : List Note) → AreTrue had notes → Fixes p dem i k had (named (fixed_of p notes) i k) (count_by (tells_done i k) notes)
+  pub fixes : (had : ℕ) (notes : List Note) → AreTrue had notes → Fixes p dem i k had (named_units (fixed_of p notes) i k) (count_by (tells_done i k) notes)
   fixes had [] all = inl (refl, refl)
   fixes had (n ∷ notes) all =
       subst (AreFixed had (n ∷ notes)) (sym (count-next (tells_done i k) n notes)) (one n all.0 (fixes had notes all.1))
@@ -116,7 +116,7 @@ module _ (p : Plan) (dem : JobDemands) (ask : PublishedDemand) (lim : IsWithinLi
               let mine : (nat_eq j i && nat_eq (suc l) k) ≡ true = grind (arith, nat_tests, e) in
               let (is, had_it) = tells e in
               inr (
-                ap (λ (b : Bool). if b then Some (used - 2 * p.machine.charge) else named (fixed_of p notes) i k) mine
+                ap (λ (b : Bool). if b then Some (used - 2 * p.machine.charge) else named_units (fixed_of p notes) i k) mine
                     ∙ ap (λ n. Some (n - 2 * p.machine.charge)) is,
                 had_it,
               )
@@ -157,19 +157,20 @@ module _ (p : Plan) (lim : IsWithinLimits p) (ask : Asking) (blind : IsBlind p a
       (same-ticks dem other ticks h.none alike, same-told dem other ticks h.none h.other_none alike)
 
 -- the demand of a job with a row is the row's units and twice the charge
-pub demand-row : (p : Plan) (rows : List DemandRow) (i k units : ℕ) → 1 ≤ k → named rows i k ≡ Some units → demand_of p rows i k ≡ units + 2 * p.machine.charge
+pub demand-row : (p : Plan) (rows : List DemandRow) (i k units : ℕ) → 1 ≤ k → named_units rows i k ≡ Some units
+        → demand_of p rows i k ≡ units + 2 * p.machine.charge
 demand-row p rows i zero units some e = absurd (omega (arith, some))
 demand-row p rows i (suc k) units some e = ap (λ (o : Option ℕ). unwrap_or (option_map (λ u. u + 2 * p.machine.charge) o) (worst p i)) e
 
-pub demand-none : (p : Plan) (rows : List DemandRow) (i k : ℕ) → 1 ≤ k → named rows i k ≡ None → demand_of p rows i k ≡ worst p i
+pub demand-none : (p : Plan) (rows : List DemandRow) (i k : ℕ) → 1 ≤ k → named_units rows i k ≡ None → demand_of p rows i k ≡ worst p i
 demand-none p rows i zero some e = absurd (omega (arith, some))
 demand-none p rows i (suc k) some e = ap (λ (o : Option ℕ). unwrap_or (option_map (λ u. u + 2 * p.machine.charge) o) (worst p i)) e
 
 -- the demand of each job from 1 on is at least twice the charge
 charge-least : (p : Plan) (rows : List DemandRow) (i k : ℕ) → 1 ≤ k → 2 * p.machine.charge ≤ demand_of p rows i k
-charge-least p rows i k some = go (named rows i k) refl
+charge-least p rows i k some = go (named_units rows i k) refl
   where
-    go : (o : Option ℕ) → named rows i k ≡ o → 2 * p.machine.charge ≤ demand_of p rows i k
+    go : (o : Option ℕ) → named_units rows i k ≡ o → 2 * p.machine.charge ≤ demand_of p rows i k
     go None e = omega (arith, demand-none p rows i k some e)
     go (Some units) e = omega (arith, demand-row p rows i k units some e)
 
@@ -191,11 +192,11 @@ module _ (p : Plan) (lim : IsWithinLimits p) (ask : Asking) (blind : IsBlind p a
   is_schedule = (schedule_exists p dem (ask dem) t).0
 
   -- the notes fix nothing of a job, or its demand
-  pub told : (i k : ℕ) → i < count p → 1 ≤ k → Fixes p dem i k (exec p ticks i k) (named (fixed_of p all_notes) i k) (count_by (tells_done i k) all_notes)
+  pub told : (i k : ℕ) → i < count p → 1 ≤ k → Fixes p dem i k (exec p ticks i k) (named_units (fixed_of p all_notes) i k) (count_by (tells_done i k) all_notes)
   told i k lt some = fixes p dem (ask dem) lim i k lt some (exec p ticks i k) all_notes (notes-true p dem (ask dem) lim i k lt some ticks is_schedule)
 
   -- the demand that the list has for a job whose completion is among the notes is the job's demand
-  pub own-told : (i k : ℕ) → 1 ≤ k → named (fixed_of p all_notes) i k ≡ Some (dem i k - 2 * p.machine.charge) → own i k ≡ dem i k
+  pub own-told : (i k : ℕ) → 1 ≤ k → named_units (fixed_of p all_notes) i k ≡ Some (dem i k - 2 * p.machine.charge) → own i k ≡ dem i k
   own-told i k some e = omega (arith, demand-row p (fixed_of p all_notes) i k (dem i k - 2 * p.machine.charge) some e, charge-least p rows i k some)
 
   -- the completion of a finished job is among the notes once
@@ -215,13 +216,13 @@ module _ (p : Plan) (lim : IsWithinLimits p) (ask : Asking) (blind : IsBlind p a
   }
     where
       finished : (i k : ℕ) → 1 ≤ k → count_by (tells_done i k) all_notes ≡ 1
-          → Fixes p dem i k (exec p ticks i k) (named (fixed_of p all_notes) i k) (count_by (tells_done i k) all_notes)
+          → Fixes p dem i k (exec p ticks i k) (named_units (fixed_of p all_notes) i k) (count_by (tells_done i k) all_notes)
           → dem i k ≡ own i k
       finished i k some once (inl a) = absurd (omega (arith, once, a.1))
       finished i k some once (inr b) = sym (own-told i k some b.0)
 
       unfinished : (i k : ℕ) → i < count p → 1 ≤ k → is_done p dem ticks i k ≡ false
-          → Fixes p dem i k (exec p ticks i k) (named (fixed_of p all_notes) i k) (count_by (tells_done i k) all_notes)
+          → Fixes p dem i k (exec p ticks i k) (named_units (fixed_of p all_notes) i k) (count_by (tells_done i k) all_notes)
           → exec p ticks i k < own i k
       unfinished i k lt some open_job (inl a) =
           let more : exec p ticks i k < dem i k = grind (arith, nat_tests, open_job) in
@@ -258,22 +259,22 @@ module _ (p : Plan) (lim : IsWithinLimits p) (dem : JobDemands) (ask : Published
 
 -- the row of a job that fit notes fix is, with the charge, at most its worst case
 row-fit : (p : Plan) (i k units : ℕ) (notes : List Note) → AllByRecursion (IsFit p) notes
-    → named (fixed_of p notes) i k ≡ Some units → units + 2 * p.machine.charge ≤ worst p i
+    → named_units (fixed_of p notes) i k ≡ Some units → units + 2 * p.machine.charge ≤ worst p i
 row-fit p i k units [] fit e = absurd cc
 row-fit p i k units (Done at_end j (suc l) used ∷ notes) fit e = go (nat_eq j i && nat_eq (suc l) k) refl (row-fit p i k units notes fit.1)
   where
     go : (b : Bool) → (nat_eq j i && nat_eq (suc l) k) ≡ b
-        → (named (fixed_of p notes) i k ≡ Some units → units + 2 * p.machine.charge ≤ worst p i)
+        → (named_units (fixed_of p notes) i k ≡ Some units → units + 2 * p.machine.charge ≤ worst p i)
         → units + 2 * p.machine.charge ≤ worst p i
     go true mine rest =
         let task : j ≡ i = grind (arith, nat_tests, mine) in
         let row : Some (used - 2 * p.machine.charge) ≡ Some units =
-        sym (ap (λ (b : Bool). if b then Some (used - 2 * p.machine.charge) else named (fixed_of p notes) i k)
+        sym (ap (λ (b : Bool). if b then Some (used - 2 * p.machine.charge) else named_units (fixed_of p notes) i k)
         mine) ∙ e in
         let is : used - 2 * p.machine.charge ≡ units = ap (λ (o : Option ℕ). unwrap_or o 0) row in
         let most : used ≤ worst p i = subst (λ m. used ≤ worst p m) task fit.0 in
         omega (arith, is, most)
-    go false other rest = rest (sym (ap (λ (b : Bool). if b then Some (used - 2 * p.machine.charge) else named (fixed_of p notes) i k) other) ∙ e)
+    go false other rest = rest (sym (ap (λ (b : Bool). if b then Some (used - 2 * p.machine.charge) else named_units (fixed_of p notes) i k) other) ∙ e)
 row-fit p i k units (n ∷ notes) fit e = row-fit p i k units notes fit.1 e
 
 -- the list that fit notes fix is within the worst cases
@@ -282,9 +283,9 @@ fixed-within p notes fit = record { most = λ i k lt. most i k; none = λ i. ref
   where
     most : (i k : ℕ) → demand_of p (fixed_of p notes) i k ≤ worst p i
     most i zero = omega arith
-    most i (suc k) = go (named (fixed_of p notes) i (suc k)) refl
+    most i (suc k) = go (named_units (fixed_of p notes) i (suc k)) refl
       where
-        go : (o : Option ℕ) → named (fixed_of p notes) i (suc k) ≡ o → demand_of p (fixed_of p notes) i (suc k) ≤ worst p i
+        go : (o : Option ℕ) → named_units (fixed_of p notes) i (suc k) ≡ o → demand_of p (fixed_of p notes) i (suc k) ≤ worst p i
         go None e = omega (arith, demand-none p (fixed_of p notes) i (suc k) (omega arith) e)
         go (Some units) e = omega (arith, demand-row p (fixed_of p notes) i (suc k) units (omega arith) e, row-fit p i (suc k) units notes fit e)
 

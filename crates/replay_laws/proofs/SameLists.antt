@@ -5,7 +5,7 @@ use Rattle.std.proofs.Common.{◌≡◌, ◌<◌, ◌≤◌, ℕ, Bool, true, fa
 use Rattle.std.proofs.lemmas.Bool.Decides.{nat_tests}
 use Rattle.std.specs.List.{AllByRecursion}
 use Rattle.dvs_base.specs.declared.note.Note.{Note}
-use Rattle.task_model.specs.DemandRows.{DemandRow, named}
+use Rattle.task_model.specs.DemandRows.{DemandRow, named_units}
 use Rattle.sched_model.specs.Plan.{Plan, count}
 use Rattle.sched_model.specs.Jobs.{JobDemands, release, demand_of, IsWithin}
 use Rattle.sched_model.specs.Ticks.{Tick, exec, is_done}
@@ -35,7 +35,7 @@ module _ (p : Plan) (lim : IsWithinLimits p) (ask : Asking) (blind : IsBlind p a
       → (demand_of p (fixed_of p notes) i k ≡ demand_of p rows i k) × (demand_of p rows i k ≤ exec p ticks i k)
   completed i k lt some once = go (told p lim ask blind rows within t i k lt some)
     where
-      go : Fixes p (demand_of p rows) i k (exec p ticks i k) (named (fixed_of p notes) i k) (count_by (tells_done i k) notes)
+      go : Fixes p (demand_of p rows) i k (exec p ticks i k) (named_units (fixed_of p notes) i k) (count_by (tells_done i k) notes)
           → (demand_of p (fixed_of p notes) i k ≡ demand_of p rows i k) × (demand_of p rows i k ≤ exec p ticks i k)
       go (inl a) = absurd (omega (arith, once, a.1))
       go (inr b) = (own-told p lim ask blind rows within t i k some b.0, b.1)

@@ -9,7 +9,7 @@ use Rattle.std.proofs.lemmas.List.{take-append-drop}
 use Rattle.std.proofs.lemmas.Grind.{flat_map-append}
 use Rattle.sched_model.specs.Plan.{Plan, count, worst, point}
 use Rattle.sched_model.specs.Jobs.{JobDemands, latest_since, latest, due, last_release, is_release, releases_at}
-use Rattle.sched_model.specs.Ticks.{Tick, exec, is_done, at, is_complete, wleft, share, left}
+use Rattle.sched_model.specs.Ticks.{Tick, exec, is_done, at, is_complete, wleft, share, units_left}
 use Rattle.grid_fraction.proofs.Searches.{any_below-same}
 use Rattle.freq_table.specs.Tables.{lowest_entry}
 use Rattle.sched_model.specs.declared.state.Row.{Row}
@@ -34,7 +34,7 @@ use Rattle.grid_fraction.specs.Numbers.{list_below}
 use Rattle.grid_fraction.proofs.Counts.{count-append}
 use Rattle.sched_model.specs.declared.holder.Holder.{Holder}
 use Rattle.sched_model.specs.declared.holder.Holder.TheVariants.{Nobody, Held}
-use Rattle.sched_model.specs.Notes.{same_holder, tick_units, Span, lengthened, spans_of, Piece, pieces_of, position_of, run_energy, release_notes, all_release_notes, had_by, segment_notes, pieces_notes, span_notes, run_energy_told, idle_energy_told, notes_before_end, notes_of}
+use Rattle.sched_model.specs.Notes.{same_holder, tick_units, Span, spans_with, spans_of, Piece, pieces_of, position_of, run_energy, release_notes, all_release_notes, had_by, segment_notes, pieces_notes, span_notes, run_energy_told, idle_energy_told, notes_before_end, notes_of}
 use Rattle.sched_model.proofs.Spans.{notes-span, IsLastSpan, IsNow, by-spans}
 use Rattle.sched_model.proofs.PieceLemmas.{each-piece}
 use Rattle.sched_model.proofs.Units.{each-weaker}
@@ -206,8 +206,8 @@ shares-alike n key room need other given h alike i lt = go (cases_lt (sum_up_to 
 
 module _ (p : Plan) (lim : IsWithinLimits p) (dem other : JobDemands) (none : (i : ℕ) → dem i 0 ≡ 0) (ask : Asking) (blind : IsBlind p ask) where
   -- the latest jobs need the same by both demands, or were given less than they need and no more than the other need
-  needs-alike : (x : Tick) (past : List Tick) (f : ℕ) → SharesOut (count p) (key_of p.scheduler p (length past)) f (left p dem past) (share x)
-      → Alike p dem other (x ∷ past) (length (x ∷ past)) → (i : ℕ) → i < count p → NeedsAlike (left p dem past) (left p other past) (share x) i
+  needs-alike : (x : Tick) (past : List Tick) (f : ℕ) → SharesOut (count p) (key_of p.scheduler p (length past)) f (units_left p dem past) (share x)
+      → Alike p dem other (x ∷ past) (length (x ∷ past)) → (i : ℕ) → i < count p → NeedsAlike (units_left p dem past) (units_left p other past) (share x) i
   needs-alike x past f legal h i lt =
       go (is_done p dem (x ∷ past) i k) refl (latest-alike p lim dem other (x ∷ past) (length past) h i k lt refl)
     where
@@ -219,7 +219,7 @@ module _ (p : Plan) (lim : IsWithinLimits p) (dem other : JobDemands) (none : (i
           (share-legal p dem past f x legal i lt)
 
       go : (b : Bool) → is_done p dem (x ∷ past) i k ≡ b → Indistinct p dem other (x ∷ past) i k
-          → NeedsAlike (left p dem past) (left p other past) (share x) i
+          → NeedsAlike (units_left p dem past) (units_left p other past) (share x) i
       go true e now = inl (ap (λ n. n - exec p past i k) (now.0 e))
       go false e now =
           let more : exec p (x ∷ past) i k < dem i k = grind (arith, nat_tests, e) in
@@ -232,7 +232,8 @@ module _ (p : Plan) (lim : IsWithinLimits p) (dem other : JobDemands) (none : (i
   same-next x past h next = record {
     one_share_each = next.one_share_each;
     entry = next.entry ∙ same-entry p lim dem other ask blind past (alike-earlier p dem other x past (length (x ∷ past)) (suc (length past)) (omega arith) h);
-    legal = shares-alike (count p) (key_of p.scheduler p (length past)) ((point p x.entry).speed) (left p dem past) (left p other past) (share x) next.legal
+    legal = shares-alike (count p) (key_of p.scheduler p (length past)) ((point p x.entry).speed) (units_left p dem past) (units_left p other past) (share x)
+            next.legal
         (needs-alike x past ((point p x.entry).speed) next.legal h);
   }
 
@@ -317,7 +318,7 @@ module _ (p : Plan) (lim : IsWithinLimits p) (dem other : JobDemands) where
       let before : Alike p dem other past (length past) = alike-earlier p dem other x past (length (x ∷ past)) (length past) (omega arith) h in
       ap₂ (λ (b : Bool) (spans : List Span). if b
       then record { past = past; entry = x.entry; units = tick_units p past x } ∷ spans
-      else lengthened (tick_units p past x) spans)
+      else spans_with (tick_units p past x) spans)
       (same-decision p lim dem other past before)
       (spans-same past before)
 

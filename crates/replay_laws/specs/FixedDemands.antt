@@ -4,7 +4,7 @@ use Rattle.std.specs.Option.{option_or}
 use Rattle.dvs_base.specs.declared.note.Note.{Note}
 use Rattle.dvs_base.specs.declared.note.Note.TheVariants.{Done}
 use Rattle.task_model.specs.DemandRows.{DemandRow}
-use Rattle.demand_list.specs.Demands.{DemandsOf}
+use Rattle.demand_list.specs.Demands.{DemandsView}
 use Rattle.sched_model.specs.Plan.{Plan, worst}
 
 -- the rows with that of a completion of job k of task i in front: its units without the charge. Job 0 has no row
@@ -24,7 +24,7 @@ fixed_of p [] = []
 fixed_of p (note ∷ notes) = fixed_before p note (fixed_of p notes)
 
 -- the demand list that notes fix: the declared worst cases and the rows that the notes fix
-abbrev pub fixed_list : Plan → List Note → DemandsOf
+abbrev pub fixed_list : Plan → List Note → DemandsView
 fixed_list p notes = record { worsts = map (λ t. t.worst) p.tasks; rows = fixed_of p notes }
 
 -- the units of job k of task i, where the note is its completion

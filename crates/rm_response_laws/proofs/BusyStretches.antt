@@ -4,7 +4,7 @@ use Rattle.std.proofs.Common.{◌≡◌, List, length, ap, ◌∙◌, subst, ℕ
 use Rattle.dvs_base.specs.declared.kind.GovernorKind.TheVariants.{Plain}
 use Rattle.freq_table.specs.Tables.{speed_at}
 use Rattle.sched_model.specs.Plan.{Plan, count, point, top_speed, period}
-use Rattle.sched_model.specs.Ticks.{PublishedDemand, Tick, share, left, at, exec}
+use Rattle.sched_model.specs.Ticks.{PublishedDemand, Tick, share, units_left, at, exec}
 use Rattle.sched_model.specs.Demand.{published}
 use Rattle.sched_model.specs.Jobs.{JobDemands, due, IsWithin}
 use Rattle.sched_model.specs.Priority.{SharesOut, key_of}
@@ -15,7 +15,7 @@ use Rattle.sched_model.proofs.Schedules.{next_tick-may, share-legal, schedule_ex
 use Rattle.governor.proofs.Fits.{full_speed}
 use Rattle.governor.proofs.Worst.{published-plain, entry-same}
 use Rattle.dvs_base.specs.declared.kind.Scheduler.TheVariants.{Rm}
-use Rattle.sched_model.specs.States.{StateOf, row_at, prior_state, state_of}
+use Rattle.sched_model.specs.States.{StateView, row_at, prior_state, state_of}
 use Rattle.sched_model.proofs.Limits.{every_period}
 use Rattle.governor.specs.Steps.{after_boundary, after_tick, IsAtDecision, IsLegalIn, Belongs}
 use Rattle.governor.proofs.Course.{at-schedule, due-had}
@@ -41,12 +41,12 @@ full-same p lim dem past =
 
 -- each tick is legal at the highest speed
 pub full-legal : (p : Plan) → IsWithinLimits p → (dem : JobDemands) (past : List Tick)
-    → SharesOut (count p) (key_of p.scheduler p (length past)) (top_speed p) (left p dem past)
+    → SharesOut (count p) (key_of p.scheduler p (length past)) (top_speed p) (units_left p dem past)
     (share (full_tick p dem past))
 full-legal p lim dem past =
     let key = key_of p.scheduler p (length past) in
     let x = full_tick p dem past in
-    subst (λ f. SharesOut (count p) key f (left p dem past) (share x)) (full-same p lim dem past)
+    subst (λ f. SharesOut (count p) key f (units_left p dem past) (share x)) (full-same p lim dem past)
     (next_tick-may p dem (full_ask p dem) past).legal
 
 -- `long` bounds the busy stretches of the level of task i: it is at most the task's period, and the highest speed does
@@ -67,14 +67,14 @@ module _ (p : Plan) (lim : IsWithinLimits p) (rm : p.scheduler ≡ Rm) (which : 
   abbrev F : ℕ
   F = top_speed p
 
-  abbrev AreCalm : StateOf → Type 0
+  abbrev AreCalm : StateView → Type 0
   AreCalm s = (i : ℕ) → i < count p → which i ≡ true → LevelCalm F (span i) p s i
 
   -- the state before the releases of the tick after `past`
-  abbrev prior : List Tick → StateOf
+  abbrev prior : List Tick → StateView
   prior past = prior_state p dem past
 
-  abbrev state : List Tick → StateOf
+  abbrev state : List Tick → StateView
   state past = state_of p dem past
 
   -- before the releases the state belongs to the demands, and each level of `which` is calm
@@ -97,7 +97,7 @@ module _ (p : Plan) (lim : IsWithinLimits p) (rm : p.scheduler ≡ Rm) (which : 
 
   calm-state : (past : List Tick) → AreKept past → AreCalm (state past)
   calm-state past k i h on =
-      subst (λ (s : StateOf). LevelCalm F (span i) p s i) (released past)
+      subst (λ (s : StateView). LevelCalm F (span i) p s i) (released past)
       (level_releases F (span i) p lim i h dem (prior past) k.belongs (bound i h on).some
       (λ j hj lv e. completes past k j hj (down i j h hj lv on) e) (k.calm i h on))
 
@@ -128,7 +128,7 @@ module _ (p : Plan) (lim : IsWithinLimits p) (rm : p.scheduler ≡ Rm) (which : 
         belongs = subst (Belongs p dem) (ticked past)
             (belongs_tick p dem F (state past) shares belongs before (legal past));
         calm = λ i h on.
-            subst (λ (s : StateOf). LevelCalm F (span i) p s i) (ticked past)
+            subst (λ (s : StateView). LevelCalm F (span i) p s i) (ticked past)
             (level_ticks F (span i) p lim i h dem (state past) belongs rm (bound i h on).fits shares before (legal past)
             (calm-state past k i h on));
       }

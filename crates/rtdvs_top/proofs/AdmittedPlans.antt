@@ -6,7 +6,7 @@ use Rattle.sched_model.specs.Plan.{Plan, plan_of}
 use Rattle.sched_model.specs.Jobs.{demand_of, released_jobs}
 use Rattle.trace_writer.specs.RunText.{run_text_in}
 use Rattle.poll_server.specs.ServerJobs.{server_of}
-use Rattle.words.specs.Commands.{RunOf, AdmitOf, TracedOf, PollOf, CommandOf, run, admit, traced, poll}
+use Rattle.words.specs.Commands.{RunView, AdmitView, TracedView, PollView, CommandView, run, admit, traced, poll}
 use Rattle.command_files.specs.Meanings.{tasks_at, machine_at, demands_at, server_at}
 use Rattle.rtdvs_top.specs.Admit.{admitted_text, admit_answer}
 use Rattle.command_files.specs.Admissions.{admission}
@@ -52,7 +52,7 @@ tests-then (Err s) next plan later tests = record {
   denied = λ why e. tests.denied why (ap (λ r. Err (status_of r)) e);
 }
 
-run-tests : (r : RunOf) (files : Files) → Tests (run_answer r files) (run_plan r files)
+run-tests : (r : RunView) (files : Files) → Tests (run_answer r files) (run_plan r files)
 run-tests r files =
     then-tests (tasks_at r.tasks files) _ _ (tasks_at-denies-not r.tasks files) (λ tasks.
     tests-then _ (answer_of_prepared r) _ (λ x. within-denies-not (released_jobs x.0 r.ticks)
@@ -62,14 +62,14 @@ run-tests r files =
     tests-then (admission (plan_of tasks machine r.scheduler)) (λ p. Ok (p, demands)) _ (λ p. refl)
     (admission-tests (plan_of tasks machine r.scheduler))))))
 
-admit-tests : (a : AdmitOf) (files : Files) → Tests (admit_answer a files) (admit_plan a files)
+admit-tests : (a : AdmitView) (files : Files) → Tests (admit_answer a files) (admit_plan a files)
 admit-tests a files =
     then-tests (tasks_at a.tasks files) _ _ (tasks_at-denies-not a.tasks files) (λ tasks.
     tests-then _ (λ p. Ok (admitted_text p)) _ (λ p. refl)
     (then-tests (machine_at a.machine files) _ _ (machine_at-denies-not a.machine files) (λ machine.
     admission-tests (plan_of tasks machine a.scheduler))))
 
-traced-tests : (r : TracedOf) (files : Files) → Tests (trace_answer r files) (traced_plan r files)
+traced-tests : (r : TracedView) (files : Files) → Tests (trace_answer r files) (traced_plan r files)
 traced-tests r files =
     then-tests (tasks_at r.tasks files) _ _ (tasks_at-denies-not r.tasks files) (λ tasks.
     tests-then _ (answer_of_traced r.asked) _ (traced-denies-not r.asked)
@@ -78,7 +78,7 @@ traced-tests r files =
     tests-then (admission (plan_of tasks machine t.plan.scheduler)) (λ p. Ok (p, t)) _ (λ p. refl)
     (admission-tests (plan_of tasks machine t.plan.scheduler))))))
 
-poll-tests : (q : PollOf) (files : Files) → Tests (poll_answer q files) (poll_plan q files)
+poll-tests : (q : PollView) (files : Files) → Tests (poll_answer q files) (poll_plan q files)
 poll-tests q files =
     then-tests (tasks_at q.tasks files) _ _ (tasks_at-denies-not q.tasks files) (λ tasks.
     tests-then _ (answer_of_polling q.governor q.ticks) _ (λ s. within-denies-not (released_jobs s.plan q.ticks)
@@ -90,14 +90,14 @@ poll-tests q files =
     (admission-tests (plan_of tasks machine q.scheduler)))))))
 
 -- what the end of an answer that tests its plan shows
-shows-test : (files : Files) (c : CommandOf) (plan : Result Plan Status) (old new : SinkView) (s : Status)
+shows-test : (files : Files) (c : CommandView) (plan : Result Plan Status) (old new : SinkView) (s : Status)
     → Tests (answer_of_command c files) plan → EndsAs old new (Some files) (answer_of_command c) s → AdmitsOrDenies plan s
 shows-test files c plan old new status.Done tests ends = tests.given ends.0 ends.1
 shows-test files c plan old new status.Write tests ends = tests.given ends.0 ends.1
 shows-test files c plan old new (status.NotAdmitted why) tests ends = tests.denied why ends
 shows-test files c plan old new s tests ends = tt
 
-pub of-admission : (files : Option Files) (c : CommandOf) (old new : SinkView) (s : Status)
+pub of-admission : (files : Option Files) (c : CommandView) (old new : SinkView) (s : Status)
     → EndsAs old new files (answer_of_command c) s → OfAdmission files (Ok c) s
 of-admission (Some files) (run r) old new s ends = shows-test files (run r) (run_plan r files) old new s (run-tests r files) ends
 of-admission (Some files) (admit a) old new s ends = shows-test files (admit a) (admit_plan a files) old new s (admit-tests a files) ends

@@ -12,11 +12,11 @@ use Rattle.sched_model.proofs.Schedules.{schedule_exists}
 use Rattle.sched_model.proofs.AgreedDemands.{AgreeOnSchedules, same-schedule, same-notes}
 use Rattle.governor.specs.Meanings.{OwnDemand}
 use Rattle.governor.specs.Schedule.{ask_of, Publishes}
-use Rattle.trace_reader.specs.Traces.{TraceOf}
+use Rattle.trace_reader.specs.Traces.{TraceView}
 use Rattle.replay_laws.specs.FixedDemands.{fixed_of}
 use Rattle.replay_laws.specs.OwnList.{ticks_by, notes_by}
 use Rattle.replay_laws.proofs.OwnDemands.{fixed-within}
-use Rattle.replay.specs.Comparison.{compared}
+use Rattle.replay.specs.Comparison.{comparison}
 use Rattle.replay.specs.Replays.{first_over, too_many, unless, own_notes, replay_of}
 use Rattle.replay.specs.declared.fault.ReplayFault.{ReplayFault}
 use Rattle.replay.specs.declared.fault.ReplayFault.TheVariants as replay_fault
@@ -26,7 +26,7 @@ use Rattle.statuses.specs.Steps.{EndsWith}
 use Rattle.statuses.specs.Refused.{or_status}
 
 -- a refusal of a replay ends the comparison
-pub replay-ends : (p : Plan) (t : TraceOf) (e : ReplayFault)
+pub replay-ends : (p : Plan) (t : TraceView) (e : ReplayFault)
     → (e ≢ replay_fault.NoMemory → totals_at (p, t) ≡ Err (replay_status e)) → EndsWith (totals_at (p, t)) (replay_status e)
 replay-ends p t (replay_fault.OverWorst task job used worst) h = h (λ q. cc)
 replay-ends p t (replay_fault.TooManyJobs jobs) h = h (λ q. cc)
@@ -49,21 +49,21 @@ module _ (demand : OwnDemand) (kind : GovernorKind) (p : Plan) (publishes : Publ
         same-notes p dem own asked agree own (schedule_by p dem own ticks) (schedule_exists p dem own ticks).0
         ∙ ap (notes_of p dem asked) (same-ticks ticks)
 
-  same-by : (t : TraceOf) (o : Option ReplayFault) → first_over p t.notes ≡ o
-      → unless o (unless (too_many p t.plan.ticks) (compared (count p) t (own_notes p (ask_of demand p) t)))
-      ≡ unless o (unless (too_many p t.plan.ticks) (compared (count p) t (own_notes p (published p kind) t)))
+  same-by : (t : TraceView) (o : Option ReplayFault) → first_over p t.notes ≡ o
+      → unless o (unless (too_many p t.plan.ticks) (comparison (count p) t (own_notes p (ask_of demand p) t)))
+      ≡ unless o (unless (too_many p t.plan.ticks) (comparison (count p) t (own_notes p (published p kind) t)))
   same-by t (Some why) over = refl
   same-by t None none =
       let within = fixed-within p t.notes (over-fit p t.notes none) in
       let notes = same-run (demand_of p (fixed_of p t.notes)) within t.plan.ticks in
-      ap (λ (wanted : List Note). unless (too_many p t.plan.ticks) (compared (count p) t wanted)) notes
+      ap (λ (wanted : List Note). unless (too_many p t.plan.ticks) (comparison (count p) t wanted)) notes
 
-  pub same-answer : (t : TraceOf) → replay_of p (ask_of demand p) t ≡ replay_of p (published p kind) t
+  pub same-answer : (t : TraceView) → replay_of p (ask_of demand p) t ≡ replay_of p (published p kind) t
   same-answer t = same-by t (first_over p t.notes) refl
 
 -- the answer of a replay under a governor's own demand is that of the comparison
 pub governed-totals : (demand : OwnDemand) (kind : GovernorKind) (p : Plan) → Publishes demand kind p
-    → (t : TraceOf) → t.plan.governor ≡ kind → (r : Result Totals ReplayFault)
+    → (t : TraceView) → t.plan.governor ≡ kind → (r : Result Totals ReplayFault)
     → replay_of p (ask_of demand p) t ≡ r → totals_at (p, t) ≡ or_status replay_status r
 governed-totals demand kind p publishes t is r h =
     ap (λ (g : GovernorKind). or_status replay_status (replay_of p (published p g) t)) is

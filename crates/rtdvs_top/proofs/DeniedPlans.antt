@@ -15,7 +15,7 @@ use Rattle.demand_list.specs.DemandFile.{demand_file}
 use Rattle.demand_list.specs.declared.fault.DemandFault.TheVariants as demand_fault
 use Rattle.request_list.specs.RequestFile.{request_file}
 use Rattle.request_list.specs.declared.fault.RequestFault.TheVariants as request_fault
-use Rattle.trace_reader.specs.Traces.{TraceOf}
+use Rattle.trace_reader.specs.Traces.{TraceView}
 use Rattle.trace_reader.specs.declared.trace.TraceFault.TheVariants as trace_fault
 use Rattle.deadline_list.specs.declared.fault.DeadlineFault.TheVariants as deadline_fault
 use Rattle.replay.specs.Replays.{replay_of}
@@ -165,7 +165,7 @@ replay-denies-not (replay_fault.TooManyJobs jobs) = refl
 replay-denies-not (replay_fault.Differs line wanted found) = refl
 replay-denies-not replay_fault.NoMemory = refl
 
-pub traced-denies-not : (asked : TraceUse) (x : Plan × TraceOf) → DeniesNot (answer_of_traced asked x)
+pub traced-denies-not : (asked : TraceUse) (x : Plan × TraceView) → DeniesNot (answer_of_traced asked x)
 traced-denies-not asked x =
     then-denies-not (totals_at x) (λ totals. Ok (printed asked x totals))
     (refusal-denies-not replay_status replay-denies-not (replay_of x.0 (published x.0 x.1.plan.governor) x.1)) (λ totals. refl)

@@ -6,7 +6,7 @@ use Rattle.dvs_base.specs.declared.kind.GovernorKind.{GovernorKind}
 use Rattle.dvs_base.specs.declared.kind.GovernorKind.TheVariants.{Plain, Fixed, Cycle, Ahead}
 use Rattle.dvs_base.specs.declared.kind.Version.{Version}
 use Rattle.dvs_base.specs.PlanWords.{is_pair}
-use Rattle.demand_list.specs.Demands.{DemandsOf}
+use Rattle.demand_list.specs.Demands.{DemandsView}
 use Rattle.sched_model.specs.Plan.{Plan}
 use Rattle.governor.specs.Meanings.{Serving, OwnDemand, Condition, EntryCondition}
 use Rattle.governor.specs.Laws.{GovernorLaws}
@@ -25,7 +25,7 @@ use Rattle.rtdvs_top.specs.Run.{HasMet}
 use Rattle.rtdvs_top.proofs.Published.{met-published}
 use Rattle.command_files.specs.PlannedRuns.{IsReadyRun}
 
-module _ (v : Version) (p : Plan) (d : DemandsOf) (ticks : ℕ) where
+module _ (v : Version) (p : Plan) (d : DemandsView) (ticks : ℕ) where
   -- the run of the plan for `ticks` ticks
   abbrev whole : Run
   whole = record { plan = p; demands = d; ticks = ticks }

@@ -11,7 +11,7 @@ use Rattle.sched_model.specs.Demand.{published}
 use Rattle.sched_model.specs.Admission.{IsWithinLimits, IsAdmitted}
 use Rattle.sched_model.specs.RunNotes.{run_notes}
 use Rattle.trace_writer.specs.RunText.{task_texts}
-use Rattle.trace_reader.specs.Traces.{TraceOf, IsEnded, IsTrace, IsTextOf, text_of}
+use Rattle.trace_reader.specs.Traces.{TraceView, IsEnded, IsTrace, IsTextOf, text_of}
 use Rattle.trace_text.specs.TraceText.{task_text}
 use Rattle.replay_laws.specs.FixedDemands.{fixed_of}
 use Rattle.replay.specs.Replays.{too_many, replay_of}
@@ -39,7 +39,7 @@ use Rattle.replay_laws.proofs.SameLists.{own-lists}
 use Rattle.trace_laws.specs.RunTraces.{trace_of_run, IsLimitedRun}
 use Rattle.trace_laws.proofs.TraceLimits.{keeps-limits}
 use Rattle.replay.proofs.Texts.{names-distinct, names-named}
-use Rattle.words.specs.Commands.{TracedOf, CommandOf, traced}
+use Rattle.words.specs.Commands.{TracedView, CommandView, traced}
 use Rattle.command_files.specs.Meanings.{longest, bytes_from, bytes_at, tasks_at, machine_at}
 use Rattle.command_files.specs.Admissions.{admission}
 use Rattle.rtdvs_top.specs.Promises.{IsAnswer, Answers}
@@ -68,7 +68,7 @@ few-of-none p ticks = go (nat_lt MOST_JOBS (released_jobs p ticks)) refl
     go true e none = absurd cc
     go false e none = grind (arith, nat_tests, e)
 
-module _ (p : Plan) (lim : IsWithinLimits p) (t : TraceOf) (ended : IsEnded t.notes) where
+module _ (p : Plan) (lim : IsWithinLimits p) (t : TraceView) (ended : IsEnded t.notes) where
   -- a trace that has totals passes the comparison
   pub passes : IsOk (totals_at (p, t)) → Passes p lim (published p t.plan.governor) t ended
   passes ok =
@@ -82,7 +82,7 @@ module _ (p : Plan) (lim : IsWithinLimits p) (t : TraceOf) (ended : IsEnded t.no
   own-notes ok = sym (passes ok).same
 
 -- a trace that was compared with the schedule of an admitted plan has a text in version 2
-pub migratable : (p : Plan) (t : TraceOf) → IsAdmitted p → IsComparable p t → IsOk (totals_at (p, t)) → IsMigratable p t
+pub migratable : (p : Plan) (t : TraceView) → IsAdmitted p → IsComparable p t → IsOk (totals_at (p, t)) → IsMigratable p t
 migratable p t adm c ok =
     let lim = adm.limits in
     let g = t.plan.governor in
@@ -105,7 +105,7 @@ migratable p t adm c ok =
     } in
     record {
       scheduler = c.scheduler;
-      trace = subst (λ (u : TraceOf). IsTrace (names p) (task_texts p) u) same (keeps-limits p adm Two g dem ticks limited);
+      trace = subst (λ (u : TraceView). IsTrace (names p) (task_texts p) u) same (keeps-limits p adm Two g dem ticks limited);
     }
 
 -- the line of a task of a list
@@ -121,9 +121,9 @@ task-lines (t ∷ tasks) =
     ∙ ap (λ (l : List (List ℕ)). task_text t.name t.period t.offset t.worst ∷ l) (task-lines tasks)
 
 -- a file that is the text of a schedule of a plan is read, its plan is admitted, and its trace is that of its schedule
-module _ (r : TracedOf) (files : Files) (v : Version) (p : Plan) (g : GovernorKind) (ticks : ℕ) (rows : List DemandRow)
+module _ (r : TracedView) (files : Files) (v : Version) (p : Plan) (g : GovernorKind) (ticks : ℕ) (rows : List DemandRow)
     (bytes : List ℕ) (of : AreFilesOf r files p bytes) (h : IsScheduleText v p g ticks rows bytes) where
-  abbrev t : TraceOf
+  abbrev t : TraceView
   t = trace_of_run v p g (demand_of p rows) ticks
 
   -- the trace of the run keeps the limits of traces
@@ -180,20 +180,20 @@ held-file kind (Some b) bytes e = fits (nat_lt (longest kind) (length b)) e
     fits false e = ap Some (given-once {A = List ℕ} refl e)
 
 -- what a trace file means, where it has a meaning
-trace-given : (t : TraceOf) (r : Result TraceOf TraceFault) → or_status trace_status r ≡ Ok t → r ≡ Ok t
-trace-given t (Ok u) h = ap (λ (r : Result TraceOf Status). ok_or_it r) h
+trace-given : (t : TraceView) (r : Result TraceView TraceFault) → or_status trace_status r ≡ Ok t → r ≡ Ok t
+trace-given t (Ok u) h = ap (λ (r : Result TraceView Status). ok_or_it r) h
   where
-    ok_or_it : Result TraceOf Status → Result TraceOf TraceFault
+    ok_or_it : Result TraceView Status → Result TraceView TraceFault
     ok_or_it (Ok x) = Ok x
     ok_or_it (Err s) = Ok u
 trace-given t (Err e) h = absurd (true≢false (sym (ap is_given h)))
 
 -- the trace t with other notes
-abbrev with_notes : TraceOf → List Note → TraceOf
+abbrev with_notes : TraceView → List Note → TraceView
 with_notes t notes = record { version = t.version; plan = t.plan; notes = notes }
 
 -- a trace of an admitted plan that has totals
-module _ (r : TracedOf) (files : Files) (tasks : List Task) (machine : Table) (bytes : List ℕ) (t : TraceOf) where
+module _ (r : TracedView) (files : Files) (tasks : List Task) (machine : Table) (bytes : List ℕ) (t : TraceView) where
   abbrev plan : Plan
   plan = plan_of tasks machine t.plan.scheduler
 
@@ -230,9 +230,9 @@ module _ (r : TracedOf) (files : Files) (tasks : List Task) (machine : Table) (b
       }
 
 -- a replay or a migration that has an answer is of the schedule for the trace's own list
-pub done-own : (r : TracedOf) (files : Files) (tasks : List Task) (p : Plan) (t : TraceOf)
+pub done-own : (r : TracedView) (files : Files) (tasks : List Task) (p : Plan) (t : TraceView)
     → tasks_at r.tasks files ≡ Ok tasks → traced_of r tasks files ≡ Ok (p, t) → IsAdmitted p → IsOk (trace_answer r files)
-    → (q : Plan) × (u : TraceOf) × TellsOwn r files q u
+    → (q : Plan) × (u : TraceView) × TellsOwn r files q u
 done-own r files tasks p t ts e adm ok =
     let m = given-both (machine_at r.machine files) (λ machine. and_then (trace_at tasks r.trace files)
     (λ u. and_then (admission (plan_of tasks machine u.plan.scheduler)) (λ q. Ok (q, u)))) (p, t) e in
@@ -247,8 +247,8 @@ done-own r files tasks p t ts e adm ok =
     let found = (reads-found Two (map (λ (t : Task). t.name) tasks) (lines_of_tasks tasks) b.0 x.0 (trace-given x.0 (trace_of tasks b.0) b.2)).0 in
     let answer : trace_answer r files ≡ answer_of_traced r.asked (p, t) = rw (ts, e) refl in
     let totals : IsOk (totals_at (p, t)) = first-ok (totals_at (p, t)) (λ totals. Ok (printed r.asked (p, t) totals)) (subst IsOk answer ok) in
-    let P : Plan → TraceOf → Type 0 = λ q u. IsAdmitted q × IsOk (totals_at (q, u)) in
-    let both = subst (λ (u : TraceOf). P (plan_of tasks machine x.0.plan.scheduler) u) trace_is (subst (λ (q : Plan). P q t) plan_is (adm, totals)) in
+    let P : Plan → TraceView → Type 0 = λ q u. IsAdmitted q × IsOk (totals_at (q, u)) in
+    let both = subst (λ (u : TraceView). P (plan_of tasks machine x.0.plan.scheduler) u) trace_is (subst (λ (q : Plan). P q t) plan_is (adm, totals)) in
     (plan_of tasks machine x.0.plan.scheduler, x.0, own-text r files tasks machine b.0 x.0 ts m.1 b.1 found both.0 both.1)
   where
     first-ok : {A B : Type 0} (step : Result A Status) (next : A → Result B Status) → IsOk (and_then step next) → IsOk step
@@ -266,7 +266,7 @@ done-unless loads_rose puts_rose answer status.Write h ok = h.1
 done-unless loads_rose puts_rose answer s h ok = absurd (true≢false (sym (subst IsOk h ok)))
 
 -- the exactness of a command's ending, from what it met and whose answer its status is
-pub of-trace : (files : Option Files) (c : CommandOf) (loads_rose puts_rose : Type 0) (s : Status) → MetIn files c s
+pub of-trace : (files : Option Files) (c : CommandView) (loads_rose puts_rose : Type 0) (s : Status) → MetIn files c s
     → Answers files (Ok c) loads_rose puts_rose s → OfTrace files (Ok c) loads_rose puts_rose s
 of-trace (Some files) (traced r) loads_rose puts_rose s met answers = (
   λ e.

@@ -11,7 +11,7 @@ use Rattle.dvs_base.specs.declared.note.Pos.{Pos}
 use Rattle.task_model.specs.declared.task.Task.{Task}
 use Rattle.trace_text.specs.TraceLines.{note_text}
 use Rattle.freq_table.specs.Tables.{Table}
-use Rattle.words.specs.Commands.{ConstrainOf, CommandOf, run, admit, traced, workload, response, constrain, poll, least}
+use Rattle.words.specs.Commands.{ConstrainView, CommandView, run, admit, traced, workload, response, constrain, poll, least}
 use Rattle.words.specs.declared.command.TraceUse.{TraceUse}
 use Rattle.words.specs.declared.command.TraceUse.TheVariants.{Replay, Migrate}
 use Rattle.command_files.specs.Meanings.{tasks_at, machine_at}
@@ -27,7 +27,7 @@ use Rattle.statuses.specs.declared.status.Status.TheVariants.{Done, NotAdmitted,
 use Rattle.statuses.specs.declared.status.Denied.TheVariants.{Offset}
 
 -- words that name the files t, m and d
-abbrev words : ConstrainOf
+abbrev words : ConstrainView
 words = record { tasks = codes "t"; machine = codes "m"; deadlines = codes "d" }
 
 -- a task that is first released at tick 1
@@ -64,7 +64,7 @@ difference = refl
 
 -- the commands over the files t, m and f
 
-abbrev run_with : Option (List ℕ) → CommandOf
+abbrev run_with : Option (List ℕ) → CommandView
 run_with demands = run (record {
   tasks = codes "t";
   machine = codes "m";
@@ -76,13 +76,13 @@ run_with demands = run (record {
   version = One;
 })
 
-abbrev admit_words : CommandOf
+abbrev admit_words : CommandView
 admit_words = admit (record { tasks = codes "t"; machine = codes "m"; scheduler = Edf })
 
-abbrev traced_words : TraceUse → CommandOf
+abbrev traced_words : TraceUse → CommandView
 traced_words asked = traced (record { asked = asked; tasks = codes "t"; machine = codes "m"; trace = codes "f" })
 
-abbrev poll_for : List ℕ → CommandOf
+abbrev poll_for : List ℕ → CommandView
 poll_for server = poll (record {
   tasks = codes "t";
   machine = codes "m";
@@ -93,11 +93,11 @@ poll_for server = poll (record {
   ticks = 8;
 })
 
-abbrev least_words : CommandOf
+abbrev least_words : CommandView
 least_words = least (record { machine = codes "m"; units = 3; ticks = 8 })
 
 -- the commands that name a file of tasks
-abbrev with_tasks : List CommandOf
+abbrev with_tasks : List CommandView
 with_tasks =
     run_with (Some (codes "f")) ∷ run_with None ∷ admit_words ∷ traced_words Replay ∷ traced_words Migrate
     ∷ response (record { tasks = codes "t"; machine = codes "m" }) ∷ constrain words ∷ poll_for (codes "a") ∷ []

@@ -5,13 +5,13 @@ use Rattle.dvs_base.specs.Outside.{Files, SinkView, Rose}
 use Rattle.dvs_base.specs.Checks.{and_then}
 use Rattle.task_model.specs.declared.task.Task.{Task}
 use Rattle.freq_table.specs.Tables.{Table}
-use Rattle.demand_list.specs.Demands.{DemandsOf}
+use Rattle.demand_list.specs.Demands.{DemandsView}
 use Rattle.sched_model.specs.Plan.{Plan, plan_of}
 use Rattle.sched_model.specs.Jobs.{demand_of, released_jobs}
 use Rattle.trace_writer.specs.RunText.{run_text_in}
 use Rattle.dvs_base.specs.declared.limits.TheConstants.{MOST_JOBS}
 use Rattle.words.specs.declared.command.WordFault.{WordFault}
-use Rattle.words.specs.Commands.{RunOf, CommandOf, run, response}
+use Rattle.words.specs.Commands.{RunView, CommandView, run, response}
 use Rattle.command_files.specs.Meanings.{tasks_at, machine_at, demands_at}
 use Rattle.command_files.specs.Admissions.{admission}
 use Rattle.rtdvs_top.specs.Run.{within_jobs, answer_of_prepared, run_after_tasks}
@@ -26,16 +26,16 @@ use Rattle.rtdvs_top.proofs.Responses.{responds-or-is-denied}
 use Rattle.rtdvs_top.proofs.DeniedPlans.{status_of, is_given, given-once, within-few, denied-later, denied-first, given-both, tasks_at-denies-not, machine_at-denies-not, demands_at-denies-not, within-denies-not, Decides, decides, admission-gives, denied-plan}
 
 -- what the files of a run that was prepared mean
-prepared-means : (r : RunOf) (files : Files) (tasks : List Task) (p : Plan) (d : DemandsOf)
+prepared-means : (r : RunView) (files : Files) (tasks : List Task) (p : Plan) (d : DemandsView)
     → tasks_at r.tasks files ≡ Ok tasks → prepared_of r tasks files ≡ Ok (p, d)
-    → (machine : Table) × (demands : DemandsOf) × MeansRun r files tasks machine demands × (p ≡ plan_of tasks machine r.scheduler) × (d ≡ demands)
+    → (machine : Table) × (demands : DemandsView) × MeansRun r files tasks machine demands × (p ≡ plan_of tasks machine r.scheduler) × (d ≡ demands)
 prepared-means r files tasks p d t e =
     let m = given-both (machine_at r.machine files) (λ machine. and_then (demands_at tasks r.demands files)
     (λ demands. and_then (admission (plan_of tasks machine r.scheduler)) (λ q. Ok (q, demands)))) (p, d) e in
     let machine : Table = m.0 in
     let g = given-both (demands_at tasks r.demands files)
     (λ demands. and_then (admission (plan_of tasks machine r.scheduler)) (λ q. Ok (q, demands))) (p, d) m.2 in
-    let demands : DemandsOf = g.0 in
+    let demands : DemandsView = g.0 in
     let a = given-both (admission (plan_of tasks machine r.scheduler)) (λ q. Ok (q, demands)) (p, d) g.2 in
     let pair : (p, d) ≡ (a.0, demands) = given-once a.2 refl in (
       machine,
@@ -46,9 +46,9 @@ prepared-means r files tasks p d t e =
     )
 
 -- what the files of a run that is denied mean
-denied-means : (r : RunOf) (files : Files) (why : Denied)
+denied-means : (r : RunView) (files : Files) (why : Denied)
     → answer_of_command (run r) files ≡ Err (status.NotAdmitted why)
-    → (tasks : List Task) × (machine : Table) × (demands : DemandsOf) × MeansRun r files tasks machine demands
+    → (tasks : List Task) × (machine : Table) × (demands : DemandsView) × MeansRun r files tasks machine demands
     × DeniedPlan (plan_of tasks machine r.scheduler) why
 denied-means r files why e =
     let t = denied-later (tasks_at r.tasks files) (λ tasks. run_after_tasks r tasks files) why (tasks_at-denies-not r.tasks files) e in
@@ -65,7 +65,7 @@ denied-means r files why e =
     (tasks, machine, g.0, record { tasks_are = t.1; machine_is = m.1; demands_are = g.1 }, denied-plan (plan_of tasks machine r.scheduler) why numbers)
 
 -- the text of a run that is done
-done-text : (r : RunOf) (files : Files) (tasks : List Task) (p : Plan) (d : DemandsOf) (bytes : List ℕ)
+done-text : (r : RunView) (files : Files) (tasks : List Task) (p : Plan) (d : DemandsView) (bytes : List ℕ)
     → tasks_at r.tasks files ≡ Ok tasks → prepared_of r tasks files ≡ Ok (p, d)
     → answer_of_command (run r) files ≡ Ok bytes → bytes ≡ run_text_in r.version p r.governor (demand_of p d.rows) r.ticks
 done-text r files tasks p d bytes t q e =
@@ -80,7 +80,7 @@ done-text r files tasks p d bytes t q e =
         go false e = given-once e refl
 
 -- a run that is done, of the tasks, the machine and the demands that its files mean
-done-run : (r : RunOf) (files : Files) (old new : SinkView) (tasks : List Task) (p : Plan) (d : DemandsOf) (bytes : List ℕ)
+done-run : (r : RunView) (files : Files) (old new : SinkView) (tasks : List Task) (p : Plan) (d : DemandsView) (bytes : List ℕ)
     → tasks_at r.tasks files ≡ Ok tasks → prepared_of r tasks files ≡ Ok (p, d)
     → answer_of_command (run r) files ≡ Ok bytes
     → Appends old.written new.written bytes → IsReadyRun r.governor (run_with r p d)
@@ -90,12 +90,12 @@ done-run r files old new tasks p d bytes t q e wrote ready =
     let whole = done-text r files tasks p d bytes t q e in
     let met = has-met r.version p d r.ticks r.governor ready in
     let done : DoneRun r.version r.governor (run_with r p d) old new = record { text = subst (Appends old.written new.written) whole wrote; run = met } in
-    let P : Plan → DemandsOf → Type 0 = λ x y. (prepared_of r tasks files ≡ Ok (x, y)) × DoneRun r.version r.governor (run_with r x y) old new in
-    let whole_run = subst (λ (x : Plan). P x m.1) m.3 (subst (λ (y : DemandsOf). P p y) m.4 (q, done)) in
+    let P : Plan → DemandsView → Type 0 = λ x y. (prepared_of r tasks files ≡ Ok (x, y)) × DoneRun r.version r.governor (run_with r x y) old new in
+    let whole_run = subst (λ (x : Plan). P x m.1) m.3 (subst (λ (y : DemandsView). P p y) m.4 (q, done)) in
     (tasks, m.0, m.1, m.2, whole_run.0, whole_run.1)
 
 -- the run whose files are known, from how its answer ends and what it met
-pub of-run : (files : Option Files) (c : CommandOf) (s : Status) (old new : SinkView)
+pub of-run : (files : Option Files) (c : CommandView) (s : Status) (old new : SinkView)
     → EndsAs old new files (answer_of_command c) s → MetIn files c s → OfRun files (Ok c) old new s
 of-run (Some files) (run r) status.Done old new ends met =
     done-run r files old new met.0 met.2 met.3 ends.0 met.1 met.4 ends.1 ends.2.bytes met.5
@@ -103,7 +103,7 @@ of-run (Some files) (run r) (status.NotAdmitted why) old new ends met = denied-m
 of-run files c s old new ends met = tt
 
 -- the answer of a run whose files mean these tasks, machine and demands, and which releases no more jobs than the limit
-module _ (r : RunOf) (files : Files) (tasks : List Task) (machine : Table) (demands : DemandsOf) (means : MeansRun r files tasks machine demands)
+module _ (r : RunView) (files : Files) (tasks : List Task) (machine : Table) (demands : DemandsView) (means : MeansRun r files tasks machine demands)
     (few : released_jobs (plan_of tasks machine r.scheduler) r.ticks ≤ MOST_JOBS) where
   abbrev plan : Plan
   plan = plan_of tasks machine r.scheduler
@@ -133,8 +133,8 @@ module _ (r : RunOf) (files : Files) (tasks : List Task) (machine : Table) (dema
       let ts = given-once x.3.tasks_are means.tasks_are in
       let ms = given-once x.3.machine_is means.machine_is in
       let ds = given-once (subst (λ (ts : List Task). demands_at ts r.demands files ≡ Ok x.2) ts x.3.demands_are) means.demands_are in
-      let P : List Task → Table → DemandsOf → Type 0 = λ a b c. DoneRun r.version r.governor (run_with r (plan_of a b r.scheduler) c) old new in
-      subst (λ (c : DemandsOf). P tasks machine c) ds (subst (λ (b : Table). P tasks b x.2) ms (subst (λ (a : List Task). P a x.1 x.2) ts x.5))
+      let P : List Task → Table → DemandsView → Type 0 = λ a b c. DoneRun r.version r.governor (run_with r (plan_of a b r.scheduler) c) old new in
+      subst (λ (c : DemandsView). P tasks machine c) ds (subst (λ (b : Table). P tasks b x.2) ms (subst (λ (a : List Task). P a x.1 x.2) ts x.5))
 
   pub runs-or-is-denied : (loads_rose : Type 0) (old new : SinkView) (s : Status)
       → OfRun (Some files) (Ok (run r)) old new s
@@ -149,7 +149,7 @@ module _ (r : RunOf) (files : Files) (tasks : List Task) (machine : Table) (dema
   runs-or-is-denied loads_rose old new s of answers still whole_out memory = inr (denied-only s answers)
 
 -- the headline, from what holds of each run and from whose answer the status is
-pub headline-of : (files : Option Files) (c : Result CommandOf WordFault) (loads_rose : Type 0) (old new : SinkView) (s : Status)
+pub headline-of : (files : Option Files) (c : Result CommandView WordFault) (loads_rose : Type 0) (old new : SinkView) (s : Status)
     → OfRun files c old new s → OfTests files c s
     → Answers files c loads_rose (Rose old.faults new.faults) s → Headline files c loads_rose old new s
 headline-of (Some files) (Ok (response r)) loads_rose old new s of tests answers =

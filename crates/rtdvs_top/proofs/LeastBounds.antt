@@ -8,7 +8,7 @@ use Rattle.freq_table.specs.Tables.{Table, highest_speed}
 use Rattle.energy_bound.specs.declared.least.Least.{Least}
 use Rattle.energy_bound.specs.Certificates.{least_of}
 use Rattle.energy_bound.specs.FirstPairs.{low_corner, high_corner, least_energy_of}
-use Rattle.words.specs.Commands.{LeastOf, CommandOf, least}
+use Rattle.words.specs.Commands.{LeastView, CommandView, least}
 use Rattle.command_files.specs.Meanings.{machine_at}
 use Rattle.rtdvs_top.specs.Least.{least_text, least_from, least_on, AreTooMany}
 use Rattle.rtdvs_top.specs.Promises.{answer_of_command, OfLeast}
@@ -19,12 +19,12 @@ use Rattle.statuses.specs.declared.status.Status.TheVariants as status
 use Rattle.rtdvs_top.proofs.DeniedPlans.{is_given, given-once, denied-later, machine_at-denies-not}
 
 -- the text of the answer is that of the minimum
-text-is : (l : LeastOf) (files : Files) (m : Table) (a : Least) (text : List ℕ) → machine_at l.machine files ≡ Ok m
+text-is : (l : LeastView) (files : Files) (m : Table) (a : Least) (text : List ℕ) → machine_at l.machine files ≡ Ok m
     → least_energy_of m l.units l.ticks ≡ Ok a → answer_of_command (least l) files ≡ Ok text → text ≡ least_text a
 text-is l files m a text e f h = given-once h (ap (λ x. and_then x (least_on l)) e ∙ ap least_from f)
 
 -- where the answer is denied, the machine does fewer units in the ticks than are asked for
-too-many : (l : LeastOf) (m : Table) (why : Denied) → least_on l m ≡ Err (status.NotAdmitted why) → AreTooMany m l why
+too-many : (l : LeastView) (m : Table) (why : Denied) → least_on l m ≡ Err (status.NotAdmitted why) → AreTooMany m l why
 too-many l m why h = go (nat_lt (l.ticks * highest_speed m) l.units) refl h
   where
     whole : Least
@@ -41,7 +41,7 @@ too-many l m why h = go (nat_lt (l.ticks * highest_speed m) l.units) refl h
     go false e h = absurd (true≢false (ap is_given h))
 
 -- a `least` whose file is known, from how its answer ends and what it met
-pub of-least : (files : Option Files) (c : CommandOf) (s : Status) (old new : SinkView)
+pub of-least : (files : Option Files) (c : CommandView) (s : Status) (old new : SinkView)
     → EndsAs old new files (answer_of_command c) s → MetIn files c s → OfLeast files (Ok c) old new s
 of-least (Some files) (least l) status.Done old new ends met =
     let whole : ends.0 ≡ least_text met.1 = text-is l files met.0 met.1 ends.0 met.2 met.3.answer ends.1 in

@@ -6,10 +6,10 @@ use Rattle.dvs_base.specs.declared.kind.GovernorKind.{GovernorKind}
 use Rattle.dvs_base.specs.declared.kind.Scheduler.{Scheduler}
 use Rattle.dvs_base.specs.declared.note.Note.{Note}
 use Rattle.dvs_base.specs.declared.note.Note.TheVariants.{End}
-use Rattle.trace_text.specs.TraceText.{unnoted, noted, shares_from, for_tasks, head_lines, lines_of_note, note_lines, trace_lines, notes_of_lines}
+use Rattle.trace_text.specs.TraceText.{unnoted_line, line_of_note, shares_from, for_tasks, head_lines, lines_of_note, note_lines, trace_lines, notes_of_lines}
 use Rattle.trace_writer.proofs.WrittenLines.{notes-append}
 
-notes-unnoted : (texts : List (List ℕ)) → notes_of_lines (map unnoted texts) ≡ []
+notes-unnoted : (texts : List (List ℕ)) → notes_of_lines (map unnoted_line texts) ≡ []
 notes-unnoted [] = refl
 notes-unnoted (text ∷ texts) = notes-unnoted texts
 
@@ -20,7 +20,7 @@ notes-tasks Two texts = notes-unnoted texts
 module _ (v : Version) (names : List (List ℕ)) (all : List Note) where
   own-note : (n : Note) → notes_of_lines (lines_of_note v names all n) ≡ n ∷ []
   own-note (End t run idle) =
-      notes-append (for_tasks v (shares_from all 0 names)) (noted names (End t run idle) ∷ [])
+      notes-append (for_tasks v (shares_from all 0 names)) (line_of_note names (End t run idle) ∷ [])
       ∙ ap (λ ns. ns ++ End t run idle ∷ []) (notes-tasks v (shares_from all 0 names))
   own-note n = refl
 

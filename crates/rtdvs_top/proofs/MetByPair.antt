@@ -2,8 +2,8 @@
 use Rattle.std.proofs.Common.{ℕ, Bool, true, false, List, Option, Some, None, Result, Ok, Err, refl, sym, subst}
 use Rattle.dvs_base.specs.Outside.{Files, ShelfView, SinkView}
 use Rattle.task_model.specs.declared.task.Task.{Task}
-use Rattle.probes.specs.Tallies.{ProbeOf}
-use Rattle.words.specs.Commands.{CommandOf, run, traced, poll, least}
+use Rattle.probes.specs.Tallies.{ProbeView}
+use Rattle.words.specs.Commands.{CommandView, run, traced, poll, least}
 use Rattle.rtdvs_top.specs.Promises.{LoadFailed, Tells, answer_of_command}
 use Rattle.statuses.specs.Steps.{IsRefusal, Refuses}
 use Rattle.command_files.specs.Files.{files_for}
@@ -15,7 +15,7 @@ use Rattle.statuses.specs.declared.status.Status.TheVariants as status
 use Rattle.command_files.proofs.RefusedSteps.{ends-refusal}
 
 -- the put of an answer ends as a command with this answer does
-put-ends : (files : Option Files) (c : CommandOf) (old new : SinkView) (answer : Result (List ℕ) Status) (s : Status)
+put-ends : (files : Option Files) (c : CommandView) (old new : SinkView) (answer : Result (List ℕ) Status) (s : Status)
     → HasAnswer files c answer → Ends old new answer s → EndsAs old new files (answer_of_command c) s
 put-ends None c old new answer status.Done h ends = (ends.0, tt, ends.2)
 put-ends None c old new answer status.Write h ends = (ends.0, tt, ends.2)
@@ -39,7 +39,7 @@ put-cases answer (status.Limit jobs) P put done write memory limit = limit jobs
 put-cases answer s P put done write memory limit = absurd put
 
 -- none of them names a task
-put-named : (files : Option Files) (c : CommandOf) (tasks : Option (List Task)) (answer : Result (List ℕ) Status) (s : Status)
+put-named : (files : Option Files) (c : CommandView) (tasks : Option (List Task)) (answer : Result (List ℕ) Status) (s : Status)
     → PutEnds answer s → Named files c tasks status.Done → Named files c tasks s
 put-named None c tasks answer s put named = tt
 put-named (Some files) c tasks answer s put named =
@@ -59,21 +59,21 @@ refused-ends (Some files) old new step status.Done refuses = absurd refuses
 refused-ends (Some files) old new step status.Write refuses = absurd refuses
 refused-ends (Some files) old new step s refuses = refuses
 
-refused-met : (files : Option Files) (c : CommandOf) (s : Status) → IsRefusal s → MetIn files c s
+refused-met : (files : Option Files) (c : CommandView) (s : Status) → IsRefusal s → MetIn files c s
 refused-met files (run r) status.Done refusal = absurd refusal
 refused-met files (traced r) status.Done refusal = absurd refusal
 refused-met files (poll q) status.Done refusal = absurd refusal
 refused-met files (least l) status.Done refusal = absurd refusal
 refused-met files c s refusal = tt
 
-refused-told : (files : Option Files) (c : CommandOf) (old new : SinkView) (before after : List ProbeOf) (s : Status)
+refused-told : (files : Option Files) (c : CommandView) (old new : SinkView) (before after : List ProbeView) (s : Status)
     → IsRefusal s → Tells files (Ok c) old new before after s
 refused-told files (run r) old new before after status.Done refusal = absurd refusal
 refused-told files (run r) old new before after status.Write refusal = absurd refusal
 refused-told files c old new before after s refusal = tt
 
 -- what was refused before anything was put answers the command
-pub refused-answered : (old new : Seen) (c : CommandOf) (tasks : Option (List Task)) (s : Status)
+pub refused-answered : (old new : Seen) (c : CommandView) (tasks : Option (List Task)) (s : Status)
     → PrepareStep old.shelf new.shelf c tasks (Err s) → IsAnswered c old new s tasks
 refused-answered old new c tasks s step =
     let files = files_for old.shelf.held c in
@@ -92,8 +92,8 @@ refused-answered old new c tasks s step =
     }
 
 -- what was prepared and then put answers the command
-pub put-answered : {W V : Type 0} (out : W × W) (probes : V × V) (shows : W → SinkView) (counts : V → List ProbeOf)
-    (old new : ShelfView) (c : CommandOf) (tasks : Option (List Task)) (p : Prepared) (s : Status)
+pub put-answered : {W V : Type 0} (out : W × W) (probes : V × V) (shows : W → SinkView) (counts : V → List ProbeView)
+    (old new : ShelfView) (c : CommandView) (tasks : Option (List Task)) (p : Prepared) (s : Status)
     → PrepareStep old new c tasks (Ok p) → PutStep out probes shows counts p s
     → IsAnswered c (seen old (shows out.0) (counts probes.0)) (seen new (shows out.1) (counts probes.1)) s tasks
 put-answered out probes shows counts old new c tasks p s step put =

@@ -6,12 +6,12 @@ use Rattle.dvs_base.specs.declared.note.Note.{Note}
 use Rattle.sched_model.specs.Jobs.{IsWithin}
 use Rattle.governor.specs.Meanings.{OwnDemand}
 use Rattle.governor.specs.Schedule.{Publishes}
-use Rattle.poll_server.specs.ServerJobs.{ServerOf, polled_demand}
-use Rattle.poll_server.specs.Outcomes.{ServedOf}
+use Rattle.poll_server.specs.ServerJobs.{ServerView, polled_demand}
+use Rattle.poll_server.specs.Outcomes.{ServedView}
 use Rattle.poll_server.specs.Bound.{HaveJobs, KeepsBound}
 use Rattle.poll_server.specs.Polled.{IsPolled, polled_notes}
 use Rattle.poll_server.specs.EachOutcome.{served_by, served_of}
-use Rattle.words.specs.Commands.{CommandOf, poll}
+use Rattle.words.specs.Commands.{CommandView, poll}
 use Rattle.rtdvs_top.specs.Poll.{polling_notes, polling_served, HasServed}
 use Rattle.rtdvs_top.specs.Promises.{OfPoll}
 use Rattle.statuses.specs.declared.status.Status.{Status}
@@ -19,7 +19,7 @@ use Rattle.statuses.specs.declared.status.Status.TheVariants as status
 use Rattle.rtdvs_top.proofs.Comparisons.{same-run}
 use Rattle.rtdvs_top.specs.Prepared.{MetIn}
 
-module _ (demand : OwnDemand) (kind : GovernorKind) (s : ServerOf) (publishes : Publishes demand kind s.plan)
+module _ (demand : OwnDemand) (kind : GovernorKind) (s : ServerView) (publishes : Publishes demand kind s.plan)
     (within : IsWithin s.plan (polled_demand s)) (ticks : ℕ) where
   same-notes : polled_notes demand s ticks ≡ polling_notes kind s ticks
   same-notes = same-run demand kind s.plan publishes (polled_demand s) within ticks
@@ -29,18 +29,18 @@ module _ (demand : OwnDemand) (kind : GovernorKind) (s : ServerOf) (publishes : 
   same-served = ap (λ (notes : List Note). served_by s notes) same-notes
 
   -- what `poll` returns has the outcomes, their order and the bound that it promises
-  pub has-served : (r : ServedOf) → r ≡ served_of demand s ticks → IsPolled s (polled_notes demand s ticks) r → HaveJobs s
+  pub has-served : (r : ServedView) → r ≡ served_of demand s ticks → IsPolled s (polled_notes demand s ticks) r → HaveJobs s
       → KeepsBound s ticks r → HasServed s kind ticks
   has-served r is polled jobs bound =
       let own : r ≡ polling_served kind s ticks = is ∙ same-served in
       record {
         outcomes = subst (λ (notes : List Note). IsPolled s notes (polling_served kind s ticks)) same-notes
-            (subst (λ (x : ServedOf). IsPolled s (polled_notes demand s ticks) x) own polled);
+            (subst (λ (x : ServedView). IsPolled s (polled_notes demand s ticks) x) own polled);
         in_order = jobs;
-        bound = subst (λ (x : ServedOf). KeepsBound s ticks x) own bound;
+        bound = subst (λ (x : ServedView). KeepsBound s ticks x) own bound;
       }
 
 -- what a `poll` run that is done has kept, from what it met
-pub of-poll : (files : Option Files) (c : CommandOf) (s : Status) → MetIn files c s → OfPoll files (Ok c) s
+pub of-poll : (files : Option Files) (c : CommandView) (s : Status) → MetIn files c s → OfPoll files (Ok c) s
 of-poll (Some files) (poll q) status.Done met = (met.0, met.2, met.1, met.3, met.4)
 of-poll files c s met = tt

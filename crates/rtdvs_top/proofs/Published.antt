@@ -6,13 +6,13 @@ use Rattle.dvs_base.specs.declared.kind.GovernorKind.{GovernorKind}
 use Rattle.dvs_base.specs.declared.kind.Version.{Version}
 use Rattle.dvs_base.specs.declared.limits.TheConstants.{MOST_TICKS, MOST_JOBS}
 use Rattle.grid_fraction.specs.declared.Frac.{Frac}
-use Rattle.demand_list.specs.Demands.{DemandsOf, IsWithinWorsts}
+use Rattle.demand_list.specs.Demands.{DemandsView, IsWithinWorsts}
 use Rattle.sched_model.specs.Plan.{Plan, names}
 use Rattle.sched_model.specs.Notes.{notes_of}
 use Rattle.sched_model.specs.RunNotes.{run_notes}
 use Rattle.trace_laws.proofs.DoneText.{text-tells}
 use Rattle.trace_writer.specs.RunText.{task_texts, run_lines}
-use Rattle.trace_text.specs.TraceText.{LineOf}
+use Rattle.trace_text.specs.TraceText.{NotedLine}
 use Rattle.sched_model.specs.Schedule.{schedule_by}
 use Rattle.sched_model.specs.Ticks.{PublishedDemand, IsMet, Tick}
 use Rattle.sched_model.specs.Admission.{IsAdmitted}
@@ -32,13 +32,13 @@ use Rattle.governor.specs.Schedule.{ask_of, Publishes}
 use Rattle.rtdvs_top.specs.Generated.{run_totals}
 use Rattle.rtdvs_top.specs.Prepared.{answer_of_run, Ends}
 use Rattle.rtdvs_top.specs.Run.{HasMet, text_under}
-use Rattle.probes.specs.Tallies.{ProbeOf, told_notes}
+use Rattle.probes.specs.Tallies.{ProbeView, told_notes}
 use Rattle.statuses.specs.declared.status.Status.TheVariants as status
 use Rattle.rtdvs_top.proofs.LineNotes.{trace-notes}
 use Rattle.rtdvs_top.proofs.DeniedPlans.{within-few}
 use Rattle.rtdvs_top.proofs.Comparisons as comparisons
 
-module _ (demand : OwnDemand) (kind : GovernorKind) (p : Plan) (d : DemandsOf) (list : IsListOf p d)
+module _ (demand : OwnDemand) (kind : GovernorKind) (p : Plan) (d : DemandsView) (list : IsListOf p d)
     (low : IsWithinWorsts d) (publishes : Publishes demand kind p) where
   abbrev dem : JobDemands
   dem = demand_of p d.rows
@@ -71,8 +71,8 @@ module _ (demand : OwnDemand) (kind : GovernorKind) (p : Plan) (d : DemandsOf) (
   notes ticks = run_notes p kind dem ticks
 
   -- what the writing of the lines of a run by a governor's own demand is by the published one
-  module _ (v : Version) (ticks : ℕ) (k : Run) (is : k ≡ run_of ticks) (old new : SinkView) (before after : List ProbeOf) where
-    abbrev own_lines : Run → List LineOf
+  module _ (v : Version) (ticks : ℕ) (k : Run) (is : k ≡ run_of ticks) (old new : SinkView) (before after : List ProbeView) where
+    abbrev own_lines : Run → List NotedLine
     own_lines r = run_lines v r.plan kind r.ticks (notes_of_run demand r)
 
     same-lines : own_lines k ≡ run_lines v p kind ticks (notes ticks)

@@ -9,7 +9,7 @@ use Rattle.sched_model.specs.Plan.{Plan, plan_of, count, period, offset}
 use Rattle.task_model.specs.Tasks.{first_offset}
 use Rattle.rm_response_laws.specs.Responses.{response as response_of}
 use Rattle.rm_response.specs.Denials.{first_late, exact_answer_from}
-use Rattle.words.specs.Commands.{ResponseOf, response}
+use Rattle.words.specs.Commands.{ResponseView, response}
 use Rattle.rtdvs_top.specs.Promises.{answer_of_command, Answers}
 use Rattle.rtdvs_top.specs.Response.{response_status, responses_on, responses_text, Responds, FailsToRespond, MeansPlan, OfTest, RespondsOrIsDenied}
 use Rattle.statuses.specs.declared.status.Denied.{Denied}
@@ -19,7 +19,7 @@ use Rattle.statuses.specs.Refused.{or_status}
 use Rattle.rtdvs_top.proofs.DeniedPlans.{status_of, is_given, given-once}
 
 -- the answer of a test whose files mean these tasks and this machine
-module _ (r : ResponseOf) (files : Files) (tasks : List Task) (machine : Table) (means : MeansPlan r files tasks machine) where
+module _ (r : ResponseView) (files : Files) (tasks : List Task) (machine : Table) (means : MeansPlan r files tasks machine) where
   abbrev plan : Plan
   plan = plan_of tasks machine Rm
 

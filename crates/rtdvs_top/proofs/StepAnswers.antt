@@ -2,7 +2,7 @@
 use Rattle.std.proofs.Common.{◌≡◌, ◌⊎◌, inl, inr, ℕ, ◌+◌, Bool, List, [], ◌∷◌, Option, Some, None, Result, Ok, Err, IsTrue, refl, ap, subst, arith, rules}
 use Rattle.dvs_base.specs.Outside.{Files, ShelfView, SinkView, Rose, Lacks, file_of}
 use Rattle.words.specs.declared.command.WordFault.{WordFault}
-use Rattle.words.specs.Commands.{CommandOf, run, admit, traced, workload, response, constrain, poll, least}
+use Rattle.words.specs.Commands.{CommandView, run, admit, traced, workload, response, constrain, poll, least}
 use Rattle.rtdvs_top.specs.Promises.{answer_of_command, Answers, Writes, WritesPart, IsSureOf, LoadFailed}
 use Rattle.command_files.specs.Files.{NamedFile, files_of, files_needed, files_for, is_passed, passes, FailsFrom}
 use Rattle.statuses.specs.Status.{CountsPuts, Leaves}
@@ -12,14 +12,14 @@ use Rattle.statuses.specs.declared.status.Status.{Status}
 use Rattle.statuses.specs.declared.status.Status.TheVariants as status
 
 -- the answer ends with the load of the first of these files that is lacking, where those before it are passed
-abbrev StopsAt : Files → CommandOf → List NamedFile → Result (List ℕ) Status → Type 0
+abbrev StopsAt : Files → CommandView → List NamedFile → Result (List ℕ) Status → Type 0
 StopsAt files c [] answer = Unit {0}
 StopsAt files c (f ∷ fs) answer =
     (file_of files f.name ≡ None → answer ≡ Err (status.Load f.kind))
     × (IsTrue (is_passed c f.kind f.name files) → StopsAt files c fs answer)
 
 -- the answer of each command stops at its files, in their order
-stops : (files : Files) (c : CommandOf) → StopsAt files c (files_of c) (answer_of_command c files)
+stops : (files : Files) (c : CommandView) → StopsAt files c (files_of c) (answer_of_command c files)
 stops files (run r) = search rules
 stops files (admit a) = search rules
 stops files (traced r) = search rules
@@ -30,7 +30,7 @@ stops files (poll q) = search rules
 stops files (least l) = search rules
 
 -- a load that failed is the answer, or the count of faults rose
-fails-answer : (files : Files) (c : CommandOf) (old new : ShelfView) (answer : Result (List ℕ) Status) (kind : FileKind)
+fails-answer : (files : Files) (c : CommandView) (old new : ShelfView) (answer : Result (List ℕ) Status) (kind : FileKind)
     → old.held ≡ Some files → (place : ℕ) (fs : List NamedFile) → StopsAt files c fs answer
     → FailsFrom (passes (Some files) c) old new place fs kind
     → (answer ≡ Err (status.Load kind)) ⊎ Rose old.faults new.faults
@@ -47,7 +47,7 @@ held-are : (files : Files) (passed : NamedFile → Bool) (old new : ShelfView) (
 held-are files passed old new kind [] known fails = absurd fails
 held-are files passed old new kind (f ∷ fs) known fails = known
 
-fails-in-answer : (files : Files) (c : CommandOf) (old new : ShelfView) (kind : FileKind)
+fails-in-answer : (files : Files) (c : CommandView) (old new : ShelfView) (kind : FileKind)
     → files_for old.held c ≡ Some files → FailsFrom (passes (files_for old.held c) c) old new 1 (files_of c) kind
     → (answer_of_command c files ≡ Err (status.Load kind)) ⊎ Rose old.faults new.faults
 fails-in-answer files c old new kind known fails =
@@ -55,7 +55,7 @@ fails-in-answer files c old new kind known fails =
     (held-are files (passes (files_for old.held c) c) old new kind (files_of c) known fails) 1 (files_of c) (stops files c)
     (subst (λ (held : Option Files). FailsFrom (passes held c) old new 1 (files_of c) kind) known fails)
 
-pub answers-of : (files : Option Files) (c : CommandOf) (old new : ShelfView) (out_old out_new : SinkView) (s : Status)
+pub answers-of : (files : Option Files) (c : CommandView) (old new : ShelfView) (out_old out_new : SinkView) (s : Status)
     → files_for old.held c ≡ files
     → EndsAs out_old out_new files (answer_of_command c) s → LoadFailed old new (Ok c) s
     → Answers files (Ok c) (Rose old.faults new.faults) (Rose out_old.faults out_new.faults) s
@@ -69,7 +69,7 @@ answers-of (Some files) c old new out_old out_new status.NoMemory known ends fai
 answers-of (Some files) c old new out_old out_new s known ends failed = ends
 
 -- a sink that is sure of the whole answer counts no further fault
-pub sure-of : {W : Type 0} (shows : W → SinkView) (files : Option Files) (c : CommandOf) (s : Status) (old new : W)
+pub sure-of : {W : Type 0} (shows : W → SinkView) (files : Option Files) (c : CommandView) (s : Status) (old new : W)
     → EndsAs (shows old) (shows new) files (answer_of_command c) s → Leaves s old new
     → IsSureOf files (Ok c) (shows old)
     → (shows new).faults ≡ (shows old).faults
@@ -80,24 +80,24 @@ sure-of shows (Some files) c status.Write old new ends leaves sure =
 sure-of shows (Some files) c s old new ends leaves sure = ap (λ w. (shows w).faults) leaves
 
 -- words that were read are not refused
-pub not-words : (files : Option Files) (c : CommandOf) (s : Status) (old new : SinkView) (why : WordFault)
+pub not-words : (files : Option Files) (c : CommandView) (s : Status) (old new : SinkView) (why : WordFault)
     → EndsAs old new files (answer_of_command c) s → s ≡ status.Words why → ⊥
 not-words None c s old new why ends refused = subst (EndsAs old new None (answer_of_command c)) refused ends
 not-words (Some files) c s old new why ends refused = subst (EndsAs old new (Some files) (answer_of_command c)) refused ends
 
 -- what was written where the answer is done, and where a put failed
-pub writes-of : (files : Option Files) (c : CommandOf) (s : Status) (old new : SinkView)
+pub writes-of : (files : Option Files) (c : CommandView) (s : Status) (old new : SinkView)
     → EndsAs old new files (answer_of_command c) s → s ≡ status.Done → Writes files (Ok c) old new
 writes-of None c s old new ends done = let e = subst (EndsAs old new None (answer_of_command c)) done ends in (e.0, e.2)
 writes-of (Some files) c s old new ends done = subst (EndsAs old new (Some files) (answer_of_command c)) done ends
 
-pub parts-of : (files : Option Files) (c : CommandOf) (s : Status) (old new : SinkView)
+pub parts-of : (files : Option Files) (c : CommandView) (s : Status) (old new : SinkView)
     → EndsAs old new files (answer_of_command c) s → s ≡ status.Write → WritesPart files (Ok c) old new
 parts-of None c s old new ends failed = let e = subst (EndsAs old new None (answer_of_command c)) failed ends in (e.0, e.2)
 parts-of (Some files) c s old new ends failed = subst (EndsAs old new (Some files) (answer_of_command c)) failed ends
 
 -- how the sink's count of failed puts goes with the status
-pub counts-puts : {W : Type 0} (shows : W → SinkView) (files : Option Files) (c : CommandOf) (s : Status) (old new : W)
+pub counts-puts : {W : Type 0} (shows : W → SinkView) (files : Option Files) (c : CommandView) (s : Status) (old new : W)
     → EndsAs (shows old) (shows new) files (answer_of_command c) s → Leaves s old new
     → CountsPuts (shows old).faults (shows new).faults s
 counts-puts shows files c status.Done old new ends leaves = ends.2.steady

@@ -13,7 +13,7 @@ use Rattle.deadline_list.specs.DeadlineFile.{deadline_file}
 use Rattle.edf_demand.specs.declared.lowest_speed.Constrained.{Constrained}
 use Rattle.edf_demand.specs.declared.lowest_speed.ConstrainFault.{ConstrainFault}
 use Rattle.edf_demand.specs.declared.lowest_speed.ConstrainFault.TheVariants as constrain_fault
-use Rattle.words.specs.Commands.{ConstrainOf}
+use Rattle.words.specs.Commands.{ConstrainView}
 use Rattle.statuses.specs.declared.status.Denied.TheVariants as denied
 use Rattle.statuses.specs.declared.status.FileKind.TheVariants as file
 use Rattle.statuses.specs.declared.status.Status.{Status}
@@ -53,14 +53,14 @@ constrain_with tasks machine deadlines = do
   Ok (constrained_text machine found)
 
 -- the answer of `constrain`, after its tasks were read
-abbrev pub constrain_after_tasks : ConstrainOf → List Task → Files → Result (List ℕ) Status
+abbrev pub constrain_after_tasks : ConstrainView → List Task → Files → Result (List ℕ) Status
 constrain_after_tasks r tasks files = do
   machine ← machine_at r.machine files
   deadlines ← deadlines_at tasks r.deadlines files
   constrain_with tasks machine deadlines
 
 -- the answer of `constrain`
-abbrev pub constrain_answer : ConstrainOf → Files → Result (List ℕ) Status
+abbrev pub constrain_answer : ConstrainView → Files → Result (List ℕ) Status
 constrain_answer r files = do
   tasks ← tasks_at r.tasks files
   constrain_after_tasks r tasks files
@@ -84,19 +84,19 @@ FailsToKeep p relative (denied.Demand at num cap) = IsOverload p relative at num
 FailsToKeep p relative why = ⊥
 
 -- the files mean this machine, and these relative deadlines of the tasks
-pub record MeansDeadlines (r : ConstrainOf) (files : Files) (tasks : List Task) (machine : Table) (deadlines : List ℕ)
+pub record MeansDeadlines (r : ConstrainView) (files : Files) (tasks : List Task) (machine : Table) (deadlines : List ℕ)
     : Type 0 where
   pub machine_is : machine_at r.machine files ≡ Ok machine
   pub deadlines_are : deadlines_at tasks r.deadlines files ≡ Ok deadlines
 
 -- Holds is true of the plan and the relative deadlines that the files mean
-abbrev pub OfMeant : Files → ConstrainOf → List Task → (Plan → (ℕ → ℕ) → Type 0) → Type 0
+abbrev pub OfMeant : Files → ConstrainView → List Task → (Plan → (ℕ → ℕ) → Type 0) → Type 0
 OfMeant files r tasks Holds =
     (machine : Table) × (deadlines : List ℕ) × MeansDeadlines r files tasks machine deadlines
     × Holds (plan_of tasks machine Edf) (slice_index deadlines)
 
 -- what the status says of these tasks, where the files are known
-abbrev pub IsKept : Option Files → ConstrainOf → List Task → Status → Type 0
+abbrev pub IsKept : Option Files → ConstrainView → List Task → Status → Type 0
 IsKept (Some files) r tasks status.Done = OfMeant files r tasks KeepsDeadlines
 IsKept (Some files) r tasks (status.NotAdmitted why) =
     OfMeant files r tasks (λ p relative. FailsToKeep p relative why)
@@ -105,7 +105,7 @@ IsKept files r tasks s = ⊤
 
 -- The test of `constrain`, where the files are known, without a premise. A test that is done, that denies the tasks or
 -- that has too many jobs is of the tasks, the machine and the relative deadlines that its files mean.
-abbrev pub OfConstrain : Option Files → ConstrainOf → Status → Type 0
+abbrev pub OfConstrain : Option Files → ConstrainView → Status → Type 0
 OfConstrain (Some files) r status.Done =
     (tasks : List Task) × (tasks_at r.tasks files ≡ Ok tasks) × IsKept (Some files) r tasks status.Done
 OfConstrain (Some files) r (status.NotAdmitted why) =

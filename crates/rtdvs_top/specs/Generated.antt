@@ -3,7 +3,7 @@ use Rattle.std.specs.Prelude.{ℕ, List, Result, Ok, ◌*◌, [], ◌∷◌, dec
 use Rattle.trace_text.specs.TraceLines.{governor_word, line}
 use Rattle.dvs_base.specs.declared.kind.Scheduler.TheVariants.{Edf}
 use Rattle.dvs_base.specs.declared.kind.GovernorKind.{GovernorKind}
-use Rattle.demand_list.specs.Demands.{DemandsOf}
+use Rattle.demand_list.specs.Demands.{DemandsView}
 use Rattle.sched_model.specs.Plan.{Plan, plan_of}
 use Rattle.sched_model.specs.Jobs.{demand_of}
 use Rattle.statuses.specs.declared.status.Status.{Status}
@@ -28,11 +28,11 @@ abbrev pub workload_plan : ℕ → ℕ → Plan
 workload_plan seed n = plan_of (made_tasks (first_state seed) n) made_machine Edf
 
 -- the demands of the jobs of n generated tasks, drawn after the tasks
-abbrev pub workload_demands : ℕ → ℕ → DemandsOf
+abbrev pub workload_demands : ℕ → ℕ → DemandsView
 workload_demands seed n = made_demands (made_tasks (first_state seed) n) (state_after (first_state seed) (2 * n))
 
 -- the totals of a plan's run of `ticks` ticks under a governor
-abbrev pub run_totals : Plan → DemandsOf → ℕ → GovernorKind → Totals
+abbrev pub run_totals : Plan → DemandsView → ℕ → GovernorKind → Totals
 run_totals p d ticks g = totals_of (run_notes p g (demand_of p d.rows) ticks)
 
 -- a governor's line: the releases, the completions, the decisions, and the energies of running and of idling
@@ -46,7 +46,7 @@ abbrev pub head_text : ℕ → ℕ → ℕ → List ℕ
 head_text seed n ticks = line (codes "workload" ∷ decimal seed ∷ decimal n ∷ decimal ticks ∷ [])
 
 -- the totals of a plan's runs under each governor that serves EDF
-abbrev pub edf_totals : Plan → DemandsOf → ℕ → EdfTotals
+abbrev pub edf_totals : Plan → DemandsView → ℕ → EdfTotals
 edf_totals p d ticks = record {
   full = run_totals p d ticks Plain;
   fixed = run_totals p d ticks Fixed;

@@ -9,7 +9,7 @@ use Rattle.energy_bound.specs.Certificates.{IsCertificate}
 use Rattle.energy_bound.specs.Schedules.{IsLeast}
 use Rattle.energy_bound.specs.declared.least.Least.{Least}
 use Rattle.energy_bound.specs.declared.least.Over.{Over}
-use Rattle.words.specs.Commands.{LeastOf}
+use Rattle.words.specs.Commands.{LeastView}
 use Rattle.statuses.specs.declared.status.Denied.{Denied}
 use Rattle.statuses.specs.declared.status.Denied.TheVariants as denied
 use Rattle.statuses.specs.declared.status.Status.{Status}
@@ -43,23 +43,23 @@ least_from (Ok a) = Ok (least_text a)
 least_from (Err e) = Err (status.NotAdmitted (denied.Units e.num e.cap))
 
 -- the answer of `least` on a machine
-abbrev pub least_on : LeastOf → Table → Result (List ℕ) Status
+abbrev pub least_on : LeastView → Table → Result (List ℕ) Status
 least_on l m = least_from (least_energy_of m l.units l.ticks)
 
 -- the answer of `least`
-abbrev pub least_answer : LeastOf → Files → Result (List ℕ) Status
+abbrev pub least_answer : LeastView → Files → Result (List ℕ) Status
 least_answer l files = do
   machine ← machine_at l.machine files
   least_on l machine
 
 -- The answer is the machine's, and its certificate is one of two corners, so it passes the check. No choice and no
 -- schedule of `l.ticks` ticks that runs `l.units` units costs less, and over the answer's repetitions this is reached.
-pub record IsLeastOn (m : Table) (l : LeastOf) (a : Least) : Type 0 where
+pub record IsLeastOn (m : Table) (l : LeastView) (a : Least) : Type 0 where
   pub answer : least_energy_of m l.units l.ticks ≡ Ok a
   pub certificate : IsCertificate m l.units l.ticks a
   pub least : IsLeast m l.units l.ticks a
 
 -- more units are asked for than the highest speed does in the ticks, with the two numbers
-pub record AreTooMany (m : Table) (l : LeastOf) (why : Denied) : Type 0 where
+pub record AreTooMany (m : Table) (l : LeastView) (why : Denied) : Type 0 where
   pub numbers : why ≡ denied.Units l.units (l.ticks * highest_speed m)
   pub more : l.ticks * highest_speed m < l.units

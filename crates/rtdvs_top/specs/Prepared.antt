@@ -7,19 +7,19 @@ use Rattle.task_model.specs.declared.task.Task.{Task}
 use Rattle.sched_model.specs.Plan.{Plan, count, plan_of}
 use Rattle.event_kernel.specs.Runs.{Run}
 use Rattle.dvs_base.specs.declared.limits.TheConstants.{MOST_TICKS}
-use Rattle.words.specs.Commands.{CommandOf, asks_probes, run, traced, poll, least, ResponseOf}
+use Rattle.words.specs.Commands.{CommandView, asks_probes, run, traced, poll, least, ResponseView}
 use Rattle.words.specs.declared.command.TraceUse.{TraceUse}
 use Rattle.statuses.specs.declared.status.Status.{Status}
 use Rattle.statuses.specs.declared.status.Status.TheVariants as status
 use Rattle.task_model.specs.Tasks.{names_of}
 use Rattle.edf_demand.specs.Answers.{IsTooLong}
 use Rattle.rtdvs_top.specs.declared.prepared.Workload.{Workload}
-use Rattle.trace_reader.specs.Traces.{TraceOf, IsEnded}
+use Rattle.trace_reader.specs.Traces.{TraceView, IsEnded}
 use Rattle.dvs_base.specs.WritesText.{Wrote, WroteSome}
 use Rattle.energy_bound.specs.declared.least.Least.{Least}
 use Rattle.dvs_base.specs.PlanWords.{IsPair}
-use Rattle.poll_server.specs.ServerJobs.{ServerOf, request_count}
-use Rattle.probes.specs.Tallies.{ProbeOf}
+use Rattle.poll_server.specs.ServerJobs.{ServerView, request_count}
+use Rattle.probes.specs.Tallies.{ProbeView}
 use Rattle.rtdvs_top.specs.declared.prepared.Prepared.{Prepared}
 use Rattle.rtdvs_top.specs.declared.prepared.Prepared.TheVariants as prepared
 use Rattle.std.specs.List.{AllByRecursion}
@@ -41,7 +41,7 @@ use Rattle.rtdvs_top.specs.Trace.{traced_of, migrated_text, IsMigratable, answer
 use Rattle.rtdvs_top.specs.Least.{least_text, IsLeastOn}
 use Rattle.rtdvs_top.specs.Poll.{polled_text, polling_of, HasServed}
 use Rattle.rtdvs_top.specs.Response.{responses_text, FailsToRespond, Responds}
-use Rattle.demand_list.specs.Demands.{DemandsOf}
+use Rattle.demand_list.specs.Demands.{DemandsView}
 use Rattle.sched_model.specs.Admission.{IsAdmitted}
 use Rattle.command_files.specs.Meanings.{machine_at, tasks_at}
 use Rattle.freq_table.specs.Tables.{Table}
@@ -55,10 +55,10 @@ answer_of_run v g r = answer_of_plan v g r.demands r.ticks r.plan
 pub record Seen : Type 0 where
   pub shelf : ShelfView
   pub out : SinkView
-  pub probes : List ProbeOf
+  pub probes : List ProbeView
 
 -- what a call sees of this shelf, this sink and these probes
-abbrev pub seen : ShelfView → SinkView → List ProbeOf → Seen
+abbrev pub seen : ShelfView → SinkView → List ProbeView → Seen
 seen shelf out probes = record { shelf = shelf; out = out; probes = probes }
 
 -- the answer's text was written, or a first part of it, or the answer is refused
@@ -76,21 +76,21 @@ EndsAs old new files answer s = Refuses files answer s
 -- What is known of a command that is done, with the tasks of its file. A run is of the plan and the demands that were
 -- prepared; a replay or a migration has compared a trace with the schedule of an admitted plan; a `poll` run has kept the
 -- outcomes, their order and the bound, for the server of its files; `least` has its bound, for the machine of its file.
-abbrev pub MetIn : Option Files → CommandOf → Status → Type 0
+abbrev pub MetIn : Option Files → CommandView → Status → Type 0
 MetIn files (run r) status.Done =
     (tasks : List Task) × Gives files (tasks_at r.tasks) tasks
-    × (p : Plan) × (d : DemandsOf) × Gives files (prepared_of r tasks) (p, d) × IsReadyRun r.governor (run_with r p d)
+    × (p : Plan) × (d : DemandsView) × Gives files (prepared_of r tasks) (p, d) × IsReadyRun r.governor (run_with r p d)
 MetIn files (traced r) status.Done =
     (tasks : List Task) × Gives files (tasks_at r.tasks) tasks
-    × (p : Plan) × (t : TraceOf) × Gives files (traced_of r tasks) (p, t) × IsAdmitted p
+    × (p : Plan) × (t : TraceView) × Gives files (traced_of r tasks) (p, t) × IsAdmitted p
 MetIn files (poll q) status.Done =
     (tasks : List Task) × Gives files (tasks_at q.tasks) tasks
-    × (s : ServerOf) × Gives files (polling_of q tasks) s × HasServed s q.governor q.ticks
+    × (s : ServerView) × Gives files (polling_of q tasks) s × HasServed s q.governor q.ticks
 MetIn files (least l) status.Done = (m : Table) × (a : Least) × Gives files (machine_at l.machine) m × IsLeastOn m l a
 MetIn files c s = ⊤
 
 -- a test that is done or denies the tasks is of the machine that its file means, where the files are known
-abbrev pub IsTested : Option Files → ResponseOf → List Task → Status → Type 0
+abbrev pub IsTested : Option Files → ResponseView → List Task → Status → Type 0
 IsTested (Some files) r tasks status.Done =
     (machine : Table) × (machine_at r.machine files ≡ Ok machine) × Responds (plan_of tasks machine Rm)
 IsTested (Some files) r tasks (status.NotAdmitted why) =
@@ -99,13 +99,13 @@ IsTested files r tasks s = ⊤
 
 -- Where the files are known, the lines of a status have the names of the command's tasks. Where a command that asks for
 -- probes is done, these are the names that the probes' lines have.
-abbrev pub Named : Option Files → CommandOf → Option (List Task) → Status → Type 0
+abbrev pub Named : Option Files → CommandView → Option (List Task) → Status → Type 0
 Named None c tasks s = ⊤
 Named (Some files) c tasks status.Done = IfAsked (asks_probes c) (names_of tasks ≡ names_by c files)
 Named (Some files) c tasks s = status_text (names_of tasks) s ≡ status_text (names_by c files) s
 
 -- a command was answered with this status, and its tasks where they were read
-pub record IsAnswered (c : CommandOf) (old new : Seen) (s : Status) (tasks : Option (List Task)) : Type 0 where
+pub record IsAnswered (c : CommandView) (old new : Seen) (s : Status) (tasks : Option (List Task)) : Type 0 where
   -- the answer's text was written, or a first part of it, or the status is the answer's refusal
   pub ended : EndsAs old.out new.out (files_for old.shelf.held c) (answer_of_command c) s
   -- what is known of a run, a replay, a `poll` run or a `least` that is done
@@ -152,7 +152,7 @@ PutEnds answer (status.Limit jobs) = answer ≡ Err (status.Limit jobs)
 PutEnds answer s = ⊥
 
 -- a `poll` run can be made: its server is a task of the plan, and its pair and its ticks are within the limits of a run
-pub record IsPollable (s : ServerOf) (governor : GovernorKind) (ticks : ℕ) : Type 0 where
+pub record IsPollable (s : ServerView) (governor : GovernorKind) (ticks : ℕ) : Type 0 where
   pub server : s.task < count s.plan
   pub pair : IsPair s.plan.scheduler governor
   pub some_ticks : 1 ≤ ticks
@@ -192,14 +192,14 @@ tells_probes (prepared.Trace w) = w.probes
 tells_probes p = false
 
 -- the put of a run that asks for probes told them its notes
-abbrev pub ToldOf : Prepared → SinkView → SinkView → List ProbeOf → List ProbeOf → Status → Type 0
+abbrev pub ToldOf : Prepared → SinkView → SinkView → List ProbeView → List ProbeView → Status → Type 0
 ToldOf (prepared.Trace w) old new before after s =
     IfAsked w.probes (RunTold w.version w.governor (ready_run w) old new before after s)
 ToldOf p old new before after s = ⊤
 
 -- What a put of what was prepared does to the sink and to the probes, each before and after it. They are seen through
 -- `shows` and `counts`.
-pub record PutStep {W V : Type 0} (out : W × W) (probes : V × V) (shows : W → SinkView) (counts : V → List ProbeOf) (p : Prepared)
+pub record PutStep {W V : Type 0} (out : W × W) (probes : V × V) (shows : W → SinkView) (counts : V → List ProbeView) (p : Prepared)
     (s : Status) : Type 0 where
   -- the answer's text was written, or a first part of it, or the answer is refused
   pub ended : Ends (shows out.0) (shows out.1) (answer_of p) s
@@ -215,24 +215,24 @@ pub record PutStep {W V : Type 0} (out : W × W) (probes : V × V) (shows : W �
   pub shown : IsShown s
 
 -- where the files are known, the command has this answer
-abbrev pub HasAnswer : Option Files → CommandOf → Result (List ℕ) Status → Type 0
+abbrev pub HasAnswer : Option Files → CommandView → Result (List ℕ) Status → Type 0
 HasAnswer None c answer = ⊤
 HasAnswer (Some files) c answer = answer_of_command c files ≡ answer
 
 -- What was prepared for a command: its put gives the command's answer. With each status that the put can end with, all
 -- holds that is known of the command.
-pub record IsPrepared (files : Option Files) (c : CommandOf) (tasks : Option (List Task)) (p : Prepared) : Type 0 where
+pub record IsPrepared (files : Option Files) (c : CommandView) (tasks : Option (List Task)) (p : Prepared) : Type 0 where
   pub answer : HasAnswer files c (answer_of p)
   pub puttable : IsPuttable p
   pub tells : tells_probes p ≡ asks_probes c
   pub named : Named files c tasks status.Done
   pub met : (s : Status) → PutEnds (answer_of p) s → MetIn files c s
   pub tested : (s : Status) → PutEnds (answer_of p) s → OfTests files (Ok c) s
-  pub told : (old new : SinkView) (before after : List ProbeOf) (s : Status) → ToldOf p old new before after s
+  pub told : (old new : SinkView) (before after : List ProbeView) (s : Status) → ToldOf p old new before after s
       → Tells files (Ok c) old new before after s
 
 -- a command ended with this status before anything was put
-pub record IsRefused (old new : ShelfView) (c : CommandOf) (tasks : Option (List Task)) (s : Status) : Type 0 where
+pub record IsRefused (old new : ShelfView) (c : CommandView) (tasks : Option (List Task)) (s : Status) : Type 0 where
   pub ended : Refuses (files_for old.held c) (answer_of_command c) s
   pub tested : OfTests (files_for old.held c) (Ok c) s
   pub named : Named (files_for old.held c) c tasks s
@@ -247,7 +247,7 @@ pub record LoadStepWith {T A : Type 0} (l : LoadOf A) (old new : ShelfView) (r :
   pub status : IfErr r Shows
 
 -- What a command prepares before anything is put, and its tasks where they were read.
-pub record PrepareStep (old new : ShelfView) (c : CommandOf) (tasks : Option (List Task)) (r : Result Prepared Status) : Type 0 where
+pub record PrepareStep (old new : ShelfView) (c : CommandView) (tasks : Option (List Task)) (r : Result Prepared Status) : Type 0 where
   -- its put gives the command's answer
   pub prepared : IfOk r (IsPrepared (files_for old.held c) c tasks)
   -- or the answer is refused
@@ -259,7 +259,7 @@ pub record PrepareStep (old new : ShelfView) (c : CommandOf) (tasks : Option (Li
 
 -- the plan is of the trace's scheduler, which makes a pair with its governor; its number of ticks is within the limits;
 -- each task that a note names is one of the plan; and the last note, and no other, ends the run
-pub record IsComparable (p : Plan) (t : TraceOf) : Type 0 where
+pub record IsComparable (p : Plan) (t : TraceView) : Type 0 where
   pub scheduler : t.plan.scheduler ≡ p.scheduler
   pub pair : IsPair p.scheduler t.plan.governor
   pub some_ticks : 1 ≤ t.plan.ticks
@@ -268,7 +268,7 @@ pub record IsComparable (p : Plan) (t : TraceOf) : Type 0 where
   pub ended : IsEnded t.notes
 
 -- what is put for a trace of a plan, as `asked`, which is compared with its schedule first
-pub record CompareStep (asked : TraceUse) (x : Plan × TraceOf) (r : Result Prepared Status) : Type 0 where
+pub record CompareStep (asked : TraceUse) (x : Plan × TraceView) (r : Result Prepared Status) : Type 0 where
   -- its put gives the answer, and tells no probes
   pub answer : IfOk r (λ p. answer_of_traced asked x ≡ answer_of p)
   pub puttable : IfOk r IsPuttable

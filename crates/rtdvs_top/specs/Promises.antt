@@ -4,7 +4,7 @@ use Rattle.dvs_base.specs.Checks.{◌>>=◌}
 use Rattle.dvs_base.specs.Outside.{Files, SinkView, ShelfView, Rose}
 use Rattle.sched_model.specs.Plan.{Plan, plan_of, period, hyper, top_speed}
 use Rattle.sched_model.specs.Admission.{PassesTest}
-use Rattle.words.specs.Commands.{RunOf, AdmitOf, TracedOf, PollOf, CommandOf, run, admit, traced, poll, workload, response, constrain, least, asks_probes}
+use Rattle.words.specs.Commands.{RunView, AdmitView, TracedView, PollView, CommandView, run, admit, traced, poll, workload, response, constrain, least, asks_probes}
 use Rattle.words.specs.declared.command.WordFault.{WordFault}
 use Rattle.statuses.specs.declared.status.Denied.{Denied}
 use Rattle.statuses.specs.declared.status.Status.{Status}
@@ -16,7 +16,7 @@ use Rattle.dvs_base.specs.declared.kind.GovernorKind.{GovernorKind}
 use Rattle.dvs_base.specs.declared.kind.Version.{Version}
 use Rattle.dvs_base.specs.declared.kind.Scheduler.TheVariants.{Edf, Rm}
 use Rattle.task_model.specs.declared.task.Task.{Task}
-use Rattle.demand_list.specs.Demands.{DemandsOf}
+use Rattle.demand_list.specs.Demands.{DemandsView}
 use Rattle.freq_table.specs.Tables.{Table}
 use Rattle.sched_model.specs.Tests.{total_rate, level_work}
 use Rattle.sched_model.specs.Jobs.{released_jobs}
@@ -25,8 +25,8 @@ use Rattle.event_kernel.specs.Runs.{Run}
 use Rattle.dvs_base.specs.declared.limits.TheConstants.{MOST_JOBS}
 use Rattle.words.specs.Reading.{command_of}
 use Rattle.energy_bound.specs.declared.least.Least.{Least}
-use Rattle.probes.specs.Tallies.{ProbeOf}
-use Rattle.poll_server.specs.ServerJobs.{ServerOf}
+use Rattle.probes.specs.Tallies.{ProbeView}
+use Rattle.poll_server.specs.ServerJobs.{ServerView}
 use Rattle.statuses.specs.declared.status.Denied.TheVariants as denied
 use Rattle.command_files.specs.Meanings.{tasks_at, machine_at, demands_at, server_at}
 use Rattle.rtdvs_top.specs.Trace.{trace_at, trace_answer}
@@ -45,7 +45,7 @@ use Rattle.statuses.specs.StatusLines.{status_text}
 use Rattle.statuses.specs.Noted.{NotedAs, noted_text}
 
 -- the plan of `run`: the tasks and the machine of its files, whose demands are read too
-abbrev pub run_plan : RunOf → Files → Result Plan Status
+abbrev pub run_plan : RunView → Files → Result Plan Status
 run_plan r files = do
   tasks ← tasks_at r.tasks files
   machine ← machine_at r.machine files
@@ -53,14 +53,14 @@ run_plan r files = do
   Ok (plan_of tasks machine r.scheduler)
 
 -- the plan of `admit`: the tasks and the machine of its files
-abbrev pub admit_plan : AdmitOf → Files → Result Plan Status
+abbrev pub admit_plan : AdmitView → Files → Result Plan Status
 admit_plan a files = do
   tasks ← tasks_at a.tasks files
   machine ← machine_at a.machine files
   Ok (plan_of tasks machine a.scheduler)
 
 -- the plan of `replay` or `migrate`: the tasks and the machine of its files, and the scheduler that its trace names
-abbrev pub traced_plan : TracedOf → Files → Result Plan Status
+abbrev pub traced_plan : TracedView → Files → Result Plan Status
 traced_plan r files = do
   tasks ← tasks_at r.tasks files
   machine ← machine_at r.machine files
@@ -69,7 +69,7 @@ traced_plan r files = do
 
 -- the plan of `poll`: the tasks and the machine of its files, where a task has the server's name and the requests are
 -- read too
-abbrev pub poll_plan : PollOf → Files → Result Plan Status
+abbrev pub poll_plan : PollView → Files → Result Plan Status
 poll_plan q files = do
   tasks ← tasks_at q.tasks files
   i ← server_at q.server tasks
@@ -109,7 +109,7 @@ AdmitsOrDenies plan s = ⊤
 
 -- What the answer of `run`, `admit`, `replay`, `migrate` or `poll` shows of its scheduler's test, where its files are
 -- known.
-abbrev pub OfAdmission : Option Files → Result CommandOf WordFault → Status → Type 0
+abbrev pub OfAdmission : Option Files → Result CommandView WordFault → Status → Type 0
 OfAdmission (Some files) (Ok (run r)) s = AdmitsOrDenies (run_plan r files) s
 OfAdmission (Some files) (Ok (admit a)) s = AdmitsOrDenies (admit_plan a files) s
 OfAdmission (Some files) (Ok (traced r)) s = AdmitsOrDenies (traced_plan r files) s
@@ -117,7 +117,7 @@ OfAdmission (Some files) (Ok (poll q)) s = AdmitsOrDenies (poll_plan q files) s
 OfAdmission files c s = ⊤
 
 -- the answer of a command
-abbrev pub answer_of_command : CommandOf → Files → Result (List ℕ) Status
+abbrev pub answer_of_command : CommandView → Files → Result (List ℕ) Status
 answer_of_command (run r) files = run_answer r files
 answer_of_command (admit a) files = admit_answer a files
 answer_of_command (traced r) files = trace_answer r files
@@ -128,11 +128,11 @@ answer_of_command (poll q) files = poll_answer q files
 answer_of_command (least l) files = least_answer l files
 
 -- the command that the words are, or why they are refused
-abbrev pub asked : List (String Global) → Result CommandOf WordFault
+abbrev pub asked : List (String Global) → Result CommandView WordFault
 asked words = command_of (map string_bytes words)
 
 -- the known files that the answer to the words depends on: those of the command; refused words need none
-abbrev pub known_files : Option Files → Result CommandOf WordFault → Option Files
+abbrev pub known_files : Option Files → Result CommandView WordFault → Option Files
 known_files held (Ok c) = files_for held c
 known_files held (Err why) = Some []
 
@@ -146,47 +146,47 @@ IsAnswer loads_rose puts_rose answer status.Write = IsOk answer × puts_rose
 IsAnswer loads_rose puts_rose answer s = answer ≡ Err s
 
 -- where the files are known, the status is that of the command's answer, unless the outside or memory explains it
-abbrev pub Answers : Option Files → Result CommandOf WordFault → Type 0 → Type 0 → Status → Type 0
+abbrev pub Answers : Option Files → Result CommandView WordFault → Type 0 → Type 0 → Status → Type 0
 Answers None c loads_rose puts_rose s = ⊤
 Answers (Some files) (Err why) loads_rose puts_rose s = s ≡ status.Words why
 Answers (Some files) (Ok c) loads_rose puts_rose s = IsAnswer loads_rose puts_rose (answer_of_command c files) s
 
 -- where the files are known, the answer's text was written whole; where they are not known, some text was
-abbrev pub Writes : Option Files → Result CommandOf WordFault → SinkView → SinkView → Type 0
+abbrev pub Writes : Option Files → Result CommandView WordFault → SinkView → SinkView → Type 0
 Writes (Some files) (Ok c) old new = (text : List ℕ) × (answer_of_command c files ≡ Ok text) × Wrote old new text
 Writes None (Ok c) old new = (text : List ℕ) × Wrote old new text
 Writes files (Err why) old new = ⊤
 
 -- where the files are known, a first part of the answer's text was written; where they are not known, one of some text
-abbrev pub WritesPart : Option Files → Result CommandOf WordFault → SinkView → SinkView → Type 0
+abbrev pub WritesPart : Option Files → Result CommandView WordFault → SinkView → SinkView → Type 0
 WritesPart (Some files) (Ok c) old new =
     (text : List ℕ) × (answer_of_command c files ≡ Ok text) × WroteSome old new text
 WritesPart None (Ok c) old new = (text : List ℕ) × WroteSome old new text
 WritesPart files (Err why) old new = ⊤
 
 -- the files are known, and the sink is sure of the whole answer
-abbrev pub IsSureOf : Option Files → Result CommandOf WordFault → SinkView → Type 0
+abbrev pub IsSureOf : Option Files → Result CommandView WordFault → SinkView → Type 0
 IsSureOf (Some files) (Ok c) sink = (text : List ℕ) → answer_of_command c files ≡ Ok text → length text ≤ sink.sure
 IsSureOf _ _ sink = ⊥
 
 -- A load that failed is of one of the command's files, by its place among them. Where the files are known, those before
 -- it were read; the machine of `poll` is loaded only after its server was found.
-abbrev pub LoadFailed : ShelfView → ShelfView → Result CommandOf WordFault → Status → Type 0
+abbrev pub LoadFailed : ShelfView → ShelfView → Result CommandView WordFault → Status → Type 0
 LoadFailed old new (Ok c) s = OfLoad (FailsFrom (passes (files_for old.held c) c) old new 1 (files_of c)) s
 LoadFailed old new (Err why) s = ⊤
 
 -- the number of files that the words name
-abbrev pub loads_asked : Result CommandOf WordFault → ℕ
+abbrev pub loads_asked : Result CommandView WordFault → ℕ
 loads_asked (Ok c) = loads_of c
 loads_asked (Err why) = 0
 
 -- the most loads that the answer to the words needs: those of the command; refused words need none
-abbrev pub loads_wanted : Option Files → Result CommandOf WordFault → ℕ
+abbrev pub loads_wanted : Option Files → Result CommandView WordFault → ℕ
 loads_wanted held (Ok c) = loads_needed held c
 loads_wanted held (Err why) = 0
 
 -- the files of a run mean these tasks, this machine and these demands
-pub record MeansRun (r : RunOf) (files : Files) (tasks : List Task) (machine : Table) (demands : DemandsOf) : Type 0 where
+pub record MeansRun (r : RunView) (files : Files) (tasks : List Task) (machine : Table) (demands : DemandsView) : Type 0 where
   pub tasks_are : tasks_at r.tasks files ≡ Ok tasks
   pub machine_is : machine_at r.machine files ≡ Ok machine
   pub demands_are : demands_at tasks r.demands files ≡ Ok demands
@@ -198,18 +198,18 @@ pub record DoneRun (v : Version) (kind : GovernorKind) (r : Run) (old new : Sink
 
 -- The run, where its files are known, without a premise. A run that is done, or that is denied, is of the tasks, the
 -- machine and the demands that its files mean.
-abbrev pub OfRun : Option Files → Result CommandOf WordFault → SinkView → SinkView → Status → Type 0
+abbrev pub OfRun : Option Files → Result CommandView WordFault → SinkView → SinkView → Status → Type 0
 OfRun (Some files) (Ok (run r)) old new status.Done =
-    (tasks : List Task) × (machine : Table) × (demands : DemandsOf) × MeansRun r files tasks machine demands
+    (tasks : List Task) × (machine : Table) × (demands : DemandsView) × MeansRun r files tasks machine demands
     × (prepared_of r tasks files ≡ Ok (plan_of tasks machine r.scheduler, demands))
     × DoneRun r.version r.governor (run_with r (plan_of tasks machine r.scheduler) demands) old new
 OfRun (Some files) (Ok (run r)) old new (status.NotAdmitted why) =
-    (tasks : List Task) × (machine : Table) × (demands : DemandsOf) × MeansRun r files tasks machine demands
+    (tasks : List Task) × (machine : Table) × (demands : DemandsView) × MeansRun r files tasks machine demands
     × DeniedPlan (plan_of tasks machine r.scheduler) why
 OfRun files c old new s = ⊤
 
 -- what an exact test proves, where the command is one
-abbrev pub OfTests : Option Files → Result CommandOf WordFault → Status → Type 0
+abbrev pub OfTests : Option Files → Result CommandView WordFault → Status → Type 0
 OfTests files (Ok (response r)) s = OfTest files r s
 OfTests files (Ok (constrain r)) s = OfConstrain files r s
 OfTests files c s = ⊤
@@ -217,9 +217,9 @@ OfTests files c s = ⊤
 -- A `poll` run that is done, where its files are known, has served its requests in the one schedule of its server's
 -- plan: each exactly where its job is done, a later one never by an earlier job, and each by the deadline that its
 -- backlog bounds, if that lies within the run.
-abbrev pub OfPoll : Option Files → Result CommandOf WordFault → Status → Type 0
+abbrev pub OfPoll : Option Files → Result CommandView WordFault → Status → Type 0
 OfPoll (Some files) (Ok (poll q)) status.Done =
-    (tasks : List Task) × (s : ServerOf) × (tasks_at q.tasks files ≡ Ok tasks) × (polling_of q tasks files ≡ Ok s)
+    (tasks : List Task) × (s : ServerView) × (tasks_at q.tasks files ≡ Ok tasks) × (polling_of q tasks files ≡ Ok s)
     × HasServed s q.governor q.ticks
 OfPoll files c s = ⊤
 
@@ -233,9 +233,9 @@ RunsOrIsDenied v kind r old new s =
 -- no more jobs than the limit; no load and no put failed, and memory didn't run out. Then the plan of these tasks, this
 -- machine and the words' scheduler runs with these demands, or it is denied. Under the same premises the exact test
 -- under RM is done where all tasks of its files have responses, and else it denies them.
-abbrev pub Headline : Option Files → Result CommandOf WordFault → Type 0 → SinkView → SinkView → Status → Type 0
+abbrev pub Headline : Option Files → Result CommandView WordFault → Type 0 → SinkView → SinkView → Status → Type 0
 Headline (Some files) (Ok (run r)) loads_rose old new s =
-    (tasks : List Task) (machine : Table) (demands : DemandsOf) → MeansRun r files tasks machine demands
+    (tasks : List Task) (machine : Table) (demands : DemandsView) → MeansRun r files tasks machine demands
     → released_jobs (plan_of tasks machine r.scheduler) r.ticks ≤ MOST_JOBS
     → (loads_rose → ⊥) → (Rose old.faults new.faults → ⊥) → s ≢ status.NoMemory
     → RunsOrIsDenied r.version r.governor (run_with r (plan_of tasks machine r.scheduler) demands) old new s
@@ -248,7 +248,7 @@ Headline files c loads_rose old new s = ⊤
 -- The answer of `least`, where its file is known, without a premise. One that is done has written the lines of the
 -- answer for the machine that its file means, which passes the check and is the minimum; one that is denied asks for
 -- more units than that machine does in the ticks.
-abbrev pub OfLeast : Option Files → Result CommandOf WordFault → SinkView → SinkView → Status → Type 0
+abbrev pub OfLeast : Option Files → Result CommandView WordFault → SinkView → SinkView → Status → Type 0
 OfLeast (Some files) (Ok (least l)) old new status.Done =
     (m : Table) × (a : Least) × (machine_at l.machine files ≡ Ok m) × IsLeastOn m l a
     × Appends old.written new.written (least_text a)
@@ -258,20 +258,20 @@ OfLeast files c old new s = ⊤
 
 -- the lines of a status are put to `notes`, or after a run that asked for probes and is done the lines of those that
 -- are left; whole or in part, with the names of the command's tasks
-abbrev pub Notes : Option Files → Result CommandOf WordFault → List ProbeOf → Status → SinkView → SinkView → Type 0
+abbrev pub Notes : Option Files → Result CommandView WordFault → List ProbeView → Status → SinkView → SinkView → Type 0
 Notes (Some files) (Ok c) ps s old new = NotedAs old new (noted_text (asks_probes c) (names_by c files) ps s)
 Notes files (Err why) ps s old new = NotedAs old new (status_text [] s)
 Notes None (Ok c) ps s old new =
     (names : List (List ℕ)) × NotedAs old new (noted_text (asks_probes c) names ps s)
 
 -- whether the words ask for probes
-abbrev pub probes_asked : Result CommandOf WordFault → Bool
+abbrev pub probes_asked : Result CommandView WordFault → Bool
 probes_asked (Ok c) = asks_probes c
 probes_asked (Err why) = false
 
 -- The probes that the words ask for were told the notes of a run that is done. Of a run whose write failed they were told
 -- the notes of the lines before that write.
-abbrev pub Tells : Option Files → Result CommandOf WordFault → SinkView → SinkView → List ProbeOf → List ProbeOf → Status → Type 0
+abbrev pub Tells : Option Files → Result CommandView WordFault → SinkView → SinkView → List ProbeView → List ProbeView → Status → Type 0
 Tells files (Ok (run r)) old new before after status.Done = FileTold files r old new before after status.Done
 Tells files (Ok (run r)) old new before after status.Write = FileTold files r old new before after status.Write
 Tells files c old new before after s = ⊤

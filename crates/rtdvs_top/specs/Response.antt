@@ -8,7 +8,7 @@ use Rattle.sched_model.specs.Plan.{Plan, count, offset, period, plan_of}
 use Rattle.task_model.specs.Tasks.{NoneOffset, IsFirstOffset, task_at}
 use Rattle.rm_response_laws.specs.Responses.{AllRespond, MeetsAllDeadlines, is_first_done}
 use Rattle.rm_response.specs.Denials.{responses, AreLeast, IsFirstMiss, exact_answer}
-use Rattle.words.specs.Commands.{ResponseOf}
+use Rattle.words.specs.Commands.{ResponseView}
 use Rattle.statuses.specs.declared.status.Denied.{Denied}
 use Rattle.statuses.specs.declared.status.Denied.TheVariants as denied
 use Rattle.statuses.specs.declared.status.Status.{Status}
@@ -40,13 +40,13 @@ FailsToRespond p (denied.Response i num cap) = IsFirstMiss p i num cap × (is_fi
 FailsToRespond p why = ⊥
 
 -- the files of `response` mean these tasks and this machine
-pub record MeansPlan (r : ResponseOf) (files : Files) (tasks : List Task) (machine : Table) : Type 0 where
+pub record MeansPlan (r : ResponseView) (files : Files) (tasks : List Task) (machine : Table) : Type 0 where
   pub tasks_are : tasks_at r.tasks files ≡ Ok tasks
   pub machine_is : machine_at r.machine files ≡ Ok machine
 
 -- The exact test under RM, where its files are known, without a premise. A test that is done, or that denies the tasks,
 -- is of the tasks and the machine that its files mean.
-abbrev pub OfTest : Option Files → ResponseOf → Status → Type 0
+abbrev pub OfTest : Option Files → ResponseView → Status → Type 0
 OfTest (Some files) r status.Done =
     (tasks : List Task) × (machine : Table) × MeansPlan r files tasks machine × Responds (plan_of tasks machine Rm)
 OfTest (Some files) r (status.NotAdmitted why) =
@@ -70,7 +70,7 @@ abbrev pub responses_on : List Task → Table → Result (List ℕ) Status
 responses_on tasks machine = or_status response_status (exact_answer (plan_of tasks machine Rm))
 
 -- the responses of these tasks under RM on the machine of a named file
-abbrev pub responses_at : ResponseOf → List Task → Files → Result (List ℕ) Status
+abbrev pub responses_at : ResponseView → List Task → Files → Result (List ℕ) Status
 responses_at r tasks files = do
   machine ← machine_at r.machine files
   responses_on tasks machine
@@ -84,13 +84,13 @@ abbrev pub responses_text : List Task → List ℕ → List ℕ
 responses_text tasks ticks = joined (list_below (length tasks) (response_text tasks ticks))
 
 -- the answer of `response`, after its tasks were read
-abbrev pub response_after_tasks : ResponseOf → List Task → Files → Result (List ℕ) Status
+abbrev pub response_after_tasks : ResponseView → List Task → Files → Result (List ℕ) Status
 response_after_tasks r tasks files = do
   ticks ← responses_at r tasks files
   Ok (responses_text tasks ticks)
 
 -- the answer of `response`
-abbrev pub response_answer : ResponseOf → Files → Result (List ℕ) Status
+abbrev pub response_answer : ResponseView → Files → Result (List ℕ) Status
 response_answer r files = do
   tasks ← tasks_at r.tasks files
   response_after_tasks r tasks files

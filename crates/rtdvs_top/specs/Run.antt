@@ -5,15 +5,15 @@ use Rattle.dvs_base.specs.Outside.{Files, SinkView}
 use Rattle.dvs_base.specs.declared.kind.GovernorKind.{GovernorKind}
 use Rattle.dvs_base.specs.declared.kind.Version.{Version}
 use Rattle.task_model.specs.declared.task.Task.{Task}
-use Rattle.demand_list.specs.Demands.{DemandsOf}
+use Rattle.demand_list.specs.Demands.{DemandsView}
 use Rattle.sched_model.specs.Demand.{IsAlwaysMet}
 use Rattle.sched_model.specs.Plan.{Plan}
 use Rattle.sched_model.specs.Jobs.{demand_of, released_jobs, JobDemands}
 use Rattle.trace_writer.specs.RunText.{run_text_in}
 use Rattle.event_kernel.specs.Runs.{Run, demands_of}
-use Rattle.probes.specs.Tallies.{ProbeOf}
+use Rattle.probes.specs.Tallies.{ProbeView}
 use Rattle.dvs_base.specs.declared.limits.TheConstants.{MOST_JOBS}
-use Rattle.words.specs.Commands.{RunOf}
+use Rattle.words.specs.Commands.{RunView}
 use Rattle.statuses.specs.declared.status.Status.{Status}
 use Rattle.statuses.specs.declared.status.Status.TheVariants as status
 use Rattle.sched_model.specs.Ticks.{Tick, IsMet}
@@ -30,22 +30,22 @@ abbrev pub within_jobs : ℕ → List ℕ → Result (List ℕ) Status
 within_jobs jobs bytes = if nat_lt MOST_JOBS jobs then Err (status.Limit jobs) else Ok bytes
 
 -- the answer of an admitted plan: the text of its run in this version
-abbrev pub answer_of_plan : Version → GovernorKind → DemandsOf → ℕ → Plan → Result (List ℕ) Status
+abbrev pub answer_of_plan : Version → GovernorKind → DemandsView → ℕ → Plan → Result (List ℕ) Status
 answer_of_plan v g demands ticks p =
     within_jobs (released_jobs p ticks) (run_text_in v p g (demand_of p demands.rows) ticks)
 
 -- the answer of `run` for the plan and the demands that were prepared
-abbrev pub answer_of_prepared : RunOf → Plan × DemandsOf → Result (List ℕ) Status
+abbrev pub answer_of_prepared : RunView → Plan × DemandsView → Result (List ℕ) Status
 answer_of_prepared r x = answer_of_plan r.version r.governor x.1 r.ticks x.0
 
 -- the answer of `run`, after its tasks were read
-abbrev pub run_after_tasks : RunOf → List Task → Files → Result (List ℕ) Status
+abbrev pub run_after_tasks : RunView → List Task → Files → Result (List ℕ) Status
 run_after_tasks r tasks files = do
   x ← prepared_of r tasks files
   answer_of_prepared r x
 
 -- the answer of `run`
-abbrev pub run_answer : RunOf → Files → Result (List ℕ) Status
+abbrev pub run_answer : RunView → Files → Result (List ℕ) Status
 run_answer r files = do
   tasks ← tasks_at r.tasks files
   run_after_tasks r tasks files
@@ -81,8 +81,8 @@ pub record HasMet (v : Version) (kind : GovernorKind) (r : Run) : Type 0 where
 
 -- a run of its file's tasks told probes the notes of the plan and the demands that were prepared, if the words ask for
 -- probes
-abbrev pub FileTold : Option Files → RunOf → SinkView → SinkView → List ProbeOf → List ProbeOf → Status → Type 0
+abbrev pub FileTold : Option Files → RunView → SinkView → SinkView → List ProbeView → List ProbeView → Status → Type 0
 FileTold files r old new before after s =
     (tasks : List Task) × Gives files (tasks_at r.tasks) tasks
-    × IfAsked r.probes ((p : Plan) × (d : DemandsOf) × Gives files (prepared_of r tasks) (p, d)
+    × IfAsked r.probes ((p : Plan) × (d : DemandsView) × Gives files (prepared_of r tasks) (p, d)
     × RunTold r.version r.governor (run_with r p d) old new before after s)

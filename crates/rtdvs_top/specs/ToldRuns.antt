@@ -8,7 +8,7 @@ use Rattle.sched_model.specs.RunNotes.{run_notes}
 use Rattle.event_kernel.specs.Runs.{Run, demands_of}
 use Rattle.trace_writer.specs.RunText.{run_lines}
 use Rattle.trace_writer.specs.Lines.{StoppedIn}
-use Rattle.probes.specs.Tallies.{ProbeOf, told_notes}
+use Rattle.probes.specs.Tallies.{ProbeView, told_notes}
 use Rattle.statuses.specs.declared.status.Status.{Status}
 use Rattle.statuses.specs.declared.status.Status.TheVariants as status
 
@@ -18,7 +18,7 @@ notes_under kind r = run_notes r.plan kind (demands_of r.plan r.demands) r.ticks
 
 -- A run told probes the notes of its schedule. Where it is done they were told the notes, one by one. Where a write
 -- failed they were told those of the lines before the one that was put.
-abbrev pub RunTold : Version → GovernorKind → Run → SinkView → SinkView → List ProbeOf → List ProbeOf → Status → Type 0
+abbrev pub RunTold : Version → GovernorKind → Run → SinkView → SinkView → List ProbeView → List ProbeView → Status → Type 0
 RunTold v kind r old new before after status.Done = after ≡ told_notes (notes_under kind r) before
 RunTold v kind r old new before after status.Write =
     StoppedIn old new before after (run_lines v r.plan kind r.ticks (notes_under kind r))

@@ -11,11 +11,11 @@ use Rattle.sched_model.specs.Plan.{Plan, names, plan_of}
 use Rattle.sched_model.specs.Admission.{IsAdmitted}
 use Rattle.sched_model.specs.Jobs.{demand_of, IsWithin, released_jobs}
 use Rattle.trace_writer.specs.RunText.{run_text_in, task_texts}
-use Rattle.trace_reader.specs.Traces.{TraceOf, IsTrace, text_of}
+use Rattle.trace_reader.specs.Traces.{TraceView, IsTrace, text_of}
 use Rattle.trace_text.specs.TraceText.{task_lines}
 use Rattle.replay_laws.specs.FixedDemands.{fixed_of, fixed_list}
 use Rattle.words.specs.declared.command.WordFault.{WordFault}
-use Rattle.words.specs.Commands.{TracedOf, CommandOf, traced}
+use Rattle.words.specs.Commands.{TracedView, CommandView, traced}
 use Rattle.statuses.specs.declared.status.Status.{Status}
 use Rattle.statuses.specs.declared.status.Status.TheVariants as status
 use Rattle.dvs_base.specs.Checks.{◌>>=◌}
@@ -54,14 +54,14 @@ pub record IsScheduleText (v : Version) (p : Plan) (g : GovernorKind) (ticks : �
   pub text : bytes ≡ run_text_in v p g (demand_of p rows) ticks
 
 -- the files that the words name mean the tasks and the machine of the plan, and the trace file holds these bytes
-pub record AreFilesOf (r : TracedOf) (files : Files) (p : Plan) (bytes : List ℕ) : Type 0 where
+pub record AreFilesOf (r : TracedView) (files : Files) (p : Plan) (bytes : List ℕ) : Type 0 where
   pub tasks_are : tasks_at r.tasks files ≡ Ok p.tasks
   pub machine_is : machine_at r.machine files ≡ Ok p.machine
   pub bytes_are : file_of files r.trace ≡ Some bytes
 
 -- the trace file is the text of this trace, and of the schedule for the demand list that the trace's notes fix: the
 -- first end of a job fixes its demand, and each other job has its worst case
-pub record TellsOwn (r : TracedOf) (files : Files) (p : Plan) (t : TraceOf) : Type 0 where
+pub record TellsOwn (r : TracedView) (files : Files) (p : Plan) (t : TraceView) : Type 0 where
   pub files_are : AreFilesOf r files p (text_of (names p) (task_texts p) t)
   pub list : IsDemands (fixed_list p t.notes)
   pub schedule : IsScheduleText t.version p t.plan.governor t.plan.ticks (fixed_of p t.notes) (text_of (names p) (task_texts p) t)
@@ -77,9 +77,9 @@ IsDoneUnless loads_rose puts_rose s = ⊥
 -- A replay or a migration is done, where the files are known, exactly where the trace file is the text, in either
 -- version, of a schedule for some demand list: one that is done shows the list, which the text fixes, and each such
 -- file is done, unless a load, a put or memory failed.
-abbrev pub OfTrace : Option Files → Result CommandOf WordFault → Type 0 → Type 0 → Status → Type 0
+abbrev pub OfTrace : Option Files → Result CommandView WordFault → Type 0 → Type 0 → Status → Type 0
 OfTrace (Some files) (Ok (traced r)) loads_rose puts_rose s =
-    (s ≡ status.Done → (p : Plan) × (t : TraceOf) × TellsOwn r files p t)
+    (s ≡ status.Done → (p : Plan) × (t : TraceView) × TellsOwn r files p t)
     × ((v : Version) (p : Plan) (g : GovernorKind) (ticks : ℕ) (rows : List DemandRow) (bytes : List ℕ)
     → AreFilesOf r files p bytes → IsScheduleText v p g ticks rows bytes → IsDoneUnless loads_rose puts_rose s)
 OfTrace files c loads_rose puts_rose s = ⊤
@@ -97,18 +97,18 @@ abbrev pub lines_of_tasks : List Task → List (List ℕ)
 lines_of_tasks tasks = task_lines (task_names tasks) (map task_line tasks)
 
 -- the trace of a text of either version, for these tasks
-abbrev pub trace_of : List Task → List ℕ → Result TraceOf TraceFault
+abbrev pub trace_of : List Task → List ℕ → Result TraceView TraceFault
 trace_of tasks bytes = trace_file Two (task_names tasks) (lines_of_tasks tasks) bytes
 
 -- the trace of a named file
-abbrev pub trace_at : List Task → List ℕ → Files → Result TraceOf Status
+abbrev pub trace_at : List Task → List ℕ → Files → Result TraceView Status
 trace_at tasks name files = do
   bytes ← bytes_at file.Trace name files
   or_status trace_status (trace_of tasks bytes)
 
 -- the admitted plan and the trace, after the tasks were read: the machine, the trace, and the test of the scheduler
 -- that the trace names
-abbrev pub traced_of : TracedOf → List Task → Files → Result (Plan × TraceOf) Status
+abbrev pub traced_of : TracedView → List Task → Files → Result (Plan × TraceView) Status
 traced_of r tasks files = do
   machine ← machine_at r.machine files
   t ← trace_at tasks r.trace files
@@ -123,7 +123,7 @@ replay_status (replay_fault.Differs line wanted found) = status.Differs line wan
 replay_status replay_fault.NoMemory = status.NoMemory
 
 -- the totals of a trace of a plan, where its notes are those of the schedule for the demands that they fix
-abbrev pub totals_at : Plan × TraceOf → Result Totals Status
+abbrev pub totals_at : Plan × TraceView → Result Totals Status
 totals_at x = or_status replay_status (replay_of x.0 (published x.0 x.1.plan.governor) x.1)
 
 -- the line of a replay: the releases, the completions, and the energies of running and of idling
@@ -132,33 +132,33 @@ replayed_text t =
     line (codes "replayed" ∷ decimal t.released ∷ decimal t.finished ∷ decimal t.run ∷ decimal t.idle ∷ [])
 
 -- the text of version 2 of a trace of a plan
-abbrev pub migrated_text : Plan → TraceOf → List ℕ
+abbrev pub migrated_text : Plan → TraceView → List ℕ
 migrated_text p t = text_of (names p) (task_texts p) (record t { version = Two })
 
 -- the trace is one of the plan's scheduler, and has a text in version 2
-pub record IsMigratable (p : Plan) (t : TraceOf) : Type 0 where
+pub record IsMigratable (p : Plan) (t : TraceView) : Type 0 where
   pub scheduler : t.plan.scheduler ≡ p.scheduler
   pub trace : IsTrace (names p) (task_texts p) (record t { version = Two })
 
 -- what is printed for a trace that is that of its schedule: its totals by `replay`, its text in version 2 by `migrate`
-abbrev pub printed : TraceUse → Plan × TraceOf → Totals → List ℕ
+abbrev pub printed : TraceUse → Plan × TraceView → Totals → List ℕ
 printed Replay x totals = replayed_text totals
 printed Migrate x totals = migrated_text x.0 x.1
 
 -- the answer for a trace of a plan, which is compared first
-abbrev pub answer_of_traced : TraceUse → Plan × TraceOf → Result (List ℕ) Status
+abbrev pub answer_of_traced : TraceUse → Plan × TraceView → Result (List ℕ) Status
 answer_of_traced asked x = do
   totals ← totals_at x
   Ok (printed asked x totals)
 
 -- the answer of `replay` or `migrate`, after its tasks were read
-abbrev pub trace_after_tasks : TracedOf → List Task → Files → Result (List ℕ) Status
+abbrev pub trace_after_tasks : TracedView → List Task → Files → Result (List ℕ) Status
 trace_after_tasks r tasks files = do
   x ← traced_of r tasks files
   answer_of_traced r.asked x
 
 -- the answer of `replay` or `migrate`
-abbrev pub trace_answer : TracedOf → Files → Result (List ℕ) Status
+abbrev pub trace_answer : TracedView → Files → Result (List ℕ) Status
 trace_answer r files = do
   tasks ← tasks_at r.tasks files
   trace_after_tasks r tasks files

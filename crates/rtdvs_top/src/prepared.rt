@@ -32,9 +32,9 @@ pub(crate) struct Polling {
 }
 
 impl Model for Polling {
-    ghost use Rattle.poll_server.specs.ServerJobs.{ServerOf, server_of};
+    ghost use Rattle.poll_server.specs.ServerJobs.{ServerView, server_of};
 
-    ghost Value = { ServerOf };
+    ghost Value = { ServerView };
 
     ghost view = { λ p. server_of p.plan p.server p.requests };
 

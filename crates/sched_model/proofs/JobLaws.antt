@@ -7,7 +7,7 @@ use Rattle.sched_model.specs.Plan.{Plan, count, period, offset, worst}
 use Rattle.grid_fraction.proofs.Searches.{any_below-found, last_up_to-le, last_up_to-greatest}
 use Rattle.grid_fraction.proofs.Ceilings.{quotient}
 use Rattle.sched_model.specs.Jobs.{JobDemands, release, due, latest, is_in_window, latest_since, releases_at, is_release, last_release, worst_demand}
-use Rattle.sched_model.specs.Ticks.{Tick, exec, share, left}
+use Rattle.sched_model.specs.Ticks.{Tick, exec, share, units_left}
 
 -- from the offset on the jobs are counted by periods, and before it the latest job is job 0
 latest-from : (p : Plan) (i t : ℕ) → offset p i ≤ t → latest p i t ≡ (t - offset p i) / period p i + 1
@@ -126,14 +126,14 @@ exec-none p (x ∷ past) i =
     rw outside (omega (arith, exec-none p past i))
 
 -- a tick adds the task's share to what the latest job has had, also for job 0 where no task gets more than it needs
-pub exec-legal : (p : Plan) (dem : JobDemands) (x : Tick) (past : List Tick) (i : ℕ) → 0 < period p i → dem i 0 ≡ 0 → share x i ≤ left p dem past i
+pub exec-legal : (p : Plan) (dem : JobDemands) (x : Tick) (past : List Tick) (i : ℕ) → 0 < period p i → dem i 0 ≡ 0 → share x i ≤ units_left p dem past i
     → exec p (x ∷ past) i (latest p i (length past)) ≡ exec p past i (latest p i (length past)) + share x i
 exec-legal p dem x past i pos none fits = grind (arith, nat_tests, exec-none, exec-latest)
 
 -- what the latest job needs falls by the task's share, while it stays the latest
 pub left-stays : (p : Plan) (dem : JobDemands) (x : Tick) (past : List Tick) (i : ℕ) → 0 < period p i → dem i 0 ≡ 0
     → latest p i (length (x ∷ past)) ≡ latest p i (length past)
-    → left p dem (x ∷ past) i ≡ left p dem past i - share x i
+    → units_left p dem (x ∷ past) i ≡ units_left p dem past i - share x i
 left-stays p dem x past i pos none stays = grind (arith, nat_tests, exec-latest)
 
 -- no job has had anything before its release

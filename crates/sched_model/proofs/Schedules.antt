@@ -8,7 +8,7 @@ use Rattle.grid_fraction.specs.Numbers.{list_below}
 use Rattle.sched_model.specs.Plan.{Plan, count, point}
 use Rattle.sched_model.specs.Jobs.{JobDemands}
 use Rattle.sched_model.specs.Decision.{is_decision}
-use Rattle.sched_model.specs.Ticks.{PublishedDemand, Tick, share, left, exec, at}
+use Rattle.sched_model.specs.Ticks.{PublishedDemand, Tick, share, units_left, exec, at}
 use Rattle.sched_model.specs.Priority.{allotment, key_of, IsLegal}
 use Rattle.sched_model.specs.Schedule.{entry_in_force, IsNext, IsScheduleBy, next_tick, schedule_by}
 use Rattle.sched_model.proofs.Tables.{get-table}
@@ -27,7 +27,7 @@ next_unique p dem ask past x h =
     f e = (point p e).speed
 
     given : (e : ℕ) → ℕ → ℕ
-    given e = allotment (count p) (key_of p.scheduler p (length past)) (f e) (left p dem past)
+    given e = allotment (count p) (key_of p.scheduler p (length past)) (f e) (units_left p dem past)
 
     same : x.shares ≡ list_below (count p) (given (entry_in_force p dem ask past))
     same = ext_get_or 0 x.shares (list_below (count p) (given (entry_in_force p dem ask past)))
@@ -36,7 +36,7 @@ next_unique p dem ask past x h =
       where
         at : (i : ℕ) → i < count p → get_or x.shares i 0 ≡ get_or (list_below (count p) (given (entry_in_force p dem ask past))) i 0
         at i lt =
-            allotment_of (count p) (key_of p.scheduler p (length past)) (f x.entry) (left p dem past) (share x) h.legal i lt
+            allotment_of (count p) (key_of p.scheduler p (length past)) (f x.entry) (units_left p dem past) (share x) h.legal i lt
             ∙ (ap (λ e. given e i) h.entry
             ∙ sym (get-table (count p) (given (entry_in_force p dem ask past)) i 0 lt))
 
@@ -55,16 +55,16 @@ pub next_tick-may : (p : Plan) (dem : JobDemands) (ask : PublishedDemand) (past 
 next_tick-may p dem ask past = record {
   one_share_each = length-list_below (count p) given;
   entry = refl;
-  legal = shares-same (count p) (key_of p.scheduler p (length past)) f (left p dem past) given (share (next_tick p dem ask past))
+  legal = shares-same (count p) (key_of p.scheduler p (length past)) f (units_left p dem past) given (share (next_tick p dem ask past))
       (λ i lt. sym (get-table (count p) given i 0 lt))
-      (allotment-shares (count p) (key_of p.scheduler p (length past)) f (left p dem past));
+      (allotment-shares (count p) (key_of p.scheduler p (length past)) f (units_left p dem past));
 }
   where
     f : ℕ
     f = (point p (entry_in_force p dem ask past)).speed
 
     given : ℕ → ℕ
-    given = allotment (count p) (key_of p.scheduler p (length past)) f (left p dem past)
+    given = allotment (count p) (key_of p.scheduler p (length past)) f (units_left p dem past)
 
 -- there is a schedule of each length, for any published demand
 pub schedule_exists : (p : Plan) (dem : JobDemands) (ask : PublishedDemand) (t : ℕ)
@@ -111,11 +111,11 @@ exec-drop p i k (suc n) (x ∷ ticks) = omega (arith, exec-drop p i k n ticks)
 
 -- in a legal tick no task gets more than its latest job needs
 pub share-legal : (p : Plan) (dem : JobDemands) (past : List Tick) (f : ℕ) (x : Tick) → IsLegal p dem past f x
-    → (i : ℕ) → i < count p → share x i ≤ left p dem past i
-share-legal p dem past f x = share-most (count p) (key_of p.scheduler p (length past)) f (left p dem past) (share x)
+    → (i : ℕ) → i < count p → share x i ≤ units_left p dem past i
+share-legal p dem past f x = share-most (count p) (key_of p.scheduler p (length past)) f (units_left p dem past) (share x)
 
 -- a tick that gives no task more than its latest job needs takes no job over its demand
-pub exec-within : (p : Plan) (dem : JobDemands) (x : Tick) (past : List Tick) (i k : ℕ) → share x i ≤ left p dem past i
+pub exec-within : (p : Plan) (dem : JobDemands) (x : Tick) (past : List Tick) (i k : ℕ) → share x i ≤ units_left p dem past i
     → exec p past i k ≤ dem i k → exec p (x ∷ past) i k ≤ dem i k
 exec-within p dem x past i k own had = grind (arith, nat_tests, latest-is)
 

@@ -15,7 +15,7 @@ use Rattle.sched_model.specs.Plan.{Plan, count, point, period}
 use Rattle.sched_model.specs.Jobs.{JobDemands, latest, releases_at, is_release}
 use Rattle.sched_model.specs.Ticks.{PublishedDemand, Tick, exec}
 use Rattle.sched_model.specs.Decision.{is_decision}
-use Rattle.sched_model.specs.Notes.{Span, spans_of, lengthened, tick_units, span_notes, notes_before_end, same_holder}
+use Rattle.sched_model.specs.Notes.{Span, spans_of, spans_with, tick_units, span_notes, notes_before_end, same_holder}
 use Rattle.sched_model.specs.declared.holder.Holder.{Holder}
 use Rattle.sched_model.specs.declared.holder.Holder.TheVariants.{Nobody, Held}
 use Rattle.sched_model.specs.Schedule.{entry_in_force, IsNext, IsScheduleBy}
@@ -48,7 +48,7 @@ span-opens p dem x past e = rw e refl
 pub span-grows : (p : Plan) (dem : JobDemands) (x : Tick) (past : List Tick) (s : Span) (before : List Tick) → is_decision p dem past ≡ false
     → spans_of p dem past ≡ s ∷ spans_of p dem before
     → spans_of p dem (x ∷ past) ≡ record { past = s.past; entry = s.entry; units = s.units ++ tick_units p past x } ∷ spans_of p dem before
-span-grows p dem x past s before e h = rw e (ap (lengthened (tick_units p past x)) h)
+span-grows p dem x past s before e h = rw e (ap (spans_with (tick_units p past x)) h)
 
 -- nobody, or the latest job of a task at tick t, which needs something
 abbrev pub IsNow : Plan → JobDemands → ℕ → Holder → Type 0

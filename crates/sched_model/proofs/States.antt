@@ -8,11 +8,11 @@ use Rattle.grid_fraction.specs.Numbers.{list_below, last_up_to}
 use Rattle.grid_fraction.proofs.Searches.{any_below-false}
 use Rattle.sched_model.specs.declared.state.Row.{Row}
 use Rattle.sched_model.specs.Plan.{Plan, count, period, offset, worst}
-use Rattle.sched_model.specs.States.{StateOf, no_row, row_at, opening, opening_row, IsStateOf, CanRelease, row_wleft, after_run, CanRun, row_of, state_of, released_row, prior_row, prior_base_at, prior_base, prior_state}
+use Rattle.sched_model.specs.States.{StateView, no_row, row_at, opening, opening_row, IsStateOf, CanRelease, row_wleft, after_run, CanRun, row_of, state_of, released_row, prior_row, prior_base_at, prior_base, prior_state}
 use Rattle.sched_model.specs.Admission.{IsWithinLimits}
 use Rattle.sched_model.proofs.Tables.{length-list_below, get-table, map-table, table-same}
 use Rattle.sched_model.specs.Jobs.{JobDemands, release, due, latest, releases_at, is_release, last_release}
-use Rattle.sched_model.specs.Ticks.{Tick, at, exec, is_done, wleft, share, left}
+use Rattle.sched_model.specs.Ticks.{Tick, at, exec, is_done, wleft, share, units_left}
 use Rattle.sched_model.proofs.JobLaws.{due-none, release-none, release-suc, due-suc, lt-due, latest-unique, latest-none, latest-stays, latest-next, release-le, exec-early, exec-legal, last_release-le}
 use Rattle.sched_model.proofs.Schedules.{at-now, at-before}
 
@@ -20,7 +20,7 @@ pub opening-is_state : (p : Plan) → IsStateOf (opening p)
 opening-is_state p = grind (arith, nat_tests, length-list_below, get-table)
 
 -- the state at a tick with these rows, and with a mark of these bases
-abbrev state_by : ℕ → List Row → ℕ → List ℕ → StateOf
+abbrev state_by : ℕ → List Row → ℕ → List ℕ → StateView
 state_by now rows base_at base = record { now = now; rows = rows; base_at = base_at; base = base }
 
 pub opening_by : (p : Plan) (n : ℕ) (rows : List Row) (base : List ℕ) → n ≡ count p
@@ -32,8 +32,8 @@ pub opening-can_release : (p : Plan) → IsWithinLimits p → (i : ℕ) → i < 
 opening-can_release p lim i lt now = grind (arith, nat_tests, get-table, length-list_below)
 
 -- a row that was read from a state is the row of its task
-pub row_read : (s v : StateOf) (i : ℕ) (row : Row) → v ≡ s → i < length s.rows → row ≡ get_or v.rows i row → row ≡ row_at s i
-row_read s v i row is lt read = get_or_read s.rows i row lt (read ∙ ap (λ (u : StateOf). get_or u.rows i row) is) no_row
+pub row_read : (s v : StateView) (i : ℕ) (row : Row) → v ≡ s → i < length s.rows → row ≡ get_or v.rows i row → row ≡ row_at s i
+row_read s v i row is lt read = get_or_read s.rows i row lt (read ∙ ap (λ (u : StateView). get_or u.rows i row) is) no_row
 
 -- the bases of a mark, written one after the other
 pub mark_step : (rows : List Row) (base : List ℕ) (i : ℕ) (row : Row) → i < length rows → i < length base → row ≡ get_or rows i row
@@ -55,19 +55,19 @@ zeros (suc n) = grind (arith, nat_tests, replicate_more, replicate, zeros n)
 pub left-opening : (p : Plan) → replicate (count p) 0 ≡ map row_wleft (opening p).rows
 left-opening p = sym (map-table (count p) (λ i. opening_row (offset p i) (worst p i)) row_wleft ∙ zeros (count p))
 
-module _ (s : StateOf) (left : List ℕ) (is : left ≡ map row_wleft s.rows) (i : ℕ) where
+module _ (s : StateView) (units_left : List ℕ) (is : units_left ≡ map row_wleft s.rows) (i : ℕ) where
   -- a row of a task is written, and what its job may still need
-  pub left-set : (row : Row) (w : ℕ) → w ≡ row_wleft row → slice_set left i w ≡ map row_wleft (slice_set s.rows i row)
+  pub left-set : (row : Row) (w : ℕ) → w ≡ row_wleft row → slice_set units_left i w ≡ map row_wleft (slice_set s.rows i row)
   left-set row w same = grind (arith, nat_tests, map-set)
 
   -- `State::run` takes its units from what the job may still need
-  pub left-run : (units w : ℕ) → CanRun s i units → w ≡ get_or left i w
-      → slice_set left i (w - units) ≡ map row_wleft (after_run s i units).rows
+  pub left-run : (units w : ℕ) → CanRun s i units → w ≡ get_or units_left i w
+      → slice_set units_left i (w - units) ≡ map row_wleft (after_run s i units).rows
   left-run units w can read =
       let row : Row = record (row_at s i) { used = (row_at s i).used + units } in
-      let long : length left ≡ length s.rows = ap (λ (xs : List ℕ). length xs) is ∙ length-map s.rows row_wleft in
+      let long : length units_left ≡ length s.rows = ap (λ (xs : List ℕ). length xs) is ∙ length-map s.rows row_wleft in
       let was : w ≡ (row_at s i).worst - (row_at s i).used =
-      get_or_read left i w (omega (arith, can.task, long)) read 0
+      get_or_read units_left i w (omega (arith, can.task, long)) read 0
       ∙ (ap (λ (xs : List ℕ). get_or xs i 0) is ∙ (get_or-map row_wleft s.rows i no_row ∙ rw can.open_job refl)) in
       let now : row_wleft row ≡ (row_at s i).worst - ((row_at s i).used + units) = rw can.open_job refl in
       left-set row (w - units) (omega (arith, was, now))
@@ -211,7 +211,7 @@ module _ (p : Plan) (dem : JobDemands) (periods : (i : ℕ) → 0 < period p i) 
       not_due i lt false q = q
 
   -- after a tick a row has the tick's units added, and is complete where they complete its job
-  pub row-ran : (x : Tick) (past : List Tick) (i : ℕ) → dem i 0 ≡ 0 → share x i ≤ left p dem past i
+  pub row-ran : (x : Tick) (past : List Tick) (i : ℕ) → dem i 0 ≡ 0 → share x i ≤ units_left p dem past i
       → prior_row p dem (x ∷ past) i ≡ row_by (row_of p dem past i).deadline (row_of p dem past i).job ((row_of p dem past i).used
       + share x i) (nat_le (dem i (latest p i (length past))) ((row_of p dem past i).used + share x i)) (row_of p dem past i).worst
   row-ran x past i none fits = grind (arith, nat_tests, exec-legal)

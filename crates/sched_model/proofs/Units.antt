@@ -12,7 +12,7 @@ use Rattle.sched_model.specs.declared.holder.Holder.{Holder}
 use Rattle.sched_model.specs.declared.holder.Holder.TheVariants.{Nobody, Held}
 use Rattle.sched_model.specs.Plan.{Plan, count, point, period}
 use Rattle.sched_model.specs.Jobs.{JobDemands, latest, is_in_window}
-use Rattle.sched_model.specs.Ticks.{PublishedDemand, Tick, exec, share, left}
+use Rattle.sched_model.specs.Ticks.{PublishedDemand, Tick, exec, share, units_left}
 use Rattle.sched_model.specs.Priority.{key_of, in_order}
 use Rattle.sched_model.specs.Schedule.{IsNext}
 use Rattle.sched_model.specs.Notes.{same_holder, given_units, tick_units}
@@ -136,8 +136,8 @@ module _ (p : Plan) (dem : JobDemands) (ask : PublishedDemand) (past : List Tick
   -- a legal tick gives at most its speed
   pub shares-fit : sum_below (count p) (share x) ≤ (point p x.entry).speed
   shares-fit =
-      let all : sum_where (count p) (λ j. true) (share x) ≡ min ((point p x.entry).speed) (sum_where (count p) (λ j. true) (left p dem past)) =
-      down-set-gets (count p) (key_of p.scheduler p (length past)) (λ j. true) ((point p x.entry).speed) (left p dem past) (share x)
+      let all : sum_where (count p) (λ j. true) (share x) ≡ min ((point p x.entry).speed) (sum_where (count p) (λ j. true) (units_left p dem past)) =
+      down-set-gets (count p) (key_of p.scheduler p (length past)) (λ j. true) ((point p x.entry).speed) (units_left p dem past) (share x)
       (λ j i lj li b on. refl) next.legal in
       omega (arith, all)
 

@@ -16,7 +16,7 @@ use Rattle.sched_model.specs.Jobs.{JobDemands, latest, releases_at}
 use Rattle.sched_model.specs.Ticks.{PublishedDemand, Tick, exec}
 use Rattle.sched_model.specs.Schedule.{IsScheduleBy}
 use Rattle.sched_model.specs.Admission.{IsWithinLimits}
-use Rattle.sched_model.specs.Notes.{Span, Piece, pieces_of, position_of, run_energy, idle_energy, release_notes, all_release_notes, had_by, pieces_notes, span_notes, notes_before_end, spans_of, lengthened, tick_units, notes_of}
+use Rattle.sched_model.specs.Notes.{Span, Piece, pieces_of, position_of, run_energy, idle_energy, release_notes, all_release_notes, had_by, pieces_notes, span_notes, notes_before_end, spans_of, spans_with, tick_units, notes_of}
 use Rattle.sched_model.proofs.Spans.{notes-span, IsNow, IsLastSpan, by-spans, flat_map-last}
 use Rattle.sched_model.proofs.PieceLemmas.{each-piece, total, total-pieces}
 use Rattle.sched_model.specs.Decision.{is_decision}
@@ -116,7 +116,7 @@ module _ (p : Plan) (dem : JobDemands) (ask : PublishedDemand) where
       own = each-unit p past x (IsOfPlan p) (λ i lt some. lt) tt
 
       go : (b : Bool) (spans : List Span) → AreOfPlan spans
-          → AreOfPlan (if b then record { past = past; entry = x.entry; units = tick_units p past x } ∷ spans else lengthened (tick_units p past x) spans)
+          → AreOfPlan (if b then record { past = past; entry = x.entry; units = tick_units p past x } ∷ spans else spans_with (tick_units p past x) spans)
       go true spans held = (own, held)
       go false [] held = tt
       go false (s ∷ spans) held = (each-append (IsOfPlan p) s.units (tick_units p past x) held.0 own, held.1)

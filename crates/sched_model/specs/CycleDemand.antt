@@ -19,12 +19,12 @@ abbrev pub edf_cycle_of : Plan → (ℕ → ℕ) → Frac
 edf_cycle_of p units = record { num = sum_below (count p) (λ i. rate_for p i (units i)); den = hyper p }
 
 -- Vi: Ci while the latest job of task i is incomplete, and otherwise that job's demand
-abbrev pub charged : Plan → JobDemands → List Tick → ℕ → ℕ
-charged p dem past i = if is_complete p dem past i then dem i (latest p i (length past)) else worst p i
+abbrev pub cycle_units : Plan → JobDemands → List Tick → ℕ → ℕ
+cycle_units p dem past i = if is_complete p dem past i then dem i (latest p i (length past)) else worst p i
 
 -- the demand of `cc` under EDF at the tick after `past`
 abbrev pub edf_cycle : Plan → JobDemands → List Tick → Frac
-edf_cycle p dem past = edf_cycle_of p (charged p dem past)
+edf_cycle p dem past = edf_cycle_of p (cycle_units p dem past)
 
 -- What the demand under RM uses: the last release r, the earliest deadline N after it, and for each task what its job
 -- might need at r, what it has had since, and whether it is complete.
@@ -69,8 +69,8 @@ since_release p dem past = record {
 }
 
 -- the units that task i is allotted at the last release
-abbrev pub allotted : Plan → JobDemands → List Tick → ℕ → ℕ
-allotted p dem past i = allotted_of p (since_release p dem past) i
+abbrev pub allotment_at_release : Plan → JobDemands → List Tick → ℕ → ℕ
+allotment_at_release p dem past i = allotted_of p (since_release p dem past) i
 
 -- di at the tick after `past`: what is left of the units that task i is allotted at the last release
 abbrev pub allotment_left : Plan → JobDemands → List Tick → ℕ → ℕ

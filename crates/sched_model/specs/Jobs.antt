@@ -1,6 +1,6 @@
 -- When the jobs of a task are released and due, which is the latest, and what each really needs.
 use Rattle.std.specs.Prelude.{ℕ, zero, suc, ◌+◌, ◌*◌, List, unwrap_or, option_map, ◌<◌, ◌≤◌, ◌≡◌, ◌-◌, ◌/◌, nat_le, if◌then◌else◌, Bool, nat_eq, nat_lt, ◌&&◌}
-use Rattle.task_model.specs.DemandRows.{DemandRow, named}
+use Rattle.task_model.specs.DemandRows.{DemandRow, named_units}
 use Rattle.grid_fraction.specs.Numbers.{any_below, least_below, last_up_to, sum_below, ceil_div}
 use Rattle.sched_model.specs.Plan.{Plan, worst, count, period, offset}
 
@@ -11,7 +11,7 @@ JobDemands = ℕ → ℕ → ℕ
 -- dem(i,k), the units of job k of task i: by the list, with the charge, or the worst case; 0 for job 0
 abbrev pub demand_of : Plan → List DemandRow → ℕ → ℕ → ℕ
 demand_of p rows i zero = 0
-demand_of p rows i (suc k) = unwrap_or (option_map (λ u. u + 2 * p.machine.charge) (named rows i (suc k))) (worst p i)
+demand_of p rows i (suc k) = unwrap_or (option_map (λ u. u + 2 * p.machine.charge) (named_units rows i (suc k))) (worst p i)
 
 -- no job needs more than its worst case, and job 0 needs none
 pub record IsWithin (p : Plan) (dem : JobDemands) : Type 0 where

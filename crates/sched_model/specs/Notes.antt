@@ -121,9 +121,9 @@ tick_units p past x =
     ++ replicate ((point p x.entry).speed - sum_below (count p) (share x)) Nobody
 
 -- the spans, with the units `us` added at the end of the last one
-abbrev pub lengthened : List Holder → List Span → List Span
-lengthened us [] = []
-lengthened us (s ∷ spans) = record { past = s.past; entry = s.entry; units = s.units ++ us } ∷ spans
+abbrev pub spans_with : List Holder → List Span → List Span
+spans_with us [] = []
+spans_with us (s ∷ spans) = record { past = s.past; entry = s.entry; units = s.units ++ us } ∷ spans
 
 -- the spans of a list of ticks, the last one first
 abbrev pub spans_of : Plan → JobDemands → List Tick → List Span
@@ -131,7 +131,7 @@ spans_of p dem [] = []
 spans_of p dem (x ∷ past) =
     if is_decision p dem past
     then record { past = past; entry = x.entry; units = tick_units p past x } ∷ spans_of p dem past
-    else lengthened (tick_units p past x) (spans_of p dem past)
+    else spans_with (tick_units p past x) (spans_of p dem past)
 
 -- the notes of a list of ticks without the end
 unfoldable pub notes_before_end : Plan → JobDemands → PublishedDemand → List Tick → List Note

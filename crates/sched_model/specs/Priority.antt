@@ -5,7 +5,7 @@ use Rattle.dvs_base.specs.declared.kind.Scheduler.TheVariants.{Edf, Rm}
 use Rattle.grid_fraction.specs.Numbers.{sum_where, list_below}
 use Rattle.sched_model.specs.Plan.{Plan, period, count}
 use Rattle.sched_model.specs.Jobs.{JobDemands, deadline}
-use Rattle.sched_model.specs.Ticks.{Tick, share, left}
+use Rattle.sched_model.specs.Ticks.{Tick, share, units_left}
 
 -- whether task j comes before task i: by the key, and among equal keys by the number
 abbrev pub stands_before : (ℕ → ℕ) → ℕ → ℕ → Bool
@@ -60,4 +60,4 @@ allotment n key room need i = min room (sum_up_to n key need i) - min room (sum_
 -- a tick after `past` is legal at speed f: the f units go to the tasks by priority,
 -- to each up to what its latest job needs
 abbrev pub IsLegal : Plan → JobDemands → List Tick → ℕ → Tick → Type 0
-IsLegal p dem past f x = SharesOut (count p) (key_of p.scheduler p (length past)) f (left p dem past) (share x)
+IsLegal p dem past f x = SharesOut (count p) (key_of p.scheduler p (length past)) f (units_left p dem past) (share x)

@@ -4,7 +4,7 @@ use Rattle.dvs_base.specs.declared.kind.GovernorKind.{GovernorKind}
 use Rattle.grid_fraction.specs.Numbers.{list_below}
 use Rattle.freq_table.specs.Tables.{lowest_entry, lowest_pick}
 use Rattle.sched_model.specs.Plan.{Plan, count, point}
-use Rattle.sched_model.specs.Ticks.{PublishedDemand, Tick, left}
+use Rattle.sched_model.specs.Ticks.{PublishedDemand, Tick, units_left}
 use Rattle.sched_model.specs.Priority.{IsLegal, allotment, key_of}
 use Rattle.sched_model.specs.Decision.{is_decision}
 use Rattle.sched_model.specs.Demand.{published}
@@ -38,7 +38,7 @@ next_tick p dem ask past =
     let e = entry_in_force p dem ask past in
     record {
       entry = e;
-      shares = list_below (count p) (allotment (count p) (key_of p.scheduler p (length past)) ((point p e).speed) (left p dem past));
+      shares = list_below (count p) (allotment (count p) (key_of p.scheduler p (length past)) ((point p e).speed) (units_left p dem past));
     }
 
 -- the one schedule of t ticks, with `ask` as the published demand

@@ -29,9 +29,9 @@ pub struct State {
 }
 
 impl Model for State {
-    ghost use Rattle.sched_model.specs.States.{StateOf, IsStateOf};
+    ghost use Rattle.sched_model.specs.States.{StateView, IsStateOf};
 
-    ghost Value = { StateOf };
+    ghost Value = { StateView };
 
     ghost view = { λ s. record { now = s.now; rows = s.rows.items; base_at = s.base_at; base = s.base.items } };
 

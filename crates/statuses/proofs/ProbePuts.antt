@@ -2,13 +2,13 @@
 use Rattle.std.proofs.Common.{◌≡◌, ℕ, zero, suc, ◌+◌, ◌<◌, List, [], ◌∷◌, ◌++◌, length, map, take, get_or, ap, ◌∙◌, sym, subst, arith, append-nil, append_assoc, inr}
 use Rattle.std.proofs.lemmas.List.{take_all, length-map}
 use Rattle.dvs_base.specs.Outside.{SinkView}
-use Rattle.probes.specs.Tallies.{ProbeOf}
+use Rattle.probes.specs.Tallies.{ProbeView}
 use Rattle.dvs_base.specs.WritesText.{Wrote, WroteSome}
 use Rattle.statuses.specs.ProbeLines.{probe_text, probe_lines}
 use Rattle.statuses.specs.Noted.{NotedAs}
 use Rattle.statuses.proofs.NumberedPuts as puts
 
-module _ {X : Type 0} (names : List (List ℕ)) (f : X → ProbeOf) (d : X) where
+module _ {X : Type 0} (names : List (List ℕ)) (f : X → ProbeView) (d : X) where
   -- the lines of the first n probes, and of one more probe after them
   one-more : (place n : ℕ) (xs : List X) → n < length xs
       → probe_lines names place (take (suc n) (map f xs))
@@ -44,5 +44,5 @@ module _ {X : Type 0} (names : List (List ℕ)) (f : X → ProbeOf) (d : X) wher
     pub part-put : (a b c : SinkView) (at : ℕ) (x : X) (line : List ℕ) → at < length xs → x ≡ get_or xs at d
         → line ≡ probe_text names (at + 1) (f x) → Wrote a b (lines at) → WroteSome b c line → NotedAs a c (probe_lines names 1 (map f xs))
     part-put a b c at x line lt is text w v =
-        inr (subst (λ (ps : List ProbeOf). WroteSome a c (probe_lines names 1 ps)) (take_all (length xs) (map f xs) (omega (arith, length-map xs f)))
+        inr (subst (λ (ps : List ProbeView). WroteSome a c (probe_lines names 1 ps)) (take_all (length xs) (map f xs) (omega (arith, length-map xs f)))
         (puts.part-put line_at lines (length xs) more a b c at line lt (text ∙ ap (λ y. probe_text names (at + 1) (f y)) is) w v))

@@ -4,12 +4,12 @@ use Rattle.statuses.specs.declared.status.Status.{Status}
 use Rattle.statuses.specs.declared.status.Status.TheVariants as status
 use Rattle.dvs_base.specs.Outside.{SinkView}
 use Rattle.dvs_base.specs.WritesText.{Wrote, WroteSome}
-use Rattle.probes.specs.Tallies.{ProbeOf}
+use Rattle.probes.specs.Tallies.{ProbeView}
 use Rattle.statuses.specs.StatusLines.{status_text}
 use Rattle.statuses.specs.ProbeLines.{probe_lines}
 
 -- what is put to `notes` at the end: the lines of the status, or of the probes where a run that asked for them is done
-abbrev pub noted_text : Bool → List (List ℕ) → List ProbeOf → Status → List ℕ
+abbrev pub noted_text : Bool → List (List ℕ) → List ProbeView → Status → List ℕ
 noted_text true names ps status.Done = probe_lines names 1 ps
 noted_text asks names ps s = status_text names s
 

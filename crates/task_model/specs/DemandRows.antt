@@ -12,6 +12,6 @@ abbrev pub demand_row : ℕ → ℕ → ℕ → DemandRow
 demand_row task job units = record { task = task; job = job; units = units }
 
 -- the units that a demand list names for job k of task i: those of the first row with that job
-abbrev pub named : List DemandRow → ℕ → ℕ → Option ℕ
-named [] i k = None
-named (r ∷ rows) i k = if nat_eq r.task i && nat_eq r.job k then Some r.units else named rows i k
+abbrev pub named_units : List DemandRow → ℕ → ℕ → Option ℕ
+named_units [] i k = None
+named_units (r ∷ rows) i k = if nat_eq r.task i && nat_eq r.job k then Some r.units else named_units rows i k

@@ -20,7 +20,7 @@ use Rattle.sched_model.proofs.Tables.{each-below}
 use Rattle.trace_text.specs.TraceLines.{lines_of, line, done_fields, fields_of, note_text}
 use Rattle.grid_fraction.proofs.Lists.{each-append}
 use Rattle.trace_text.proofs.Unspaced.{AreUnspaced, unspaced-name, some-name}
-use Rattle.trace_text.specs.TraceText.{head_lines, text_of_lines, shares_from, version_line, LineOf, noted, lines_of_note}
+use Rattle.trace_text.specs.TraceText.{head_lines, text_of_lines, shares_from, version_line, NotedLine, line_of_note, lines_of_note}
 use Rattle.trace_reader.proofs.WholeText.{each-for, each-share, each-noted}
 use Rattle.trace_reader.proofs.SplitLines.{IsLine, lines-text, task-fields, each-line}
 use Rattle.dvs_base.specs.declared.note.Note.TheVariants.{Done}
@@ -78,8 +78,8 @@ other-line : (name : List ℕ) (k : ℕ) (l : List ℕ) → IsQuiet l → IsOthe
 other-line name k l other at_end d = true≢false (sym (ap (λ (m : List ℕ). nat_eq (get_or m 0 0) 100) d.1) ∙ other)
 
 -- where no line is the completion's, none of their texts is
-none-done : (name : List ℕ) (k : ℕ) (ls : List LineOf) → AllByRecursion (λ l. IsOther name k l.text) ls → NoDoneLine name k (map (λ l. l.text) ls)
-none-done name k ls h = All-map (IsOther name k) (λ (l : LineOf). l.text) ls (All-from_recursion (λ (l : LineOf). IsOther name k l.text) ls h)
+none-done : (name : List ℕ) (k : ℕ) (ls : List NotedLine) → AllByRecursion (λ l. IsOther name k l.text) ls → NoDoneLine name k (map (λ l. l.text) ls)
+none-done name k ls h = All-map (IsOther name k) (λ (l : NotedLine). l.text) ls (All-from_recursion (λ (l : NotedLine). IsOther name k l.text) ls h)
 
 -- a note of another kind, or of another job, doesn't have the line of this job's completion
 silent : (ns : List (List ℕ)) → ((i : ℕ) → AreUnspaced (name_of ns i)) → (i k : ℕ) → ((j : ℕ) → name_of ns j ≡ name_of ns i → j ≡ i) → k < 2 ^ 64
@@ -172,10 +172,10 @@ module _ (p : Plan) (dem : JobDemands) (ask : PublishedDemand) (lim : IsWithinLi
   abbrev text : Version → GovernorKind → ℕ → List ℕ
   text v g t = text_of_lines (run_lines v p g t notes)
 
-  abbrev lines_at : Version → List Note → List LineOf
+  abbrev lines_at : Version → List Note → List NotedLine
   lines_at v some = flat_map (lines_of_note v (names p) notes) some
 
-  abbrev heading : Version → GovernorKind → ℕ → List LineOf
+  abbrev heading : Version → GovernorKind → ℕ → List NotedLine
   heading v g t = head_lines v p.scheduler g t (task_texts p)
 
   module _ (v : Version) (g : GovernorKind) (t : ℕ) (i k : ℕ) (lt : i < count p) (some_job : 1 ≤ k) (had : exec p ticks i k ≡ dem i k)
@@ -184,7 +184,7 @@ module _ (p : Plan) (dem : JobDemands) (ask : PublishedDemand) (lim : IsWithinLi
     name = name_of (names p) i
 
     -- the lines before the notes, and those of some notes
-    abbrev before : List Note → List LineOf
+    abbrev before : List Note → List NotedLine
     before some = heading v g t ++ lines_at v some
 
     once : count_by (tells_done i k) notes ≡ 1
@@ -212,7 +212,7 @@ module _ (p : Plan) (dem : JobDemands) (ask : PublishedDemand) (lim : IsWithinLi
           after = map (λ l. l.text) (lines_at v r.back);
           at_end = q;
           lines = lines-run p named v g t notes ∙ (ap (λ ls. map (λ l. l.text) ls) split
-              ∙ map-append (λ (l : LineOf). l.text) (before r.front) (noted (names p) (Done q j l u) ∷ lines_at v r.back));
+              ∙ map-append (λ (l : NotedLine). l.text) (before r.front) (line_of_note (names p) (Done q j l u) ∷ lines_at v r.back));
           done = (u, note-fields (names p) (Done q j l u) ∙ ap₂ (λ m n. line (done_fields q (name_of (names p) m) n u)) (sym task) (sym job));
           in_time = by;
           none_before = none-done name k (before r.front)
@@ -225,11 +225,11 @@ module _ (p : Plan) (dem : JobDemands) (ask : PublishedDemand) (lim : IsWithinLi
               (each-after _ r.front (r.one ∷ r.back) all_small).1);
         }
           where
-            split : run_lines v p g t notes ≡ before r.front ++ noted (names p) (Done q j l u) ∷ lines_at v r.back
+            split : run_lines v p g t notes ≡ before r.front ++ line_of_note (names p) (Done q j l u) ∷ lines_at v r.back
             split =
                 ap (λ ls. heading v g t ++ ls) (ap (lines_at v) r.parts ∙ (flat_map-append (lines_of_note v (names p) notes) r.front (r.one ∷ r.back)
                 ∙ ap (λ n. lines_at v r.front ++ (lines_of_note v (names p) notes n ++ lines_at v r.back)) e))
-                ∙ sym (append_assoc (heading v g t) (lines_at v r.front) (noted (names p) (Done q j l u) ∷ lines_at v r.back))
+                ∙ sym (append_assoc (heading v g t) (lines_at v r.front) (line_of_note (names p) (Done q j l u) ∷ lines_at v r.back))
 
             passes : (nat_eq i j && nat_eq k l) ≡ true
             passes = sym (ap (tells_done i k) e) ∙ r.passes

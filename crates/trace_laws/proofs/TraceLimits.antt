@@ -25,7 +25,7 @@ use Rattle.sched_model.specs.Ticks.{Tick, wleft, PublishedDemand}
 use Rattle.sched_model.specs.Priority.{in_order}
 use Rattle.sched_model.specs.Tests.{IsEdfFeasible, IsRmFeasible, total_rate}
 use Rattle.sched_model.specs.StaticDemand.{full_demand, static_speed, rm_static}
-use Rattle.sched_model.specs.CycleDemand.{rate_for, charged, SinceRelease, units_at_mark, allotment_left_of, since_release, edf_cycle, rm_cycle}
+use Rattle.sched_model.specs.CycleDemand.{rate_for, cycle_units, SinceRelease, units_at_mark, allotment_left_of, since_release, edf_cycle, rm_cycle}
 use Rattle.sched_model.specs.AheadDemand.{due_first, edf_ahead}
 use Rattle.sched_model.specs.Demand.{demand_by, published}
 use Rattle.sched_model.specs.Admission.{IsAdmitted, PassesTest, IsWithinLimits}
@@ -87,12 +87,12 @@ module _ (p : Plan) (adm : IsAdmitted p) (dem : JobDemands) (within : IsWithin p
   rm-static-low : IsRmFeasible p → IsLow (rm_static p)
   rm-static-low test = grind (arith, nat_tests, heaviest_within, low_period, room)
 
-  charged-most : (i : ℕ) → i < count p → charged p dem past i ≤ worst p i
+  charged-most : (i : ℕ) → i < count p → cycle_units p dem past i ≤ worst p i
   charged-most i lt = grind (arith, within.most i (latest p i (length past)) lt)
 
   edf-cycle-low : IsEdfFeasible p → IsLow (edf_cycle p dem past)
   edf-cycle-low test =
-      let rates : ℕ → ℕ = λ i. rate_for p i (charged p dem past i) in
+      let rates : ℕ → ℕ = λ i. rate_for p i (cycle_units p dem past i) in
       let most : sum_below (count p) rates ≤ total_rate p =
       sum_below-le (count p) rates (rate p) (λ i lt. mul-le-mul_right (hyper p / period p i) (charged-most i lt)) in
       record {

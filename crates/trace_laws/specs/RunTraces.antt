@@ -8,10 +8,10 @@ use Rattle.sched_model.specs.Plan.{Plan, names}
 use Rattle.sched_model.specs.Jobs.{released_jobs, JobDemands, IsWithin}
 use Rattle.sched_model.specs.RunNotes.{run_notes}
 use Rattle.trace_writer.specs.RunText.{task_texts}
-use Rattle.trace_reader.specs.Traces.{TraceOf, IsTrace}
+use Rattle.trace_reader.specs.Traces.{TraceView, IsTrace}
 
 -- the trace, in a version, of the run of `ticks` ticks of a plan under a governor for these demands
-abbrev pub trace_of_run : Version → Plan → GovernorKind → JobDemands → ℕ → TraceOf
+abbrev pub trace_of_run : Version → Plan → GovernorKind → JobDemands → ℕ → TraceView
 trace_of_run v p g dem ticks = record {
   version = v;
   plan = record { scheduler = p.scheduler; governor = g; ticks = ticks };

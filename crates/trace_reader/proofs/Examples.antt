@@ -16,7 +16,7 @@ use Rattle.trace_reader.specs.Fields.{position_in, fraction_in, task_in}
 use Rattle.trace_reader.specs.Items.{release_in, speed_in, run_in, idle_in, done_in, end_in, energy_in, item_of}
 use Rattle.trace_reader.specs.Heads.{line_at, plan_line_of, parts_after_tasks}
 use Rattle.trace_reader.specs.TraceFile.{next_item, notes_from, trace_file}
-use Rattle.trace_reader.specs.Traces.{TraceOf}
+use Rattle.trace_reader.specs.Traces.{TraceView}
 use Rattle.trace_text.specs.TraceText.{task_lines}
 
 -- lines, each ended by a line feed
@@ -33,7 +33,7 @@ abbrev task_of : ℕ → ℕ → ℕ → TaskLine
 task_of period offset worst = record { period = period; offset = offset; worst = worst }
 
 -- what is read from these lines for task a (period 2, worst case 5) and task b (period 3, offset 1, worst case 4)
-abbrev read : Version → List (List ℕ) → Result TraceOf TraceFault
+abbrev read : Version → List (List ℕ) → Result TraceView TraceFault
 unfolding plan_line_of parts_after_tasks release_in speed_in run_in idle_in done_in end_in energy_in item_of position_in fraction_in
     task_in next_item notes_from trace_file digits
 read newest text = trace_file newest names (task_lines names (task_of 2 0 5 ∷ task_of 3 1 4 ∷ [])) (lines text)

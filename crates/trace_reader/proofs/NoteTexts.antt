@@ -22,7 +22,7 @@ use Rattle.trace_reader.specs.declared.trace.TraceKind.TheVariants as kind
 use Rattle.trace_reader.specs.Fields.{parts}
 use Rattle.trace_reader.specs.Heads.{line_at, at_line}
 use Rattle.trace_reader.specs.Items.{item_of}
-use Rattle.trace_reader.specs.TraceFile.{SoFar, wanted, is_in_order, is_right_share, next_item, with_item, ends, is_nothing, notes_from}
+use Rattle.trace_reader.specs.TraceFile.{SoFar, energy_line_count, is_in_order, is_right_share, next_item, with_item, ends, is_nothing, notes_from}
 use Rattle.trace_reader.specs.Traces.{IsNoteOf, is_end}
 use Rattle.trace_reader.proofs.FirstCut.{HasPart}
 use Rattle.trace_reader.proofs.FieldTexts.{AreApart}
@@ -39,7 +39,7 @@ at_line-ok n (Err k) x e = absurd cc
 -- the item of the next line, with the checks that it passed
 record IsNextItem (v : Version) (names : List (List ℕ)) (s : SoFar) (fields : List (List ℕ)) (item : Item) : Type 0 where
   read : item_of v names fields ≡ Ok item
-  order : is_in_order s.energies_read (wanted v names) item ≡ true
+  order : is_in_order s.energies_read (energy_line_count v names) item ≡ true
   right : is_right_share s.notes item ≡ true
 
 checks : (order right : Bool) (x item : Item) → (if order then (if right then Ok x else Err kind.Share) else Err kind.Order) ≡ Ok item
@@ -52,7 +52,7 @@ next_item-found : (v : Version) (names : List (List ℕ)) (s : SoFar) (fields : 
 unfolding next_item
 next_item-found v names s fields item e =
     let a = step-ok _ _ item e in
-    let c = checks (is_in_order s.energies_read (wanted v names) a.0) (is_right_share s.notes a.0) a.0 item a.2 in
+    let c = checks (is_in_order s.energies_read (energy_line_count v names) a.0) (is_right_share s.notes a.0) a.0 item a.2 in
     subst (λ (x : Item). IsNextItem v names s fields x) c.2 (record { read = a.1; order = c.0; right = c.1 })
 
 -- the notes `all` that are read from line n on: those so far, `body` and the last, with their text and its limits
@@ -65,8 +65,8 @@ pub record Reads (v : Version) (names : List (List ℕ)) (n : ℕ) (s : SoFar) (
   pub each : AllByRecursion (IsNoteOf (length names)) (body ++ last ∷ [])
   pub none : 0 < s.energies_read → body ≡ []
   pub text : join_with_byte 10 ps ≡ rest_text v names s.energies_read s.notes body last
-  pub widths : (i : ℕ) → s.energies_read ≤ i → i < wanted v names → task_energy (s.notes ++ body) i < 2 ^ 128
-  pub lines : n + (length body + (wanted v names - s.energies_read)) ≤ MOST_LINES
+  pub widths : (i : ℕ) → s.energies_read ≤ i → i < energy_line_count v names → task_energy (s.notes ++ body) i < 2 ^ 128
+  pub lines : n + (length body + (energy_line_count v names - s.energies_read)) ≤ MOST_LINES
 
 nothing-is : (ps : List (List ℕ)) → is_nothing ps ≡ true → ps ≡ [] ∷ []
 nothing-is ([] ∷ []) e = refl
@@ -97,8 +97,8 @@ read-last : (v : Version) (names : List (List ℕ)) (n : ℕ) (s : SoFar) (text 
     → s.notes ++ last ∷ [] ≡ all → Reads v names n s (text ∷ rest) all
 read-last v names n s text rest last all end read item nothing whole =
     let found = item-found v names text (Told last) item.read in
-    let energies_read : wanted v names ≤ s.energies_read =
-    leb-true (wanted v names) s.energies_read (sym (order-told s.energies_read (wanted v names) last true end) ∙ item.order) in
+    let energies_read : energy_line_count v names ≤ s.energies_read =
+    leb-true (energy_line_count v names) s.energies_read (sym (order-told s.energies_read (energy_line_count v names) last true end) ∙ item.order) in
     let line : join_with_byte 10 (text ∷ rest) ≡ note_text names last =
     join-line text rest read.more ∙ (ap (λ ps. text ++ 10 ∷ join_with_byte 10 ps) (nothing-is rest nothing) ∙ (found.0 ∙ sym (note-line names last))) in
     record {
@@ -121,7 +121,7 @@ read-note : (v : Version) (names : List (List ℕ)) (n : ℕ) (s : SoFar) (text 
     → Reads v names (n + 1) (record { notes = s.notes ++ note ∷ []; energies_read = s.energies_read }) rest all → Reads v names n s (text ∷ rest) all
 read-note v names n s text rest note all other read item more =
     let found = item-found v names text (Told note) item.read in
-    let none : s.energies_read ≡ 0 = eqb-true s.energies_read 0 (sym (order-told s.energies_read (wanted v names) note false other) ∙ item.order) in
+    let none : s.energies_read ≡ 0 = eqb-true s.energies_read 0 (sym (order-told s.energies_read (energy_line_count v names) note false other) ∙ item.order) in
     let joined_notes : (s.notes ++ note ∷ []) ++ more.body ≡ s.notes ++ note ∷ more.body = append_assoc s.notes (note ∷ []) more.body in
     let tail : List ℕ = joined (drop s.energies_read (shares v names (s.notes ++ note ∷ more.body))) ++ note_text names more.last in
     let line : join_with_byte 10 (text ∷ rest) ≡ note_text names note ++ join_with_byte 10 rest =
@@ -148,7 +148,7 @@ wanted-some true energies_read n lt = (refl, lt)
 wanted-some false energies_read n lt = absurd (omega arith)
 
 share-facts : (v : Version) (names : List (List ℕ)) (notes : List Note) (energies_read : ℕ) → has_task_lines v ≡ true → energies_read < length names
-    → (wanted v names ≡ length names) × (drop energies_read (shares v names notes)
+    → (energy_line_count v names ≡ length names) × (drop energies_read (shares v names notes)
     ≡ share_text (name_of names energies_read) (task_energy notes energies_read) ∷ drop (energies_read + 1) (shares v names notes))
 share-facts v names notes energies_read e lt = rw e (refl, shares-next names notes energies_read lt)
 
@@ -168,7 +168,7 @@ share-widths notes body energies_read j energy none sum fits low later = by (nat
 -- reading the energy of a task
 read-share : (v : Version) (names : List (List ℕ)) (n : ℕ) (s : SoFar) (text : List ℕ) (rest : List (List ℕ)) (i energy : ℕ) (all : List Note)
     → IsLineOf n (text ∷ rest) text rest → IsNextItem v names s (parts 32 text) (Share i energy)
-    → (s.energies_read < wanted v names → Reads v names (n + 1) (record { notes = s.notes; energies_read = s.energies_read + 1 }) rest all)
+    → (s.energies_read < energy_line_count v names → Reads v names (n + 1) (record { notes = s.notes; energies_read = s.energies_read + 1 }) rest all)
     → Reads v names n s (text ∷ rest) all
 read-share v names n s text rest i energy all read item next =
     let found = item-found v names text (Share i energy) item.read in
@@ -176,7 +176,7 @@ read-share v names n s text rest i energy all read item next =
     let sum : energy ≡ task_energy s.notes i = eqb-true energy (task_energy s.notes i) item.right in
     let within : s.energies_read < length names = omega (arith, found.1.1) in
     let facts = share-facts v names (s.notes ++ []) s.energies_read found.1.0 within in
-    let wide : s.energies_read < wanted v names = omega (arith, facts.0) in
+    let wide : s.energies_read < energy_line_count v names = omega (arith, facts.0) in
     let more = next wide in
     let none : more.body ≡ [] = more.none (omega arith) in
     let here : share_text (name_of names i) energy ≡ share_text (name_of names s.energies_read) (task_energy (s.notes ++ []) s.energies_read) =
@@ -251,7 +251,7 @@ answer n all more = if is_nothing (parts 10 more) then Ok all else Err (Refused 
 module _ (v : Version) (names : List (List ℕ)) (named : AreNames names) (apart : AreApart names) where
   -- the line of an item that may come next is read
   item-next : (n : ℕ) (s : SoFar) (item : Item) (more : List ℕ) → IsItemOf v (length names) item → n ≤ MOST_LINES
-      → is_in_order s.energies_read (wanted v names) item ≡ true → is_right_share s.notes item ≡ true
+      → is_in_order s.energies_read (energy_line_count v names) item ≡ true → is_right_share s.notes item ≡ true
       → notes_from v names n s (parts 10 (item_text names item ++ more)) ≡ after_item v names n s (parts 10 more) item
   unfolding notes_from next_item
   item-next n s item more fits few order right =
@@ -271,27 +271,28 @@ module _ (v : Version) (names : List (List ℕ)) (named : AreNames names) (apart
 
   -- the text of the last note is read
   last-text : (n : ℕ) (s : SoFar) (last : Note) (more : List ℕ) → is_end last ≡ true → IsNoteOf (length names) last
-      → wanted v names ≤ s.energies_read → n ≤ MOST_LINES
+      → energy_line_count v names ≤ s.energies_read → n ≤ MOST_LINES
       → notes_from v names n s (parts 10 (note_text names last ++ more)) ≡ answer (n + 1) (s.notes ++ last ∷ []) more
   last-text n s last more end fits energies_read few =
       ap (λ t. notes_from v names n s (parts 10 (t ++ more))) (note-line names last)
       ∙ (item-next n s (Told last) more fits few
-      (order-told s.energies_read (wanted v names) last true end ∙ le-leb (wanted v names) s.energies_read energies_read) refl
+      (order-told s.energies_read (energy_line_count v names) last true end ∙ le-leb (energy_line_count v names) s.energies_read energies_read) refl
       ∙ end-after n s last more end)
 
   -- the text of the energies that are left and the last note is read
-  shares-text : (k n : ℕ) (s : SoFar) (last : Note) (more : List ℕ) → wanted v names - s.energies_read ≡ k → is_end last ≡ true → IsNoteOf (length names) last
-      → ((i : ℕ) → s.energies_read ≤ i → i < wanted v names → task_energy s.notes i < 2 ^ 128) → n + k ≤ MOST_LINES
+  shares-text : (k n : ℕ) (s : SoFar) (last : Note) (more : List ℕ) → energy_line_count v names - s.energies_read ≡ k → is_end last ≡ true
+          → IsNoteOf (length names) last
+      → ((i : ℕ) → s.energies_read ≤ i → i < energy_line_count v names → task_energy s.notes i < 2 ^ 128) → n + k ≤ MOST_LINES
       → notes_from v names n s (parts 10 ((joined (drop s.energies_read (shares v names s.notes)) ++ note_text names last) ++ more)) ≡ answer
       (n + k + 1) (s.notes ++ last ∷ []) more
   shares-text zero n s last more left end fits widths few =
-      let energies_read : wanted v names ≤ s.energies_read = omega arith in
+      let energies_read : energy_line_count v names ≤ s.energies_read = omega arith in
       let here : n + 1 ≡ n + 0 + 1 = omega arith in
       ap (λ ls. notes_from v names n s (parts 10 ((joined ls ++ note_text names last) ++ more))) (shares-told v names s.notes s.energies_read energies_read)
       ∙ (last-text n s last more end fits energies_read (omega arith)
       ∙ ap (λ m. answer m (s.notes ++ last ∷ []) more) here)
   shares-text (suc k) n s last more left end fits widths few =
-      let wide : s.energies_read < wanted v names = omega arith in
+      let wide : s.energies_read < energy_line_count v names = omega arith in
       let two = wanted-some (has_task_lines v) s.energies_read (length names) wide in
       let facts = share-facts v names s.notes s.energies_read two.0 two.1 in
       let energy : ℕ = task_energy s.notes s.energies_read in
@@ -317,14 +318,14 @@ module _ (v : Version) (names : List (List ℕ)) (named : AreNames names) (apart
   pub notes_from-text : (n : ℕ) (s : SoFar) (body : List Note) (last : Note) (more : List ℕ) → s.energies_read ≡ 0
       → HaveNoEnd body → is_end last ≡ true
       → AllByRecursion (IsNoteOf (length names)) (body ++ last ∷ [])
-      → ((i : ℕ) → i < wanted v names → task_energy (s.notes ++ body) i < 2 ^ 128) → n + (length body + wanted v names) ≤ MOST_LINES
+      → ((i : ℕ) → i < energy_line_count v names → task_energy (s.notes ++ body) i < 2 ^ 128) → n + (length body + energy_line_count v names) ≤ MOST_LINES
       → notes_from v names n s (parts 10 (rest_text v names s.energies_read s.notes body last ++ more)) ≡ answer
-      (n + (length body + wanted v names) + 1) (s.notes ++ (body ++ last ∷ [])) more
+      (n + (length body + energy_line_count v names) + 1) (s.notes ++ (body ++ last ∷ [])) more
   notes_from-text n s [] last more none no_end end each widths few =
       let same : s.notes ++ [] ≡ s.notes = append-nil s.notes in
-      let here : n + wanted v names + 1 ≡ n + (0 + wanted v names) + 1 = omega arith in
+      let here : n + energy_line_count v names + 1 ≡ n + (0 + energy_line_count v names) + 1 = omega arith in
       ap (λ ns. notes_from v names n s (parts 10 ((joined (drop s.energies_read (shares v names ns)) ++ note_text names last) ++ more))) same
-      ∙ (shares-text (wanted v names) n s last more (omega arith) end each.0
+      ∙ (shares-text (energy_line_count v names) n s last more (omega arith) end each.0
       (λ i low high. subst (λ ns. task_energy ns i < 2 ^ 128) same (widths i high)) (omega arith)
       ∙ ap (λ m. answer m (s.notes ++ last ∷ []) more) here)
   notes_from-text n s (note ∷ body) last more none no_end end each widths few =
@@ -340,11 +341,11 @@ module _ (v : Version) (names : List (List ℕ)) (named : AreNames names) (apart
       (note-line names note) (sym regrouped)) in
       let later = notes_from-text (n + 1) next body last more none no_end.1 end each.1
       (λ i high. subst (λ ns. task_energy ns i < 2 ^ 128) (sym regrouped) (widths i high)) (omega arith) in
-      let here : n + 1 + (length body + wanted v names) + 1 ≡ n + (suc (length body) + wanted v names) + 1 = omega arith in
+      let here : n + 1 + (length body + energy_line_count v names) + 1 ≡ n + (suc (length body) + energy_line_count v names) + 1 = omega arith in
       let whole : (s.notes ++ note ∷ []) ++ (body ++ last ∷ []) ≡ s.notes ++ note ∷ (body ++ last ∷ []) =
       append_assoc s.notes (note ∷ []) (body ++ last ∷ []) in
       ap (λ t. notes_from v names n s (parts 10 t)) text
       ∙ (item-next n s (Told note) (rest_text v names s.energies_read next.notes body last ++ more) each.0 (omega arith)
-      (order-told s.energies_read (wanted v names) note false no_end.0 ∙ eq-eqb s.energies_read 0 none) refl
+      (order-told s.energies_read (energy_line_count v names) note false no_end.0 ∙ eq-eqb s.energies_read 0 none) refl
       ∙ (note-after n s note (parts 10 (rest_text v names s.energies_read next.notes body last ++ more)) no_end.0
       ∙ (later ∙ ap₂ (λ m ns. answer m ns more) here whole)))

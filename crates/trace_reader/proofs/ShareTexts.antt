@@ -6,12 +6,12 @@ use Rattle.std.proofs.lemmas.Grind.{flat_map-append}
 use Rattle.std.proofs.lemmas.List.{append-nil, drop_all}
 use Rattle.dvs_base.specs.Parts.{joined, name_of}
 use Rattle.trace_text.specs.TraceLines.{note_text}
-use Rattle.trace_text.specs.TraceText.{LineOf, noted, for_tasks, lines_of_note, note_lines, text_of_lines, share_text, task_energy, shares_from}
+use Rattle.trace_text.specs.TraceText.{NotedLine, line_of_note, for_tasks, lines_of_note, note_lines, text_of_lines, share_text, task_energy, shares_from}
 use Rattle.trace_reader.specs.Heads.{version_task_lines}
 use Rattle.dvs_base.specs.declared.note.Note.{Note}
 use Rattle.dvs_base.specs.declared.note.Note.TheVariants.{End}
 use Rattle.dvs_base.specs.declared.kind.Version.{Version}
-use Rattle.trace_reader.specs.TraceFile.{wanted}
+use Rattle.trace_reader.specs.TraceFile.{energy_line_count}
 use Rattle.trace_reader.specs.Traces.{is_end}
 use Rattle.trace_reader.proofs.EnergySums.{energy-more}
 use Rattle.trace_reader.proofs.WholeText.{length-shares, lines-by, text-for}
@@ -36,7 +36,7 @@ shares-same a b i [] same = refl
 shares-same a b i (name ∷ names) same = ap₂ (λ e rest. share_text name e ∷ rest) (same i) (shares-same a b (i + 1) names same)
 
 -- once all energies were read, no energy line is left
-pub shares-told : (v : Version) (names : List (List ℕ)) (notes : List Note) (energies_read : ℕ) → wanted v names ≤ energies_read
+pub shares-told : (v : Version) (names : List (List ℕ)) (notes : List Note) (energies_read : ℕ) → energy_line_count v names ≤ energies_read
     → drop energies_read (shares v names notes) ≡ []
 shares-told v names notes energies_read h = drop_all energies_read (shares v names notes) (omega (arith, length-shares v names notes, h))
 
@@ -76,7 +76,7 @@ told-last : (v : Version) (names : List (List ℕ)) (all : List Note) (last : No
     → text_of_lines (lines_of_note v names all last ++ []) ≡ joined (shares v names all) ++ note_text names last
 told-last v names all last e =
     ap text_of_lines (append-nil (lines_of_note v names all last) ∙ lines-by v names all last true e)
-    ∙ (flat_map-append (λ (l : LineOf). l.text) (for_tasks v (shares_from all 0 names)) (noted names last ∷ [])
+    ∙ (flat_map-append (λ (l : NotedLine). l.text) (for_tasks v (shares_from all 0 names)) (line_of_note names last ∷ [])
     ∙ ap₂ (λ a b. a ++ b) (text-for v (shares_from all 0 names)) (append-nil (note_text names last)))
 
 -- the notes of a whole trace have the text of the notes from its beginning

@@ -10,8 +10,8 @@ use Rattle.dvs_base.proofs.Decimals.{length-decimal_u128}
 use Rattle.trace_text.specs.TraceLines.{line, note_text, plan_fields, plan_text}
 use Rattle.grid_fraction.proofs.Lists.{each-append}
 use Rattle.trace_reader.specs.declared.line.Item.TheVariants.{Told}
-use Rattle.trace_text.specs.TraceText.{LineOf, for_tasks, note_lines, trace_lines, text_of_lines, version_line, share_text, task_energy}
-use Rattle.trace_reader.specs.Traces.{TraceOf, IsNoteOf, IsTrace, text_of}
+use Rattle.trace_text.specs.TraceText.{NotedLine, for_tasks, note_lines, trace_lines, text_of_lines, version_line, share_text, task_energy}
+use Rattle.trace_reader.specs.Traces.{TraceView, IsNoteOf, IsTrace, text_of}
 use Rattle.trace_reader.proofs.Lined.{line-spaced}
 use Rattle.trace_reader.proofs.LineTexts.{AreNames, lengths, length-spaced, length-name_of, lengths-item}
 use Rattle.trace_reader.proofs.WholeText.{each-for, each-share, each-noted, length-lines}
@@ -48,12 +48,12 @@ lines-short (text ∷ texts) each =
     (omega (arith, ap length each.0.ended, length-append each.0.body (10 ∷ []), each.0.short), lines-short texts each.1)
 
 -- the text of lines that are each short
-length-text : (ls : List LineOf) → AllByRecursion (λ l. IsShort l.text) ls → length (text_of_lines ls) ≤ (LONGEST_LINE + 1) * length ls
+length-text : (ls : List NotedLine) → AllByRecursion (λ l. IsShort l.text) ls → length (text_of_lines ls) ≤ (LONGEST_LINE + 1) * length ls
 length-text [] each = omega arith
 length-text (l ∷ ls) each = omega (arith, length-append l.text (text_of_lines ls), each.0, length-text ls each.1)
 
 -- a trace's text
-pub text-short : (names tasks : List (List ℕ)) (t : TraceOf) → AreNames names → AreLines tasks → IsTrace names tasks t
+pub text-short : (names tasks : List (List ℕ)) (t : TraceView) → AreNames names → AreLines tasks → IsTrace names tasks t
     → length (text_of names tasks t) ≤ LONGEST_TRACE
 text-short names tasks t named lined h =
     omega (

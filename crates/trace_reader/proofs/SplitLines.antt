@@ -12,7 +12,7 @@ use Rattle.trace_text.specs.TraceLines.{line, fields_of, note_text, plan_fields,
 use Rattle.grid_fraction.proofs.Lists.{each-append}
 use Rattle.trace_text.proofs.Unspaced.{AreUnspaced, unspaced-decimal, lines-line}
 use Rattle.trace_text.proofs.NoteLines.{unspaced-word, unspaced-scheduler, unspaced-governor, note-fields, unspaced-fields}
-use Rattle.trace_text.specs.TraceText.{LineOf, for_tasks, note_lines, trace_lines, text_of_lines, version_line, share_text, task_text, task_energy}
+use Rattle.trace_text.specs.TraceText.{NotedLine, for_tasks, note_lines, trace_lines, text_of_lines, version_line, share_text, task_text, task_energy}
 use Rattle.trace_reader.proofs.WholeText.{each-for, each-share, each-noted}
 
 -- a line of unspaced fields
@@ -20,7 +20,7 @@ abbrev pub IsLine : List ℕ → Type 0
 IsLine l = (fields : List (List ℕ)) × (l ≡ line fields) × AllByRecursion AreUnspaced fields
 
 -- the lines of a text that is given by its lines, each of unspaced fields
-pub lines-text : (ls : List LineOf) → AllByRecursion (λ l. IsLine l.text) ls → lines_of (text_of_lines ls) ≡ map (λ l. l.text) ls
+pub lines-text : (ls : List NotedLine) → AllByRecursion (λ l. IsLine l.text) ls → lines_of (text_of_lines ls) ≡ map (λ l. l.text) ls
 lines-text [] h = refl
 lines-text (l ∷ ls) h =
     ap (λ m. lines_of (m ++ text_of_lines ls)) h.0.1

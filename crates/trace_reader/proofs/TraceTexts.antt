@@ -18,8 +18,8 @@ use Rattle.trace_reader.specs.declared.trace.TraceFault.TheVariants.{Refused, No
 use Rattle.trace_reader.specs.declared.trace.TraceKind.TheVariants as kind
 use Rattle.trace_reader.specs.Fields.{parts}
 use Rattle.trace_reader.specs.Heads.{line_at, at_line, version_in, plan_line_of, parts_after_tasks, version_task_lines}
-use Rattle.trace_reader.specs.TraceFile.{nothing_yet, wanted, is_nothing, notes_from, trace_file}
-use Rattle.trace_reader.specs.Traces.{TraceOf, text_of, IsNoteOf, is_end, IsEnded, HasShares, lines_for_tasks, IsTrace, IsTextOf, HaveOneText}
+use Rattle.trace_reader.specs.TraceFile.{nothing_yet, energy_line_count, is_nothing, notes_from, trace_file}
+use Rattle.trace_reader.specs.Traces.{TraceView, text_of, IsNoteOf, is_end, IsEnded, HasShares, lines_for_tasks, IsTrace, IsTextOf, HaveOneText}
 use Rattle.trace_reader.proofs.ReaderSteps.{is_nothing-some}
 use Rattle.trace_reader.proofs.WholeText.{lines-wanted, text-parts}
 use Rattle.trace_reader.proofs.FieldTexts.{AreApart}
@@ -51,14 +51,14 @@ is-ended (n ∷ m ∷ body) last h end = (h.0, is-ended (m ∷ body) last h.1 en
 
 -- where the energies of the tasks are below 2^128 before the last note, they are with it
 shares-found : (v : Version) (names : List (List ℕ)) (body : List Note) (last : Note) → is_end last ≡ true
-    → ((i : ℕ) → i < wanted v names → task_energy body i < 2 ^ 128) → HasShares v (length names) (body ++ last ∷ [])
+    → ((i : ℕ) → i < energy_line_count v names → task_energy body i < 2 ^ 128) → HasShares v (length names) (body ++ last ∷ [])
 shares-found v names body last end h has i lt =
-    let all : wanted v names ≡ length names = ap (λ (b : Bool). if b then length names else 0) has in
+    let all : energy_line_count v names ≡ length names = ap (λ (b : Bool). if b then length names else 0) has in
     let same = energy-end body last i end in
     omega (arith, h i (omega arith), same)
 
 shares-wide : (v : Version) (names : List (List ℕ)) (body : List Note) (last : Note) → is_end last ≡ true
-    → HasShares v (length names) (body ++ last ∷ []) → (i : ℕ) → i < wanted v names → task_energy body i < 2 ^ 128
+    → HasShares v (length names) (body ++ last ∷ []) → (i : ℕ) → i < energy_line_count v names → task_energy body i < 2 ^ 128
 shares-wide v names body last end h i lt =
     let some = wanted-some (has_task_lines v) i (length names) lt in
     let same = energy-end body last i end in
@@ -68,7 +68,7 @@ length-last : (body : List Note) (last : Note) → length (body ++ last ∷ []) 
 length-last body last = omega (arith, length-append body (last ∷ []))
 
 -- what reading a text as a trace gives: the trace has a text, the bytes are it, and its version is read
-pub record IsFound (newest : Version) (names tasks : List (List ℕ)) (bytes : List ℕ) (t : TraceOf) : Type 0 where
+pub record IsFound (newest : Version) (names tasks : List (List ℕ)) (bytes : List ℕ) (t : TraceView) : Type 0 where
   pub trace : IsTrace names tasks t
   pub text : bytes ≡ text_of names tasks t
   pub version : IsUpTo newest t.version
@@ -80,7 +80,7 @@ found-whole : (newest : Version) (names tasks : List (List ℕ)) (bytes : List �
     → IsFound newest names tasks bytes (record { version = v; plan = plan; notes = notes })
 found-whole newest names tasks bytes v plan ps p notes up_to is_plan head tasks_read reads =
     let all : List Note = reads.body ++ reads.last ∷ [] in
-    let made : TraceOf = record { version = v; plan = plan; notes = all } in
+    let made : TraceView = record { version = v; plan = plan; notes = all } in
     let told : join_with_byte 10 p.1 ≡ text_of_lines (note_lines v names all) = reads.text
     ∙ sym (told-notes v names reads.body reads.last reads.no_end reads.end) in
     let text : bytes ≡ text_of names tasks made =
@@ -100,19 +100,19 @@ found-whole newest names tasks bytes v plan ps p notes up_to is_plan head tasks_
     subst (λ (ns : List Note). IsFound newest names tasks bytes (record { version = v; plan = plan; notes = ns })) (sym reads.whole) found
 
 -- what the reader returns from the end of the task lines on
-abbrev from_tasks : Version → List (List ℕ) → PlanLine → ℕ × List (List ℕ) → Result TraceOf TraceFault
+abbrev from_tasks : Version → List (List ℕ) → PlanLine → ℕ × List (List ℕ) → Result TraceView TraceFault
 from_tasks v names plan rest = notes_from v names rest.0 nothing_yet rest.1 >>= λ notes. Ok (record { version = v; plan = plan; notes = notes })
 
-abbrev from_plan : Version → List (List ℕ) → List (List ℕ) → List (List ℕ) → PlanLine → Result TraceOf TraceFault
+abbrev from_plan : Version → List (List ℕ) → List (List ℕ) → List (List ℕ) → PlanLine → Result TraceView TraceFault
 from_plan v names tasks ps plan = parts_after_tasks 3 (version_task_lines v tasks) ps >>= from_tasks v names plan
 
-abbrev from_second : Version → List (List ℕ) → List (List ℕ) → List ℕ × List (List ℕ) → Result TraceOf TraceFault
+abbrev from_second : Version → List (List ℕ) → List (List ℕ) → List ℕ × List (List ℕ) → Result TraceView TraceFault
 from_second v names tasks second = at_line 2 (plan_line_of (parts 32 second.0)) >>= from_plan v names tasks second.1
 
-abbrev from_version : List (List ℕ) → List (List ℕ) → List (List ℕ) → Version → Result TraceOf TraceFault
+abbrev from_version : List (List ℕ) → List (List ℕ) → List (List ℕ) → Version → Result TraceView TraceFault
 from_version names tasks ps v = line_at 2 ps >>= from_second v names tasks
 
-abbrev from_first : Version → List (List ℕ) → List (List ℕ) → List ℕ × List (List ℕ) → Result TraceOf TraceFault
+abbrev from_first : Version → List (List ℕ) → List (List ℕ) → List ℕ × List (List ℕ) → Result TraceView TraceFault
 from_first newest names tasks first = at_line 1 (version_in newest first.0) >>= from_version names tasks first.1
 
 -- the text from line n on is that line, its line feed and the text after it
@@ -121,7 +121,7 @@ line-text n ps p e =
     let line = line_at-found n ps p e in
     ap (join_with_byte 10) line.all ∙ (join-line p.0 p.1 line.more ∙ sym (append_assoc p.0 (10 ∷ []) (join_with_byte 10 p.1)))
 
-pub trace_file-found : (newest : Version) (names tasks : List (List ℕ)) (bytes : List ℕ) (t : TraceOf)
+pub trace_file-found : (newest : Version) (names tasks : List (List ℕ)) (bytes : List ℕ) (t : TraceView)
     → trace_file newest names tasks bytes ≡ Ok t → IsFound newest names tasks bytes t
 unfolding trace_file
 trace_file-found newest names tasks bytes t e =
@@ -138,20 +138,20 @@ trace_file-found newest names tasks bytes t e =
     sym (join_with_byte-slice_split 10 bytes)
     ∙ (line-text 1 (parts 10 bytes) a.0 a.1
     ∙ ap₂ (λ l r. l ++ r) first (line-text 2 a.0.1 c.0 c.1 ∙ ap (λ l. l ++ join_with_byte 10 c.0.1) plan.0)) in
-    let made : TraceOf = record { version = b.0; plan = d.0; notes = g.0 } in
-    subst (λ (r : TraceOf). IsFound newest names tasks bytes r) (ok-is {F = TraceFault} made t g.2)
+    let made : TraceView = record { version = b.0; plan = d.0; notes = g.0 } in
+    subst (λ (r : TraceView). IsFound newest names tasks bytes r) (ok-is {F = TraceFault} made t g.2)
     (found-whole newest names tasks bytes b.0 d.0 c.0.1 f.0 g.0 version.1 plan.1 head
     (tasks-found 3 (version_task_lines b.0 tasks) c.0.1 f.0 f.1) (notes_from-found b.0 names f.0.0 nothing_yet f.0.1 g.0 g.1))
 
 -- the reader's answer for the text of a trace with the bytes `more` after it
-abbrev pub whole_answer : List (List ℕ) → List (List ℕ) → TraceOf → List ℕ → Result TraceOf TraceFault
+abbrev pub whole_answer : List (List ℕ) → List (List ℕ) → TraceView → List ℕ → Result TraceView TraceFault
 whole_answer names tasks t more =
     if is_nothing (parts 10 more) then Ok t else Err (Refused (3 + lines_for_tasks t.version (length names) (length tasks) + length t.notes) kind.AfterEnd)
 
-abbrev traced : Version → PlanLine → List Note → TraceOf
+abbrev traced : Version → PlanLine → List Note → TraceView
 traced v plan notes = record { version = v; plan = plan; notes = notes }
 
-abbrev finished : Version → PlanLine → Result (List Note) TraceFault → Result TraceOf TraceFault
+abbrev finished : Version → PlanLine → Result (List Note) TraceFault → Result TraceView TraceFault
 finished v plan r = r >>= λ notes. Ok (traced v plan notes)
 
 answer-then : (b : Bool) (v : Version) (plan : PlanLine) (notes : List Note) (fault : TraceFault)
@@ -159,7 +159,7 @@ answer-then : (b : Bool) (v : Version) (plan : PlanLine) (notes : List Note) (fa
 answer-then true v plan notes fault = refl
 answer-then false v plan notes fault = refl
 
-pub trace_file-text : (newest : Version) (names tasks : List (List ℕ)) (t : TraceOf) (more : List ℕ) → AreNames names → AreApart names
+pub trace_file-text : (newest : Version) (names tasks : List (List ℕ)) (t : TraceView) (more : List ℕ) → AreNames names → AreApart names
     → AreLines (version_task_lines t.version tasks) → IsUpTo newest t.version → IsTrace names tasks t
     → trace_file newest names tasks (text_of names tasks t ++ more) ≡ whole_answer names tasks t more
 unfolding trace_file
@@ -181,14 +181,14 @@ trace_file-text newest names tasks t more named apart lines up_to h =
     let plan = plan-text t.plan third (record { pair = h.pair; some = h.some_ticks; low = h.low_ticks }) in
     let counted : length t.notes ≡ length ends.body + 1 = ap length ends.whole ∙ length-last ends.body ends.last in
     let size = lines-wanted v names tasks in
-    let few : n + (length ends.body + wanted v names) ≤ MOST_LINES = omega (arith, h.lines, size, counted) in
+    let few : n + (length ends.body + energy_line_count v names) ≤ MOST_LINES = omega (arith, h.lines, size, counted) in
     let read_tasks : parts_after_tasks 3 (version_task_lines v tasks) (parts 10 third) ≡ Ok (n, parts 10 last) =
     tasks-text 3 (version_task_lines v tasks) last lines (omega arith) in
-    let read_notes : notes_from v names n nothing_yet (parts 10 last) ≡ answer (n + (length ends.body + wanted v names) + 1) all more =
+    let read_notes : notes_from v names n nothing_yet (parts 10 last) ≡ answer (n + (length ends.body + energy_line_count v names) + 1) all more =
     notes_from-text v names named apart n nothing_yet ends.body ends.last more refl ends.no_end ends.end
     (subst (λ ns. AllByRecursion (IsNoteOf (length names)) ns) ends.whole h.each)
     (shares-wide v names ends.body ends.last ends.end (subst (λ ns. HasShares v (length names) ns) ends.whole h.shares)) few in
-    let place : n + (length ends.body + wanted v names) + 1 ≡ 3 + lines_for_tasks v (length names) (length tasks) + length t.notes =
+    let place : n + (length ends.body + energy_line_count v names) + 1 ≡ 3 + lines_for_tasks v (length names) (length tasks) + length t.notes =
     omega (arith, size, counted) in
     let notes : notes_from v names n nothing_yet (parts 10 last) ≡ answer (3 + lines_for_tasks v (length names) (length tasks) + length t.notes) t.notes more =
     read_notes ∙ ap₂ (λ m ns. answer m ns more) place (sym ends.whole) in
@@ -204,7 +204,7 @@ nothing-more : (more : List ℕ) → is_nothing (parts 10 more) ≡ true → mor
 nothing-more [] e = refl
 nothing-more (b ∷ more) e = let some = is_nothing-some (b ∷ more) (omega arith) in absurd (cc)
 
-same-answer : (b : Bool) (t u : TraceOf) (fault : TraceFault) → (if b then Ok t else Err fault) ≡ Ok u → (b ≡ true) × (t ≡ u)
+same-answer : (b : Bool) (t u : TraceView) (fault : TraceFault) → (if b then Ok t else Err fault) ≡ Ok u → (b ≡ true) × (t ≡ u)
 same-answer true t u fault e = (refl, ok-is {F = TraceFault} t u e)
 same-answer false t u fault e = absurd cc
 
@@ -219,17 +219,17 @@ one-text names tasks named apart lines t u more h k e =
     (found.1, nothing-more more found.0)
 
 -- a text that is read is that of the trace returned, whose version is not above the newest
-pub reads-found : (newest : Version) (names tasks : List (List ℕ)) (bytes : List ℕ) (t : TraceOf)
+pub reads-found : (newest : Version) (names tasks : List (List ℕ)) (bytes : List ℕ) (t : TraceView)
     → trace_file newest names tasks bytes ≡ Ok t → IsTextOf names tasks bytes t × IsUpTo newest t.version
 reads-found newest names tasks bytes t e = let found = trace_file-found newest names tasks bytes t e in ((found.trace, found.text), found.version)
 
-pub reads-only : (newest : Version) (names tasks : List (List ℕ)) (bytes : List ℕ) (t : TraceOf) → AreNames names → AreApart names
+pub reads-only : (newest : Version) (names tasks : List (List ℕ)) (bytes : List ℕ) (t : TraceView) → AreNames names → AreApart names
     → AreLines (version_task_lines t.version tasks) → IsUpTo newest t.version
     → IsTextOf names tasks bytes t → trace_file newest names tasks bytes ≡ Ok t
 reads-only newest names tasks bytes t named apart lines up_to h =
     ap (trace_file newest names tasks) (h.1 ∙ sym (append-nil (text_of names tasks t))) ∙ trace_file-text newest names tasks t [] named apart lines up_to h.0
 
-pub clause-found : (r meaning : Result TraceOf TraceFault) (P : TraceOf → Type 0) → IsUnlessMemory NoMemory (λ t. t) r meaning
-    → ((t : TraceOf) → meaning ≡ Ok t → P t) → IfOk r P
+pub clause-found : (r meaning : Result TraceView TraceFault) (P : TraceView → Type 0) → IsUnlessMemory NoMemory (λ t. t) r meaning
+    → ((t : TraceView) → meaning ≡ Ok t → P t) → IfOk r P
 clause-found (Ok t) meaning P h p = p t h
 clause-found (Err e) meaning P h p = tt

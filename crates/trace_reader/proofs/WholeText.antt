@@ -12,17 +12,17 @@ use Rattle.dvs_base.specs.declared.note.Note.TheVariants.{End}
 use Rattle.trace_text.specs.TraceLines.{note_text, plan_text}
 use Rattle.trace_text.specs.declared.write.PlanLine.{PlanLine}
 use Rattle.grid_fraction.proofs.Lists.{each-append}
-use Rattle.trace_text.specs.TraceText.{LineOf, unnoted, noted, has_task_lines, for_tasks, lines_of_note, note_lines, trace_lines, text_of_lines, whole_text, version_line, share_text, task_energy, shares_from}
+use Rattle.trace_text.specs.TraceText.{NotedLine, unnoted_line, line_of_note, has_task_lines, for_tasks, lines_of_note, note_lines, trace_lines, text_of_lines, whole_text, version_line, share_text, task_energy, shares_from}
 use Rattle.trace_reader.specs.Heads.{version_task_lines}
-use Rattle.trace_reader.specs.TraceFile.{wanted}
+use Rattle.trace_reader.specs.TraceFile.{energy_line_count}
 use Rattle.trace_reader.specs.Traces.{is_end, IsEnded, lines_for_tasks}
 
 -- the lines of a note are its own, and before it those of the tasks' energies where it ends the run
 pub lines-by : (v : Version) (names : List (List ℕ)) (all : List Note) (n : Note) (b : Bool) → is_end n ≡ b
-    → lines_of_note v names all n ≡ (if b then for_tasks v (shares_from all 0 names) else []) ++ noted names n ∷ []
-lines-by v names all n b e = own n ∙ ap (λ (c : Bool). (if c then for_tasks v (shares_from all 0 names) else []) ++ noted names n ∷ []) e
+    → lines_of_note v names all n ≡ (if b then for_tasks v (shares_from all 0 names) else []) ++ line_of_note names n ∷ []
+lines-by v names all n b e = own n ∙ ap (λ (c : Bool). (if c then for_tasks v (shares_from all 0 names) else []) ++ line_of_note names n ∷ []) e
   where
-    own : (m : Note) → lines_of_note v names all m ≡ (if is_end m then for_tasks v (shares_from all 0 names) else []) ++ noted names m ∷ []
+    own : (m : Note) → lines_of_note v names all m ≡ (if is_end m then for_tasks v (shares_from all 0 names) else []) ++ line_of_note names m ∷ []
     own (End t run idle) = refl
     own _ = refl
 
@@ -31,11 +31,11 @@ pub each-for : (P : List ℕ → Type 0) (v : Version) (texts : List (List ℕ))
     → AllByRecursion (λ l. P l.text) (for_tasks v texts)
 each-for P v texts h = by (has_task_lines v) h
   where
-    each : (some : List (List ℕ)) → AllByRecursion P some → AllByRecursion (λ l. P l.text) (map unnoted some)
+    each : (some : List (List ℕ)) → AllByRecursion P some → AllByRecursion (λ l. P l.text) (map unnoted_line some)
     each [] h = tt
     each (text ∷ some) h = (h.0, each some h.1)
 
-    by : (b : Bool) → (b ≡ true → AllByRecursion P texts) → AllByRecursion (λ l. P l.text) (if b then map unnoted texts else [])
+    by : (b : Bool) → (b ≡ true → AllByRecursion P texts) → AllByRecursion (λ l. P l.text) (if b then map unnoted_line texts else [])
     by true h = each texts (h refl)
     by false h = tt
 
@@ -59,20 +59,20 @@ each-noted P v names all (n ∷ notes) shares own =
     each-append (λ l. P l.text) (lines_of_note v names all n) (flat_map (lines_of_note v names all) notes)
     (rw (lines-by v names all n (is_end n) refl) (by (is_end n))) (each-noted P v names all notes shares own.1)
   where
-    by : (b : Bool) → AllByRecursion (λ l. P l.text) ((if b then for_tasks v (shares_from all 0 names) else []) ++ noted names n ∷ [])
-    by true = each-append (λ l. P l.text) (for_tasks v (shares_from all 0 names)) (noted names n ∷ []) (each-for P v _ shares) (own.0, tt)
+    by : (b : Bool) → AllByRecursion (λ l. P l.text) ((if b then for_tasks v (shares_from all 0 names) else []) ++ line_of_note names n ∷ [])
+    by true = each-append (λ l. P l.text) (for_tasks v (shares_from all 0 names)) (line_of_note names n ∷ []) (each-for P v _ shares) (own.0, tt)
     by false = (own.0, tt)
 
 -- the lines for the tasks are those of the texts that the version has
-for-has : (v : Version) (texts : List (List ℕ)) → for_tasks v texts ≡ map unnoted (version_task_lines v texts)
+for-has : (v : Version) (texts : List (List ℕ)) → for_tasks v texts ≡ map unnoted_line (version_task_lines v texts)
 for-has v texts = by (has_task_lines v)
   where
-    by : (b : Bool) → (if b then map unnoted texts else []) ≡ map unnoted (if b then texts else [])
+    by : (b : Bool) → (if b then map unnoted_line texts else []) ≡ map unnoted_line (if b then texts else [])
     by true = refl
     by false = refl
 
 length-for : (v : Version) (texts : List (List ℕ)) → length (for_tasks v texts) ≡ length (version_task_lines v texts)
-length-for v texts = ap length (for-has v texts) ∙ length-map (version_task_lines v texts) unnoted
+length-for v texts = ap length (for-has v texts) ∙ length-map (version_task_lines v texts) unnoted_line
 
 length-has : (v : Version) (texts : List (List ℕ)) → length (version_task_lines v texts) ≡ (if has_task_lines v then length texts else 0)
 length-has v texts = by (has_task_lines v)
@@ -86,23 +86,24 @@ length-from notes i [] = refl
 length-from notes i (name ∷ names) = ap suc (length-from notes (i + 1) names)
 
 -- a version has as many energy lines as the reader wants
-pub length-shares : (v : Version) (names : List (List ℕ)) (notes : List Note) → length (version_task_lines v (shares_from notes 0 names)) ≡ wanted v names
+pub length-shares : (v : Version) (names : List (List ℕ)) (notes : List Note)
+        → length (version_task_lines v (shares_from notes 0 names)) ≡ energy_line_count v names
 length-shares v names notes = length-has v (shares_from notes 0 names) ∙ ap (λ k. if has_task_lines v then k else 0) (length-from notes 0 names)
 
 -- the lines of notes that end once are one for each, and those of the tasks' energies
 length-noted : (v : Version) (names : List (List ℕ)) (all notes : List Note) → IsEnded notes
-    → length (flat_map (lines_of_note v names all) notes) ≡ wanted v names + length notes
+    → length (flat_map (lines_of_note v names all) notes) ≡ energy_line_count v names + length notes
 length-noted v names all [] ended = absurd ended
 length-noted v names all (n ∷ []) ended =
     let shares : List (List ℕ) = shares_from all 0 names in
     ap length (append-nil (lines_of_note v names all n) ∙ lines-by v names all n true ended)
-    ∙ (length-append (for_tasks v shares) (noted names n ∷ []) ∙ ap (λ k. k + 1) (length-for v shares ∙ length-shares v names all))
+    ∙ (length-append (for_tasks v shares) (line_of_note names n ∷ []) ∙ ap (λ k. k + 1) (length-for v shares ∙ length-shares v names all))
 length-noted v names all (n ∷ m ∷ notes) ended =
     ap (λ ls. length (ls ++ flat_map (lines_of_note v names all) (m ∷ notes))) (lines-by v names all n false ended.0)
     ∙ omega (arith, length-noted v names all (m ∷ notes) ended.1)
 
 pub lines-wanted : (v : Version) (names tasks : List (List ℕ))
-    → lines_for_tasks v (length names) (length tasks) ≡ length (version_task_lines v tasks) + wanted v names
+    → lines_for_tasks v (length names) (length tasks) ≡ length (version_task_lines v tasks) + energy_line_count v names
 lines-wanted v names tasks = by (has_task_lines v)
   where
     by : (b : Bool) → (if b then length tasks + length names else 0) ≡ length (if b then tasks else []) + (if b then length names else 0)
@@ -125,7 +126,7 @@ length-lines v s g ticks names tasks notes ended =
 pub text-for : (v : Version) (texts : List (List ℕ)) → text_of_lines (for_tasks v texts) ≡ joined (version_task_lines v texts)
 text-for v texts = ap text_of_lines (for-has v texts) ∙ each (version_task_lines v texts)
   where
-    each : (some : List (List ℕ)) → text_of_lines (map unnoted some) ≡ joined some
+    each : (some : List (List ℕ)) → text_of_lines (map unnoted_line some) ≡ joined some
     each [] = refl
     each (text ∷ some) = ap (λ more. text ++ more) (each some)
 
@@ -136,5 +137,5 @@ pub text-parts : (v : Version) (plan : PlanLine) (names tasks : List (List ℕ))
     ++ (plan_text plan.scheduler plan.governor plan.ticks ++ (joined (version_task_lines v tasks) ++ text_of_lines (note_lines v names notes)))
 text-parts v plan names tasks notes =
     ap (λ t. version_line v ++ (plan_text plan.scheduler plan.governor plan.ticks ++ t))
-    (flat_map-append (λ (l : LineOf). l.text) (for_tasks v tasks) (note_lines v names notes)
+    (flat_map-append (λ (l : NotedLine). l.text) (for_tasks v tasks) (note_lines v names notes)
     ∙ ap (λ t. t ++ text_of_lines (note_lines v names notes)) (text-for v tasks))

@@ -14,7 +14,7 @@ use Rattle.trace_text.specs.TraceText.{task_energy, has_task_lines}
 use Rattle.trace_reader.specs.Fields.{parts}
 use Rattle.trace_reader.specs.Items.{item_of}
 use Rattle.trace_reader.specs.Heads.{line_at, at_line, version_in, plan_line_of, parts_after_tasks, version_task_lines}
-use Rattle.trace_reader.specs.Traces.{TraceOf}
+use Rattle.trace_reader.specs.Traces.{TraceView}
 
 -- what was read so far: the notes, and the number of tasks whose energies were read
 pub record SoFar : Type 0 where
@@ -26,14 +26,14 @@ abbrev pub nothing_yet : SoFar
 nothing_yet = record { notes = []; energies_read = 0 }
 
 -- how many energies of tasks a trace has: one for each name, in a version that has such lines
-abbrev pub wanted : Version → List (List ℕ) → ℕ
-wanted v names = if has_task_lines v then length names else 0
+abbrev pub energy_line_count : Version → List (List ℕ) → ℕ
+energy_line_count v names = if has_task_lines v then length names else 0
 
 -- whether the item may come next: the energies of the tasks are in file order, between the other notes and the last
 abbrev pub is_in_order : ℕ → ℕ → Item → Bool
-is_in_order energies_read wanted (Share i energy) = i == energies_read
-is_in_order energies_read wanted (Told (End t run idle)) = nat_le wanted energies_read
-is_in_order energies_read wanted (Told n) = energies_read == 0
+is_in_order energies_read energy_line_count (Share i energy) = i == energies_read
+is_in_order energies_read energy_line_count (Told (End t run idle)) = nat_le energy_line_count energies_read
+is_in_order energies_read energy_line_count (Told n) = energies_read == 0
 
 -- whether the energy of a task is the sum over its runs; a note passes
 abbrev pub is_right_share : List Note → Item → Bool
@@ -44,7 +44,7 @@ is_right_share notes (Told n) = true
 unfoldable pub next_item : Version → List (List ℕ) → SoFar → List (List ℕ) → Result Item TraceKind
 next_item v names s fields = do
   item ← item_of v names fields
-  if is_in_order s.energies_read (wanted v names) item
+  if is_in_order s.energies_read (energy_line_count v names) item
       then (if is_right_share s.notes item then Ok item else Err kind.Share)
       else Err kind.Order
 
@@ -74,7 +74,7 @@ notes_from v names n s (line ∷ rest) = do
       else notes_from v names (n + 1) (with_item s item) rest
 
 -- the trace of a text whose version is not above `newest`, for tasks with these names and lines
-unfoldable pub trace_file : Version → List (List ℕ) → List (List ℕ) → List ℕ → Result TraceOf TraceFault
+unfoldable pub trace_file : Version → List (List ℕ) → List (List ℕ) → List ℕ → Result TraceView TraceFault
 trace_file newest names tasks bytes = do
   first ← line_at 1 (parts 10 bytes)
   version ← at_line 1 (version_in newest first.0)

@@ -12,13 +12,13 @@ use Rattle.trace_text.specs.declared.write.PlanLine.{PlanLine}
 use Rattle.trace_text.specs.TraceText.{whole_text, task_energy, has_task_lines}
 
 -- a trace: its version, its plan and its notes
-pub record TraceOf : Type 0 where
+pub record TraceView : Type 0 where
   pub version : Version
   pub plan : PlanLine
   pub notes : List Note
 
 -- the text of a trace, for tasks with these names and lines
-abbrev pub text_of : List (List ℕ) → List (List ℕ) → TraceOf → List ℕ
+abbrev pub text_of : List (List ℕ) → List (List ℕ) → TraceView → List ℕ
 text_of names tasks t = whole_text t.version t.plan.scheduler t.plan.governor t.plan.ticks names tasks t.notes
 
 -- both numbers of a position are below 2^64
@@ -55,7 +55,7 @@ abbrev pub lines_for_tasks : Version → ℕ → ℕ → ℕ
 lines_for_tasks v names tasks = if has_task_lines v then tasks + names else 0
 
 -- a trace that has a text, for tasks with these names and lines
-pub record IsTrace (names tasks : List (List ℕ)) (t : TraceOf) : Type 0 where
+pub record IsTrace (names tasks : List (List ℕ)) (t : TraceView) : Type 0 where
   pub pair : is_pair t.plan.scheduler t.plan.governor ≡ true
   pub some_ticks : 1 ≤ t.plan.ticks
   pub low_ticks : t.plan.ticks ≤ MOST_TICKS
@@ -65,10 +65,10 @@ pub record IsTrace (names tasks : List (List ℕ)) (t : TraceOf) : Type 0 where
   pub lines : 2 + lines_for_tasks t.version (length names) (length tasks) + length t.notes ≤ MOST_LINES
 
 -- the trace has a text, and the bytes are it
-abbrev pub IsTextOf : List (List ℕ) → List (List ℕ) → List ℕ → TraceOf → Type 0
+abbrev pub IsTextOf : List (List ℕ) → List (List ℕ) → List ℕ → TraceView → Type 0
 IsTextOf names tasks bytes t = IsTrace names tasks t × (bytes ≡ text_of names tasks t)
 
 -- each trace has one text, and no text is the beginning of another trace's text
 abbrev pub HaveOneText : List (List ℕ) → List (List ℕ) → Type 0
-HaveOneText names tasks = (t u : TraceOf) (more : List ℕ) → IsTrace names tasks t → IsTrace names tasks u
+HaveOneText names tasks = (t u : TraceView) (more : List ℕ) → IsTrace names tasks t → IsTrace names tasks u
     → text_of names tasks t ++ more ≡ text_of names tasks u → (t ≡ u) × (more ≡ [])

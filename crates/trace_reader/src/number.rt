@@ -2,7 +2,7 @@
 ghost use Rattle.std.specs.Prelude.{◌≡◌, ◌≤◌, ◌^◌, ℕ, length, Some, None, if◌then◌else◌};
 ghost use Rattle.std.specs.List.{list_all};
 ghost use Rattle.std.specs.Char.{is_ascii_digit};
-ghost use Rattle.dvs_base.specs.Text.{number_below, read_on};
+ghost use Rattle.dvs_base.specs.Text.{number_below, number_after};
 ghost use Rattle.trace_reader.specs.Fields.{starts_number};
 ghost use Rattle.trace_reader.specs.declared.number.TheConstants.{SAFE_DIGITS};
 
@@ -12,7 +12,7 @@ pub(crate) const SAFE_DIGITS: usize = 19;
 // The number that the digits spell, and None where a byte is no digit.
 fn digits_in(bytes: &[u8]) -> Option<u64>
     requires { length bytes.now ≤ SAFE_DIGITS }
-    ensures { result ≡ (if list_all is_ascii_digit bytes.now then Some (read_on 0 bytes.now) else None) }
+    ensures { result ≡ (if list_all is_ascii_digit bytes.now then Some (number_after 0 bytes.now) else None) }
 {
     let mut value: u64 = 0;
     for c in bytes {

@@ -13,8 +13,8 @@ ghost use Rattle.trace_reader.specs.Fields.{parts};
 ghost use Rattle.trace_reader.specs.Heads.{MayBeNext};
 ghost use Rattle.trace_reader.specs.Items.{HasTaskBelow};
 ghost use Rattle.trace_reader.specs.Sums.{HasSums};
-ghost use Rattle.trace_reader.specs.TraceFile.{is_in_order, is_right_share, wanted, next_item, nothing_yet, is_nothing, notes_from, trace_file};
-ghost use Rattle.trace_reader.specs.Traces.{TraceOf, IsTextOf, HaveOneText};
+ghost use Rattle.trace_reader.specs.TraceFile.{is_in_order, is_right_share, energy_line_count, next_item, nothing_yet, is_nothing, notes_from, trace_file};
+ghost use Rattle.trace_reader.specs.Traces.{TraceView, IsTextOf, HaveOneText};
 
 use crate::head::{plan_line_of, read_tasks, version_in};
 use crate::line::{Item, item_of};
@@ -28,7 +28,7 @@ use trace_text::{TaskLine, has_task_lines};
 // How many energies of tasks a trace has: one for each name, in a version that has such lines.
 fn wanted_of(version: Version, names: &[Name]) -> u32
     requires { length names.now ≤ MOST_TASKS }
-    ensures { result ≡ wanted version names.now }
+    ensures { result ≡ energy_line_count version names.now }
 {
     if has_task_lines(version) {
         names.len() as u32
@@ -39,7 +39,7 @@ fn wanted_of(version: Version, names: &[Name]) -> u32
 
 // Whether the item may come next: the energies of the tasks are in file order, between the other notes and the last.
 fn is_in_order(energies_read: u32, wanted: u32, item: &Item) -> bool
-    ensures { result ≡ is_in_order energies_read wanted item.now }
+    ensures { result ≡ is_in_order energies_read energy_line_count item.now }
 {
     match *item {
         Item::Share { task, .. } => task == energies_read,
@@ -184,7 +184,7 @@ pub fn read_trace(alloc: Global, bytes: &[u8], names: &[Name]) -> Result<Trace, 
 
     // A text that is read is that of the trace returned; the text of any trace is read.
     ensures found { IfOk result (λ t. IsTextOf names.now [] bytes.now t × (t.version ≡ Version.One)) }
-    ensures only { (t : TraceOf) → IsTextOf names.now [] bytes.now t → t.version ≡ Version.One
+    ensures only { (t : TraceView) → IsTextOf names.now [] bytes.now t → t.version ≡ Version.One
         → IsUnlessMemory TraceFault.NoMemory (λ t. t) result (Ok t) }
 
     // Each trace has one text, and no text is the beginning of another trace's text.
@@ -213,7 +213,7 @@ pub fn read_any(
 
     // A text that is read is that of the trace returned; the text of any trace is read.
     ensures found { IfOk result (IsTextOf names.now (task_lines names.now tasks.now) bytes.now) }
-    ensures only { (t : TraceOf) → IsTextOf names.now (task_lines names.now tasks.now) bytes.now t
+    ensures only { (t : TraceView) → IsTextOf names.now (task_lines names.now tasks.now) bytes.now t
         → IsUnlessMemory TraceFault.NoMemory (λ t. t) result (Ok t) }
 
     // Each trace has one text, and no text is the beginning of another trace's text.

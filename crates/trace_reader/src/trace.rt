@@ -13,9 +13,9 @@ pub struct Trace {
 }
 
 impl Model for Trace {
-    ghost use Rattle.trace_reader.specs.Traces.{TraceOf};
+    ghost use Rattle.trace_reader.specs.Traces.{TraceView};
 
-    ghost Value = { TraceOf };
+    ghost Value = { TraceView };
 
     ghost view = { λ t. record { version = t.version; plan = t.plan; notes = t.notes.items } };
 }

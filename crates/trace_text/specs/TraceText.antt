@@ -39,17 +39,17 @@ task_lines (name ∷ names) [] = []
 task_lines (name ∷ names) (t ∷ tasks) = task_text name t.period t.offset t.worst ∷ task_lines names tasks
 
 -- a line of a trace, with the note that it shows, or none
-pub record LineOf : Type 0 where
+pub record NotedLine : Type 0 where
   pub text : List ℕ
   pub notes : List Note
 
 -- a line that shows no note
-abbrev pub unnoted : List ℕ → LineOf
-unnoted text = record { text = text; notes = [] }
+abbrev pub unnoted_line : List ℕ → NotedLine
+unnoted_line text = record { text = text; notes = [] }
 
 -- the line of a note
-abbrev pub noted : List (List ℕ) → Note → LineOf
-noted names n = record { text = note_text names n; notes = n ∷ [] }
+abbrev pub line_of_note : List (List ℕ) → Note → NotedLine
+line_of_note names n = record { text = note_text names n; notes = n ∷ [] }
 
 -- whether a trace has a line for each task, and one for its energy: in version 2 alone
 abbrev pub has_task_lines : Version → Bool
@@ -57,29 +57,29 @@ has_task_lines One = false
 has_task_lines Two = true
 
 -- lines of these texts for the tasks, in a version that has such lines
-abbrev pub for_tasks : Version → List (List ℕ) → List LineOf
-for_tasks v texts = if has_task_lines v then map unnoted texts else []
+abbrev pub for_tasks : Version → List (List ℕ) → List NotedLine
+for_tasks v texts = if has_task_lines v then map unnoted_line texts else []
 
 -- the lines before the notes: the version, the plan, and those of the tasks
-abbrev pub head_lines : Version → Scheduler → GovernorKind → ℕ → List (List ℕ) → List LineOf
-head_lines v s g ticks tasks = unnoted (version_line v) ∷ unnoted (plan_text s g ticks) ∷ for_tasks v tasks
+abbrev pub head_lines : Version → Scheduler → GovernorKind → ℕ → List (List ℕ) → List NotedLine
+head_lines v s g ticks tasks = unnoted_line (version_line v) ∷ unnoted_line (plan_text s g ticks) ∷ for_tasks v tasks
 
 -- the lines of a note among all notes: its own, and before that of `end` those of the tasks' energies
-abbrev pub lines_of_note : Version → List (List ℕ) → List Note → Note → List LineOf
+abbrev pub lines_of_note : Version → List (List ℕ) → List Note → Note → List NotedLine
 lines_of_note v names notes (End t run idle) =
-    for_tasks v (shares_from notes 0 names) ++ noted names (End t run idle) ∷ []
-lines_of_note v names notes n = noted names n ∷ []
+    for_tasks v (shares_from notes 0 names) ++ line_of_note names (End t run idle) ∷ []
+lines_of_note v names notes n = line_of_note names n ∷ []
 
 -- the lines after the head: those of all notes
-abbrev pub note_lines : Version → List (List ℕ) → List Note → List LineOf
+abbrev pub note_lines : Version → List (List ℕ) → List Note → List NotedLine
 note_lines v names notes = flat_map (lines_of_note v names notes) notes
 
 -- the lines of a trace: its head, with the lines of its tasks, and those of its notes
-abbrev pub trace_lines : Version → Scheduler → GovernorKind → ℕ → List (List ℕ) → List (List ℕ) → List Note → List LineOf
+abbrev pub trace_lines : Version → Scheduler → GovernorKind → ℕ → List (List ℕ) → List (List ℕ) → List Note → List NotedLine
 trace_lines v s g ticks names tasks notes = head_lines v s g ticks tasks ++ note_lines v names notes
 
 -- the text of some lines
-abbrev pub text_of_lines : List LineOf → List ℕ
+abbrev pub text_of_lines : List NotedLine → List ℕ
 text_of_lines lines = flat_map (λ l. l.text) lines
 
 -- the text of a trace: that of its lines
@@ -87,5 +87,5 @@ abbrev pub whole_text : Version → Scheduler → GovernorKind → ℕ → List 
 whole_text v s g ticks names tasks notes = text_of_lines (trace_lines v s g ticks names tasks notes)
 
 -- the notes that some lines show
-abbrev pub notes_of_lines : List LineOf → List Note
+abbrev pub notes_of_lines : List NotedLine → List Note
 notes_of_lines lines = flat_map (λ l. l.notes) lines

@@ -16,13 +16,13 @@ use Rattle.dvs_base.proofs.TextPuts.{wrote-then, wrote-then-some, wrote-some-mor
 use Rattle.grid_fraction.specs.Numbers.{list_below}
 use Rattle.task_model.specs.declared.task.Task.{Task}
 use Rattle.sched_model.specs.Plan.{Plan, count, names}
-use Rattle.probes.specs.Tallies.{ProbeOf}
+use Rattle.probes.specs.Tallies.{ProbeView}
 use Rattle.trace_text.specs.TraceLines.{note_text}
 use Rattle.trace_reader.specs.declared.line.Item.TheVariants.{Told}
 use Rattle.trace_reader.specs.Items.{HasTaskBelow}
-use Rattle.trace_text.specs.TraceText.{LineOf, noted, unnoted, task_energy, share_text, shares_from, for_tasks, has_task_lines, head_lines, lines_of_note, note_lines, text_of_lines}
+use Rattle.trace_text.specs.TraceText.{NotedLine, line_of_note, unnoted_line, task_energy, share_text, shares_from, for_tasks, has_task_lines, head_lines, lines_of_note, note_lines, text_of_lines}
 use Rattle.trace_writer.specs.RunText.{task_texts}
-use Rattle.trace_reader.specs.Traces.{TraceOf, text_of, IsNoteOf, HasShares}
+use Rattle.trace_reader.specs.Traces.{TraceView, text_of, IsNoteOf, HasShares}
 use Rattle.trace_writer.specs.Lines.{WroteLines, StoppedIn}
 use Rattle.trace_writer.specs.UnnotedLines.{sum_lines, sums_before, lines_with}
 use Rattle.trace_writer.proofs.SumLines.{shares-below}
@@ -45,11 +45,11 @@ module _ (v : Version) (p : Plan) (energies : List ℕ) where
   lines-text : (n : Note) → text_of_lines (lines_with v p energies n)
       ≡ text_of_lines (sums_before v p energies n) ++ note_text (names p) n
   lines-text n =
-      text-append (sums_before v p energies n) (noted (names p) n ∷ [])
+      text-append (sums_before v p energies n) (line_of_note (names p) n ∷ [])
       ∙ ap (λ (t : List ℕ). text_of_lines (sums_before v p energies n) ++ t) (append-nil (note_text (names p) n))
 
   -- the lines before a note's own were put in part
-  pub part-before : (a b : SinkView) (n : Note) → ((ps : List ProbeOf) → StoppedIn a b ps ps (sums_before v p energies n))
+  pub part-before : (a b : SinkView) (n : Note) → ((ps : List ProbeView) → StoppedIn a b ps ps (sums_before v p energies n))
       → WroteSome a b (text_of_lines (lines_with v p energies n))
   part-before a b n s =
       let sums = sums_before v p energies n in
@@ -58,7 +58,7 @@ module _ (v : Version) (p : Plan) (energies : List ℕ) where
 
   -- the lines before a note's own were put, and then its own as the result says
   pub own-after : {T E : Type 0} (a b c : SinkView) (n : Note) (ns : List (List ℕ)) (r : Result T E) → ns ≡ names p
-      → ((ps : List ProbeOf) → WroteLines a b ps ps (sums_before v p energies n)) → WritesText b c (note_text ns n) r
+      → ((ps : List ProbeView) → WroteLines a b ps ps (sums_before v p energies n)) → WritesText b c (note_text ns n) r
       → WritesText a c (text_of_lines (lines_with v p energies n)) r
   own-after a b c n ns r is w x =
       let own : WritesText b c (note_text (names p) n) r = subst (λ (l : List (List ℕ)). WritesText b c (note_text l n) r) is x in
@@ -83,7 +83,7 @@ module _ (v : Version) (p : Plan) (energies : List ℕ) where
       let more : text (take (i + 1) notes) ≡ text (take i notes) ++ text_of_lines own =
       ap text (take_more notes i d lt)
       ∙ (text-both (take i notes) (n ∷ [])
-      ∙ ap (λ (ls : List LineOf). text (take i notes) ++ text_of_lines ls) (append-nil own)) in
+      ∙ ap (λ (ls : List NotedLine). text (take i notes) ++ text_of_lines ls) (append-nil own)) in
       subst (λ (t : List ℕ). Wrote a c t) (sym more) (wrote-then a b c (text (take i notes)) (text_of_lines own) w x)
 
   -- the lines of a note were put in part, and nothing after them
@@ -111,7 +111,7 @@ sums-are One p energies notes same = refl
 sums-are Two p energies notes same =
     let ns = names p in
     let long : length ns ≡ count p = length-map p.tasks (λ (t : Task). t.name) in
-    ap (map unnoted)
+    ap (map unnoted_line)
     (ap (λ n. list_below n (λ i. share_text (name_of ns i) (slice_index energies i))) (sym long)
     ∙ shares-below notes ns 0 (λ i. slice_index energies i)
     (λ k m e lt. same refl k (omega (arith, lt, long)) ∙ ap (task_energy notes) (omega (arith, e))))
@@ -122,19 +122,19 @@ pub lines-among : (v : Version) (p : Plan) (energies : List ℕ) (all : List Not
     → flat_map (lines_with v p energies) notes ≡ flat_map (lines_of_note v (names p) all) notes
 lines-among v p energies all same [] = refl
 lines-among v p energies all same (n ∷ notes) =
-    ap₂ (λ (x y : List LineOf). x ++ y) (own n) (lines-among v p energies all same notes)
+    ap₂ (λ (x y : List NotedLine). x ++ y) (own n) (lines-among v p energies all same notes)
   where
     own : (n : Note) → lines_with v p energies n ≡ lines_of_note v (names p) all n
-    own (End t run idle) = ap (λ (ls : List LineOf). ls ++ noted (names p) (End t run idle) ∷ []) same
+    own (End t run idle) = ap (λ (ls : List NotedLine). ls ++ line_of_note (names p) (End t run idle) ∷ []) same
     own n = refl
 
-module _ (v : Version) (p : Plan) (t : TraceOf) where
+module _ (v : Version) (p : Plan) (t : TraceView) where
   -- the lines before the notes
-  abbrev head : List LineOf
+  abbrev head : List NotedLine
   head = head_lines v t.plan.scheduler t.plan.governor t.plan.ticks (task_texts p)
 
   -- the lines of the notes
-  abbrev rest : List LineOf
+  abbrev rest : List NotedLine
   rest = note_lines v (names p) t.notes
 
   -- the text of the trace in the version
@@ -153,18 +153,18 @@ module _ (v : Version) (p : Plan) (t : TraceOf) where
       (each i (omega (arith, lt, few)) (subst (λ (ns : List Note). task_energy ns i < 2 ^ 128) (sym same) below))
 
   -- the head was put in part
-  pub head-part : (a b : SinkView) (lines : List LineOf) → lines ≡ head → ((ps : List ProbeOf) → StoppedIn a b ps ps lines)
+  pub head-part : (a b : SinkView) (lines : List NotedLine) → lines ≡ head → ((ps : List ProbeView) → StoppedIn a b ps ps lines)
       → WroteSome a b whole
   head-part a b lines is s =
       subst (λ (x : List ℕ). WroteSome a b x)
-      (ap (λ (ls : List LineOf). text_of_lines ls ++ text_of_lines rest) is ∙ sym (text-append head rest))
+      (ap (λ (ls : List NotedLine). text_of_lines ls ++ text_of_lines rest) is ∙ sym (text-append head rest))
       (wrote-some-more a b (text_of_lines lines) (text_of_lines rest) (stopped-some a b [] [] lines (s [])))
 
   -- the head was put, and then the lines of the notes as the result says
-  pub whole-put : {T E : Type 0} (a b c : SinkView) (lines : List LineOf) (notes : List Note) (energies : List ℕ) (r : Result T E)
+  pub whole-put : {T E : Type 0} (a b c : SinkView) (lines : List NotedLine) (notes : List Note) (energies : List ℕ) (r : Result T E)
       → lines ≡ head → notes ≡ t.notes
       → (has_task_lines v ≡ true → (i : ℕ) → i < count p → slice_index energies i ≡ task_energy t.notes i)
-      → ((ps : List ProbeOf) → WroteLines a b ps ps lines) → WritesText b c (text v p energies notes) r → WritesText a c whole r
+      → ((ps : List ProbeView) → WroteLines a b ps ps lines) → WritesText b c (text v p energies notes) r → WritesText a c whole r
   whole-put a b c lines notes energies r is same each w x =
       let among = lines-among v p energies t.notes (sums-are v p energies t.notes each) t.notes in
       let tail : text v p energies notes ≡ text_of_lines rest = ap (text v p energies) same ∙ ap text_of_lines among in

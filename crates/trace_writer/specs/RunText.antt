@@ -5,7 +5,7 @@ use Rattle.dvs_base.specs.declared.kind.Version.{Version}
 use Rattle.dvs_base.specs.declared.kind.GovernorKind.{GovernorKind}
 use Rattle.dvs_base.specs.Parts.{name_of}
 use Rattle.dvs_base.specs.declared.note.Note.{Note}
-use Rattle.trace_text.specs.TraceText.{task_text, LineOf, has_task_lines, trace_lines, text_of_lines}
+use Rattle.trace_text.specs.TraceText.{task_text, NotedLine, has_task_lines, trace_lines, text_of_lines}
 use Rattle.sched_model.specs.Plan.{Plan, count, names, task, period, offset}
 use Rattle.sched_model.specs.Jobs.{JobDemands, released_jobs}
 use Rattle.sched_model.specs.RunNotes.{run_notes}
@@ -16,7 +16,7 @@ task_texts p =
     list_below (count p) (λ i. task_text (name_of (names p) i) (period p i) (offset p i) (task p i).worst)
 
 -- the lines of a trace of these notes, for this plan and governor
-abbrev pub run_lines : Version → Plan → GovernorKind → ℕ → List Note → List LineOf
+abbrev pub run_lines : Version → Plan → GovernorKind → ℕ → List Note → List NotedLine
 run_lines v p g ticks notes = trace_lines v p.scheduler g ticks (names p) (task_texts p) notes
 
 -- the most lines of a run: seven for each job released in its ticks, and five more; with lines for the tasks also two

@@ -7,8 +7,8 @@ use Rattle.dvs_base.specs.declared.note.Note.TheVariants.{End}
 use Rattle.dvs_base.specs.Outside.{SinkView}
 use Rattle.dvs_base.specs.Parts.{name_of}
 use Rattle.sched_model.specs.Plan.{Plan, count, names}
-use Rattle.trace_text.specs.TraceText.{LineOf, noted, share_text, for_tasks}
-use Rattle.probes.specs.Tallies.{ProbeOf}
+use Rattle.trace_text.specs.TraceText.{NotedLine, line_of_note, share_text, for_tasks}
+use Rattle.probes.specs.Tallies.{ProbeView}
 use Rattle.trace_writer.specs.Lines.{WritesLines}
 
 -- the texts of the lines of a plan's tasks with these energies
@@ -16,18 +16,18 @@ abbrev pub sum_texts : Plan → List ℕ → List (List ℕ)
 sum_texts p energies = list_below (count p) (λ i. share_text (name_of (names p) i) (slice_index energies i))
 
 -- the lines of the tasks' energies, in a version that has such lines
-abbrev pub sum_lines : Version → Plan → List ℕ → List LineOf
+abbrev pub sum_lines : Version → Plan → List ℕ → List NotedLine
 sum_lines v p energies = for_tasks v (sum_texts p energies)
 
 -- lines of no note were written, all at Ok and some at an error; no probe was told a note
-abbrev pub WritesUnnoted : {T E : Type 0} → SinkView → SinkView → List LineOf → Result T E → Type 0
-WritesUnnoted old new lines r = (probes : List ProbeOf) → WritesLines old new probes probes lines r
+abbrev pub WritesUnnoted : {T E : Type 0} → SinkView → SinkView → List NotedLine → Result T E → Type 0
+WritesUnnoted old new lines r = (probes : List ProbeView) → WritesLines old new probes probes lines r
 
 -- the lines before that of a note, by the energies of the tasks: those of the energies before the end of the run
-abbrev pub sums_before : Version → Plan → List ℕ → Note → List LineOf
+abbrev pub sums_before : Version → Plan → List ℕ → Note → List NotedLine
 sums_before v p energies (End t run idle) = sum_lines v p energies
 sums_before v p energies n = []
 
 -- the lines of a note, by the energies of the tasks: those before its own, and its own
-abbrev pub lines_with : Version → Plan → List ℕ → Note → List LineOf
-lines_with v p energies n = sums_before v p energies n ++ noted (names p) n ∷ []
+abbrev pub lines_with : Version → Plan → List ℕ → Note → List NotedLine
+lines_with v p energies n = sums_before v p energies n ++ line_of_note (names p) n ∷ []

@@ -4,7 +4,7 @@ ghost use Rattle.dvs_base.specs.Parts.{name_of};
 ghost use Rattle.dvs_base.specs.WritesText.{WritesText};
 ghost use Rattle.sched_model.specs.Plan.{count, names, task, period, offset};
 ghost use Rattle.trace_text.specs.TraceLines.{note_text, plan_text};
-ghost use Rattle.trace_text.specs.TraceText.{version_line, task_text, share_text, unnoted, has_task_lines, for_tasks, head_lines};
+ghost use Rattle.trace_text.specs.TraceText.{version_line, task_text, share_text, unnoted_line, has_task_lines, for_tasks, head_lines};
 ghost use Rattle.trace_writer.specs.RunText.{task_texts};
 ghost use Rattle.trace_writer.specs.UnnotedLines.{WritesUnnoted, sum_lines};
 
@@ -26,7 +26,7 @@ pub struct Head<'a> {
 
 // Puts the line of a trace's version.
 fn put_version<W: Sink>(version: Version, out: &mut W) -> Result<(), Failed>
-    ensures { WritesUnnoted (W.shows out.old) (W.shows out.new) (unnoted (version_line version) ∷ []) result }
+    ensures { WritesUnnoted (W.shows out.old) (W.shows out.new) (unnoted_line (version_line version) ∷ []) result }
 {
     let mut line = Line::new();
     write_version(&mut line, version);
@@ -36,7 +36,7 @@ fn put_version<W: Sink>(version: Version, out: &mut W) -> Result<(), Failed>
 // Puts the line of a trace's plan.
 fn put_plan<W: Sink>(head: Head<'_>, out: &mut W) -> Result<(), Failed>
     ensures { WritesUnnoted (W.shows out.old) (W.shows out.new)
-        (unnoted (plan_text head.entry.plan.now.scheduler head.entry.governor head.entry.ticks) ∷ []) result }
+        (unnoted_line (plan_text head.entry.plan.now.scheduler head.entry.governor head.entry.ticks) ∷ []) result }
 {
     let mut line = Line::new();
     write_head(
@@ -53,7 +53,7 @@ fn put_plan<W: Sink>(head: Head<'_>, out: &mut W) -> Result<(), Failed>
 // Puts the line of a task: its name, its period, its offset and its declared worst case.
 fn put_task<W: Sink>(plan: &Admitted, i: u32, out: &mut W) -> Result<(), Failed>
     requires { i < count plan.now }
-    ensures { WritesUnnoted (W.shows out.old) (W.shows out.new) (unnoted (task_text (name_of (names plan.now) i)
+    ensures { WritesUnnoted (W.shows out.old) (W.shows out.new) (unnoted_line (task_text (name_of (names plan.now) i)
         (period plan.now i) (offset plan.now i) (task plan.now i).worst) ∷ []) result }
 {
     let mut line = Line::new();
@@ -70,7 +70,7 @@ fn put_task<W: Sink>(plan: &Admitted, i: u32, out: &mut W) -> Result<(), Failed>
 fn put_share<W: Sink>(plan: &Admitted, i: u32, energy: u128, out: &mut W) -> Result<(), Failed>
     requires { i < count plan.now }
     ensures { WritesUnnoted (W.shows out.old) (W.shows out.new)
-        (unnoted (share_text (name_of (names plan.now) i) energy) ∷ []) result }
+        (unnoted_line (share_text (name_of (names plan.now) i) energy) ∷ []) result }
 {
     let mut line = Line::new();
     write_share(&mut line, &plan.names()[i as usize], energy);

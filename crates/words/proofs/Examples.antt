@@ -6,7 +6,7 @@ use Rattle.dvs_base.specs.declared.kind.Version.TheVariants.{Two}
 use Rattle.words.specs.declared.command.Opt.TheVariants as opt
 use Rattle.words.specs.declared.command.WordFault.{WordFault}
 use Rattle.words.specs.declared.command.WordFault.TheVariants as fault
-use Rattle.words.specs.Commands.{CommandOf, run}
+use Rattle.words.specs.Commands.{CommandView, run}
 use Rattle.words.specs.Reading.{command_of}
 
 -- options come in any order, and a value may begin with `--`: the name of the task file here is `--machine`
@@ -53,7 +53,7 @@ no_value : command_of (codes "least" ∷ codes "--units" ∷ []) ≡ Err (fault.
 no_value = refl
 
 -- a command with its task file alone
-abbrev with_tasks : List ℕ → Result CommandOf WordFault
+abbrev with_tasks : List ℕ → Result CommandView WordFault
 with_tasks verb = command_of (verb ∷ codes "--tasks" ∷ codes "t" ∷ [])
 
 -- of several missing options the first in the table's order is named, here the machine
@@ -74,7 +74,7 @@ units_missing : command_of (codes "least" ∷ codes "--machine" ∷ codes "m" �
 units_missing = refl
 
 -- a run with scheduler rm, governor la and more words
-abbrev rm_ahead : List (List ℕ) → Result CommandOf WordFault
+abbrev rm_ahead : List (List ℕ) → Result CommandView WordFault
 rm_ahead more =
     command_of
     (codes "run" ∷ codes "--scheduler" ∷ codes "rm" ∷ codes "--governor" ∷ codes "la" ∷ codes "--tasks" ∷ codes "t"

@@ -5,12 +5,12 @@ use Rattle.dvs_base.specs.Checks.{and_then}
 use Rattle.words.specs.declared.table.Verb.{Verb}
 use Rattle.words.specs.declared.command.WordFault.{WordFault}
 use Rattle.words.specs.declared.read.Reading.{Reading}
-use Rattle.words.specs.Commands.{CommandOf}
-use Rattle.words.specs.Reading.{ReadingOf, word_at, words_after}
+use Rattle.words.specs.Commands.{CommandView}
+use Rattle.words.specs.Reading.{ReadingView, word_at, words_after}
 use Rattle.words.specs.Shown.{shown_reading, reading_answer}
 
 -- what the words after this place give, from what the word at this place gave
-abbrev then-words : Verb → ℕ → List (List ℕ) → Result ReadingOf WordFault → Result CommandOf WordFault
+abbrev then-words : Verb → ℕ → List (List ℕ) → Result ReadingView WordFault → Result CommandView WordFault
 then-words v place words read = and_then read (λ r. words_after v r place words)
 
 -- the words from place i on are the word at i and those after it
@@ -21,9 +21,9 @@ next {X} xs i x within is =
     drop-cons xs i x within
     ∙ (ap (λ (y : X). y ∷ drop (suc i) xs) (sym is) ∙ ap (λ (j : ℕ). x ∷ drop j xs) one)
 
-module _ {X : Type 0} (f : X → List ℕ) (v : Verb) (r : ReadingOf) (place : ℕ) (xs : List X) (i : ℕ) (x : X) where
+module _ {X : Type 0} (f : X → List ℕ) (v : Verb) (r : ReadingView) (place : ℕ) (xs : List X) (i : ℕ) (x : X) where
   -- what the words from place i on give, from what the word at i gives
-  first-word : (word : List ℕ) (read : Result ReadingOf WordFault) → i < length xs → x ≡ get_or xs i x → word ≡ f x
+  first-word : (word : List ℕ) (read : Result ReadingView WordFault) → i < length xs → x ≡ get_or xs i x → word ≡ f x
       → read ≡ word_at v r r.waits (place + 1) word
       → words_after v r place (map f (drop i xs)) ≡ then-words v (place + 1) (map f (drop (i + 1) xs)) read
   first-word word read within is text given =

@@ -6,25 +6,25 @@ use Rattle.words.specs.declared.table.Verb.{Verb}
 use Rattle.words.specs.declared.table.Key.{Key}
 use Rattle.words.specs.declared.command.WordFault.{WordFault}
 use Rattle.words.specs.declared.command.WordFault.TheVariants as fault
-use Rattle.words.specs.Table.{GivenOf, nothing_given, takes_value, has, with_value, options_of, option_named, word_of, verb_of}
-use Rattle.words.specs.Commands.{CommandOf, built}
+use Rattle.words.specs.Table.{GivenView, nothing_given, takes_value, has, with_value, options_of, option_named, word_of, verb_of}
+use Rattle.words.specs.Commands.{CommandView, command_from}
 
 -- the values so far, and the option whose value is the next word
-pub record ReadingOf : Type 0 where
-  pub given : GivenOf
+pub record ReadingView : Type 0 where
+  pub given : GivenView
   pub waits : Option Key
 
 -- no word was read
-abbrev pub nothing_read : ReadingOf
+abbrev pub nothing_read : ReadingView
 nothing_read = record { given = nothing_given; waits = None }
 
 -- the reading with one more value; `BadValue` where the word at this place is outside its option's rule
-abbrev pub with_given : ℕ → List ℕ → Option GivenOf → Result ReadingOf WordFault
+abbrev pub with_given : ℕ → List ℕ → Option GivenView → Result ReadingView WordFault
 with_given place word None = Err (fault.BadValue place (short_of word))
 with_given place word (Some g) = Ok (record { given = g; waits = None })
 
 -- the reading after an option: it waits for the option's value, or has it at once
-abbrev pub with_option : GivenOf → ℕ → List ℕ → Option Key → Result ReadingOf WordFault
+abbrev pub with_option : GivenView → ℕ → List ℕ → Option Key → Result ReadingView WordFault
 with_option g place word None = Err (fault.Unexpected place (short_of word))
 with_option g place word (Some k) =
     if has g k then Err (fault.Repeated place (short_of word))
@@ -32,27 +32,27 @@ with_option g place word (Some k) =
     else with_given place word (with_value g k word))
 
 -- the reading after one word: the value that an option waits for, else an option
-abbrev pub word_at : Verb → ReadingOf → Option Key → ℕ → List ℕ → Result ReadingOf WordFault
+abbrev pub word_at : Verb → ReadingView → Option Key → ℕ → List ℕ → Result ReadingView WordFault
 word_at v r (Some k) place word = with_given place word (with_value r.given k word)
 word_at v r None place word = with_option r.given place word (option_named (options_of v) word)
 
 -- the command after the last word, which is at this place; an option that still waits has no value
-abbrev pub ended : Verb → GivenOf → Option Key → ℕ → Result CommandOf WordFault
-ended v g (Some k) place = Err (fault.NoValue place (short_of (word_of k)))
-ended v g None place = built v g
+abbrev pub command_at_end : Verb → GivenView → Option Key → ℕ → Result CommandView WordFault
+command_at_end v g (Some k) place = Err (fault.NoValue place (short_of (word_of k)))
+command_at_end v g None place = command_from v g
 
 -- the command that the reading so far and the words after this place give, word by word
-abbrev pub words_after : Verb → ReadingOf → ℕ → List (List ℕ) → Result CommandOf WordFault
-words_after v r place [] = ended v r.given r.waits place
+abbrev pub words_after : Verb → ReadingView → ℕ → List (List ℕ) → Result CommandView WordFault
+words_after v r place [] = command_at_end v r.given r.waits place
 words_after v r place (word ∷ words) =
     and_then (word_at v r r.waits (place + 1) word) (λ r. words_after v r (place + 1) words)
 
 -- the command, if the word at place 1 names one, from the options after it
-abbrev pub options_after : Option Verb → List ℕ → List (List ℕ) → Result CommandOf WordFault
+abbrev pub options_after : Option Verb → List ℕ → List (List ℕ) → Result CommandView WordFault
 options_after None word words = Err (fault.BadCommand (short_of word))
 options_after (Some v) word words = words_after v nothing_read 1 words
 
 -- the command that the words are, or the first error from left to right
-abbrev pub command_of : List (List ℕ) → Result CommandOf WordFault
+abbrev pub command_of : List (List ℕ) → Result CommandView WordFault
 command_of [] = Err fault.NoCommand
 command_of (word ∷ words) = options_after (verb_of word) word words

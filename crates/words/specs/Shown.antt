@@ -16,12 +16,12 @@ use Rattle.words.specs.declared.given.Given.{Given}
 use Rattle.words.specs.declared.command.TraceUse.TheVariants.{Replay, Migrate}
 use Rattle.words.specs.declared.given.Timed.{Timed}
 use Rattle.words.specs.declared.read.Reading.{Reading}
-use Rattle.words.specs.Commands.{TimedOf, CommandOf, run, admit, traced, workload, response, constrain, poll, least, RunOf, AdmitOf, TracedOf, ResponseOf, ConstrainOf, PollOf, LeastOf}
-use Rattle.words.specs.Reading.{ReadingOf}
-use Rattle.words.specs.Table.{GivenOf}
+use Rattle.words.specs.Commands.{TimedView, CommandView, run, admit, traced, workload, response, constrain, poll, least, RunView, AdmitView, TracedView, ResponseView, ConstrainView, PollView, LeastView}
+use Rattle.words.specs.Reading.{ReadingView}
+use Rattle.words.specs.Table.{GivenView}
 
 -- the values that were given, with the texts of names
-abbrev pub shown_given : Given → GivenOf
+abbrev pub shown_given : Given → GivenView
 shown_given g = record {
   tasks = option_map (λ s. s.now) g.tasks;
   machine = option_map (λ s. s.now) g.machine;
@@ -40,21 +40,21 @@ shown_given g = record {
 }
 
 -- what was read so far, with the texts of names
-abbrev pub shown_reading : Reading → ReadingOf
+abbrev pub shown_reading : Reading → ReadingView
 shown_reading r = record { given = shown_given r.given; waits = r.waits }
 
 -- what was read so far, with the texts of names, or why a word was refused
-abbrev pub reading_answer : Result Reading WordFault → Result ReadingOf WordFault
+abbrev pub reading_answer : Result Reading WordFault → Result ReadingView WordFault
 reading_answer (Ok r) = Ok (shown_reading r)
 reading_answer (Err e) = Err e
 
 -- the scheduler, the governor and the number of ticks of a run, or why the words were refused
-abbrev pub timed_answer : Result Timed WordFault → Result TimedOf WordFault
+abbrev pub timed_answer : Result Timed WordFault → Result TimedView WordFault
 timed_answer (Ok t) = Ok (record { scheduler = t.scheduler; governor = t.governor; ticks = t.ticks.number })
 timed_answer (Err e) = Err e
 
 -- a command, with the texts of names
-abbrev pub shown_command : Command → CommandOf
+abbrev pub shown_command : Command → CommandView
 shown_command (command.Run tasks machine demands scheduler governor ticks probes version) = run (record {
   tasks = tasks.now;
   machine = machine.now;
@@ -87,7 +87,7 @@ shown_command (command.Poll tasks machine requests server scheduler governor tic
 shown_command (command.Least machine units ticks) = least (record { machine = machine.now; units = units; ticks = ticks })
 
 -- what the words of `run` name, with the texts of names
-abbrev pub shown_run : RunWords → RunOf
+abbrev pub shown_run : RunWords → RunView
 shown_run r = record {
   tasks = r.tasks.now;
   machine = r.machine.now;
@@ -100,23 +100,23 @@ shown_run r = record {
 }
 
 -- what the words of `admit` name, with the texts of names
-abbrev pub shown_admit : AdmitWords → AdmitOf
+abbrev pub shown_admit : AdmitWords → AdmitView
 shown_admit a = record { tasks = a.tasks.now; machine = a.machine.now; scheduler = a.scheduler }
 
 -- what the words of `replay` or `migrate` name, with the texts of names
-abbrev pub shown_trace : TraceWords → TracedOf
+abbrev pub shown_trace : TraceWords → TracedView
 shown_trace r = record { asked = r.asked; tasks = r.tasks.now; machine = r.machine.now; trace = r.trace.now }
 
 -- what the words of `response` name, with the texts of names
-abbrev pub shown_response : ResponseWords → ResponseOf
+abbrev pub shown_response : ResponseWords → ResponseView
 shown_response r = record { tasks = r.tasks.now; machine = r.machine.now }
 
 -- what the words of `constrain` name, with the texts of names
-abbrev pub shown_constrain : ConstrainWords → ConstrainOf
+abbrev pub shown_constrain : ConstrainWords → ConstrainView
 shown_constrain r = record { tasks = r.tasks.now; machine = r.machine.now; deadlines = r.deadlines.now }
 
 -- what the words of `poll` name, with the texts of names
-abbrev pub shown_poll : PollWords → PollOf
+abbrev pub shown_poll : PollWords → PollView
 shown_poll q = record {
   tasks = q.tasks.now;
   machine = q.machine.now;
@@ -128,11 +128,11 @@ shown_poll q = record {
 }
 
 -- what the words of `least` name, with the texts of names
-abbrev pub shown_least : LeastWords → LeastOf
+abbrev pub shown_least : LeastWords → LeastView
 shown_least l = record { machine = l.machine.now; units = l.units; ticks = l.ticks }
 
 -- what the words of a command name, with the texts of names
-abbrev pub shown_words : CommandWords → CommandOf
+abbrev pub shown_words : CommandWords → CommandView
 shown_words (words.Run w) = run (shown_run w)
 shown_words (words.Admit w) = admit (shown_admit w)
 shown_words (words.Traced w) = traced (shown_trace w)
@@ -143,6 +143,6 @@ shown_words (words.Poll w) = poll (shown_poll w)
 shown_words (words.Least w) = least (shown_least w)
 
 -- a command with the texts of names, or why the words were refused
-abbrev pub answer : Result Command WordFault → Result CommandOf WordFault
+abbrev pub answer : Result Command WordFault → Result CommandView WordFault
 answer (Ok c) = Ok (shown_command c)
 answer (Err e) = Err e

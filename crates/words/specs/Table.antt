@@ -113,7 +113,7 @@ abbrev pub number_of : List ℕ → Option ℕ
 number_of word = number_below u64_end word
 
 -- the values of the options that were given
-pub record GivenOf : Type 0 where
+pub record GivenView : Type 0 where
   pub tasks : Option (List ℕ)
   pub machine : Option (List ℕ)
   pub demands : Option (List ℕ)
@@ -130,7 +130,7 @@ pub record GivenOf : Type 0 where
   pub format : Option Version
 
 -- no option was given
-abbrev pub nothing_given : GivenOf
+abbrev pub nothing_given : GivenView
 nothing_given = record {
   tasks = None;
   machine = None;
@@ -149,7 +149,7 @@ nothing_given = record {
 }
 
 -- whether an option was given
-abbrev pub has : GivenOf → Key → Bool
+abbrev pub has : GivenView → Key → Bool
 has g key.Tasks = is_some g.tasks
 has g key.Machine = is_some g.machine
 has g key.Demands = is_some g.demands
@@ -166,7 +166,7 @@ has g key.Probes = is_some g.probes
 has g key.Format = is_some g.format
 
 -- the given values, with the one that the word gives this option; none where the word is outside the option's rule
-abbrev pub with_value : GivenOf → Key → List ℕ → Option GivenOf
+abbrev pub with_value : GivenView → Key → List ℕ → Option GivenView
 with_value g key.Tasks word = option_map (λ v. record g { tasks = Some v }) (some_text word)
 with_value g key.Machine word = option_map (λ v. record g { machine = Some v }) (some_text word)
 with_value g key.Demands word = option_map (λ v. record g { demands = Some v }) (some_text word)

@@ -1,6 +1,6 @@
 // The row of each command: its required options in order, and the value of an optional one that was not given.
 ghost use Rattle.std.specs.Prelude.{◌≡◌, IfOk};
-ghost use Rattle.words.specs.Commands.{IsReadyCommand, IsReadyFor, need, timed_of, trace_command, built};
+ghost use Rattle.words.specs.Commands.{IsReadyCommand, IsReadyFor, need, timed_of, trace_command, command_from};
 ghost use Rattle.words.specs.Shown.{shown_command, shown_given, answer, timed_answer};
 ghost use Rattle.words.specs.declared.table.Verb.TheVariants as verb;
 
@@ -36,7 +36,7 @@ fn timed_of<'a>(given: Given<'a>) -> Result<Timed, WordFault>
 
 // The `run` command, from the values that were given.
 fn planned<'a>(given: Given<'a>) -> Result<Command<'a>, WordFault>
-    ensures read { answer result ≡ built verb.Run (shown_given given.entry) }
+    ensures read { answer result ≡ command_from verb.Run (shown_given given.entry) }
     ensures ready { IfOk result (λ c. IsReadyCommand (shown_command c)) }
 {
     let tasks = need(given.tasks, Opt::Tasks)?;
@@ -56,7 +56,7 @@ fn planned<'a>(given: Given<'a>) -> Result<Command<'a>, WordFault>
 
 // The `poll` command, from the values that were given.
 fn polled<'a>(given: Given<'a>) -> Result<Command<'a>, WordFault>
-    ensures read { answer result ≡ built verb.Poll (shown_given given.entry) }
+    ensures read { answer result ≡ command_from verb.Poll (shown_given given.entry) }
     ensures ready { IfOk result (λ c. IsReadyCommand (shown_command c)) }
 {
     let tasks = need(given.tasks, Opt::Tasks)?;
@@ -77,7 +77,7 @@ fn polled<'a>(given: Given<'a>) -> Result<Command<'a>, WordFault>
 
 // The `admit` command, from the values that were given.
 fn admitted<'a>(given: Given<'a>) -> Result<Command<'a>, WordFault>
-    ensures { answer result ≡ built verb.Admit (shown_given given.entry) }
+    ensures { answer result ≡ command_from verb.Admit (shown_given given.entry) }
 {
     let tasks = need(given.tasks, Opt::Tasks)?;
     let machine = need(given.machine, Opt::Machine)?;
@@ -112,7 +112,7 @@ fn traced<'a>(given: Given<'a>, asked: TraceUse) -> Result<Command<'a>, WordFaul
 
 // The `workload` command, from the values that were given.
 fn made<'a>(given: Given<'a>) -> Result<Command<'a>, WordFault>
-    ensures { answer result ≡ built verb.Workload (shown_given given.entry) }
+    ensures { answer result ≡ command_from verb.Workload (shown_given given.entry) }
 {
     let seed = need(given.seed, Opt::Seed)?;
     Ok(Command::Workload { seed })
@@ -120,7 +120,7 @@ fn made<'a>(given: Given<'a>) -> Result<Command<'a>, WordFault>
 
 // The `response` command, from the values that were given.
 fn responding<'a>(given: Given<'a>) -> Result<Command<'a>, WordFault>
-    ensures { answer result ≡ built verb.Response (shown_given given.entry) }
+    ensures { answer result ≡ command_from verb.Response (shown_given given.entry) }
 {
     let tasks = need(given.tasks, Opt::Tasks)?;
     let machine = need(given.machine, Opt::Machine)?;
@@ -129,7 +129,7 @@ fn responding<'a>(given: Given<'a>) -> Result<Command<'a>, WordFault>
 
 // The `constrain` command, from the values that were given.
 fn constrained<'a>(given: Given<'a>) -> Result<Command<'a>, WordFault>
-    ensures { answer result ≡ built verb.Constrain (shown_given given.entry) }
+    ensures { answer result ≡ command_from verb.Constrain (shown_given given.entry) }
 {
     let tasks = need(given.tasks, Opt::Tasks)?;
     let machine = need(given.machine, Opt::Machine)?;
@@ -143,7 +143,7 @@ fn constrained<'a>(given: Given<'a>) -> Result<Command<'a>, WordFault>
 
 // The `least` command, from the values that were given.
 fn bounded<'a>(given: Given<'a>) -> Result<Command<'a>, WordFault>
-    ensures read { answer result ≡ built verb.Least (shown_given given.entry) }
+    ensures read { answer result ≡ command_from verb.Least (shown_given given.entry) }
     ensures ready { IfOk result (λ c. IsReadyCommand (shown_command c)) }
 {
     let machine = need(given.machine, Opt::Machine)?;
@@ -159,7 +159,7 @@ fn bounded<'a>(given: Given<'a>) -> Result<Command<'a>, WordFault>
 /// The command, from the values that were given. `Missing` exactly for the first required option that was not given;
 /// then `Pair` for rate monotonic with look-ahead.
 pub fn built<'a>(verb: Verb, given: Given<'a>) -> Result<Command<'a>, WordFault>
-    ensures read { answer result ≡ built verb (shown_given given.entry) }
+    ensures read { answer result ≡ command_from verb (shown_given given.entry) }
     ensures ready { IfOk result (λ c. IsReadyCommand (shown_command c)) }
 {
     match verb {

@@ -1,7 +1,7 @@
 // The words, from left to right.
 ghost use Rattle.std.specs.Prelude.{◌≡◌, map, string_bytes, option_map, IfOk};
 ghost use Rattle.words.specs.Commands.{IsReadyCommand};
-ghost use Rattle.words.specs.Reading.{nothing_read, with_given, with_option, word_at, ended, words_after, command_of};
+ghost use Rattle.words.specs.Reading.{nothing_read, with_given, with_option, word_at, command_at_end, words_after, command_of};
 ghost use Rattle.words.specs.Shown.{shown_command, shown_given, shown_reading, reading_answer, answer};
 
 use crate::build::built;
@@ -81,7 +81,7 @@ fn word_at<'a>(
 }
 
 fn ended<'a>(verb: Verb, reading: Reading<'a>, place: u64) -> Result<Command<'a>, WordFault>
-    ensures read { answer result ≡ ended verb (shown_given reading.entry.given) reading.entry.waits place }
+    ensures read { answer result ≡ command_at_end verb (shown_given reading.entry.given) reading.entry.waits place }
     ensures ready { IfOk result (λ c. IsReadyCommand (shown_command c)) }
 {
     match reading.waits {

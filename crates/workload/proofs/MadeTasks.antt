@@ -15,7 +15,7 @@ use Rattle.dvs_base.specs.Text.{is_name, is_name_byte}
 use Rattle.grid_fraction.specs.Numbers.{list_below, sum_below, ceil_div}
 use Rattle.grid_fraction.proofs.Sums.{list_below-more}
 use Rattle.task_model.specs.declared.task.Task.{Task}
-use Rattle.task_model.specs.DemandRows.{DemandRow, named}
+use Rattle.task_model.specs.DemandRows.{DemandRow, named_units}
 use Rattle.demand_list.specs.Demands.{precedes, with_row}
 use Rattle.sched_model.proofs.Tables.{each-below, length-list_below, get-table, map-table}
 use Rattle.dvs_base.specs.declared.kind.Scheduler.{Scheduler}
@@ -72,7 +72,7 @@ made_name-same i j li lj e =
 
 -- rows for other jobs give no units for this one
 others-name_none : (i k : ℕ) (rows : List DemandRow)
-    → AllByRecursion (λ (s : DemandRow). (nat_eq s.task i && nat_eq s.job k) ≡ false) rows → named rows i k ≡ None
+    → AllByRecursion (λ (s : DemandRow). (nat_eq s.task i && nat_eq s.job k) ≡ false) rows → named_units rows i k ≡ None
 others-name_none i k [] each = refl
 others-name_none i k (s ∷ rows) each = rw each.0 (others-name_none i k rows each.1)
 
@@ -92,7 +92,7 @@ in-order s r lt =
 
 module _ (tasks : List Task) (x : ℕ) where
   -- the job of row r has no row before it
-  pub made_row-free : (r : ℕ) → named (list_below r (made_row tasks x)) (r / 4) (r % 4 + 1) ≡ None
+  pub made_row-free : (r : ℕ) → named_units (list_below r (made_row tasks x)) (r / 4) (r % 4 + 1) ≡ None
   made_row-free r = others-name_none (r / 4) (r % 4 + 1) (list_below r (made_row tasks x)) (each-below _ r (made_row tasks x) (λ s lt. apart s r lt))
 
   -- row r is added at the end of those before it

@@ -7,7 +7,7 @@ use Rattle.task_model.specs.Tasks.{task_at}
 use Rattle.task_model.specs.DemandRows.{DemandRow}
 use Rattle.freq_table.specs.declared.machine.Point.{Point}
 use Rattle.freq_table.specs.Tables.{Table}
-use Rattle.demand_list.specs.Demands.{DemandsOf}
+use Rattle.demand_list.specs.Demands.{DemandsView}
 use Rattle.workload.specs.Draws.{first_state, state_after, draw}
 
 -- the periods, in ticks
@@ -42,7 +42,7 @@ made_row tasks x r =
     let i = r / 4 in record { task = i; job = r % 4 + 1; units = draw x r % ((task_at tasks i).worst + 1) }
 
 -- the demand list drawn from state x: the worst cases, and four rows for each task
-abbrev pub made_demands : List Task → ℕ → DemandsOf
+abbrev pub made_demands : List Task → ℕ → DemandsView
 made_demands tasks x = record {
   worsts = map (λ t. t.worst) tasks;
   rows = list_below (4 * length tasks) (made_row tasks x);
@@ -60,7 +60,7 @@ made_machine = record {
     at speed millivolts = record { speed = speed; millivolts = millivolts }
 
 -- the workload of a seed: the tasks by the first draws, the demands by those after them, and the machine
-pub record IsMade (seed n : ℕ) (tasks : List Task) (machine : Table) (demands : DemandsOf) : Type 0 where
+pub record IsMade (seed n : ℕ) (tasks : List Task) (machine : Table) (demands : DemandsView) : Type 0 where
   pub tasks_are : tasks ≡ made_tasks (first_state seed) n
   pub machine_is : machine ≡ made_machine
   pub demands_are : demands ≡ made_demands tasks (state_after (first_state seed) (2 * n))

@@ -2,7 +2,7 @@
 ghost use Rattle.std.specs.Prelude.{◌≡◌, ◌<◌, ◌≤◌, ◌*◌, None, length, map, slice_index, IfOk, OnOk};
 ghost use Rattle.dvs_base.specs.declared.kind.Scheduler.TheVariants.{Edf};
 ghost use Rattle.dvs_base.specs.declared.limits.TheConstants.{MOST_TASKS};
-ghost use Rattle.task_model.specs.DemandRows.{named};
+ghost use Rattle.task_model.specs.DemandRows.{named_units};
 ghost use Rattle.task_model.specs.Tasks.{IsTaskSet};
 ghost use Rattle.demand_list.specs.Demands.{with_row};
 ghost use Rattle.sched_model.specs.Plan.{plan_of};
@@ -74,7 +74,7 @@ fn add_row(demands: &mut Demands, task: u32, job: u64, units: u64) -> Result<(),
     requires task { task < length demands.old.worsts }
     requires job { 1 ≤ job }
     requires units { units ≤ slice_index demands.old.worsts task }
-    requires free { named demands.old.rows task job ≡ None }
+    requires free { named_units demands.old.rows task job ≡ None }
     ensures rows { OnOk result
         (demands.new.rows ≡ with_row demands.old.rows (record { task = task; job = job; units = units })) }
     ensures worsts { OnOk result (demands.new.worsts ≡ demands.old.worsts) }

@@ -2,7 +2,7 @@ use Rattle.std.proofs.Common.{◌≡◌, ◌∙◌, ◌+◌, ◌-◌, ◌<◌, l
 use Rattle.std.specs.Prelude.{min, slice_set}
 use Rattle.sched_model.specs.declared.state.Row.{Row}
 use Rattle.sched_model.specs.Plan.{count}
-use Rattle.sched_model.specs.States.{StateOf, row_at, after_mark}
+use Rattle.sched_model.specs.States.{StateView, row_at, after_mark}
 use Rattle.sched_model.proofs.States.{row_read}
 use Rattle.governor.specs.Steps.{wleft_at}
 use Rattle.governor.proofs.StatesOfDemands.{done_none}
@@ -16,7 +16,7 @@ index-requires c =
       arith,
       ranked-below c.args.plan.now c.loop-k.k (omega arith),
       c.ranked-i.ensures,
-      ap (λ (v : StateOf). length v.rows) c.view.view_is,
+      ap (λ (v : StateView). length v.rows) c.view.view_is,
       c.requires.of.rows,
     )
 

@@ -1,26 +1,26 @@
 use Rattle.std.proofs.Common.{◌≡◌, Option, Some, None, ℕ, List, not, is_some, refl, sym, ap, ◌∙◌}
 use Rattle.std.specs.BTreeMap.{insert_entry, is_at}
 use Rattle.std.specs.Map.{lookup, keys_of}
-use Rattle.task_model.specs.DemandRows.{named}
+use Rattle.task_model.specs.DemandRows.{named_units}
 use Rattle.demand_list.specs.Demands.{rows_of}
 use Rattle.demand_list.proofs.Rows.{job_cmp, named-rows_of, rows_of-insert_entry, insert_entry-back}
 use Rattle.demand_list.proofs.demands.add_row.Goals as goal
 
 pub returns-in_default-earlier-clause-answer : goal.returns-in_default-earlier-clause-answer
 returns-in_default-earlier-clause-answer c =
-    let found : named (rows_of c.args.rows.now.entries) c.args.task c.args.job ≡ None =
+    let found : named_units (rows_of c.args.rows.now.entries) c.args.task c.args.job ≡ None =
     named-rows_of c.args.rows.now.entries c.args.task c.args.job ∙ sym c.in-Ok.ensures.old ∙ c.in_default-earlier.is in
     sym (ap (λ (o : Option ℕ). not (is_some o)) found)
 
 pub returns-in_default-earlier-clause-added : goal.returns-in_default-earlier-clause-added
 returns-in_default-earlier-clause-added c _ =
-    let found : named (rows_of c.args.rows.now.entries) c.args.task c.args.job ≡ None =
+    let found : named_units (rows_of c.args.rows.now.entries) c.args.task c.args.job ≡ None =
     named-rows_of c.args.rows.now.entries c.args.task c.args.job ∙ sym c.in-Ok.ensures.old ∙ c.in_default-earlier.is in
     ap rows_of c.in-Ok.ensures.entries ∙ rows_of-insert_entry c.args.rows.now.entries c.args.task c.args.job c.args.units found
 
 pub returns-in-Ok-insert-clause-answer : goal.returns-in-Ok-insert-clause-answer
 returns-in-Ok-insert-clause-answer c =
-    let found : named (rows_of c.args.rows.now.entries) c.args.task c.args.job ≡ Some c.in-Some.kept =
+    let found : named_units (rows_of c.args.rows.now.entries) c.args.task c.args.job ≡ Some c.in-Some.kept =
     named-rows_of c.args.rows.now.entries c.args.task c.args.job ∙ sym c.in-Ok.ensures.old ∙ c.in-Some.is in
     sym (ap (λ (o : Option ℕ). not (is_some o)) found)
 

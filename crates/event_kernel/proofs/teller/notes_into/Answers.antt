@@ -6,7 +6,7 @@ use Rattle.grid_fraction.specs.Numbers.{list_below}
 use Rattle.sched_model.specs.Plan.{count, names}
 use Rattle.sched_model.specs.Totals.{totals_of}
 use Rattle.sched_model.proofs.Schedules.{length-list_below}
-use Rattle.trace_text.specs.TraceText.{noted, task_energy}
+use Rattle.trace_text.specs.TraceText.{line_of_note, task_energy}
 use Rattle.trace_writer.specs.UnnotedLines.{sum_lines}
 use Rattle.event_kernel.specs.SpanNotes.{notes_before_end_of}
 use Rattle.event_kernel.proofs.RunAccount.{booked-tasks, booked-totals}
@@ -40,8 +40,8 @@ returns-clause-writes_notes g c =
     (told-lines g.G.Governor.demand r h.version a.names.now h.plan.now h.ticks s.by_task s.totals
     c.scheduler-admitted.ensures.admitted c.requires.names c.requires.plan c.requires.ticks
     (booked-tasks r.plan s _ booked) (booked-totals r.plan s _ booked))
-    (writes-then _ _ _ _ _ _ (map (noted a.names.now) (notes_before_end_of g.G.Governor.demand r))
-    (sum_lines h.version h.plan.now s.by_task ++ noted (names h.plan.now) (End h.ticks s.totals.run s.totals.idle) ∷ []) c.tell_tail.result
+    (writes-then _ _ _ _ _ _ (map (line_of_note a.names.now) (notes_before_end_of g.G.Governor.demand r))
+    (sum_lines h.version h.plan.now s.by_task ++ line_of_note (names h.plan.now) (End h.ticks s.totals.run s.totals.idle) ∷ []) c.tell_tail.result
     (heard-written g.W.Sink.shows g.P.Probe.seen a _ c.spans.new.to c.in_ok-account.ensures.told.0).0 c.tell_tail.ensures.writes_tail)
 
 pub returns-in_err-account-clause-writes_notes : goal.returns-in_err-account-clause-writes_notes
@@ -56,8 +56,8 @@ returns-in_err-account-clause-writes_notes g c =
     (some-as
     (told-lines g.G.Governor.demand r h.version a.names.now h.plan.now h.ticks es t
     c.scheduler-admitted.ensures.admitted c.requires.names c.requires.plan c.requires.ticks refl refl)
-    (lines-some-more _ _ _ _ (map (noted a.names.now) before)
-    (sum_lines h.version h.plan.now es ++ noted (names h.plan.now) (End h.ticks t.run t.idle) ∷ [])
+    (lines-some-more _ _ _ _ (map (line_of_note a.names.now) before)
+    (sum_lines h.version h.plan.now es ++ line_of_note (names h.plan.now) (End h.ticks t.run t.idle) ∷ [])
     (balked-written g.W.Sink.shows g.P.Probe.seen a _ c.spans.new.to c.in_err-account.ensures.told.0).0))
 
 pub returns-clause-same : goal.returns-clause-same

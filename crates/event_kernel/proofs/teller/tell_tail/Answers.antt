@@ -1,7 +1,7 @@
 use Rattle.std.proofs.Common.{[], ◌∷◌, ap}
 use Rattle.dvs_base.specs.declared.note.Note.TheVariants.{End}
 use Rattle.sched_model.specs.Plan.{names}
-use Rattle.trace_text.specs.TraceText.{noted}
+use Rattle.trace_text.specs.TraceText.{line_of_note}
 use Rattle.trace_writer.specs.UnnotedLines.{sum_lines}
 use Rattle.trace_writer.proofs.WrittenLines.{writes-then, lines-some-more, stopped-exit, all-as, some-as}
 use Rattle.event_kernel.proofs.teller.tell_tail.Goals as goal
@@ -10,7 +10,7 @@ pub returns-clause-writes_tail : goal.returns-clause-writes_tail
 returns-clause-writes_tail g c =
     let h = c.args.head in
     let s = c.args.account.now in
-    writes-then _ _ _ _ _ _ (sum_lines h.version h.plan.now s.by_task) (noted (names h.plan.now) (End h.ticks s.totals.run s.totals.idle) ∷ [])
+    writes-then _ _ _ _ _ _ (sum_lines h.version h.plan.now s.by_task) (line_of_note (names h.plan.now) (End h.ticks s.totals.run s.totals.idle) ∷ [])
     c.tell_end.result (all-as (ap (sum_lines h.version h.plan.now) c.by_task.ensures) (c.in_ok-put_sums.ensures _)) c.tell_end.ensures.writes
 
 pub returns-in_err-put_sums-clause-writes_tail : goal.returns-in_err-put_sums-clause-writes_tail
@@ -18,5 +18,5 @@ returns-in_err-put_sums-clause-writes_tail g c =
     let h = c.args.head in
     let s = c.args.account.now in
     stopped-exit _ _ _ _ _ c.from_residual.result c.from_residual.ensures.0
-    (lines-some-more _ _ _ _ (sum_lines h.version h.plan.now s.by_task) (noted (names h.plan.now) (End h.ticks s.totals.run s.totals.idle) ∷ [])
+    (lines-some-more _ _ _ _ (sum_lines h.version h.plan.now s.by_task) (line_of_note (names h.plan.now) (End h.ticks s.totals.run s.totals.idle) ∷ [])
     (some-as (ap (sum_lines h.version h.plan.now) c.by_task.ensures) (c.in_err-put_sums.ensures _)))

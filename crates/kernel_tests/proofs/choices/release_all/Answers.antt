@@ -1,6 +1,6 @@
 use Rattle.std.proofs.Common.{◌≡◌, ◌+◌, ◌<◌, true, false, arith, sym, subst, ◌∙◌}
 use Rattle.sched_model.specs.Plan.{count, offset}
-use Rattle.sched_model.specs.States.{StateOf, IsOfPlan}
+use Rattle.sched_model.specs.States.{StateView, IsOfPlan}
 use Rattle.governor.specs.Steps.{IsAtDecision}
 use Rattle.kernel_tests.proofs.FirstReleases.{HasFirstReleased, none-released, next-can_release, next-released, next-passed, marked-of, marked-decision, unmarked-decision}
 use Rattle.kernel_tests.proofs.choices.release_all.Goals as goal
@@ -36,7 +36,7 @@ loop-task-preserved g c =
           rw (w.any-is, w.state-is, w.governor-is) (record {
             released = subst (HasFirstReleased p (i + 1) true) (sym w.release.ensures)
                 (next-released p c.scheduler-admitted.ensures.admitted i c.loop-task.any c.loop-task.state c.loop-task.invariant.released lt first);
-            counters = subst (λ (s : StateOf). g.G.Governor.stands w.released.new.self p s) (sym w.release.ensures) w.released.ensures;
+            counters = subst (λ (s : StateView). g.G.Governor.stands w.released.new.self p s) (sym w.release.ensures) w.released.ensures;
           }))
       | else-offset-eq0 w ↦ (let late : offset p i ≡ 0 → ⊥ = (λ e. w.if-offset-eq0.false (c.offset.ensures.offset ∙ e)) in
           rw (w.any-is, w.state-is, w.governor-is) (record {

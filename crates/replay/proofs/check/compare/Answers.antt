@@ -4,7 +4,7 @@ use Rattle.dvs_base.specs.declared.note.Note.{Note}
 use Rattle.dvs_base.specs.declared.note.Totals.{Totals}
 use Rattle.sched_model.specs.Plan.{count}
 use Rattle.event_kernel.specs.Runs.{notes_of_run}
-use Rattle.trace_reader.specs.Traces.{TraceOf}
+use Rattle.trace_reader.specs.Traces.{TraceView}
 use Rattle.replay.specs.Comparison.{differs}
 use Rattle.replay.specs.declared.compared.Compared.{Compared}
 use Rattle.replay.proofs.ComparedNotes.{stopped-compared, compared-same, run-same, run-stopped}
@@ -20,8 +20,8 @@ wanted a = a.wanted
 pub differs-requires-clause-some : goal.differs-requires-clause-some
 differs-requires-clause-some g c =
     let from : Compared = record { rest = c.deref.result; wanted = None; stops = 0 } in
-    let t : TraceOf = c.args.trace.now in
-    let notes : rest from ≡ t.notes = c.deref.ensures.value ∙ ap (λ (t : TraceOf). t.notes) c.trace.view_is in
+    let t : TraceView = c.args.trace.now in
+    let notes : rest from ≡ t.notes = c.deref.ensures.value ∙ ap (λ (t : TraceView). t.notes) c.trace.view_is in
     let stopped = run-stopped rest wanted g.G.Governor.demand c.args.kernel t c.requires.ended from c.drive.new.to notes c.in_default.ensures.broke_off in
     let long : length (rest c.drive.new.to) ≡ length (stopped.found ∷ stopped.more) = ap length stopped.finds in
     omega (arith, long)
@@ -29,8 +29,8 @@ differs-requires-clause-some g c =
 pub unreachable-requires : goal.unreachable-requires
 unreachable-requires g c =
     let from : Compared = record { rest = c.deref.result; wanted = None; stops = 0 } in
-    let t : TraceOf = c.args.trace.now in
-    let notes : rest from ≡ t.notes = c.deref.ensures.value ∙ ap (λ (t : TraceOf). t.notes) c.trace.view_is in
+    let t : TraceView = c.args.trace.now in
+    let notes : rest from ≡ t.notes = c.deref.ensures.value ∙ ap (λ (t : TraceView). t.notes) c.trace.view_is in
     let stopped = run-stopped rest wanted g.G.Governor.demand c.args.kernel t c.requires.ended from c.drive.new.to notes c.in_default.ensures.broke_off in
     let both : None ≡ Some stopped.want = sym c.in-None.is ∙ stopped.wants in
     cc
@@ -38,8 +38,8 @@ unreachable-requires g c =
 pub returns-in-Ok : goal.returns-in-Ok
 returns-in-Ok g c =
     let from : Compared = record { rest = c.deref.result; wanted = None; stops = 0 } in
-    let t : TraceOf = c.args.trace.now in
-    let notes : rest from ≡ t.notes = c.deref.ensures.value ∙ ap (λ (t : TraceOf). t.notes) c.trace.view_is in
+    let t : TraceView = c.args.trace.now in
+    let notes : rest from ≡ t.notes = c.deref.ensures.value ∙ ap (λ (t : TraceView). t.notes) c.trace.view_is in
     let same = run-same rest wanted g.G.Governor.demand c.args.kernel t c.requires.ended from c.drive.new.to notes c.in-Ok.ensures.ran in
     ap (λ (totals : Totals). Ok totals) c.in-Ok.ensures.totals
     ∙ sym (compared-same (count c.args.plan.now) t (notes_of_run g.G.Governor.demand c.args.kernel) same)
@@ -48,8 +48,8 @@ pub returns : goal.returns
 returns g c =
     let from : Compared = record { rest = c.deref.result; wanted = None; stops = 0 } in
     let to : Compared = c.drive.new.to in
-    let t : TraceOf = c.args.trace.now in
-    let notes : rest from ≡ t.notes = c.deref.ensures.value ∙ ap (λ (t : TraceOf). t.notes) c.trace.view_is in
+    let t : TraceView = c.args.trace.now in
+    let notes : rest from ≡ t.notes = c.deref.ensures.value ∙ ap (λ (t : TraceView). t.notes) c.trace.view_is in
     let stopped = run-stopped rest wanted g.G.Governor.demand c.args.kernel t c.requires.ended from to notes c.in_default.ensures.broke_off in
     let place = length t.notes - length (rest to) in
     stopped-compared rest wanted (count c.args.plan.now) t from (notes_of_run g.G.Governor.demand c.args.kernel) to

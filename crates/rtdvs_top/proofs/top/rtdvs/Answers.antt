@@ -1,5 +1,5 @@
 use Rattle.std.proofs.Common.{List, map, refl, sym, subst, ap}
-use Rattle.probes.specs.Tallies.{ProbeOf}
+use Rattle.probes.specs.Tallies.{ProbeView}
 use Rattle.statuses.specs.Status.{CountsPuts}
 use Rattle.rtdvs_top.proofs.StepAnswers.{answers-of, not-words, sure-of, writes-of, parts-of, counts-puts}
 use Rattle.rtdvs_top.proofs.StatusNotes.{notes-of}
@@ -69,7 +69,7 @@ returns-clause-sure g c =
 pub returns-clause-notes : goal.returns-clause-notes
 returns-clause-notes g c =
     let e = c.answer-status.ensures.answered in
-    let ps : List ProbeOf = map (λ b. (goal.Probe-dyn g (b.vtable, b.value)).seen b.value) c.answer-status.new.probes.items in
+    let ps : List ProbeView = map (λ b. (goal.Probe-dyn g (b.vtable, b.value)).seen b.value) c.answer-status.new.probes.items in
     rw (sym c.in-Ok.ensures.read)
     (notes-of _ _ _ _ ps _ _ _ _ _ c.asks_probes.ensures c.as_ref.ensures.value
     (ap (map (λ b. (goal.Probe-dyn g (b.vtable, b.value)).seen b.value)) c.deref.ensures.value) e.named c.note_end.ensures)

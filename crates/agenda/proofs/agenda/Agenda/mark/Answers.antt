@@ -2,15 +2,15 @@ use Rattle.std.proofs.Common.{◌≡◌, ℕ, List, length, ap, sym, ◌∙◌, 
 use Rattle.std.specs.Prelude.{map}
 use Rattle.std.proofs.lemmas.List.{length-map}
 use Rattle.sched_model.specs.Plan.{Plan}
-use Rattle.sched_model.specs.States.{StateOf, row_wleft, after_mark}
+use Rattle.sched_model.specs.States.{StateView, row_wleft, after_mark}
 use Rattle.agenda.specs.declared.agenda.Agenda.{Agenda}
 use Rattle.agenda.specs.Stands.{Stands}
 use Rattle.agenda.proofs.StateQueues.{stands-rows}
 use Rattle.agenda.proofs.agenda.Agenda.mark.Goals as goal
 
 -- the bases that are copied
-copied : (p : Plan) (s v : StateOf) (a : Agenda) → Stands p s a → v ≡ s → a.left.items ≡ map row_wleft v.rows
-copied p s v a h is = h.left ∙ ap (λ (u : StateOf). map row_wleft u.rows) (sym is)
+copied : (p : Plan) (s v : StateView) (a : Agenda) → Stands p s a → v ≡ s → a.left.items ≡ map row_wleft v.rows
+copied p s v a h is = h.left ∙ ap (λ (u : StateView). map row_wleft u.rows) (sym is)
 
 pub copy_from_slice-requires : goal.copy_from_slice-requires
 copy_from_slice-requires c =
@@ -33,4 +33,4 @@ returns-clause-marked c =
 
 pub returns-clause-stand : goal.returns-clause-stand
 returns-clause-stand c =
-    stands-rows c.args._plan.now c.args.state.now _ c.args.self.now (ap (λ (v : StateOf). v.rows) (returns-clause-marked c)) c.requires
+    stands-rows c.args._plan.now c.args.state.now _ c.args.self.now (ap (λ (v : StateView). v.rows) (returns-clause-marked c)) c.requires

@@ -3,7 +3,7 @@ use Rattle.std.proofs.Math.ListN.{replicate}
 use Rattle.sched_model.specs.Plan.{count}
 use Rattle.sched_model.specs.States.{opening}
 use Rattle.sched_model.proofs.States.{left-opening}
-use Rattle.agenda.specs.Agenda.{ReadyOf}
+use Rattle.agenda.specs.Agenda.{ReadyView}
 use Rattle.agenda.proofs.StateQueues.{more-held, all-held, opening-ready, opening-entry}
 use Rattle.agenda.proofs.agenda.Agenda.new.Goals as goal
 
@@ -21,9 +21,9 @@ loop-task-preserved c =
 pub returns-in-Ok : goal.returns-in-Ok
 returns-in-Ok c = record {
   queues = record {
-    scheduler = ap (λ (r : ReadyOf). r.scheduler) c.in_ok-ready.ensures ∙ c.scheduler.ensures.scheduler;
-    ready_limit = ap (λ (r : ReadyOf). r.limit) c.in_ok-ready.ensures ∙ c.count.ensures.count;
-    ready_jobs = opening-ready c.args.plan.now c.in_ok-ready.ready.entries (ap (λ (r : ReadyOf). r.entries) c.in_ok-ready.ensures);
+    scheduler = ap (λ (r : ReadyView). r.scheduler) c.in_ok-ready.ensures ∙ c.scheduler.ensures.scheduler;
+    ready_limit = ap (λ (r : ReadyView). r.limit) c.in_ok-ready.ensures ∙ c.count.ensures.count;
+    ready_jobs = opening-ready c.args.plan.now c.in_ok-ready.ready.entries (ap (λ (r : ReadyView). r.entries) c.in_ok-ready.ensures);
     calendar_limit = c.loop-task.invariant.limit;
     releases = all-held c.args.plan.now (opening c.args.plan.now) c.loop-task.task c.loop-task.calendar.entries
         (omega (arith, c.loop-task-test.false, c.count-task-end.ensures.count)) c.loop-task.invariant.held;

@@ -1,5 +1,5 @@
 use Rattle.std.proofs.Common.{◌≡◌, None, sym}
-use Rattle.task_model.specs.DemandRows.{named}
+use Rattle.task_model.specs.DemandRows.{named_units}
 use Rattle.demand_list.specs.Demands.{rows_of, IsRow}
 use Rattle.demand_list.proofs.Rows.{IsDemands-after, AddsRow-with_row, is-free}
 use Rattle.demand_list.proofs.demands.Demands.set.Goals as goal
@@ -14,7 +14,7 @@ invariant_of-self c =
 
 pub returns-clause-added : goal.returns-clause-added
 returns-clause-added c is =
-    let free : named (rows_of c.self.inside.rows.entries) c.args.task c.args.job ≡ None = is-free _ (rw is at c.add_row.ensures.answer) in
+    let free : named_units (rows_of c.self.inside.rows.entries) c.args.task c.args.job ≡ None = is-free _ (rw is at c.add_row.ensures.answer) in
     rw (← c.self.view_is, c.add_row.ensures.added is) (AddsRow-with_row (record {
       worsts = c.self.inside.worsts.items;
       rows = rows_of c.self.inside.rows.entries;

@@ -1,5 +1,5 @@
 use Rattle.std.proofs.Common.{ap, sym, subst}
-use Rattle.sched_model.specs.States.{StateOf}
+use Rattle.sched_model.specs.States.{StateView}
 use Rattle.agenda.proofs.StateQueues.{stands-rows}
 use Rattle.event_kernel.proofs.progress.Progress.advance.Goals as goal
 
@@ -7,7 +7,7 @@ pub returns-clause-current : goal.returns-clause-current
 returns-clause-current g c = λ p before.
     let run = c.args.self.now in
     record {
-      counters = subst (λ (s : StateOf). g.G.Governor.stands run.governor p s) (sym c.advance.ensures)
+      counters = subst (λ (s : StateView). g.G.Governor.stands run.governor p s) (sym c.advance.ensures)
           (g.met.G.Governor.waits run.governor p run.state c.args.to c.requires before.counters);
-      agenda = stands-rows p run.state _ run.agenda (ap (λ (v : StateOf). v.rows) c.advance.ensures) before.agenda;
+      agenda = stands-rows p run.state _ run.agenda (ap (λ (v : StateView). v.rows) c.advance.ensures) before.agenda;
     }

@@ -1,7 +1,7 @@
 use Rattle.std.proofs.Common.{◌≡◌, ◌++◌, arith, sym, subst, List, [], ◌∷◌, ap, ap₂, ◌∙◌}
 use Rattle.dvs_base.specs.declared.note.Note.{Note}
 use Rattle.sched_model.specs.Notes.{all_release_notes}
-use Rattle.sched_model.specs.States.{IsOfPlan, StateOf}
+use Rattle.sched_model.specs.States.{IsOfPlan, StateView}
 use Rattle.governor.specs.Schedule.{course}
 use Rattle.governor.specs.Steps.{IsAtDecision}
 use Rattle.event_kernel.specs.declared.span_trace.SpanTrace.{SpanTrace}
@@ -26,7 +26,7 @@ pub decide-index-requires-clause-decision : goal.decide-index-requires-clause-de
 decide-index-requires-clause-decision g c =
     let p = c.args.set.now.plan.now in
     let dem = demands_of c.args.set.now.plan.now c.args.set.now.demands.now in
-    subst (λ (s : StateOf). IsAtDecision p s) (sym c.release_all.ensures.state)
+    subst (λ (s : StateView). IsAtDecision p s) (sym c.release_all.ensures.state)
     (at-decision p (bounds p c.requires.set.admitted) dem (course g.G.Governor.demand p dem c.args.self.now.state.now))
 
 pub decide-index-requires-clause-of : goal.decide-index-requires-clause-of
@@ -35,7 +35,7 @@ decide-index-requires-clause-of g c =
     let p = c.args.set.now.plan.now in
     let dem = demands_of c.args.set.now.plan.now c.args.set.now.demands.now in
     let t = c.args.self.now.state.now in
-    subst (λ (s : StateOf). IsOfPlan p s) (sym c.release_all.ensures.state) (of-state p dem (course m p dem t) (low-exec m p dem t c.requires.set.within))
+    subst (λ (s : StateView). IsOfPlan p s) (sym c.release_all.ensures.state) (of-state p dem (course m p dem t) (low-exec m p dem t c.requires.set.within))
 
 pub returns-clause-begun : goal.returns-clause-begun
 returns-clause-begun g c =
@@ -50,5 +50,5 @@ returns-clause-begun g c =
     c.decide-index.ensures.note ∙ (ap (λ (q : SpanTrace). kept_notes (q.notes ++ speed)) released ∙ kept_notes-append releases speed) in
     begins-span c.requires.set (record { from = c.state.inside.now; index = c.decide-index.result }) s0 st
     (record { segment = c.release_all.new.self.trace.segment; notes = c.decide-index.new.notes })
-    c.requires.early c.requires.between (ap (λ (v : StateOf). v.now) c.state.view_is) c.release_all.ensures.state c.decide-index.ensures.index
+    c.requires.early c.requires.between (ap (λ (v : StateView). v.now) c.state.view_is) c.release_all.ensures.state c.decide-index.ensures.index
     (ap₂ (λ (q : SpanTrace) (ns : List Note). record { segment = q.segment; notes = ns }) released notes)

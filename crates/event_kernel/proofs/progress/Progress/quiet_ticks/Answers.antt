@@ -1,6 +1,6 @@
 use Rattle.std.proofs.Common.{ℕ, ◌-◌, ◌/◌, arith, ap, sym, subst}
 use Rattle.std.specs.Prelude.{Option}
-use Rattle.sched_model.specs.States.{StateOf}
+use Rattle.sched_model.specs.States.{StateView}
 use Rattle.event_kernel.specs.Segment.{IsFirst}
 use Rattle.event_kernel.specs.Settings.{AreQuiet}
 use Rattle.event_kernel.proofs.UnitLoop.{entry-in, speed-in}
@@ -19,7 +19,7 @@ overflow_sub-most-2 g c =
     omega (
       arith,
       first-event c.requires.set c.requires.at,
-      ap (λ (v : StateOf). v.now) c.state.view_is,
+      ap (λ (v : StateView). v.now) c.state.view_is,
       c.min-event.ensures,
       c.next_release.ensures,
     )
@@ -50,7 +50,7 @@ returns-in-Some g c =
     (quiet-held c.requires.set c.requires.at c.in-Some.task first c.min.result c.lacking.result c.lacking.ensures
     (omega (
       arith,
-      ap (λ (v : StateOf). v.now) c.state.view_is,
+      ap (λ (v : StateView). v.now) c.state.view_is,
       c.min-event.ensures,
       c.next_release.ensures,
       c.min.ensures,
@@ -62,4 +62,4 @@ returns-in-None g c =
     let n = c.min-event.result - 1 - c.state.inside.now in
     subst (λ (r : Option ℕ). AreQuiet c.args.set.now c.args.force c.args.self.now.state r n) (sym c.in-None.is)
     (quiet-idle c.requires.set c.requires.at n
-    (omega (arith, ap (λ (v : StateOf). v.now) c.state.view_is, c.min-event.ensures, c.next_release.ensures)))
+    (omega (arith, ap (λ (v : StateView). v.now) c.state.view_is, c.min-event.ensures, c.next_release.ensures)))

@@ -3,7 +3,7 @@ use Rattle.sched_model.specs.Plan.{Plan, count}
 use Rattle.sched_model.proofs.Limits.{every_period}
 use Rattle.sched_model.specs.Jobs.{JobDemands}
 use Rattle.sched_model.specs.Ticks.{Tick}
-use Rattle.sched_model.specs.States.{StateOf, row_at, after_mark, CanRelease, IsOfPlan}
+use Rattle.sched_model.specs.States.{StateView, row_at, after_mark, CanRelease, IsOfPlan}
 use Rattle.sched_model.specs.Notes.{all_release_notes}
 use Rattle.governor.specs.Meanings.{OwnDemand}
 use Rattle.governor.specs.Schedule.{course}
@@ -22,8 +22,8 @@ use Rattle.event_kernel.proofs.BoundaryReleases.{HasReleased, notes_upto, releas
 use Rattle.event_kernel.proofs.progress.Progress.release_all.Goals as goal
 
 -- the rows of the first m tasks are released
-module _ {demand : OwnDemand} {set : Setting} (ok : IsSetting set) {s0 : StateOf} (here : IsAtBoundary set demand s0)
-    {m : ℕ} {any : Bool} {st : StateOf} (r : HasReleased set.plan.now (demands_of set.plan.now set.demands.now)
+module _ {demand : OwnDemand} {set : Setting} (ok : IsSetting set) {s0 : StateView} (here : IsAtBoundary set demand s0)
+    {m : ℕ} {any : Bool} {st : StateView} (r : HasReleased set.plan.now (demands_of set.plan.now set.demands.now)
     (course demand set.plan.now (demands_of set.plan.now set.demands.now) s0.now) m any st) where
   abbrev p : Plan
   p = set.plan.now
@@ -70,9 +70,9 @@ loop-task-init g c =
     let past = course m p dem t in record {
       released = 0;
       within = omega arith;
-      so_far = subst (λ (s : StateOf). HasReleased p dem past 0 false s) (sym here.state) (releasing-start p dem past);
+      so_far = subst (λ (s : StateView). HasReleased p dem past 0 false s) (sym here.state) (releasing-start p dem past);
       current = c.requires.current;
-      of = subst (λ (s : StateOf). IsOfPlan p s) (sym here.state) (of-prior p dem past (low-exec m p dem t c.requires.set.within));
+      of = subst (λ (s : StateView). IsOfPlan p s) (sym here.state) (of-prior p dem past (low-exec m p dem t c.requires.set.within));
       trace = with-none c.args.self.now.trace c.requires.none;
     }
 
@@ -106,7 +106,7 @@ loop-task-smaller g c =
     let p = c.args.set.now.plan.now in
     let d = c.in-Some.ensures.due in
     let long = c.loop-task.invariant.of in
-    subst (λ (s : StateOf). due_left p s < due_left p c.loop-task.self.state) (sym c.release_one.ensures.state)
+    subst (λ (s : StateView). due_left p s < due_left p c.loop-task.self.state) (sym c.release_one.ensures.state)
     (due-falls p c.loop-task.self.state c.in-Some.task _ (omega (arith, d.below, long.rows))
     (every_period p c.requires.set.admitted.limits c.in-Some.task) d)
 

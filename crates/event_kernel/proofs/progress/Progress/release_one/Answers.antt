@@ -7,9 +7,9 @@ use Rattle.event_kernel.specs.SpanNotes.{kept_notes}
 use Rattle.event_kernel.proofs.SpanBuffer.{kept_notes-append}
 use Rattle.sched_model.specs.declared.state.Row.{Row}
 use Rattle.sched_model.specs.Jobs.{JobDemands}
-use Rattle.sched_model.specs.States.{row_at, after_finish, StateOf}
+use Rattle.sched_model.specs.States.{row_at, after_finish, StateView}
 use Rattle.sched_model.proofs.States.{row_read}
-use Rattle.agenda.specs.Agenda.{opened}
+use Rattle.agenda.specs.Agenda.{with_next_job}
 use Rattle.agenda.specs.Stands.{Stands}
 use Rattle.event_kernel.specs.Runs.{demands_of}
 use Rattle.event_kernel.proofs.BoundaryReleases.{opened-done, opening-done}
@@ -18,7 +18,7 @@ use Rattle.event_kernel.proofs.progress.Progress.release_one.Goals as goal
 
 -- a job that needs nothing
 module _ (g : Over) (c : goal.After-push-then-complete g) where
-  abbrev s : StateOf
+  abbrev s : StateView
   s = c.args.self.now.state
 
   abbrev i : ℕ
@@ -33,10 +33,10 @@ module _ (g : Over) (c : goal.After-push-then-complete g) where
   none : dem i ((row_at s i).job + 1) ≡ 0
   none = sym (ap (λ (r : Row). dem i (r.job + 1)) is) ∙ (sym c.demand-complete.ensures ∙ c.if-complete.true)
 
-  state-is : c.finish.new.self ≡ opened c.args.set.now.plan.now s i (needs_nothing dem s i)
+  state-is : c.finish.new.self ≡ with_next_job c.args.set.now.plan.now s i (needs_nothing dem s i)
   state-is =
       c.finish.ensures
-      ∙ (ap (λ (v : StateOf). after_finish v i) c.release.ensures
+      ∙ (ap (λ (v : StateView). after_finish v i) c.release.ensures
       ∙ opened-done c.args.set.now.plan.now dem s i c.requires.can.task (eq-eqb (dem i ((row_at s i).job + 1)) 0 none))
 
 pub returns-then-complete-clause-state : goal.returns-then-complete-clause-state
@@ -55,7 +55,7 @@ returns-then-complete-clause-trace g c =
     ∙ kept_notes-append (trace.notes ++ release ∷ []) (done ∷ [])))
     ∙ (ap (λ (ns : List Note). record { segment = trace.segment; notes = kept_notes ns }) (append_assoc trace.notes (release ∷ []) (done ∷ []))
     ∙ (ap₂ (λ t k. with_notes trace (Release t (i g c) (k + 1) ∷ Done (record { tick = t; offset = 0 }) (i g c) (k + 1) 0 ∷ []))
-    (ap (λ (v : StateOf). v.now) c.state.view_is) (ap (λ (r : Row). r.job) (is g c))
+    (ap (λ (v : StateView). v.now) c.state.view_is) (ap (λ (r : Row). r.job) (is g c))
     ∙ ap (λ ns. with_notes trace ns) (sym (opening-done (dem g c) (s g c) (i g c) (none g c)))))
 
 pub returns-then-complete-clause-current : goal.returns-then-complete-clause-current
@@ -65,6 +65,6 @@ returns-then-complete-clause-current g c =
     ap (λ n. nat_eq n 0) (c.demand-complete.ensures ∙ ap (λ (r : Row). dem g c (i g c) (r.job + 1)) (is g c)) in
     record {
       counters = search rules;
-      agenda = subst (λ (v : StateOf). Stands p v c.renew.new.self) (sym (state-is g c))
-          (subst (λ (b : Bool). Stands p (opened p (s g c) (i g c) b) c.renew.new.self) same c.renew.ensures);
+      agenda = subst (λ (v : StateView). Stands p v c.renew.new.self) (sym (state-is g c))
+          (subst (λ (b : Bool). Stands p (with_next_job p (s g c) (i g c) b) c.renew.new.self) same c.renew.ensures);
     }

@@ -1,12 +1,12 @@
 use Rattle.std.proofs.Common.{◌≡◌, ℕ, ◌+◌, ◌<◌, true, length, set, ap, ◌∙◌, get_or-set_same, sym, subst, rules}
 use Rattle.std.proofs.lemmas.List.{set-set}
 use Rattle.sched_model.specs.declared.state.Row.{Row}
-use Rattle.sched_model.specs.States.{no_row, row_at, after_run, after_finish, StateOf}
+use Rattle.sched_model.specs.States.{no_row, row_at, after_run, after_finish, StateView}
 use Rattle.agenda.specs.Stands.{Stands}
-use Rattle.event_kernel.specs.Tickwork.{served}
+use Rattle.event_kernel.specs.Tickwork.{after_service}
 use Rattle.event_kernel.proofs.progress.Progress.serve.Goals as goal
 
-served-ended : (s : StateOf) (i units : ℕ) → i < length s.rows → after_finish (after_run s i units) i ≡ served s i units true
+served-ended : (s : StateView) (i units : ℕ) → i < length s.rows → after_finish (after_run s i units) i ≡ after_service s i units true
 served-ended s i units lt =
     let row : Row = record (row_at s i) { used = (row_at s i).used + units } in
     let read : row_at (after_run s i units) i ≡ row = get_or-set_same s.rows i row no_row lt in
@@ -16,17 +16,17 @@ served-ended s i units lt =
 pub returns-then-ends-clause-state : goal.returns-then-ends-clause-state
 returns-then-ends-clause-state g c =
     c.finish.ensures
-    ∙ (ap (λ (s : StateOf). after_finish s c.args.task) c.run.ensures
+    ∙ (ap (λ (s : StateView). after_finish s c.args.task) c.run.ensures
     ∙ (served-ended c.args.self.now.state c.args.task c.args.units c.requires.can.task
-    ∙ ap (λ b. served c.args.self.now.state c.args.task c.args.units b) (sym c.if-ends.true)))
+    ∙ ap (λ b. after_service c.args.self.now.state c.args.task c.args.units b) (sym c.if-ends.true)))
 
 pub complete-requires-clause-stand : goal.complete-requires-clause-stand
 complete-requires-clause-stand g c =
-    subst (λ (s : StateOf). Stands c.args.plan.now s c.serve.new.self) (sym c.run.ensures) c.serve.ensures
+    subst (λ (s : StateView). Stands c.args.plan.now s c.serve.new.self) (sym c.run.ensures) c.serve.ensures
 
 pub returns-else-ends-clause-current : goal.returns-else-ends-clause-current
 returns-else-ends-clause-current g c =
     record {
       counters = search rules;
-      agenda = subst (λ (s : StateOf). Stands c.args.plan.now s c.serve.new.self) (sym c.run.ensures) c.serve.ensures;
+      agenda = subst (λ (s : StateView). Stands c.args.plan.now s c.serve.new.self) (sym c.run.ensures) c.serve.ensures;
     }

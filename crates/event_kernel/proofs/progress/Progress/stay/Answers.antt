@@ -1,8 +1,8 @@
 use Rattle.std.proofs.Common.{◌≡◌, ℕ, ◌+◌, ◌*◌, arith, ap, ap₂, ◌∙◌, sym, subst}
 use Rattle.sched_model.specs.Plan.{Plan, point}
-use Rattle.sched_model.specs.States.{after_advance, CanRun, StateOf}
+use Rattle.sched_model.specs.States.{after_advance, CanRun, StateView}
 use Rattle.std.specs.Prelude.{Option, IfSome}
-use Rattle.event_kernel.specs.Segment.{entered, holder_at, CanEnter, IsFirst}
+use Rattle.event_kernel.specs.Segment.{after_units, holder_at, CanEnter, IsFirst}
 use Rattle.event_kernel.specs.Tickwork.{gives}
 use Rattle.event_kernel.specs.Settings.{IsLastTick}
 use Rattle.event_kernel.proofs.UnitLoop.{entry-in, speed-in}
@@ -34,7 +34,7 @@ serve_first-requires-clause-can g c =
 
 -- the quiet ticks as one step
 module _ (g : Over) (c : goal.After-advance g) where
-  abbrev st : StateOf
+  abbrev st : StateView
   st = c.args.self.now.state
 
   abbrev p : Plan
@@ -58,13 +58,13 @@ module _ (g : Over) (c : goal.After-advance g) where
   moved : c.advance.new.self.state ≡ after_advance (gives st first (n * (point p e).speed)) (st.now + n)
   moved =
       c.advance.ensures.state
-      ∙ (ap (λ (v : StateOf). after_advance v (c.state.inside.now + n)) c.serve_first.ensures.state
-      ∙ ap₂ (λ f t. after_advance (gives st first (n * f)) (t + n)) speed (ap (λ (v : StateOf). v.now) c.state.view_is))
+      ∙ (ap (λ (v : StateView). after_advance v (c.state.inside.now + n)) c.serve_first.ensures.state
+      ∙ ap₂ (λ f t. after_advance (gives st first (n * f)) (t + n)) speed (ap (λ (v : StateView). v.now) c.state.view_is))
 
-  traces : c.advance.new.self.trace ≡ entered p st c.args.force.from e (holder_at st first) (n * (point p e).speed) c.args.self.now.trace
+  traces : c.advance.new.self.trace ≡ after_units p st c.args.force.from e (holder_at st first) (n * (point p e).speed) c.args.self.now.trace
   traces =
       c.advance.ensures.trace ∙ (c.serve_first.ensures.trace ∙
-      (c.enter.ensures ∙ ap₂ (λ h f. entered p st c.args.force.from e h (n * f) c.args.self.now.trace) c.holder_of-holder.ensures speed))
+      (c.enter.ensures ∙ ap₂ (λ h f. after_units p st c.args.force.from e h (n * f) c.args.self.now.trace) c.holder_of-holder.ensures speed))
 
 pub returns-clause-in_span : goal.returns-clause-in_span
 returns-clause-in_span g c =
@@ -73,5 +73,5 @@ returns-clause-in_span g c =
 
 pub returns-clause-last : goal.returns-clause-last
 returns-clause-last g c =
-    subst (λ (v : StateOf). IsLastTick c.args.set.now c.args.force v) (sym (moved g c))
+    subst (λ (v : StateView). IsLastTick c.args.set.now c.args.force v) (sym (moved g c))
     (last-then c.requires.set c.requires.at (first g c) (is g c) c.quiet_ticks-quiet.ensures)

@@ -1,9 +1,9 @@
 use Rattle.std.proofs.Common.{◌≡◌, ℕ, ◌+◌, ◌<◌, min, Bool, true, ◌||◌, arith, refl, ap, ◌∙◌, sym, subst, inl, inr, ◌⊎◌, nat_eq}
 use Rattle.sched_model.specs.Plan.{count}
-use Rattle.sched_model.specs.States.{row_at, after_advance, StateOf}
+use Rattle.sched_model.specs.States.{row_at, after_advance, StateView}
 use Rattle.event_kernel.specs.declared.progress.Progress.{Progress}
 use Rattle.event_kernel.specs.Current.{IsCurrent}
-use Rattle.event_kernel.specs.Segment.{entered}
+use Rattle.event_kernel.specs.Segment.{after_units}
 use Rattle.event_kernel.specs.Settings.{HasWorked}
 use Rattle.event_kernel.proofs.UnitLoop.{entry-in, speed-in, begin, can-enter, ready, turned, idled, full, finished}
 use Rattle.event_kernel.proofs.QuietTicks.{of-plan}
@@ -54,7 +54,7 @@ loop-rest-preserved g c =
           whole c.if-completed.completed c.serve.new.self.state c.serve.new.self.trace c.loop-rest-test.true
           (ap (λ u. nat_eq share u) c.lacking-lacks.ensures) now_is c.serve.ensures.state
           (c.serve.ensures.trace ∙ (c.enter.ensures ∙ ap
-          (λ h. entered p st c.args.force.from c.args.force.index h share trace) c.holder_of-holder.ensures));
+          (λ h. after_units p st c.args.force.from c.args.force.index h share trace) c.holder_of-holder.ensures));
       current = c.serve.ensures.current;
       of = c.serve.ensures.of;
     }
@@ -75,8 +75,8 @@ module _ (g : Over) (c : goal.After-advance g) where
       c.loop-rest.self.state (c.args.self.now.state.now + 1)
   moved same =
       c.advance.ensures.state ∙
-      (ap (λ n. after_advance c.if-rest-gt0.self.state (n + 1)) (ap (λ (v : StateOf). v.now) c.state.view_is) ∙ ap
-      (λ (v : StateOf). after_advance v (c.args.self.now.state.now + 1)) same)
+      (ap (λ n. after_advance c.if-rest-gt0.self.state (n + 1)) (ap (λ (v : StateView). v.now) c.state.view_is) ∙ ap
+      (λ (v : StateView). after_advance v (c.args.self.now.state.now + 1)) same)
 
 pub returns-clause-worked : goal.returns-clause-worked
 returns-clause-worked g c =

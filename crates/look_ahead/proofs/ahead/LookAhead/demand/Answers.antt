@@ -1,6 +1,6 @@
 use Rattle.std.proofs.Common.{◌≡◌, ap, arith}
 use Rattle.sched_model.specs.Plan.{count}
-use Rattle.sched_model.specs.States.{StateOf}
+use Rattle.sched_model.specs.States.{StateView}
 use Rattle.sched_model.proofs.Limits.{some_hyper}
 use Rattle.governor.proofs.StatesOfDemands.{earliest-later}
 use Rattle.look_ahead.proofs.WalkLoop.{done_none, first_grows, most_low, step_below, step_fits, step_next, tasks_long}
@@ -77,5 +77,5 @@ loop-k-preserved c =
 pub overflow_sub-soonest : goal.overflow_sub-soonest
 overflow_sub-soonest c =
     let next = earliest-later c.args.plan.now c.scheduler-admitted.ensures.admitted.limits c.args.view.now c.requires.decision.before in
-    let clock : c.view.inside.now ≡ c.args.view.now.now = ap (λ (v : StateOf). v.now) c.view.view_is in
+    let clock : c.view.inside.now ≡ c.args.view.now.now = ap (λ (v : StateView). v.now) c.view.view_is in
     omega (arith, next, clock, c.earliest_deadline-soonest.ensures)

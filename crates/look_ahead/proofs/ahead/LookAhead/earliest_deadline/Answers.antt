@@ -1,6 +1,6 @@
 use Rattle.std.proofs.Common.{◌∙◌, length, ap, arith}
 use Rattle.sched_model.specs.declared.state.Row.{Row}
-use Rattle.sched_model.specs.States.{StateOf}
+use Rattle.sched_model.specs.States.{StateView}
 use Rattle.sched_model.proofs.States.{row_read}
 use Rattle.look_ahead.proofs.WalkLoop.{first_below, first_due, some_first}
 use Rattle.look_ahead.proofs.ahead.LookAhead.earliest_deadline.Goals as goal
@@ -17,7 +17,7 @@ index-requires-2 c =
     let is = c.requires.counters.order_is in
     let i = c.index.result.now in
     let below = first_below c.args.plan.now c.args.view.now c.scheduler-admitted.ensures.admitted.limits order is i c.index.ensures in
-    let rows = ap (λ (v : StateOf). length v.rows) c.view.view_is in
+    let rows = ap (λ (v : StateView). length v.rows) c.view.view_is in
     omega (arith, below, c.requires.of.rows, rows)
 
 pub returns : goal.returns

@@ -14,5 +14,5 @@ returns c =
     map_err-IfOk c.table_to_string.result c.map_err.result _ _ c.map_err.ensures.cases c.map_err.ensures.variant
     (IfOk-weaker c.table_to_string.result _ _
     (λ text back. task_file-written c.args.self.now text c.as_slice.ensures.limits
-        (subst (λ d. members_depth d ≤ 80 → parse_document (string_bytes text) ≡ Some d) shown back))
+    (subst (λ d. members_depth d ≤ 80 → parse_document (string_bytes text) ≡ Some d) shown back))
     c.table_to_string.ensures.reads_back)
