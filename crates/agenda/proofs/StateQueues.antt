@@ -256,8 +256,10 @@ module _ (p : Plan) (s : StateView) (ready : ReadyView) (calendar : QueueView) (
     }
 
     -- the job that is released needs no units: the calendar alone has its entry
-    pub stand-closed : StandFor p (with_next_job p s i true) ready (record calendar { entries =
-            with_entry due_before (task_entry p (with_next_job p s i true) i) rest })
+    pub stand-closed : StandFor p (with_next_job p s i true) ready (record calendar {
+      entries =
+          with_entry due_before (task_entry p (with_next_job p s i true) i) rest;
+    })
     stand-closed = record {
       scheduler = h.scheduler;
       ready_limit = h.ready_limit;
@@ -345,7 +347,7 @@ module _ (p : Plan) (s : StateView) (ready : ReadyView) (calendar : QueueView) (
 
       pub after-open : (ready' : ReadyView) → next ≡ task_entry p (with_next_job p s i false) i
           → ready' ≡ record ready { entries = with_entry (before_of ready.scheduler) next ready.entries }
-                  → StandFor p (with_next_job p s i false) ready' calendar'
+          → StandFor p (with_next_job p s i false) ready' calendar'
       after-open ready' is put =
           let all : StandFor p (with_next_job p s i false)
           (record ready { entries = with_entry (before_of p.scheduler) (task_entry p (with_next_job p s i false) i) ready.entries })

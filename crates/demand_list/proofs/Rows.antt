@@ -71,7 +71,7 @@ pub named-within : (worsts : List ℕ) (rows : List DemandRow) (i k : ℕ) → A
     → unwrap_or (named_units rows i k) (slice_index worsts i) ≤ slice_index worsts i
 named-within worsts [] i k h = omega arith
 named-within worsts (r ∷ rows) i k h = one-within worsts r i (named_units rows i k) (nat_eq r.task i) (nat_eq r.job k) refl h.0 (named-within worsts rows i k
-        h.1)
+    h.1)
 
 pub IsWithinWorsts-rows : (d : DemandsView) → AllByRecursion (IsRow d.worsts) d.rows → IsWithinWorsts d
 IsWithinWorsts-rows d h i k _ = named-within d.worsts d.rows i k h
@@ -173,17 +173,17 @@ elsewhere a b i k true false e f h = refl
 elsewhere a b i k false job e f h = refl
 
 named-with_row_other : (rows : List DemandRow) (r : DemandRow) (i k : ℕ) → ((i ≡ r.task) → (k ≡ r.job) → ⊥)
-        → named_units (with_row rows r) i k ≡ named_units rows i k
+    → named_units (with_row rows r) i k ≡ named_units rows i k
 named-with_row_other [] r i k h = rw (elsewhere r.task r.job i k (nat_eq r.task i) (nat_eq r.job k) refl refl h) refl
 named-with_row_other (s ∷ rows) r i k h = by (precedes r s) (named-with_row_other rows r i k h)
   where
     by : (b : Bool) → named_units (with_row rows r) i k ≡ named_units rows i k
-            → named_units (if b then r ∷ s ∷ rows else s ∷ with_row rows r) i k ≡ named_units (s ∷ rows) i k
+        → named_units (if b then r ∷ s ∷ rows else s ∷ with_row rows r) i k ≡ named_units (s ∷ rows) i k
     by true more = rw (elsewhere r.task r.job i k (nat_eq r.task i) (nat_eq r.job k) refl refl h) refl
     by false more = rw more refl
 
 pub AddsRow-with_row : (d : DemandsView) (r : DemandRow) → named_units d.rows r.task r.job ≡ None
-        → AddsRow d (record { worsts = d.worsts; rows = with_row d.rows r }) r
+    → AddsRow d (record { worsts = d.worsts; rows = with_row d.rows r }) r
 AddsRow-with_row d r h = record { worsts = refl; free = h; row = named-with_row d.rows r h; others = named-with_row_other d.rows r }
 
 worst-at : (ts : List Task) (i : ℕ) → i < length ts → slice_index (map (λ (t : Task). t.worst) ts) i ≡ (task_at ts i).worst

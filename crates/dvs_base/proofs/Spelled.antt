@@ -54,7 +54,7 @@ read_on-le n [] = omega arith
 read_on-le n (c ∷ cs) = omega (arith, read_on-le (n * 10 + (c - 48)) cs)
 
 decimal-read_on : (m : ℕ) (cs : List ℕ) → 0 < m → list_all is_ascii_digit cs ≡ true → number_after m cs < 10 ^ 64
-        → decimal (number_after m cs) ≡ decimal m ++ cs
+    → decimal (number_after m cs) ≡ decimal m ++ cs
 decimal-read_on m [] above h fits = sym (append-nil (decimal m))
 decimal-read_on m (c ∷ cs) above h fits =
     let parts = and_parts (is_ascii_digit c) (list_all is_ascii_digit cs) h in

@@ -128,7 +128,7 @@ module _ (p : Plan) (dem : JobDemands) (ask : PublishedDemand) (t : ℕ) where
       -- another holder has the units: the open segment ends
       turns : 0 < trace.segment.units → pieces_of s.units ≡ w.done ++ piece trace.segment.holder trace.segment.units ∷ []
           → (b : Bool) → same_holder trace.segment.holder h ≡ b
-                  → HoldsSpan p dem ask t longer used' (most + n) (after_units p st (length s.past) s.entry h n trace)
+          → HoldsSpan p dem ask t longer used' (most + n) (after_units p st (length s.past) s.entry h n trace)
       turns pos e true same =
           let like : trace.segment.holder ≡ h = same_holder-eq trace.segment.holder h same in
           let some_units : nat_lt 0 trace.segment.units ≡ true = grind (arith, nat_tests) in

@@ -238,12 +238,12 @@ module _ {set : Setting} (ok : IsSetting set) (force : InForce) where
     stays-by zero t first st trace some here is short lt quiet = absurd (omega arith)
     stays-by (suc n) t None st trace some here is short lt quiet =
         subst (λ u. IsInSpan set demand force (t + suc n) (after_advance st (t + suc n)) (after_units p st force.from force.index Nobody u trace))
-                (units_in-is f n)
+        (units_in-is f n)
         (idle_by n t st trace here is lt quiet)
     stays-by (suc n) t (Some i) st trace some here is short lt quiet =
         let part = short i refl in
         subst (λ u. IsInSpan set demand force (t + suc n) (run_on st i u (t + suc n)) (after_units p st force.from force.index (Held i (row_at st i).job) u
-                trace))
+        trace))
         (units_in-is f n) (held_by n t i st trace here is (omega (arith, part, units_in-is f n)) lt quiet)
 
 -- quiet ticks are one step

@@ -196,7 +196,7 @@ module _ {demand : OwnDemand} {set : Setting} (ok : IsSetting set) {force : InFo
 
       pub turned : (whole now : Bool) (st' : StateView) (trace' : SpanTrace) → 0 < rest → whole ≡ nat_eq share (dem i (row_at st i).job - (row_at st i).used)
           → now ≡ (completed || whole) → st' ≡ after_service st i share whole
-                  → trace' ≡ after_units p st force.from force.index (Held i (row_at st i).job) share trace
+          → trace' ≡ after_units p st force.from force.index (Held i (row_at st i).job) share trace
           → HoldsHanded demand p dem t (rest - share) now st' trace'
       turned whole now st' trace' pos we ne sis pis = record {
         given = raised w.given i share;

@@ -61,7 +61,7 @@ same-demand s some ticks rows are i (suc k) lt first began = go (nat_eq i s.task
           | inr most ↦ most
         ] in
         let row : named_units rows i (suc k) ≡ Some (taken_units s (suc k)) =
-                ap (λ (j : ℕ). named_units rows j (suc k)) same ∙ are.taken_by (suc k) first within in
+        ap (λ (j : ℕ). named_units rows j (suc k)) same ∙ are.taken_by (suc k) first within in
         demand-row s.plan rows i k (taken_units s (suc k)) row
     go false e =
         let other : i ≡ s.task → ⊥ = grind (arith, nat_tests) in

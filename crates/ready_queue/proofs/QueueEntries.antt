@@ -24,7 +24,7 @@ module _ (before : Entry → Entry → Bool) where
   length-placed e (x ∷ xs) = go (before e x) (length-placed e xs)
     where
       go : (b : Bool) → length (with_entry before e xs) ≡ suc (length xs)
-              → length (if b then e ∷ x ∷ xs else x ∷ with_entry before e xs) ≡ suc (suc (length xs))
+          → length (if b then e ∷ x ∷ xs else x ∷ with_entry before e xs) ≡ suc (suc (length xs))
       go true ih = refl
       go false ih = ap suc ih
 
@@ -97,7 +97,7 @@ module _ (before : Entry → Entry → Bool) where
         → record { limit = limit; entries = ordered_entries before xs } ≡ q → e.task < q.limit → IsAbsent e.task q.entries
         → lent ≡ xs ++ e ∷ [] → n ≡ length lent → IsPermutation lent ys → IsHeap before ys → more ≡ limit
         → HoldsQueue before more (take n (ys ++ drop (length ys) l)) × (ordered_entries before (take n (ys ++ drop (length ys) l)) ≡ with_entry before e
-                q.entries)
+        q.entries)
     inserted limit more n e xs lent ys l q h view lt a put long moved heap room =
         let can = asked limit e xs q view lt a in
         let same = whole n lent ys l long moved in
@@ -109,7 +109,7 @@ module _ (before : Entry → Entry → Bool) where
 
     -- in a heap the entry at the top is the first in order
     pub top_entries : (limit : ℕ) (x : Entry) (xs : List Entry) → HoldsQueue before limit (x ∷ xs)
-            → ordered_entries before (x ∷ xs) ≡ x ∷ ordered_entries before xs
+        → ordered_entries before (x ∷ xs) ≡ x ∷ ordered_entries before xs
     top_entries limit x xs h = placed-first before x (ordered_entries before xs)
         (sorted-All before (λ z. before x z ≡ true) xs (heap_first before laws x xs h.apart h.heap))
 
@@ -129,7 +129,7 @@ module _ (before : Entry → Entry → Bool) where
     })
 
     pub first_comes : (limit : ℕ) (xs : List Entry) → HoldsQueue before limit xs
-            → IfSome (slice_get xs 0) (λ e. ComesFirst before e (ordered_entries before xs))
+        → IfSome (slice_get xs 0) (λ e. ComesFirst before e (ordered_entries before xs))
     first_comes limit [] h = tt
     first_comes limit (x ∷ xs) h = comes_first limit x xs h
 
@@ -266,14 +266,14 @@ module _ (before : Entry → Entry → Bool) where
           ∙ ap (λ (zs : List Entry). with_entry before e (drop 1 zs)) (sym (top_entries limit x xs h))
 
       absent_after : (xs : List Entry) → HoldsQueue before limit xs → IsOfFirst e.task (ordered_entries before xs)
-              → IsAbsent e.task (drop 1 (ordered_entries before xs))
+          → IsAbsent e.task (drop 1 (ordered_entries before xs))
       absent_after [] h f = absurd f
       absent_after (x ∷ xs) h f =
           subst (λ (zs : List Entry). IsAbsent e.task (drop 1 zs)) (sym (top_entries limit x xs h))
           (sorted-All before (λ z. z.task ≢ e.task) xs (subst (λ (t : ℕ). IsAbsent t xs) (first_is x xs h f) h.apart.0))
 
       pub replaced : (n : ℕ) (xs ys l : List Entry) (q : QueueView) → HoldsQueue before limit xs
-              → record { limit = limit; entries = ordered_entries before xs } ≡ q
+          → record { limit = limit; entries = ordered_entries before xs } ≡ q
           → IsOfFirst e.task q.entries → n ≡ length (slice_set xs 0 e) → IsPermutation (slice_set xs 0 e) ys → IsHeap before ys
           → HoldsQueue before limit (take n (ys ++ drop (length ys) l))
           × (ordered_entries before (take n (ys ++ drop (length ys) l)) ≡ with_entry before e (drop 1 q.entries))

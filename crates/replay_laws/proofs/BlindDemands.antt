@@ -48,7 +48,7 @@ module _ (p : Plan) (lim : IsWithinLimits p) (dem other : JobDemands) (past : Li
   charged-same i lt = go (is_complete p dem past i) refl (same-complete p lim dem other past h i lt)
     where
       go : (b : Bool) → is_complete p dem past i ≡ b → is_complete p dem past i ≡ is_complete p other past i
-              → cycle_units p dem past i ≡ cycle_units p other past i
+          → cycle_units p dem past i ≡ cycle_units p other past i
       go true e same =
           ap₂ (λ (b : Bool) (n : ℕ). if b then n else worst p i) same (((h i (latest p i (length past)) lt (latest-early p lim i (length past) lt)).0) e)
       go false e same =

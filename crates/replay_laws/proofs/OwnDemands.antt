@@ -158,7 +158,7 @@ module _ (p : Plan) (lim : IsWithinLimits p) (ask : Asking) (blind : IsBlind p a
 
 -- the demand of a job with a row is the row's units and twice the charge
 pub demand-row : (p : Plan) (rows : List DemandRow) (i k units : ℕ) → 1 ≤ k → named_units rows i k ≡ Some units
-        → demand_of p rows i k ≡ units + 2 * p.machine.charge
+    → demand_of p rows i k ≡ units + 2 * p.machine.charge
 demand-row p rows i zero units some e = absurd (omega (arith, some))
 demand-row p rows i (suc k) units some e = ap (λ (o : Option ℕ). unwrap_or (option_map (λ u. u + 2 * p.machine.charge) o) (worst p i)) e
 

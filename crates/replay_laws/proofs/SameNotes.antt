@@ -233,7 +233,7 @@ module _ (p : Plan) (lim : IsWithinLimits p) (dem other : JobDemands) (none : (i
     one_share_each = next.one_share_each;
     entry = next.entry ∙ same-entry p lim dem other ask blind past (alike-earlier p dem other x past (length (x ∷ past)) (suc (length past)) (omega arith) h);
     legal = shares-alike (count p) (key_of p.scheduler p (length past)) ((point p x.entry).speed) (units_left p dem past) (units_left p other past) (share x)
-            next.legal
+        next.legal
         (needs-alike x past ((point p x.entry).speed) next.legal h);
   }
 

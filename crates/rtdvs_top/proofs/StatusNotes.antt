@@ -25,7 +25,7 @@ module _ (files : Files) (c : CommandView) (tasks : Option (List Task)) (ps : Li
 
 -- what was put to `notes` is what the call promises
 pub notes-of : (files : Option Files) (c : CommandView) (tasks read : Option (List Task)) (ps qs : List ProbeView) (s : Status) (old new : SinkView) (asks :
-        Bool)
+    Bool)
     → asks ≡ asks_probes c → read ≡ tasks → qs ≡ ps → Named files c tasks s
     → NotedAs old new (noted_text asks (names_of read) qs s) → Notes files (Ok c) ps s old new
 notes-of None c tasks read ps qs s old new asks a r q named h = (

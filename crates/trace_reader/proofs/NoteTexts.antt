@@ -281,7 +281,7 @@ module _ (v : Version) (names : List (List ℕ)) (named : AreNames names) (apart
 
   -- the text of the energies that are left and the last note is read
   shares-text : (k n : ℕ) (s : SoFar) (last : Note) (more : List ℕ) → energy_line_count v names - s.energies_read ≡ k → is_end last ≡ true
-          → IsNoteOf (length names) last
+      → IsNoteOf (length names) last
       → ((i : ℕ) → s.energies_read ≤ i → i < energy_line_count v names → task_energy s.notes i < 2 ^ 128) → n + k ≤ MOST_LINES
       → notes_from v names n s (parts 10 ((joined (drop s.energies_read (shares v names s.notes)) ++ note_text names last) ++ more)) ≡ answer
       (n + k + 1) (s.notes ++ last ∷ []) more

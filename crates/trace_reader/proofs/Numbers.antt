@@ -53,7 +53,7 @@ short-below : (limit : ℕ) (cs : List ℕ) → 10 ^ 19 ≤ limit → length cs 
 short-below limit cs above short = by (is_spelled cs) refl
   where
     by : (b : Bool) → is_spelled cs ≡ b → (if b then Some (number_after 0 cs) else None) ≡ (if b && nat_lt (number_after 0 cs) limit then Some (number_after
-            0 cs) else None)
+        0 cs) else None)
     by true e =
         let small : number_after 0 cs < 10 ^ (0 + length cs) = read_on-below 0 0 cs (omega arith) (is_spelled-digits cs e) in
         let bound : 10 ^ (0 + length cs) ≤ 10 ^ 19 = pow-le-pow_right {n = 10} (omega arith) {i = 0 + length cs} {j = 19} (omega arith) in

@@ -87,7 +87,7 @@ length-from notes i (name ∷ names) = ap suc (length-from notes (i + 1) names)
 
 -- a version has as many energy lines as the reader wants
 pub length-shares : (v : Version) (names : List (List ℕ)) (notes : List Note)
-        → length (version_task_lines v (shares_from notes 0 names)) ≡ energy_line_count v names
+    → length (version_task_lines v (shares_from notes 0 names)) ≡ energy_line_count v names
 length-shares v names notes = length-has v (shares_from notes 0 names) ∙ ap (λ k. if has_task_lines v then k else 0) (length-from notes 0 names)
 
 -- the lines of notes that end once are one for each, and those of the tasks' energies

@@ -145,7 +145,7 @@ for-below Two n f is = ap (λ (m : ℕ). map unnoted_line (list_below m f)) is
 
 pub below-stopped : {a b c : SinkView} (ps : List ProbeView) (v : Version) (f : ℕ → List ℕ) {i m : ℕ} (n : ℕ) → i < m → m ≡ (if has_task_lines v then n else 0)
     → WroteLines a b ps ps (map unnoted_line (list_below i f)) → StoppedIn b c ps ps (unnoted_line (f i) ∷ [])
-            → StoppedIn a c ps ps (for_tasks v (list_below n f))
+    → StoppedIn a c ps ps (for_tasks v (list_below n f))
 below-stopped {a} {b} {c} ps v f {i} {m} n lt number w x =
     some-as (for-below v n f number)
     (below-stop a c ps f i m lt (lines-then-some a b c ps ps ps (map unnoted_line (list_below i f)) (unnoted_line (f i) ∷ []) w x))

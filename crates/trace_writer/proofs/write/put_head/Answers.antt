@@ -11,7 +11,7 @@ returns-in_err-put_version g c ps =
     let p = h.plan.now in
     stopped-exit _ _ ps ps _ c.from_residual.result c.from_residual.ensures.0
     (lines-some-more _ _ ps ps (unnoted_line (version_line h.version) ∷ []) (unnoted_line (plan_text p.scheduler h.governor h.ticks)
-            ∷ for_tasks h.version (task_texts p))
+    ∷ for_tasks h.version (task_texts p))
     (c.in_err-put_version.ensures ps))
 
 pub returns-in_err-put_plan : goal.returns-in_err-put_plan
@@ -22,7 +22,7 @@ returns-in_err-put_plan g c ps =
     (lines-then-some _ _ _ ps ps ps (unnoted_line (version_line h.version) ∷ [])
     (unnoted_line (plan_text p.scheduler h.governor h.ticks) ∷ for_tasks h.version (task_texts p)) (c.in_ok-put_version.ensures ps)
     (lines-some-more _ _ ps ps (unnoted_line (plan_text p.scheduler h.governor h.ticks)
-            ∷ []) (for_tasks h.version (task_texts p)) (c.in_err-put_plan.ensures ps)))
+    ∷ []) (for_tasks h.version (task_texts p)) (c.in_err-put_plan.ensures ps)))
 
 pub returns : goal.returns
 returns g c ps =
