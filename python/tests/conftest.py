@@ -1,0 +1,42 @@
+"""What all tests share: the program, the example folder and hypothesis' profile."""
+
+import os
+from pathlib import Path
+
+import pytest
+from hypothesis import HealthCheck, settings
+
+from rtdvs.engine import Engine
+
+TOP = Path(__file__).resolve().parents[2]
+
+settings.register_profile("gate", derandomize=True, deadline=None, max_examples=30, database=None,
+                          suppress_health_check=list(HealthCheck))
+settings.load_profile(os.environ.get("RTDVS_PROFILE", "gate"))
+
+
+@pytest.fixture(scope="session")
+def top() -> Path:
+    """The top of the repository."""
+    return TOP
+
+
+@pytest.fixture(scope="session")
+def data() -> Path:
+    """The folder of the examples' files: paper, ahead, controller, deadlines, long, offsets, server, templates."""
+    return TOP / "crates" / "example_runs" / "data"
+
+
+@pytest.fixture(scope="session")
+def program() -> Path:
+    """The built program: $RTDVS or the repository's; without one a test is skipped."""
+    built = Path(os.environ.get("RTDVS", TOP / "crates" / "rtdvs" / "out" / "rtdvs"))
+    if not built.is_file():
+        pytest.skip("no built program")
+    return built
+
+
+@pytest.fixture(scope="session")
+def engine(program: Path) -> Engine:
+    """The built program as an engine."""
+    return Engine(program, timeout=60.0)
