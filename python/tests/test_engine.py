@@ -123,6 +123,11 @@ def test_texts_that_no_program_prints(parse: Callable[[str], object], text: str)
         parse(text)
 
 
+def test_an_answer_that_is_no_text() -> None:
+    with pytest.raises(Crashed, match="not UTF-8"):
+        Answer(0, b"\xff", b"").text()
+
+
 def test_a_price_below_nothing() -> None:
     assert parse_least("least 1 2 3 4 5 6\nprices 7 minus 8\n").tick_price == -8
 

@@ -15,6 +15,7 @@ SOURCE = Path(rtdvs.__file__).parent
 MODULES = sorted(SOURCE.glob("*.py"))
 LAYERS = [
     {"files", "errors", "decimals"},
+    {"answers"},
     {"engine"},
     {"trace"},
     {"rules", "explain", "simulate", "commandline"},
