@@ -349,8 +349,8 @@ def test_errors_on_executors(tmp_path: Path) -> None:
 
 def test_answers_on_dask(echo: Engine, tmp_path: Path) -> None:
     distributed = pytest.importorskip("distributed")
-    options = {"n_workers": 1, "processes": False, "dashboard_address": ":0", "local_directory": str(tmp_path)}
-    with distributed.LocalCluster(**options) as cluster, distributed.Client(cluster) as client:
+    options = {"processes": False, "dashboard_address": ":0", "local_directory": str(tmp_path)}
+    with distributed.LocalCluster(1, **options) as cluster, distributed.Client(cluster) as client:
         assert seeds(echo.answers(calls(), client.get_executor())) == [*range(12)]
 
 

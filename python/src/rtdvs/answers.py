@@ -166,7 +166,11 @@ def parse_least(text: str) -> Least:
 
 
 def parse_workload(text: str) -> tuple[GovernorTotals, ...]:
-    """The answer of `workload`, a line for each governor; raises Crashed for any other text."""
+    """The answer of `workload`, a line for each governor; raises Crashed for any other text.
+
+    >>> parse_workload("workload 1 32 50000\\nnone 9 8 7 600 5\\n")[0].decisions
+    7
+    """
     head, *lines = text.splitlines(keepends=True) or [text]
     _answer_groups(f"workload {NUMBER} {NUMBER} {NUMBER}\n", head)
     pattern = " ".join(["(none|static|cc|la)", *[NUMBER] * 5]) + "\n"

@@ -71,8 +71,8 @@ HOW_TO_GET_ONE = (
 class Call:
     """A call of the program: options with values, and with files (a text or a path). It can be pickled.
 
-    >>> admit_call(Path("tasks.toml"), "idle = 0", "edf").options
-    (('--scheduler', 'edf'),)
+    >>> Call("workload", (("--seed", "1"),)).files
+    ()
     """
 
     command: str
@@ -120,7 +120,11 @@ def _call(command: str, options: dict[str, str | int], **files: Source | None) -
 
 def run_call(tasks: Source, machine: Source, scheduler: str, governor: str, ticks: int,
              demands: Source | None = None, version: int = 2) -> Call:
-    """The call of `run`; its answer's text is the trace."""
+    """The call of `run` for that many ticks; its answer's text is the trace.
+
+    >>> run_call(Path("/t.toml"), Path("/m.toml"), "edf", "cc", ticks=16).options[2]
+    ('--ticks', '16')
+    """
     options: dict[str, str | int] = {
         "scheduler": scheduler, "governor": governor, "ticks": ticks, "format": version,
     }
@@ -128,23 +132,39 @@ def run_call(tasks: Source, machine: Source, scheduler: str, governor: str, tick
 
 
 def admit_call(tasks: Source, machine: Source, scheduler: str) -> Call:
-    """The call of `admit`; parse_admitted reads its answer's text."""
+    """The call of `admit`; parse_admitted reads its answer's text.
+
+    >>> admit_call(Path("/t.toml"), Path("/m.toml"), "edf").options
+    (('--scheduler', 'edf'),)
+    """
     return _call("admit", {"scheduler": scheduler}, tasks=tasks, machine=machine)
 
 
 def response_call(tasks: Source, machine: Source) -> Call:
-    """The call of `response`; parse_responses reads its answer's text."""
+    """The call of `response`; parse_responses reads its answer's text.
+
+    >>> response_call(Path("/t.toml"), Path("/m.toml")).files
+    (('--tasks', PosixPath('/t.toml')), ('--machine', PosixPath('/m.toml')))
+    """
     return _call("response", {}, tasks=tasks, machine=machine)
 
 
 def constrain_call(tasks: Source, machine: Source, deadlines: Source) -> Call:
-    """The call of `constrain`; parse_constrained reads its answer's text."""
+    """The call of `constrain`; parse_constrained reads its answer's text.
+
+    >>> constrain_call(Path("/t.toml"), Path("/m.toml"), Deadlines({"a": 3})).files[2]
+    ('--deadlines', 'task,deadline\\na,3\\n')
+    """
     return _call("constrain", {}, tasks=tasks, machine=machine, deadlines=deadlines)
 
 
 def poll_call(tasks: Source, machine: Source, requests: Source, server: str, scheduler: str,
               governor: str, ticks: int) -> Call:
-    """The call of `poll`; parse_polled reads its answer's text."""
+    """The call of `poll` for that many ticks; parse_polled reads its answer's text.
+
+    >>> poll_call(Path("/t"), Path("/m"), Path("/r"), "s", "edf", "none", ticks=15).options[0]
+    ('--server', 's')
+    """
     options: dict[str, str | int] = {
         "server": server, "scheduler": scheduler, "governor": governor, "ticks": ticks,
     }
@@ -152,22 +172,38 @@ def poll_call(tasks: Source, machine: Source, requests: Source, server: str, sch
 
 
 def replay_call(tasks: Source, machine: Source, trace: Source) -> Call:
-    """The call of `replay`; parse_replayed reads its answer's text."""
+    """The call of `replay`; parse_replayed reads its answer's text.
+
+    >>> replay_call(Path("/t.toml"), Path("/m.toml"), "trace 2\\n").files[2]
+    ('--trace', 'trace 2\\n')
+    """
     return _call("replay", {}, tasks=tasks, machine=machine, trace=trace)
 
 
 def migrate_call(tasks: Source, machine: Source, trace: Source) -> Call:
-    """The call of `migrate`; its answer's text is the trace in version 2."""
+    """The call of `migrate`; its answer's text is the trace in version 2.
+
+    >>> migrate_call(Path("/t.toml"), Path("/m.toml"), "trace 1\\n").command
+    'migrate'
+    """
     return _call("migrate", {}, tasks=tasks, machine=machine, trace=trace)
 
 
 def least_call(machine: Source, units: int, ticks: int) -> Call:
-    """The call of `least`; parse_least reads its answer's text."""
+    """The call of `least` for work units in ticks; parse_least reads its answer's text.
+
+    >>> least_call(Path("/m.toml"), units=28, ticks=16).options
+    (('--units', '28'), ('--ticks', '16'))
+    """
     return _call("least", {"units": units, "ticks": ticks}, machine=machine)
 
 
 def workload_call(seed: int) -> Call:
-    """The call of `workload`; parse_workload reads its answer's text."""
+    """The call of `workload`; parse_workload reads its answer's text.
+
+    >>> workload_call(1)
+    Call(command='workload', options=(('--seed', '1'),), files=())
+    """
     return _call("workload", {"seed": seed})
 
 
@@ -302,7 +338,7 @@ def _write_cases(calls: Sequence[Call], folder: Path) -> dict[str, Path]:
         files = ((option, names.setdefault(file, f"file{len(names)}")) for option, file in call.files)
         words = [call.command, *(word for pair in (*call.options, *files) for word in pair)]
         (folder / "cases" / f"{place:06}").touch()
-        (folder / "cases" / f"{place:06}.args").write_text("".join(f"{word}\n" for word in words))
+        (folder / "cases" / f"{place:06}.args").write_bytes("".join(f"{word}\n" for word in words).encode())
     data = {name: _file(content, folder / name) for content, name in names.items()}
     return {name: path for name, path in data.items() if path.is_file()}
 
@@ -318,7 +354,7 @@ def _tried(found: Answer, count: int) -> Iterator[Answer]:
         elif case[2] != b"ended":
             raise Crashed(_last_words(notes))
         else:
-            yield Answer(int(case[3]), texts[case[1]], b"".join(notes))
+            yield Answer(int(case[3]), texts.get(case[1], b""), b"".join(notes))
             notes, count = [], count - 1
     if count:
         raise Crashed(_last_words(notes))
@@ -332,17 +368,23 @@ def _last_words(notes: Sequence[bytes]) -> str:
 # Which engine
 
 def find_engine(program: Path | None = None, timeout: float | None = None) -> Engine:
-    """The engine of a program and of a limit of seconds for each call; raises NoEngine.
+    """The engine of a program, with a limit of seconds for each call; raises NoEngine.
 
     The first of these: the argument's, that of the variable RTDVS, the repository's built one, `rtdvs` on the
     path, and `rt try`, which compiles the repository's sources for each list of calls.
+
+    >>> find_engine(Path("/absent/rtdvs"))
+    Traceback (most recent call last):
+    rtdvs.errors.NoEngine: /absent/rtdvs: no such program
     """
-    named = program or Path(os.environ.get("RTDVS", ""))
-    if named != Path():
-        return Engine(_executable(named), timeout)
-    for built in (CRATE / "out" / "rtdvs", shutil.which("rtdvs")):
-        if built is not None and shutil.which(built):
-            return Engine(Path(built), timeout)
+    variable = os.environ.get("RTDVS")
+    if program is None and variable:
+        program = Path(variable)
+    if program is not None:
+        return Engine(_executable(program), timeout)
+    found = shutil.which(CRATE / "out" / "rtdvs") or shutil.which("rtdvs")
+    if found is not None:
+        return Engine(Path(found).absolute(), timeout)
     if CRATE.is_dir() and shutil.which("rt"):
         return TryEngine(CRATE, timeout)
     raise NoEngine(HOW_TO_GET_ONE)
@@ -353,4 +395,4 @@ def _executable(program: Path) -> Path:
     found = shutil.which(program.absolute()) or shutil.which(program)
     if found is None:
         raise NoEngine(f"{program}: no such program")
-    return Path(found)
+    return Path(found).absolute()
