@@ -83,11 +83,13 @@ class Model:
         if self.pair[0] == "edf":
             return sum((Fraction(self.worst(place), tasks[place].period) for place in self.places()), Fraction(0))
         order = sorted(self.places(), key=lambda place: (tasks[place].period, place))
-        return max(sum(Fraction(ceil(Fraction(tasks[one].period, tasks[two].period)) * self.worst(two),
-                                tasks[one].period) for two in order[:rank + 1]) for rank, one in enumerate(order))
+        works = [(sum(ceil(Fraction(tasks[one].period, tasks[two].period)) * self.worst(two)
+                      for two in order[:rank + 1]), tasks[one].period) for rank, one in enumerate(order)]
+        return max(Fraction(work, period) for work, period in works)
 
     def lowest(self, demand: Fraction) -> int:
-        return next((point.speed for point in self.machine.points if point.speed >= demand), self.machine.points[-1].speed)
+        speeds = [point.speed for point in self.machine.points]
+        return next((speed for speed in speeds if speed >= demand), speeds[-1])
 
     def admitted(self) -> bool:
         return self.static() <= self.machine.points[-1].speed

@@ -370,7 +370,8 @@ def call(capsys: pytest.CaptureFixture[str]) -> Run:
     """Calls `explain` with the files of the paper's example, or others, and gives its status and what it says."""
     def run(*words: str, **files: str | None) -> Said:
         chosen = PAPER | {f"--{name}": path for name, path in files.items()}
-        status = main(["explain", *(word for pair in chosen.items() if pair[1] is not None for word in pair), *words])
+        options = [word for name, path in chosen.items() if path is not None for word in (name, path)]
+        status = main(["explain", *options, *words])
         out, notes = capsys.readouterr()
         return status, out.splitlines(), notes
     return run
@@ -444,7 +445,7 @@ def test_a_wrong_trace_has_status_1(call: Run, tmp_path: Path) -> None:
     wrong.write_text("".join(edited(CC_TEXT, {33: "end 16 1 0"})))
     reason = "line 33: the lines add up to 364000000000 for runs and 0 for idle units\n"
     status, lines, notes = call(trace=str(wrong))
-    assert (status, notes) == (1, reason) and "line 27, tick 12" in lines[-8]
+    assert (status, notes) == (1, reason) and lines[-7].startswith("line 30, tick 14, ")
     assert call("--quiet", trace=str(wrong)) == (1, [], reason)
     demands.write_text("task,job,units\nt1,1,7\n")
     assert call("--quiet", demands=str(demands)) == (1, [], "line 7: t1 job 1 has 7 units left\n")
