@@ -17,7 +17,7 @@ from rtdvs.compare import PAIRS, Case, energy_of, runs
 from rtdvs.decimals import decimal
 from rtdvs.engine import Denied, Engine
 from rtdvs.files import Demands, FileFault, Machine, Point, TaskSet
-from rtdvs.generate import (
+from rtdvs.draws import (
     PUBLISHED_COUNTS,
     PUBLISHED_SEED,
     PUBLISHED_TICKS,

@@ -10,7 +10,7 @@ from hypothesis import given
 from hypothesis import strategies as st
 
 from rtdvs.files import Demands, TaskSet
-from rtdvs.generate import (
+from rtdvs.draws import (
     DrawFault,
     Listed,
     LogUniform,
@@ -102,7 +102,7 @@ def test_shares_have_the_distribution_of_uunifast() -> None:
 
 
 @pytest.mark.parametrize(("count", "utilisation", "seed", "options", "reason"), [
-    (0, Fraction(1), 1, {}, "tasks is 1 to 64"), (65, Fraction(1), 1, {}, "tasks is 1 to 64"),
+    (0, Fraction(1), 1, {}, "count is 1 to 64"), (65, Fraction(1), 1, {}, "count is 1 to 64"),
     (1, Fraction(2), 1, {}, "utilisation is above 0 and at most 1"),
     (1, Fraction(0), 1, {}, "utilisation is above 0 and at most 1"),
     (1, Fraction(1), 0, {}, "seed is 1 to 2147483646"), (1, Fraction(1), 2**31 - 1, {}, "seed is 1 to 2147483646"),
