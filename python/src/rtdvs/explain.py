@@ -33,7 +33,7 @@ from rtdvs.rules import (
     rm_cycle,
     static,
 )
-from rtdvs.trace import Decision, Done, Head, Note, Position, Release, TraceFault, lines_of, parse_lines
+from rtdvs.trace import Decision, Done, Head, Item, Note, Order, Position, Release, TraceFault, lines_of, spelled_lines
 
 
 class WrongTrace(TraceFault):
@@ -160,15 +160,15 @@ def _put_off(job: Latest, kept: int, state: State) -> tuple[int, int, str]:
     plan, name, first = state.plan, job.task.name, state.first_deadline
     hyper, span, rate = plan.hyperperiod, job.due - first, plan.rates[job.place]
     without = kept - rate
-    head = f"{job}, due at {job.due}, may need {job.left} more: rates without {name}: {kept} - {rate} = {without}"
+    rates = f"rates without {name}: {kept} - {rate} = {without}"
     if job.complete:
-        return without, 0, head
+        return without, 0, f"{job}, due at {job.due}, is complete: {rates}"
     most = plan.machine.top_speed * hyper
     room, how = quotient((most - without) * span, hyper)
     put_off = min(job.left, room)
     need, why = quotient(put_off * hyper, span, up=True)
     return without + need, job.left - put_off, (
-        f"{head}; room from {first} to {job.due}: ({most} - {without}) * {span} / {hyper} = {how}; "
+        f"{job}, due at {job.due}, may need {job.left} more: {rates}; room from {first} to {job.due}: ({most} - {without}) * {span} / {hyper} = {how}; "
         f"{put_off} of {job.left} put off, {job.left - put_off} before {first}; "
         f"{name} then needs {put_off} * {hyper} / {span} = {why}: rates {without} + {need} = {without + need}")
 
@@ -229,9 +229,9 @@ def _next_job(state: State) -> str:
         return "no job is open: idle units follow"
     key, place = state.open[0]
     others = [state.jobs[other].task.name for value, other in state.open[1:] if value == key]
-    why = f"due first, at {key}" if state.plan.scheduler == "edf" else f"of the shortest period, {key}"
-    tie = f", and before {_listed(others)} in the file" if others else ""
-    return f"{state.jobs[place]} runs: of {len(state.open)} open it is {why}{tie}"
+    why = "is due first, at" if state.plan.scheduler == "edf" else "has the shortest period,"
+    tie = f", and stands before {_listed(others)} in the file" if others else ""
+    return f"{state.jobs[place]} runs: of {len(state.open)} open it {why} {key}{tie}"
 
 
 def board(number: int, decision: Decision, events: Sequence[Release | Done], checker: Checker) -> str:
@@ -256,23 +256,26 @@ class Walk:
     demands: Demands | None = None
     any_governor: bool = False
 
-    def steps(self) -> Iterator[tuple[int, Head | Task | Note, Checker]]:
+    def steps(self) -> Iterator[tuple[int, Item, Checker]]:
         """Each line's number and content, after it was checked. Raises WrongTrace; FileFault if the test fails."""
-        number, wanted = 1, list[Task]()
+        number, wanted, order = 1, list[Task](), Order()
         try:
-            for number, item in enumerate(parse_lines(self.lines), 2):
+            for number, item in enumerate(spelled_lines(self.lines), 2):
                 if isinstance(item, Head):
                     checker = self._checker(item)
                     wanted = list(self.tasks)[::-1] if item.version == 2 else []
-                elif wanted or isinstance(item, Task):
-                    _same_task(item, wanted.pop() if wanted else None)
-                else:
+                elif wanted:
+                    _same_task(item, wanted)
+                elif not isinstance(item, Task):
                     _check(checker, item)
+                fault = order.fault(item)
+                if fault:
+                    raise Wrong(fault)
                 yield number, item, checker
-        except TraceFault as fault:
-            raise WrongTrace(fault.line, fault.reason) from None
-        except Wrong as fault:
-            raise WrongTrace(number, str(fault)) from None
+        except TraceFault as spelled:
+            raise WrongTrace(spelled.line, _task_line(wanted[-1]) if wanted else spelled.reason) from None
+        except Wrong as wrong:
+            raise WrongTrace(number, str(wrong)) from None
 
     def _checker(self, head: Head) -> Checker:
         plan, governor = Plan(self.tasks, self.machine, head.scheduler), None
@@ -297,11 +300,15 @@ def _check(checker: Checker, note: Note) -> None:
         raise Wrong(f"{fault}: {'; '.join(speeds(checker.state.plan.machine.points, *fault.demand))}") from None
 
 
-def _same_task(found: Head | Task | Note, wanted: Task | None) -> None:
-    if wanted is None:
-        raise Wrong("the task file has no more tasks")
-    if found != wanted:
-        raise Wrong(f"wanted task {wanted.name} {wanted.period} {wanted.offset} {wanted.worst}")
+def _same_task(found: Item, wanted: list[Task]) -> None:
+    """Takes the next task, which is the last of the list, if it is that of the line."""
+    if found != wanted[-1]:
+        raise Wrong(_task_line(wanted[-1]))
+    wanted.pop()
+
+
+def _task_line(task: Task) -> str:
+    return f"wanted task {task.name} {task.period} {task.offset} {task.worst}"
 
 
 def explain(walk: Walk, show: Callable[[str], object] | None = None) -> Summary:

@@ -531,9 +531,11 @@ class Checker:
         self.account.complete += 1
 
     def _close(self, note: TaskEnergy | End) -> None:
-        self._is_at(self.ticks)
         if isinstance(note, TaskEnergy):
+            if self.state.now < self.ticks:
+                raise Wrong(f"the energy lines are at the end of the run, and the trace is at {self._place()}")
             return
+        self._is_at(self.ticks)
         self._all_met()
         if note.ticks != self.ticks:
             raise Wrong(f"the run has {self.ticks} ticks")
