@@ -1,0 +1,588 @@
+"""Traces of runs: their notes, read strictly, and what these say of the jobs.
+
+The text is that of docs/FORMATS.md in version 1 or 2, except that any word may stand for the governor. Energies and
+work units are whole numbers of any size. A position is a tick and the units of that tick that have passed; as a time
+it is an exact fraction of ticks, the units over the speed in force.
+"""
+
+import io
+import re
+from collections.abc import Callable, Iterable, Iterator
+from dataclasses import dataclass, replace
+from fractions import Fraction
+from pathlib import Path
+from typing import Self, TextIO
+
+from rtdvs.files import Task, TaskSet
+
+MOST_LINES = 800_000
+MOST_BYTES = 255
+MOST_TASKS = 64
+MOST_TICKS = 2**40
+
+
+class TraceFault(ValueError):
+    """A line of a trace is refused: its number, from 1, and the reason.
+
+    >>> str(TraceFault(3, "a line after the end line"))
+    'line 3: a line after the end line'
+    """
+
+    def __init__(self, line: int, reason: str) -> None:
+        super().__init__(f"line {line}: {reason}")
+        self.line = line
+        self.reason = reason
+
+
+# The notes
+
+
+@dataclass(frozen=True, slots=True, order=True)
+class Position:
+    """A tick, and the work units of it that have passed.
+
+    >>> str(Position(9, 1)), Position(9, 1) < Position(10, 0)
+    ('9:1', True)
+    """
+
+    tick: int
+    offset: int
+
+    def __str__(self) -> str:
+        return f"{self.tick}:{self.offset}"
+
+    def time(self, speed: int) -> Fraction:
+        """The time in ticks, at a speed in work units per tick.
+
+        >>> Position(9, 1).time(3)
+        Fraction(28, 3)
+        """
+        return self.tick + Fraction(self.offset, speed) if self.offset else Fraction(self.tick)
+
+
+@dataclass(frozen=True, slots=True)
+class Release:
+    """A job is released."""
+
+    tick: int
+    task: str
+    job: int
+
+    def text(self) -> str:
+        return f"release {self.tick} {self.task} {self.job}"
+
+
+@dataclass(frozen=True, slots=True)
+class Decision:
+    """A speed is chosen, in work units per tick, for the published demand num/den."""
+
+    tick: int
+    speed: int
+    num: int
+    den: int
+
+    def text(self) -> str:
+        return f"speed {self.tick} {self.speed} {self.num}/{self.den}"
+
+
+@dataclass(frozen=True, slots=True)
+class Run:
+    """A job runs for some work units without interruption, and takes their energy."""
+
+    begin: Position
+    end: Position
+    task: str
+    job: int
+    units: int
+    energy: int
+
+    def text(self) -> str:
+        return f"run {self.begin} {self.end} {self.task} {self.job} {self.units} {self.energy}"
+
+
+@dataclass(frozen=True, slots=True)
+class Idle:
+    """No job runs for some work units."""
+
+    begin: Position
+    end: Position
+    units: int
+    energy: int
+
+    def text(self) -> str:
+        return f"idle {self.begin} {self.end} {self.units} {self.energy}"
+
+
+@dataclass(frozen=True, slots=True)
+class Done:
+    """A job is complete, after all of its work units."""
+
+    at: Position
+    task: str
+    job: int
+    used: int
+
+    def text(self) -> str:
+        return f"done {self.at} {self.task} {self.job} {self.used}"
+
+
+@dataclass(frozen=True, slots=True)
+class TaskEnergy:
+    """The energy of all runs of a task; in version 2 only."""
+
+    task: str
+    energy: int
+
+    def text(self) -> str:
+        return f"energy {self.task} {self.energy}"
+
+
+@dataclass(frozen=True, slots=True)
+class End:
+    """The ticks of the run, and its energies."""
+
+    ticks: int
+    run_energy: int
+    idle_energy: int
+
+    def text(self) -> str:
+        return f"end {self.ticks} {self.run_energy} {self.idle_energy}"
+
+
+Note = Release | Decision | Run | Idle | Done | TaskEnergy | End
+
+
+@dataclass(frozen=True, slots=True)
+class Head:
+    """What the first two lines say: the version of the text, and the run's scheduler, governor and ticks."""
+
+    version: int
+    scheduler: str
+    governor: str
+    ticks: int
+
+    def text(self) -> str:
+        return f"trace {self.version}\nplan {self.scheduler} {self.governor} {self.ticks}"
+
+
+# Reading
+
+
+def _up_to(limit: int) -> str:
+    """A pattern for the whole numbers from 1 to the limit.
+
+    >>> _up_to(4093)
+    '[1-9][0-9]{0,2}|[1-3][0-9]{3}|40[0-8][0-9]{1}|409[0-3]'
+    """
+    text = str(limit)
+    parts = [f"[1-9][0-9]{{0,{len(text) - 2}}}"]
+    for place, digit in enumerate(text):
+        least, rest = int(place == 0), len(text) - place - 1
+        if int(digit) - (rest > 0) >= least:
+            parts.append(f"{text[:place]}[{least}-{int(digit) - (rest > 0)}]" + (f"[0-9]{{{rest}}}" if rest else ""))
+    return "|".join(parts)
+
+
+_SHAPES = {  # of the fields of a line
+    "number": f"(0|{_up_to(2**64 - 1)})",
+    "counted": f"({_up_to(2**64 - 1)})",
+    "energy": f"(0|{_up_to(2**128 - 1)})",
+    "fraction": f"(0|{_up_to(2**128 - 1)})/({_up_to(2**128 - 1)})",
+    "position": f"(0|{_up_to(2**64 - 1)}):(0|{_up_to(2**64 - 1)})",
+    "name": "([A-Za-z0-9_-]{1,32})",
+    "ticks": f"({_up_to(MOST_TICKS)})",
+    "scheduler": "(edf|rm)",
+}
+
+
+def _shape(word: str, *fields: str) -> re.Pattern[str]:
+    return re.compile(" ".join([word, *(_SHAPES[field] for field in fields)]) + "\n")
+
+
+def _release(tick: str, task: str, job: str) -> Note:
+    return Release(int(tick), task, int(job))
+
+
+def _decision(tick: str, speed: str, num: str, den: str) -> Note:
+    return Decision(int(tick), int(speed), int(num), int(den))
+
+
+def _run(tick: str, offset: str, end: str, end_offset: str, task: str, job: str, units: str, energy: str) -> Note:
+    begin = Position(int(tick), int(offset))
+    return Run(begin, Position(int(end), int(end_offset)), task, int(job), int(units), int(energy))
+
+
+def _idle(tick: str, offset: str, end: str, end_offset: str, units: str, energy: str) -> Note:
+    return Idle(Position(int(tick), int(offset)), Position(int(end), int(end_offset)), int(units), int(energy))
+
+
+def _done(tick: str, offset: str, task: str, job: str, used: str) -> Note:
+    return Done(Position(int(tick), int(offset)), task, int(job), int(used))
+
+
+def _task_energy(task: str, energy: str) -> Note:
+    return TaskEnergy(task, int(energy))
+
+
+def _end(ticks: str, run_energy: str, idle_energy: str) -> Note:
+    return End(int(ticks), int(run_energy), int(idle_energy))
+
+
+_PLAN = _shape("plan", "scheduler", "name", "ticks")
+_TASK = _shape("task", "name", "counted", "number", "counted")
+_NOTES: dict[str, tuple[re.Pattern[str], Callable[..., Note]]] = {
+    "release": (_shape("release", "number", "name", "number"), _release),
+    "speed": (_shape("speed", "number", "counted", "fraction"), _decision),
+    "run": (_shape("run", "position", "position", "name", "number", "number", "energy"), _run),
+    "idle": (_shape("idle", "position", "position", "number", "energy"), _idle),
+    "done": (_shape("done", "position", "name", "number", "number"), _done),
+    "energy": (_shape("energy", "name", "energy"), _task_energy),
+    "end": (_shape("end", "number", "energy", "energy"), _end),
+}
+
+
+def _numbered(lines: Iterable[str]) -> Iterator[tuple[int, str]]:
+    """The lines with their numbers; each is short enough and has its line feed."""
+    for number, line in enumerate(lines, 1):
+        if len(line) > MOST_BYTES and len(line.rstrip("\n")) > MOST_BYTES:
+            raise TraceFault(number, f"it has more than {MOST_BYTES} bytes")
+        if line[-1:] != "\n":
+            raise TraceFault(number, "it doesn't end with a line feed")
+        if number > MOST_LINES:
+            raise TraceFault(number, f"a trace has at most {MOST_LINES} lines")
+        yield number, line
+
+
+def _head(numbered: Iterator[tuple[int, str]]) -> Head:
+    number, line = next(numbered, (1, ""))
+    if line not in ("trace 1\n", "trace 2\n"):
+        raise TraceFault(number, "neither trace 1 nor trace 2")
+    version = int(line[6])
+    number, line = next(numbered, (2, ""))
+    found = _PLAN.fullmatch(line)
+    if not found:
+        raise TraceFault(number, "not a plan line")
+    return Head(version, found[1], found[2], int(found[3]))
+
+
+def _task(number: int, line: str) -> Task:
+    found = _TASK.fullmatch(line)
+    if not found:
+        raise TraceFault(number, "not the line of a task")
+    return Task(found[1], int(found[2]), int(found[4]), int(found[3]))
+
+
+def parse_note(number: int, line: str) -> Note:
+    r"""The note of a line after the head, with its line feed; raises TraceFault with the line's number.
+
+    >>> parse_note(8, "done 2:2 t1 1 8\n")
+    Done(at=Position(tick=2, offset=2), task='t1', job=1, used=8)
+    """
+    shape, make = _NOTES.get(line[:line.find(" ")], (None, None))
+    found = shape and shape.fullmatch(line)
+    if not found or not make:
+        raise TraceFault(number, "not a line of a trace")
+    return make(*found.groups())
+
+
+class _Order:
+    """What the order of the notes needs: whether there is a speed, and each task's energy in version 2."""
+
+    __slots__ = ("sums", "to_come", "version", "decided")
+
+    def __init__(self, version: int, tasks: Iterable[str]) -> None:
+        self.version = version
+        self.sums = dict.fromkeys(tasks, 0)
+        self.to_come = list(self.sums)[::-1]
+        self.decided = False
+
+    def fault(self, note: Note) -> str | None:
+        """Why the note can't be here, or None."""
+        if isinstance(note, (TaskEnergy, End)):
+            return self._closing_fault(note)
+        if len(self.to_come) < len(self.sums):
+            return "a line between the energy lines and the end line"
+        if isinstance(note, Decision):
+            self.decided = True
+            return None
+        if not self.decided and (isinstance(note, (Run, Idle)) or isinstance(note, Done) and note.at.offset):
+            return "there is no decision before it"
+        if self.version == 1 or isinstance(note, Idle):
+            return None
+        if note.task not in self.sums:
+            return f"no task {note.task}"
+        if isinstance(note, Run):
+            self.sums[note.task] += note.energy
+        return None
+
+    def _closing_fault(self, note: TaskEnergy | End) -> str | None:
+        if isinstance(note, End):
+            return f"the energy line of {self.to_come[-1]} is missing" if self.to_come else None
+        if self.version == 1:
+            return "version 1 has no energy lines"
+        if not self.to_come or self.to_come[-1] != note.task:
+            return "the energy lines are one for each task, in the order of the file"
+        if self.sums[note.task] != note.energy:
+            return f"the run lines of {note.task} add up to {self.sums[note.task]}"
+        self.to_come.pop()
+        return None
+
+
+def parse_lines(lines: Iterable[str]) -> Iterator[Head | Task | Note]:
+    r"""Reads a trace line by line, in little memory: its head, in version 2 its tasks, and its notes.
+
+    Each line has its line feed. The head is what the first two lines say, so item n is line n + 1. Raises TraceFault
+    for the first line that the published format doesn't have, after all lines before it were given.
+
+    >>> [item.text() for item in parse_lines(["trace 1\n", "plan edf mine 2\n", "end 2 0 0\n"])]
+    ['trace 1\nplan edf mine 2', 'end 2 0 0']
+    """
+    numbered = _numbered(lines)
+    head = _head(numbered)
+    yield head
+    number, line = next(numbered, (3, ""))
+    names: list[str] = []
+    while head.version == 2 and line.startswith("task "):
+        task = _task(number, line)
+        if task.name in names or len(names) == MOST_TASKS:
+            raise TraceFault(number, "two tasks of one name" if task.name in names else f"more than {MOST_TASKS} tasks")
+        yield task
+        names.append(task.name)
+        number, line = next(numbered, (number + 1, ""))
+    if head.version == 2 and not names:
+        raise TraceFault(number, "not the line of a task")
+    yield from _notes(number, line, numbered, _Order(head.version, names))
+
+
+def _notes(number: int, line: str, numbered: Iterator[tuple[int, str]], order: _Order) -> Iterator[Note]:
+    """The notes from a line on, up to the end line."""
+    while line:
+        note = parse_note(number, line)
+        fault = order.fault(note)
+        if fault:
+            raise TraceFault(number, fault)
+        yield note
+        if type(note) is End:
+            number, line = next(numbered, (0, ""))
+            if number:
+                raise TraceFault(number, "a line after the end line")
+            return
+        number, line = next(numbered, (number + 1, ""))
+    raise TraceFault(number, "the trace ends before its end line")
+
+
+def lines_of(file: TextIO) -> Iterator[str]:
+    r"""The lines of an open file, of which none is longer than a line may be by more than a character.
+
+    >>> [len(line) for line in lines_of(io.StringIO("trace 1\n" + 1000 * "x"))]
+    [8, 257, 257, 257, 229]
+    """
+    return iter(lambda: file.readline(MOST_BYTES + 2), "")
+
+
+# What a trace says
+
+
+@dataclass(frozen=True, slots=True)
+class Job:
+    """A released job. Times are in ticks; start and completion are None if they aren't within the run.
+
+    >>> job = Job("t2", 1, release=0, deadline=10, start=Fraction(8, 3), completion=Fraction(4), units=4)
+    >>> job.response, job.laxity
+    (Fraction(4, 1), Fraction(6, 1))
+    """
+
+    task: str
+    number: int
+    release: int
+    deadline: int
+    start: Fraction | None = None
+    completion: Fraction | None = None
+    units: int = 0
+    preemptions: int = 0
+    energy: int = 0
+
+    @property
+    def response(self) -> Fraction | None:
+        """The ticks from the release to the completion."""
+        return None if self.completion is None else self.completion - self.release
+
+    @property
+    def laxity(self) -> Fraction | None:
+        """The ticks from the completion to the deadline."""
+        return None if self.completion is None else self.deadline - self.completion
+
+
+@dataclass(frozen=True, slots=True)
+class Trace:
+    """A whole trace. `tasks` are those of version 2, with their declared worst cases; the last note is the End.
+
+    >>> trace = Trace.parse(SAMPLE)
+    >>> trace.energy, trace.switches, trace.idle_time, trace.residency()
+    (6000, 1, Fraction(1, 2), {3: Fraction(1, 1), 2: Fraction(1, 1)})
+    >>> trace.text() == SAMPLE
+    True
+    """
+
+    version: int
+    scheduler: str
+    governor: str
+    ticks: int
+    tasks: tuple[Task, ...]
+    notes: tuple[Note, ...]
+
+    @classmethod
+    def parse(cls, text: str) -> Self:
+        r"""The trace of a text; raises TraceFault.
+
+        >>> Trace.parse("trace 1\nplan edf cc 0\n")
+        Traceback (most recent call last):
+        rtdvs.trace.TraceFault: line 2: not a plan line
+        """
+        return cls._of(io.StringIO(text, newline="\n"))
+
+    @classmethod
+    def read(cls, path: Path) -> Self:
+        """The trace of a file; raises TraceFault, OSError.
+
+        >>> Trace.read(Path("/"))
+        Traceback (most recent call last):
+        IsADirectoryError: [Errno 21] Is a directory: '/'
+        """
+        with open(path, encoding="latin-1", newline="\n") as file:
+            return cls._of(file)
+
+    @classmethod
+    def _of(cls, file: TextIO) -> Self:
+        items = parse_lines(lines_of(file))
+        head = next(items)
+        assert isinstance(head, Head)
+        tasks, notes = [], []
+        for item in items:
+            if isinstance(item, Task):
+                tasks.append(item)
+            elif not isinstance(item, Head):
+                notes.append(item)
+        return cls(head.version, head.scheduler, head.governor, head.ticks, tuple(tasks), tuple(notes))
+
+    def text(self) -> str:
+        """The text of the trace, with its last line feed."""
+        head = Head(self.version, self.scheduler, self.governor, self.ticks).text()
+        tasks = [f"task {task.name} {task.period} {task.offset} {task.worst}" for task in self.tasks]
+        return "\n".join([head, *tasks, *(note.text() for note in self.notes), ""])
+
+    @property
+    def end(self) -> End:
+        """The last note."""
+        last = self.notes[-1]
+        assert isinstance(last, End)
+        return last
+
+    @property
+    def run_energy(self) -> int:
+        """The energy of all runs, as the end line has it."""
+        return self.end.run_energy
+
+    @property
+    def idle_energy(self) -> int:
+        """The energy of all idle units, as the end line has it."""
+        return self.end.idle_energy
+
+    @property
+    def energy(self) -> int:
+        """The energy of runs and idle units together."""
+        return self.run_energy + self.idle_energy
+
+    @property
+    def decisions(self) -> tuple[Decision, ...]:
+        """The decisions, in order."""
+        return tuple(note for note in self.notes if isinstance(note, Decision))
+
+    @property
+    def switches(self) -> int:
+        """The number of decisions after which the speed is another than before; the first decision is none."""
+        decisions = self.decisions
+        return sum(one.speed != two.speed for one, two in zip(decisions, decisions[1:], strict=False))
+
+    def residency(self) -> dict[int, Fraction]:
+        """The ticks at each speed that was chosen, in the order of their first use."""
+        decisions = self.decisions
+        times: dict[int, Fraction] = {}
+        for decision, end in zip(decisions, [*(each.tick for each in decisions[1:]), self.ticks], strict=True):
+            times[decision.speed] = times.get(decision.speed, Fraction(0)) + end - decision.tick
+        return times
+
+    @property
+    def idle_time(self) -> Fraction:
+        """The ticks, and parts of ticks, in which no job runs."""
+        idle = ((note.units, speed) for note, speed in self.at_speeds() if isinstance(note, Idle))
+        return sum((Fraction(units, speed) for units, speed in idle), Fraction(0))
+
+    def at_speeds(self) -> Iterator[tuple[Note, int]]:
+        """Each note with the speed in force there, in work units per tick; 1 before the first decision.
+
+        >>> [(note.end.time(speed), speed) for note, speed in Trace.parse(SAMPLE).at_speeds() if isinstance(note, Run)]
+        [(Fraction(1, 1), 3), (Fraction(3, 2), 2)]
+        """
+        speed = 1
+        for note in self.notes:
+            if isinstance(note, Decision):
+                speed = note.speed
+            yield note, speed
+
+    def jobs(self, tasks: TaskSet | None = None) -> tuple[Job, ...]:
+        """The jobs in the order of their release lines. Version 1 needs the task set, for the periods.
+
+        Raises TraceFault if a job runs or is complete without a release line, or if the trace has no task's period.
+
+        >>> Trace.parse(SAMPLE).jobs()[0].laxity
+        Fraction(1, 2)
+        """
+        periods = {task.name: task.period for task in tasks or self.tasks}
+        jobs: dict[tuple[str, int], Job] = {}
+        running = None
+        for line, (note, speed) in enumerate(self.at_speeds(), len(self.tasks) + 3):
+            if not isinstance(note, Release | Run | Done):
+                continue
+            key = note.task, note.job
+            job = jobs.get(key)
+            if isinstance(note, Release):
+                if note.task not in periods:
+                    raise TraceFault(line, f"the period of {note.task} is not known")
+                job = Job(note.task, note.job, note.tick, note.tick + periods[note.task])
+            elif job is None:
+                raise TraceFault(line, f"{note.task} job {note.job} is not released")
+            elif isinstance(note, Run):
+                job = _after(job, note, speed, resumed=running != key)
+                running = key
+            else:
+                job = replace(job, completion=note.at.time(speed))
+            jobs[key] = job
+        return tuple(jobs.values())
+
+
+def _after(job: Job, run: Run, speed: int, resumed: bool) -> Job:
+    """The job after a run; it was preempted if it had begun, and another job ran last."""
+    return replace(
+        job,
+        start=run.begin.time(speed) if job.start is None else job.start,
+        units=job.units + run.units,
+        preemptions=job.preemptions + (resumed and job.start is not None),
+        energy=job.energy + run.energy,
+    )
+
+
+SAMPLE = """trace 2
+plan edf mine 2
+task t 2 0 4
+release 0 t 1
+speed 0 3 3/1
+run 0:0 1:0 t 1 3 5000
+speed 1 2 2/1
+run 1:0 1:1 t 1 1 1000
+done 1:1 t 1 4
+idle 1:1 2:0 1 0
+energy t 6000
+end 2 6000 0
+"""
+"""A small trace, for the examples."""
