@@ -31,7 +31,7 @@ from fractions import Fraction
 from pathlib import Path
 from typing import Any
 
-from rtdvs.commandline import (Input, add_engine_options, add_output, engine_of, exact_fraction, input_path, read_text,
+from rtdvs.commandline import (add_engine_options, add_output, engine_of, exact_fraction, input_path, read_text,
                                whole_number, write_output)
 from rtdvs.device_tree import Choice, OperatingPoint, operating_points
 from rtdvs.files import Demands, FileFault, Machine, Point, Task, TaskSet
@@ -227,8 +227,8 @@ def choose_unit(board: Board, tick: Fraction) -> Fraction:
     if unit < finest:
         grid = _common_part(cycles)
         return grid / (grid // finest) if grid >= finest else finest
-    parts = (factor * 10**power for power in range(4) for factor in (1, 2, 5))
-    return unit / next(part for part in parts if max(cycles) / unit * part >= 1000)
+    parts: list[int] = [factor * 10**power for power in range(4) for factor in (1, 2, 5)]
+    return unit / min(part for part in parts if max(cycles) / unit * part >= 1000)
 
 
 def choose_scale(board: Board, tick: Fraction | None = None, unit: Fraction | None = None) -> Scale:
