@@ -197,19 +197,27 @@ def points_of(points: Iterable[OperatingPoint]) -> tuple[BoardPoint, ...]:
 def choose_tick(board: Board) -> Fraction:
     """A tick in milliseconds: from a tenth to a thousandth of the shortest period.
 
-    Of these parts of it the one is taken that adds the least utilisation by rounding, and then the longest. Raises
-    FileFault if the periods have no common multiple up to 2^48 ticks under any.
+    It is 1, 2 or 5 times a power of ten, or a whole part of all periods. The longest is taken that adds at most a
+    thousandth to the utilisation by rounding periods, or the one that adds least. Raises FileFault if the periods have no
+    common multiple up to 2^48 ticks under any.
 
-    >>> board = Board((BoardTask("a", Fraction(5), Fraction(1)), BoardTask("b", Fraction(8), Fraction(1))), ())
-    >>> choose_tick(board)
+    >>> choose_tick(Board((BoardTask("a", Fraction(5), Fraction(1)), BoardTask("b", Fraction(8), Fraction(1))), ()))
     Fraction(1, 2)
     """
-    shortest = min(task.period for task in board.tasks)
-    ticks = [shortest / parts for parts in range(10, 1001)]
-    fitting = [tick for tick in ticks if math.lcm(*(task.period // tick for task in board.tasks)) <= MOST_MULTIPLE]
+    periods = [task.period for task in board.tasks]
+    most = sum(task.worst / task.period for task in board.tasks) / 1000
+    fitting = [tick for tick in _ticks(periods) if math.lcm(*(period // tick for period in periods)) <= MOST_MULTIPLE]
     if not fitting:
         raise _fault("the periods have no common multiple up to 2^48 ticks; give rounder periods, or a tick")
-    return min(fitting, key=lambda tick: (_added_utilisation(board.tasks, tick), -tick))
+    return min(fitting, key=lambda tick: (max(most, _added_utilisation(board.tasks, tick)), -tick))
+
+
+def _ticks(periods: Sequence[Fraction]) -> list[Fraction]:
+    shortest, part = min(periods), _common_part(periods)
+    power = Fraction(10) ** (len(str(shortest.numerator)) - len(str(shortest.denominator)) + 1)
+    ticks = [power / 10**places * factor for places in range(6) for factor in (1, 2, 5)]
+    ticks.append(part / max(1, math.ceil(part * 10 / shortest)))
+    return [tick for tick in ticks if shortest / 1000 <= tick <= shortest / 10]
 
 
 def choose_unit(board: Board, tick: Fraction) -> Fraction:

@@ -1,0 +1,882 @@
+"""Pictures of traces, of comparisons and of the evaluation, by matplotlib.
+
+Each is drawn into the caller's axes or into a file: SVG, PDF or PNG, by its name. A picture has no background, and
+colours that can be read on white and on dark.
+"""
+
+import argparse
+import csv
+import math
+import sys
+from collections import defaultdict
+from collections.abc import Callable, Iterable, Iterator, Mapping, Sequence
+from dataclasses import dataclass
+from fractions import Fraction
+from pathlib import Path
+from typing import TYPE_CHECKING, Any
+
+from rtdvs.commandline import (add_engine_options, add_files, engine_of, input_path, read_demands, read_machine, read_tasks,
+                               read_text, whole_number)
+from rtdvs.compare import Row, compare
+from rtdvs.decimals import decimal
+from rtdvs.files import FileFault
+from rtdvs.trace import Decision, Done, Idle, Release, Run, Trace
+
+if TYPE_CHECKING:
+    from matplotlib.axes import Axes
+    from matplotlib.figure import Figure
+
+# Lengths are in pixels, 96 to the inch.
+PIXEL = 1 / 96
+POINT = 0.75        # points in a pixel, for texts and lines
+ROW = 58            # a task's row
+BAR = 36            # a run at full height
+SPEED = 72          # the speed row up to full height
+DEMANDS = 24        # the row of the demands' values
+CAP = 1.5           # a demand is drawn up to this share of the full height
+LEAST = 0.6         # the narrowest bar
+NARROW = 3          # narrower bars are drawn over the arrows, others below them
+GAP = 0.5           # narrow bars with smaller gaps are drawn as one
+NEAR = 2            # marks of one kind that are nearer are drawn once
+LETTER = 6.4        # room for a letter of small text
+NAME_LETTER = 7.8   # room for a letter of a name
+INK = "#797979"
+DEMAND = "#c04aa8"
+DEADLINE = "#e0434b"
+COLOURS = ("#3f83c8", "#d07a1f", "#2f9e74", "#9a6dd0", "#a08a00", "#2a9fb5", "#9c7350", "#6f7fd8")
+SMALL, TEXT, TITLE = 10 * POINT, 12 * POINT, 15 * POINT
+
+
+@dataclass(frozen=True, slots=True)
+class View:
+    """What of a trace is drawn.
+
+    The ticks from `first` to `last` (the end of the run by default); `top`, the speed of full height (by default the
+    fastest of the trace, and pictures to be compared need the same one); `charge`, the machine's, which each worst case
+    has twice.
+    """
+
+    first: int = 0
+    last: int | None = None
+    top: int | None = None
+    charge: int = 0
+
+
+# What is drawn, in ticks
+
+
+@dataclass(frozen=True, slots=True)
+class Bar:
+    """A run or idle time from tick to tick, at a speed."""
+
+    begin: float
+    end: float
+    speed: int
+
+
+@dataclass(frozen=True, slots=True)
+class Completion:
+    """A job's completion at a tick: its release, the units that it used, the speed there and its greatest one."""
+
+    at: float
+    release: int
+    used: int
+    speed: int
+    highest: int
+
+
+def settled(trace: Trace, view: View) -> View:
+    """The view with its defaults filled in; raises FileFault if it doesn't fit the trace.
+
+    >>> from rtdvs.trace import SAMPLE
+    >>> settled(Trace.parse(SAMPLE), View())
+    View(first=0, last=2, top=3, charge=0)
+    """
+    fastest = max((decision.speed for decision in trace.decisions), default=0)
+    last = trace.ticks if view.last is None else view.last
+    top = fastest if view.top is None else view.top
+    if not fastest:
+        raise FileFault("trace: no decision, so nothing can be drawn")
+    if last > trace.ticks:
+        raise FileFault(f"--to has to be at most {trace.ticks}, the ticks of the run")
+    if view.first >= last:
+        raise FileFault(f"--from has to be below {last}")
+    if top < fastest:
+        raise FileFault(f"--top has to be at least {fastest}, the fastest speed")
+    return View(view.first, last, top, view.charge)
+
+
+def row_names(trace: Trace) -> list[str]:
+    """The tasks in file order; in version 1 in the order of the lines that name them.
+
+    >>> from rtdvs.trace import SAMPLE
+    >>> row_names(Trace.parse(SAMPLE))
+    ['t']
+    """
+    seen = (note.task for note in trace.notes if isinstance(note, Release | Run | Done))
+    return list(dict.fromkeys([*(task.name for task in trace.tasks), *seen]))
+
+
+def periods(trace: Trace) -> dict[str, int]:
+    """Each task's period in ticks; in version 1 the distance of its first two releases, if it has two."""
+    if trace.tasks:
+        return {task.name: task.period for task in trace.tasks}
+    ticks = releases(trace)
+    return {task: at[1] - at[0] for task, at in ticks.items() if len(at) > 1}
+
+
+def releases(trace: Trace) -> dict[str, list[int]]:
+    """The ticks of each task's releases."""
+    found: defaultdict[str, list[int]] = defaultdict(list)
+    for note in trace.notes:
+        if isinstance(note, Release):
+            found[note.task].append(note.tick)
+    return dict(found)
+
+
+def bars(trace: Trace) -> dict[str, list[Bar]]:
+    """The runs of each task, and idle time under the empty name. Segments that meet at one speed are one bar.
+
+    >>> from rtdvs.trace import SAMPLE
+    >>> bars(Trace.parse(SAMPLE))["t"]
+    [Bar(begin=0.0, end=1.0, speed=3), Bar(begin=1.0, end=1.5, speed=2)]
+    """
+    found: defaultdict[str, list[Bar]] = defaultdict(list)
+    job, end = None, None
+    for note, speed in trace.at_speeds():
+        if not isinstance(note, Run | Idle):
+            continue
+        mine = (note.task, note.job, speed) if isinstance(note, Run) else ("", 0, speed)
+        row = found[mine[0]]
+        begin = float(note.begin.time(speed))
+        if job == mine and end == note.begin:
+            begin = row.pop().begin
+        row.append(Bar(begin, float(note.end.time(speed)), speed))
+        job, end = mine, note.end
+    return dict(found)
+
+
+def completions(trace: Trace) -> dict[str, list[Completion]]:
+    """The completions of each task's jobs."""
+    found: defaultdict[str, list[Completion]] = defaultdict(list)
+    latest: dict[str, int] = {}
+    highest: dict[str, int] = {}
+    for note, speed in trace.at_speeds():
+        if isinstance(note, Release):
+            latest[note.task], highest[note.task] = note.tick, 0
+        elif isinstance(note, Run):
+            highest[note.task] = max(highest.get(note.task, 0), speed)
+        elif isinstance(note, Done):
+            at = float(note.at.time(speed))
+            found[note.task].append(Completion(at, latest.get(note.task, 0), note.used, speed if note.used else 0,
+                                               highest.get(note.task, 0)))
+    return dict(found)
+
+
+def over_worst(trace: Trace, charge: int) -> str | None:
+    """A task with a job above its declared units and twice the charge: then the machine's charge is another one."""
+    most = {task.name: task.worst + 2 * charge for task in trace.tasks}
+    return next((note.task for note in trace.notes
+                 if isinstance(note, Done) and note.used > most.get(note.task, note.used)), None)
+
+
+# Thinning
+
+
+def thin(places: Iterable[float], near: float) -> list[float]:
+    """Rising places without those that are nearer than that to the last one that is kept.
+
+    >>> thin([0, 1, 2, 5, 6], 2)
+    [0, 2, 5]
+    """
+    kept: list[float] = []
+    for place in places:
+        if not kept or place - kept[-1] >= near:
+            kept.append(place)
+    return kept
+
+
+def join_narrow(row: Iterable[Bar], narrow: float, gap: float) -> Iterator[Bar]:
+    """Bars in order; narrow ones at one speed and with smaller gaps than that as one.
+
+    >>> list(join_narrow([Bar(0, 1, 3), Bar(1, 2, 3), Bar(2, 9, 3)], 2, 0.5))
+    [Bar(begin=0, end=2, speed=3), Bar(begin=2, end=9, speed=3)]
+    """
+    last: Bar | None = None
+    for bar in row:
+        if bar.end - bar.begin >= narrow:
+            yield from (bar for bar in (last, bar) if bar is not None)
+            last = None
+        elif last is not None and last.speed == bar.speed and bar.begin - last.end <= gap:
+            last = Bar(last.begin, bar.end, bar.speed)
+        else:
+            if last is not None:
+                yield last
+            last = bar
+    if last is not None:
+        yield last
+
+
+def steps(values: Iterable[tuple[float, float, float]], gap: float) -> list[tuple[float, float]]:
+    """The corners of a line of steps, each from a begin to an end at a value.
+
+    Of steps that together are shorter than the gap the lowest and the highest value are drawn.
+
+    >>> steps([(0, 2, 1.0), (2, 4, 3.0)], 1)
+    [(0, 1.0), (2, 1.0), (2, 3.0), (4, 3.0)]
+    """
+    corners: list[tuple[float, float]] = []
+    low = high = 0.0
+    start: float | None = None
+    for begin, end, value in values:
+        low, high = (value, value) if start is None else (min(low, value), max(high, value))
+        start = begin if start is None else start
+        if end - start < gap:
+            continue
+        corners += [(start, low), (start, high)] if low < high else []
+        corners += [(start, value), (end, value)]
+        start = None
+    return corners if start is None else [*corners, (start, low), (start, high)]
+
+
+def round_step(span: int, most: int) -> int:
+    """The ticks between two labels: 1, 2 or 5 times a power of ten, for at most that many labels.
+
+    >>> round_step(16, 20), round_step(100, 30), round_step(1000, 3)
+    (1, 5, 500)
+    """
+    power = 1
+    while span / power > most:
+        for factor in (2, 5):
+            if span / (power * factor) <= most:
+                return power * factor
+        power *= 10
+    return power
+
+
+# The picture of a trace
+
+
+@dataclass(frozen=True, slots=True)
+class _Frame:
+    """Where things are: y in pixels above the speed row's floor, x in ticks, `scale` pixels each."""
+
+    view: View
+    names: tuple[str, ...]
+    peak: float
+    scale: float
+
+    @property
+    def ticks(self) -> tuple[int, int]:
+        return self.view.first, self.view.last or 0
+
+    @property
+    def top(self) -> int:
+        return self.view.top or 1
+
+    def floor(self, row: int) -> float:
+        return self.speed_height(max(self.top, self.peak)) + DEMANDS + (len(self.names) - 1 - row) * ROW
+
+    @property
+    def ceiling(self) -> float:
+        return self.floor(0) + ROW
+
+    def bar_height(self, speed: float) -> float:
+        return BAR * speed / self.top
+
+    def speed_height(self, speed: float) -> float:
+        return SPEED * min(speed / self.top, CAP)
+
+    def is_shown(self, tick: float) -> bool:
+        return self.view.first <= tick <= self.ticks[1]
+
+    def room(self, begin: float, end: float) -> float:
+        """The pixels between two ticks, of which only those in the view count."""
+        return (min(end, self.ticks[1]) - max(begin, self.view.first)) * self.scale
+
+
+def plot_trace(trace: Trace, axes: "Axes", view: View = View()) -> None:
+    """Draws a trace into axes, which should be `trace_height` pixels high. Raises FileFault if the view doesn't fit.
+
+    A task's row has an arrow up at each release, an arrow down at each deadline, a bar for each run, as high as its
+    speed, and a circle at each completion, with the units used and the worst case. The speed row has the speed as a line,
+    idle time in grey, the demand as a dotted line, and a dot at each decision.
+
+    >>> from matplotlib.figure import Figure
+    >>> from rtdvs.trace import SAMPLE
+    >>> axes = Figure().add_subplot()
+    >>> plot_trace(Trace.parse(SAMPLE), axes)
+    >>> axes.get_title(loc="left").splitlines()[0]
+    'edf, mine: 2 ticks'
+    """
+    view = settled(trace, view)
+    width = axes.get_position().width * axes.figure.get_figwidth() / PIXEL
+    peak = max(decision.num / decision.den for decision in trace.decisions)
+    frame = _Frame(view, tuple(row_names(trace)), peak, width / ((view.last or 0) - view.first))
+    _draw_frame(trace, axes, frame)
+    for row, name in enumerate(frame.names):
+        _draw_name(trace, axes, frame, row)
+        _draw_arrows(trace, axes, frame, row)
+        _draw_bars(axes, frame, bars(trace).get(name, []), row)
+        _draw_completions(trace, axes, frame, row)
+    _draw_bars(axes, frame, bars(trace).get("", []), None)
+    _draw_speeds(trace, axes, frame)
+    _draw_decisions(trace, axes, frame)
+    _draw_legend(trace, axes, frame)
+
+
+def trace_height(trace: Trace, view: View = View()) -> float:
+    """The pixels that axes for a trace should be high.
+
+    >>> from rtdvs.trace import SAMPLE
+    >>> trace_height(Trace.parse(SAMPLE))
+    154.0
+    """
+    view = settled(trace, view)
+    peak = max(decision.num / decision.den for decision in trace.decisions)
+    return _Frame(view, tuple(row_names(trace)), peak, 1.0).ceiling
+
+
+def save_trace(trace: Trace, path: Path, view: View = View(), width: int = 1000, background: str = "none") -> None:
+    """Draws a trace into a file, `width` pixels wide; raises FileFault, OSError."""
+    with _settings():
+        names = row_names(trace)
+        facts = [_facts(trace, name, view.charge) for name in names]
+        left = max(100, *(18 + NAME_LETTER * len(name) for name in names), *(18 + LETTER * len(fact) for fact in facts))
+        if width < left + 220:
+            raise FileFault(f"--width has to be at least {math.ceil(left + 220)}")
+        high = trace_height(trace, view)
+        above = 44 + 16 * len(_energy_lines(trace, width - left))
+        below = 46 + 18 * math.ceil(9 / _legend_columns(width - left - 20))
+        figure = _figure(width, above + high + below)
+        box = left / width, below / (above + high + below), 1 - (left + 20) / width, high / (above + high + below)
+        plot_trace(trace, figure.add_axes(box), view)
+        _save(figure, path, background)
+
+
+def _draw_frame(trace: Trace, axes: "Axes", frame: _Frame) -> None:
+    first, last = frame.ticks
+    axes.set_xlim(first, last)
+    axes.set_ylim(-4, frame.ceiling)
+    axes.set_facecolor("none")
+    for spine in axes.spines.values():
+        spine.set_visible(False)
+    step = round_step(last - first, max(1, int((last - first) * frame.scale / (12 + 7 * len(str(last))))))
+    ticks = range(-(-first // step) * step, last + 1, step)
+    axes.set_xticks(list(ticks), [str(tick) for tick in ticks], fontsize=SMALL)
+    axes.set_yticks([])
+    axes.tick_params(axis="x", length=0, colors=INK)
+    axes.grid(axis="x", color=INK, alpha=0.4, linewidth=0.5 * POINT)
+    axes.set_axisbelow(True)
+    axes.set_xlabel("ticks", fontsize=SMALL, color=INK, loc="left")
+    whole = f"{last} ticks" if (first, last) == (0, trace.ticks) else f"ticks {first} to {last} of {trace.ticks}"
+    lines = "\n".join(_energy_lines(trace, (last - first) * frame.scale))
+    axes.set_title(f"{trace.scheduler}, {trace.governor}: {whole}\n{lines}", loc="left", fontsize=TEXT, color=INK)
+
+
+def _energy_lines(trace: Trace, width: float) -> list[str]:
+    parts = ["energy of the run:", f"{readable(trace.run_energy)} running,", f"{readable(trace.idle_energy)} idle,",
+             "in units × mV² × 1000"]
+    lines = [parts[0]]
+    for part in parts[1:]:
+        if (len(lines[-1]) + 1 + len(part)) * 6.9 > width:
+            lines.append(part)
+        else:
+            lines[-1] += f" {part}"
+    return lines
+
+
+def readable(number: int) -> str:
+    """A whole number; one of seven digits or more is rounded to six, with a power of ten.
+
+    >>> readable(999999), readable(364000000000)
+    ('999999', '3.64 × 10¹¹')
+    """
+    if number < 10**6:
+        return str(number)
+    power = len(str(number)) - 1
+    digits = decimal(Fraction(number, 10**power), 5)
+    if digits.startswith("10."):
+        power, digits = power + 1, "1.00000"
+    raised = str(power).translate(str.maketrans("0123456789", "⁰¹²³⁴⁵⁶⁷⁸⁹"))
+    return f"{digits.rstrip('0').rstrip('.')} × 10{raised}"
+
+
+def _facts(trace: Trace, name: str, charge: int) -> str:
+    task = next((task for task in trace.tasks if task.name == name), None)
+    if task is None:
+        return ""
+    offset = f", offset {task.offset}" if task.offset else ""
+    return f"period {task.period}{offset}, worst {task.worst}" + (f"+{2 * charge}" if charge else "")
+
+
+def _beside(axes: "Axes", y: float, text: str, **style: Any) -> None:
+    """A text on the left of the axes."""
+    axes.annotate(text, (0, y), xycoords=("axes fraction", "data"), xytext=(-8 * POINT, 0), textcoords="offset points",
+                  ha="right", annotation_clip=False, **{"color": INK, "fontsize": SMALL, **style})
+
+
+def _draw_name(trace: Trace, axes: "Axes", frame: _Frame, row: int) -> None:
+    floor, facts = frame.floor(row), _facts(trace, frame.names[row], frame.view.charge)
+    axes.hlines(floor, *frame.ticks, color=INK, linewidth=POINT)
+    _beside(axes, floor + (24 if facts else 16), frame.names[row], fontsize=TEXT, family="monospace")
+    if facts:
+        _beside(axes, floor + 10, facts)
+
+
+def _draw_arrows(trace: Trace, axes: "Axes", frame: _Frame, row: int) -> None:
+    name, floor = frame.names[row], frame.floor(row)
+    ticks = releases(trace).get(name, [])
+    period = periods(trace).get(name)
+    due = [tick + period for tick in ticks] if period else []
+    for kind, at, colour, high, marker in (("release", ticks, INK, 48, "caretup"), ("deadline", due, DEADLINE, 28, "caretdown")):
+        kept = thin(filter(frame.is_shown, at), NEAR / frame.scale)
+        tip = floor + high if kind == "release" else floor
+        axes.vlines(kept, floor, floor + high, color=colour, linewidth=1.6 * POINT, zorder=2.2, clip_on=False)
+        axes.plot(kept, [tip] * len(kept), color=colour, linestyle="none", marker=MARKERS[marker], markersize=6 * POINT,
+                  markeredgewidth=1.6 * POINT, fillstyle="none", zorder=2.2, clip_on=False, gid=f"{kind}-{name}")
+
+
+# matplotlib's markers with their tip at the place
+MARKERS = {"caretup": 6, "caretdown": 7}
+
+
+def _draw_bars(axes: "Axes", frame: _Frame, row: Sequence[Bar], place: int | None) -> None:
+    """Draws the bars of a task's row, or idle time in the speed row."""
+    first, last = frame.ticks
+    shown = (Bar(max(bar.begin, first), min(bar.end, last), bar.speed) for bar in row if bar.begin < last and bar.end > first)
+    joined = list(join_narrow(shown, NARROW / frame.scale, GAP / frame.scale))
+    floor = 0 if place is None else frame.floor(place)
+    colour = INK if place is None else COLOURS[place % len(COLOURS)]
+    name = "idle" if place is None else f"run-{frame.names[place]}"
+    for is_narrow in (False, True):
+        corners = [_corners(frame, bar, floor, place is None) for bar in joined
+                   if ((bar.end - bar.begin) * frame.scale < NARROW) == is_narrow]
+        if corners:
+            axes.add_collection(_polygons(
+                corners, facecolor=colour, alpha=0.3 if place is None else 1, linewidth=0,
+                zorder=2.4 if is_narrow else 2, gid=f"{name}-narrow" if is_narrow else name), autolim=False)
+
+
+def _polygons(corners: Sequence[Sequence[tuple[float, float]]], **style: Any) -> Any:
+    from matplotlib.collections import PolyCollection
+
+    return PolyCollection(corners, **style)
+
+
+def _corners(frame: _Frame, bar: Bar, floor: float, is_idle: bool) -> list[tuple[float, float]]:
+    high = floor + (frame.speed_height(bar.speed) if is_idle else frame.bar_height(bar.speed))
+    end = max(bar.end, bar.begin + LEAST / frame.scale)
+    return [(bar.begin, floor), (bar.begin, high), (end, high), (end, floor)]
+
+
+def _draw_completions(trace: Trace, axes: "Axes", frame: _Frame, row: int) -> None:
+    name, floor = frame.names[row], frame.floor(row)
+    task = next((task for task in trace.tasks if task.name == name), None)
+    worst = f"/{task.worst + 2 * frame.view.charge}" if task else ""
+    shown = [done for done in completions(trace).get(name, []) if frame.is_shown(done.at)]
+    places = set(thin((done.at for done in shown), NEAR / frame.scale))
+    kept = [done for done in shown if done.at in places]
+    axes.plot([done.at for done in kept], [floor + frame.bar_height(done.speed) for done in kept], linestyle="none",
+              marker="o", markersize=5.2 * POINT, color="white", markeredgecolor="#555555", markeredgewidth=1.2 * POINT,
+              zorder=2.6, clip_on=False, gid=f"done-{name}")
+    for done in kept:
+        _label_completion(axes, frame, done, floor, (f"{done.used}{worst}", periods(trace).get(name)))
+
+
+def _label_completion(axes: "Axes", frame: _Frame, done: Completion, floor: float, said: tuple[str, int | None]) -> None:
+    """The units are said between release and deadline: above the bars before the completion, else after it, else not."""
+    text, period = said
+    room = LETTER * len(text) + 10
+    due = done.release + period if period else frame.ticks[1]
+    if frame.room(done.release, done.at) >= room:
+        axes.text(done.at - 4 / frame.scale, floor + frame.bar_height(done.highest) + 4, text, ha="right", fontsize=SMALL,
+                  color=INK)
+    elif frame.room(done.at, due) >= room:
+        axes.text(done.at + 5 / frame.scale, floor + frame.bar_height(done.speed) + 4, text, fontsize=SMALL, color=INK)
+
+
+def _spans(trace: Trace, frame: _Frame) -> Iterator[tuple[float, float, Decision]]:
+    """The decisions with the ticks in view for which they hold."""
+    decisions = trace.decisions
+    for decision, end in zip(decisions, [*(each.tick for each in decisions[1:]), trace.ticks]):
+        if max(decision.tick, frame.view.first) < min(end, frame.ticks[1]):
+            yield max(decision.tick, frame.view.first), min(end, frame.ticks[1]), decision
+
+
+def _draw_speeds(trace: Trace, axes: "Axes", frame: _Frame) -> None:
+    axes.hlines(0, *frame.ticks, color=INK, linewidth=POINT)
+    heights: list[float] = []
+    for speed in dict.fromkeys([0, frame.top, *(decision.speed for decision in trace.decisions)]):
+        height = frame.speed_height(speed)
+        if all(abs(height - other) >= 11 for other in heights):
+            heights.append(height)
+            axes.hlines(height, *frame.ticks, color=INK, alpha=0.4, linewidth=0.5 * POINT)
+            _beside(axes, height, str(speed), va="center")
+    _beside(axes, 36, "speed          ", va="center", fontsize=TEXT)
+    _beside(axes, 22, "units/tick            ", va="center")
+    _beside(axes, frame.speed_height(max(frame.top, frame.peak)) + 8, "demand", color=DEMAND)
+    lines: tuple[tuple[str, Callable[[Decision], float], Mapping[str, Any]], ...] = (
+        ("speed", lambda decision: decision.speed, {"color": INK, "linewidth": 1.8 * POINT}),
+        ("demand", lambda decision: decision.num / decision.den,
+         {"color": DEMAND, "linewidth": 1.6 * POINT, "linestyle": (0, (1, 1.6))}))
+    for name, value_of, style in lines:
+        corners = steps(((begin, end, frame.speed_height(value_of(each))) for begin, end, each in _spans(trace, frame)),
+                        GAP / frame.scale)
+        axes.plot(*zip(*corners), clip_on=False, zorder=2.5, gid=name, **style)
+
+
+def _draw_decisions(trace: Trace, axes: "Axes", frame: _Frame) -> None:
+    low: list[tuple[float, float]] = []
+    high: list[tuple[float, float]] = []
+    latest: dict[int, float] = {}
+    base = frame.speed_height(max(frame.top, frame.peak)) + 8
+    for begin, end, decision in _spans(trace, frame):
+        value = Fraction(decision.num, decision.den)
+        y = frame.speed_height(float(value))
+        if (begin - latest.get(int(y / NEAR), -math.inf)) * frame.scale < NEAR or begin != decision.tick:
+            continue
+        latest[int(y / NEAR)] = begin
+        (high if value > Fraction(CAP) * frame.top else low).append((begin, y))
+        text = short(value)
+        if (end - begin) * frame.scale >= LETTER * len(text) + 6:
+            axes.text(begin + 2 / frame.scale, base, text, fontsize=SMALL, color=DEMAND)
+    for name, marker, places in (("decision", "o", low), ("over", "^", high)):
+        axes.plot([x for x, _ in places], [y for _, y in places], linestyle="none", marker=marker, color=DEMAND,
+                  markersize=(4.4 if marker == "o" else 7) * POINT, markeredgewidth=0, zorder=2.7, clip_on=False, gid=name)
+
+
+def short(number: Fraction) -> str:
+    """A number with at most two decimals.
+
+    >>> short(Fraction(836, 280)), short(Fraction(15))
+    ('2.99', '15')
+    """
+    return decimal(number, 2).rstrip("0").rstrip(".")
+
+
+def _legend_columns(width: float) -> int:
+    return max(1, int(width / 215))
+
+
+def _draw_legend(trace: Trace, axes: "Axes", frame: _Frame) -> None:
+    from matplotlib.lines import Line2D
+    from matplotlib.patches import Patch
+
+    first, last = frame.ticks
+    def mark(colour: str, label: str, marker: object, **style: Any) -> Line2D:
+        return Line2D([], [], color=colour, label=label, **{"linestyle": "none", "marker": marker, **style})
+
+    charged = ", with the charge" if frame.view.charge else ""
+    handles = [
+        mark(INK, "release", 6, markersize=6 * POINT), mark(DEADLINE, "deadline", 7, markersize=6 * POINT),
+        Patch(color=COLOURS[0], label=f"run, as high as its speed (full: {frame.top})"),
+        mark("white", f"done: units used{'/worst case' if trace.tasks else ''}{charged}", "o", markersize=5.2 * POINT,
+             markeredgecolor="#555555"),
+        mark(INK, "speed", "", linestyle="-"), mark(DEMAND, "demand, a dot at each decision", "o", linestyle=":",
+                                                    markersize=4.4 * POINT),
+    ]
+    if any(bar.begin < last and bar.end > first for bar in bars(trace).get("", [])):
+        handles.append(Patch(color=INK, alpha=0.3, label="idle"))
+    if any(each.num > Fraction(CAP) * frame.top * each.den for _, _, each in _spans(trace, frame)):
+        handles.append(mark(DEMAND, "demand above the picture", "^"))
+    if any(len(thin(ticks, NEAR / frame.scale)) < len(ticks) for ticks in releases(trace).values()):
+        handles.append(mark("none", f"marks within {NEAR} pixels are drawn once", ""))
+    axes.legend(handles=handles, loc="upper left", bbox_to_anchor=(0, -28 / (frame.ceiling + 4)), borderaxespad=0,
+                frameon=False, fontsize=SMALL, labelcolor=INK, ncol=_legend_columns((last - first) * frame.scale),
+                handlelength=1.5, columnspacing=1, handletextpad=0.5, borderpad=0)
+
+
+# The picture of a comparison
+
+
+ENERGY, BOUND, TIME = "#d55e00", "#009e73", "#0072b2"
+
+
+def plot_compare(rows: Sequence[Row], energy: "Axes", time: "Axes") -> None:
+    """Draws a comparison into two axes: each energy as a share of EDF with `none`, and the time at each speed.
+
+    A mark is at the bound for the row's units. A pair that is denied has its line in place of a bar.
+    """
+    for axes in (energy, time):
+        axes.set_xlim(0, 1)
+        axes.set_ylim(len(rows) - 0.5, -0.5)
+        _plain_axes(axes)
+        axes.set_xticks([0, 0.25, 0.5, 0.75, 1], ["0.00", "0.25", "0.50", "0.75", "1.00"], fontsize=SMALL)
+        axes.set_yticks([])
+    energy.set_yticks(range(len(rows)), [f"{row.scheduler.upper()} {row.governor}" for row in rows], fontsize=TEXT)
+    energy.set_title("energy, as a share of EDF none; the mark is the bound", loc="left", fontsize=SMALL, color=INK)
+    time.set_title("time at speed", loc="left", fontsize=SMALL, color=INK)
+    speeds = sorted({speed for row in rows if row.result for speed in row.result.residency})
+    shades = {speed: 0.7 if len(speeds) == 1 else 0.3 + 0.6 * place / (len(speeds) - 1) for place, speed in enumerate(speeds)}
+    for place, row in enumerate(rows):
+        _draw_energy(energy, place, row)
+        _draw_times(time, place, row, shades)
+    _draw_shades(time, shades)
+
+
+def save_compare(rows: Sequence[Row], path: Path, background: str = "none") -> None:
+    """Draws a comparison into a file; raises OSError."""
+    with _settings():
+        high = 24 * len(rows) + 70
+        figure = _figure(810, high)
+        low, tall = 30 / high, 24 * len(rows) / high
+        plot_compare(rows, figure.add_axes((90 / 810, low, 300 / 810, tall)), figure.add_axes((480 / 810, low, 300 / 810, tall)))
+        _save(figure, path, background)
+
+
+def _plain_axes(axes: "Axes") -> None:
+    axes.set_facecolor("none")
+    axes.tick_params(length=0, colors=INK)
+    axes.grid(axis="x", color=INK, alpha=0.35, linewidth=POINT)
+    axes.set_axisbelow(True)
+    for spine in axes.spines.values():
+        spine.set_visible(False)
+
+
+def _draw_energy(axes: "Axes", place: int, row: Row) -> None:
+    if row.result is None or row.result.share is None:
+        axes.text(0.02, place, row.refusal or "no share", va="center", fontsize=SMALL, color=INK)
+        return
+    share = row.result.share
+    axes.barh(place, float(share), height=2 / 3, color=ENERGY, alpha=0.75, gid=f"energy-{row.scheduler}-{row.governor}")
+    axes.text(float(share) + 0.013, place, decimal(share, 3), va="center", fontsize=SMALL, color=INK)
+    if row.result.above_bound is not None:
+        bound = float(share / (1 + row.result.above_bound))
+        axes.vlines(bound, place - 0.42, place + 0.42, color=BOUND, linewidth=3 * POINT, zorder=3,
+                    gid=f"bound-{row.scheduler}-{row.governor}")
+
+
+def _draw_times(axes: "Axes", place: int, row: Row, shades: Mapping[int, float]) -> None:
+    begin = Fraction(0)
+    for speed in shades:
+        time = row.result.residency.get(speed, Fraction(0)) if row.result else Fraction(0)
+        if time:
+            axes.barh(place, float(time), left=float(begin), height=2 / 3, color=TIME, alpha=shades[speed], linewidth=0)
+        begin += time
+
+
+def _draw_shades(axes: "Axes", shades: Mapping[int, float]) -> None:
+    from matplotlib.patches import Patch
+
+    axes.legend(handles=[Patch(color=TIME, alpha=shade, linewidth=0, label=str(speed)) for speed, shade in shades.items()],
+                loc="lower right", bbox_to_anchor=(1, 1), ncol=max(1, len(shades)), frameon=False, fontsize=SMALL,
+                labelcolor=INK, handlelength=1, columnspacing=1, borderpad=0)
+
+
+# The pictures of the evaluation
+
+
+@dataclass(frozen=True, slots=True)
+class Mean:
+    """A point of a figure: the number of sets, their mean energy, and the bounds of the middle 80 % of them."""
+
+    panel: str
+    curve: str
+    utilisation: Fraction
+    sets: int
+    energies: tuple[Fraction, Fraction, Fraction]
+
+
+def parse_means(text: str) -> tuple[Mean, ...]:
+    r"""The points of a table of the evaluation, with tabs between its columns; raises FileFault.
+
+    >>> parse_means("panel\tcurve\tutilisation\tsets\tmean\tlow\thigh\n5 tasks\tbound\t0.1\t100\t0.5\t0.4\t0.6\n")[0].sets
+    100
+    """
+    rows = list(csv.reader(text.splitlines(), delimiter="\t"))
+    if rows[:1] != [["panel", "curve", "utilisation", "sets", "mean", "low", "high"]]:
+        raise FileFault("table: wrong header")
+    try:
+        return tuple(Mean(panel, curve, Fraction(utilisation), int(sets), (Fraction(mean), Fraction(low), Fraction(high)))
+                     for panel, curve, utilisation, sets, mean, low, high in rows[1:])
+    except (ValueError, ZeroDivisionError):
+        raise FileFault("table: a row isn't a point") from None
+
+
+# The curves: colour, marker, whether dashed, and pixels to the right, so that bars don't hide each other.
+CURVES = {
+    "bound": (INK, "", True, 0),
+    "edf static": (TIME, "o", False, -2),
+    "rm static": (TIME, "o", True, 4),
+    "edf cc": (ENERGY, "s", False, 0),
+    "rm cc": (ENERGY, "s", True, 6),
+    "edf la": (BOUND, "D", False, 2),
+}
+
+
+def plot_means(means: Sequence[Mean], axes: "Axes") -> None:
+    """Draws a panel of the evaluation: mean energies over utilisation, the middle 80 % as bars, the sets that RM admits.
+
+    A curve has no point if fewer than a tenth of the sets are admitted.
+    """
+    axes.set_xlim(0, 1.03)
+    axes.set_ylim(0, 1)
+    _plain_axes(axes)
+    axes.grid(axis="x", visible=False)
+    axes.grid(axis="y", color=INK, alpha=0.35, linewidth=POINT)
+    admitted = {mean.utilisation: mean.sets for mean in means if mean.curve == "rm none"}
+    tenths = [Fraction(place, 10) for place in range(1, 11)]
+    axes.set_xticks([float(tenth) for tenth in tenths],
+                    [f"{decimal(tenth, 1)}\n{admitted.get(tenth, 0)}" for tenth in tenths], fontsize=SMALL)
+    axes.set_yticks([0, 0.2, 0.4, 0.6, 0.8, 1], ["0.0", "0.2", "0.4", "0.6", "0.8", "1.0"], fontsize=SMALL)
+    axes.annotate("RM", (0, 0), xytext=(-6 * POINT, -27 * POINT), textcoords="offset points", ha="right", fontsize=SMALL,
+                  color=INK, annotation_clip=False)
+    axes.set_title(means[0].panel if means else "", fontsize=TEXT, color=INK)
+    axes.hlines(1, 0.1, 1, color=INK, linewidth=1.5 * POINT, clip_on=False)
+    all_sets = {mean.utilisation: mean.sets for mean in means if mean.curve == "edf none"}
+    for curve in CURVES:
+        _draw_curve(axes, curve, [mean for mean in means if mean.curve == curve
+                                  and 10 * mean.sets >= all_sets.get(mean.utilisation, 0)])
+
+
+def _draw_curve(axes: "Axes", curve: str, means: Sequence[Mean]) -> None:
+    colour, _, _, shift = CURVES[curve]
+    width = axes.get_position().width * axes.figure.get_figwidth() / PIXEL / 1.03
+    places = [float(mean.utilisation) + shift / width for mean in means]
+    spread = [(place, mean) for place, mean in zip(places, means)
+              if curve != "bound" and mean.energies[2] - mean.energies[1] >= Fraction(1, 230)]
+    axes.vlines([place for place, _ in spread], [float(mean.energies[1]) for _, mean in spread],
+                [float(mean.energies[2]) for _, mean in spread], color=colour, alpha=0.75, linewidth=1.2 * POINT, clip_on=False)
+    axes.plot(places, [float(mean.energies[0]) for mean in means], clip_on=False, gid=curve.replace(" ", "-"),
+              **_style(curve), color=colour)
+
+
+def _style(curve: str) -> dict[str, Any]:
+    colour, marker, is_dashed, _ = CURVES[curve]
+    dashes = (0, (1, 1.5)) if curve == "bound" else (0, (3, 2)) if is_dashed else "-"
+    return {"linestyle": dashes, "linewidth": (2 if curve == "bound" else 1.6) * POINT, "marker": marker,
+            "markersize": 7 * POINT, "markerfacecolor": "none" if is_dashed else colour, "markeredgecolor": colour,
+            "markeredgewidth": 1.6 * POINT}
+
+
+def save_means(means: Sequence[Mean], path: Path, columns: int = 3, background: str = "none") -> None:
+    """Draws a figure of the evaluation into a file, a panel for each of its panels; raises OSError."""
+    with _settings():
+        panels = list(dict.fromkeys(mean.panel for mean in means))
+        wide, rows = 44 + columns * 314, -(-len(panels) // columns)
+        high = 52 + rows * 300 + (40 if columns < 3 else 20)
+        figure = _figure(wide, high)
+        for place, panel in enumerate(panels):
+            left, top = 44 + place % columns * 314, 52 + place // columns * 300
+            axes = figure.add_axes((left / wide, 1 - (top + 230) / high, 270 / wide, 230 / high))
+            plot_means([mean for mean in means if mean.panel == panel], axes)
+        figure.text(14 / wide, 1 - 16 / high, "energy, as a share of EDF with none, over worst-case utilisation; "
+                    "numbers at RM: sets that it admits", fontsize=SMALL, color=INK)
+        _draw_curve_legend(figure, columns)
+        _save(figure, path, background)
+
+
+def _draw_curve_legend(figure: "Figure", columns: int) -> None:
+    from matplotlib.lines import Line2D
+
+    shown = [Line2D([], [], color=INK, linewidth=1.5 * POINT, label="none")]
+    shown += [Line2D([], [], color=CURVES[curve][0], label=curve.replace("edf", "EDF").replace("rm", "RM"), **_style(curve))
+              for curve in CURVES]
+    figure.legend(handles=shown, loc="lower left", ncol=4 if columns < 3 else 7, frameon=False, fontsize=SMALL,
+                  labelcolor=INK, handlelength=3, borderaxespad=0.3)
+
+
+# Files
+
+
+def _settings() -> Any:
+    """matplotlib's own settings, whatever the user's are: texts as texts, and the same bytes for the same picture."""
+    import matplotlib
+
+    own = {"svg.hashsalt": "rtdvs", "svg.fonttype": "none", "pdf.fonttype": 42, "axes.formatter.use_locale": False}
+    kept = {key: value for key, value in matplotlib.rcParamsDefault.items() if key not in ("backend", "interactive", "toolbar")}
+    return matplotlib.rc_context({**kept, **own})
+
+
+def _figure(width: float, height: float) -> "Figure":
+    from matplotlib.figure import Figure
+
+    return Figure(figsize=(width * PIXEL, height * PIXEL), dpi=96)
+
+
+def _save(figure: "Figure", path: Path, background: str) -> None:
+    kind = path.suffix.lower().lstrip(".")
+    undated: dict[str, dict[str, None]] = {
+        "svg": {"Date": None, "Creator": None}, "pdf": {"CreationDate": None}, "png": {"Software": None}}
+    if kind not in undated:
+        raise FileFault(f"a picture is a file .svg, .pdf or .png, and not {path.name}")
+    figure.savefig(path, format=kind, facecolor=background, dpi=96 if kind == "svg" else 192, metadata=undated[kind])
+
+
+# The command
+
+
+EXAMPLE = """examples:
+  python3 -m rtdvs plot trace --trace paper.trace --top 4 --output paper.svg
+  python3 -m rtdvs plot compare --tasks tasks.toml --machine machine.toml --ticks 2000 --output compare.pdf
+  python3 -m rtdvs plot evaluation --table examples/evaluation/tasks.tsv --output tasks.svg
+"""
+
+
+def add_command(commands: "argparse._SubParsersAction[argparse.ArgumentParser]") -> None:
+    """Adds the command `plot`."""
+    parser = commands.add_parser("plot", help="pictures of traces, of comparisons and of the evaluation",
+                                 description=__doc__, epilog=EXAMPLE,
+                                 formatter_class=argparse.RawDescriptionHelpFormatter)
+    kinds = parser.add_subparsers(metavar="PICTURE", required=True)
+    trace = kinds.add_parser("trace", help="a trace, task by task, with the speed and the demand")
+    add_files(trace, ("trace",))
+    for option, least, text in (("--from", 0, "the first tick"), ("--to", 1, "the last tick"),
+                                ("--top", 1, "the speed of full height; the fastest by default"),
+                                ("--charge", 0, "the machine's charge, which a trace doesn't name"),
+                                ("--width", 1, "pixels; 1000 by default")):
+        trace.add_argument(option, type=whole_number(least), metavar="N", help=text)
+    _add_file(trace, _run_trace)
+    pairs = kinds.add_parser("compare", help="the energy of each pair, and its time at each speed")
+    add_files(pairs, ("tasks", "machine"), ("demands",))
+    pairs.add_argument("--ticks", type=whole_number(1), required=True, metavar="N", help="the ticks of the runs")
+    add_engine_options(pairs)
+    _add_file(pairs, _run_compare)
+    means = kinds.add_parser("evaluation", help="a table of the evaluation")
+    means.add_argument("--table", type=input_path, required=True, metavar="FILE", help="the table")
+    means.add_argument("--columns", type=whole_number(1), default=3, metavar="N", help="panels in a row; 3 by default")
+    _add_file(means, _run_means)
+
+
+def _add_file(parser: argparse.ArgumentParser, draw: Callable[[argparse.Namespace], None]) -> None:
+    parser.add_argument("--output", type=Path, required=True, metavar="FILE", help="the picture: .svg, .pdf or .png")
+    parser.add_argument("--background", default="none", metavar="COLOUR", help="none by default")
+    parser.set_defaults(handler=run, draw=draw)
+
+
+def run(args: argparse.Namespace) -> int:
+    """Runs the command."""
+    try:
+        _check_background(args.background)
+        args.draw(args)
+    except ModuleNotFoundError as error:
+        print(f"plot: {error.name} is not installed; it is python3-matplotlib of Debian, or matplotlib of PyPI", file=sys.stderr)
+        return 2
+    return 0
+
+
+def _check_background(colour: str) -> None:
+    from matplotlib.colors import is_color_like
+
+    if not is_color_like(colour):
+        raise FileFault(f"no colour: {colour}")
+
+
+def _run_trace(args: argparse.Namespace) -> None:
+    trace = Trace.parse(read_text(args.trace, "trace"))
+    view = View(getattr(args, "from") or 0, args.to, args.top, args.charge or 0)
+    task = over_worst(trace, view.charge)
+    if task is not None:
+        print(f"note: {task} uses more than its worst case: give the machine's charge by --charge", file=sys.stderr)
+    save_trace(trace, args.output, view, args.width or 1000, args.background)
+
+
+def _run_compare(args: argparse.Namespace) -> None:
+    tasks = read_tasks(args)
+    rows = compare(engine_of(args), tasks, read_machine(args), args.ticks, read_demands(args, tasks))
+    save_compare(rows, args.output, args.background)
+
+
+def _run_means(args: argparse.Namespace) -> None:
+    save_means(parse_means(read_text(args.table, "table")), args.output, args.columns, args.background)
