@@ -1,11 +1,17 @@
-"""The command line: python3 -m rtdvs COMMAND."""
+"""Exact schedules and energies of periodic tasks with voltage scaling: tools beside the program rtdvs."""
 
 import argparse
 import importlib
+import os
+import sys
 from collections.abc import Sequence
 
-COMMANDS = ("explain", "simulate", "statistics", "compare", "sensitivity", "generate", "evaluate",
-            "paper_table", "design", "plot", "convert")
+from rtdvs.engine import EngineError
+
+COMMANDS = (
+    "explain", "simulate", "statistics", "compare", "sensitivity", "generate", "evaluate", "paper_table",
+    "design", "plot", "convert",
+)
 
 
 def parser() -> argparse.ArgumentParser:
@@ -15,17 +21,61 @@ def parser() -> argparse.ArgumentParser:
     for name in COMMANDS:
         try:
             importlib.import_module(f"rtdvs.{name}").add_command(commands)
-        except ModuleNotFoundError:
-            continue
+        except ModuleNotFoundError as missing:
+            if missing.name != f"rtdvs.{name}":
+                raise
     return top
 
 
 def main(words: Sequence[str] | None = None) -> int:
-    """Runs a command and returns its exit status."""
-    args = parser().parse_args(words)
-    status: int = args.handler(args)
-    return status
+    """Runs a command and returns its exit status: 1 only for a wrong trace, 2 for any other failure.
+
+    >>> main(["--foo"])
+    2
+    """
+    if sys.stderr is None:
+        sys.stderr = open(os.devnull, "w")
+    if sys.stdout is None:
+        return _refused("standard output is closed")
+    try:
+        status = _handled(words)
+        sys.stdout.flush()
+        return status
+    except BrokenPipeError:
+        return 2
+    except KeyboardInterrupt:
+        return 130
+    except OSError as fault:
+        return _refused(f"{fault.filename or 'input or output'}: {fault.strerror}")
+    except MemoryError:
+        return _refused("no memory")
+    except (EngineError, ValueError) as fault:
+        return _refused(str(fault))
+
+
+def _handled(words: Sequence[str] | None) -> int:
+    """The exit status of a command, or of argparse's own answer."""
+    try:
+        top = parser()
+        args = top.parse_args(words)
+        if sum(isinstance(value, bytes) for value in vars(args).values()) > 1:
+            top.error("only one file can be standard input")
+        return int(args.handler(args))
+    except SystemExit as end:
+        return end.code if isinstance(end.code, int) else 0
+
+
+def _refused(line: str) -> int:
+    print(f"rtdvs: {line}", file=sys.stderr)
+    return 2
 
 
 def entry() -> None:
-    raise SystemExit(main())
+    """Ends the process with the status of its command line."""
+    status = main()
+    try:
+        sys.stdout.flush()
+    except (AttributeError, OSError):
+        # What is left can't be written, and the interpreter must not try it again.
+        os.dup2(os.open(os.devnull, os.O_WRONLY), 1)
+    raise SystemExit(status)

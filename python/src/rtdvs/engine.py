@@ -1,102 +1,66 @@
-"""Calls of the program: each as a function with typed answers, one exception for each exit status."""
+"""Calls of the program: each a function with a typed answer, and one exception for each exit status."""
 
-from collections.abc import Iterable, Iterator
+import os
+import re
+import shutil
+import signal
+from collections.abc import Iterable, Iterator, Sequence
 from concurrent.futures import Executor
 from dataclasses import dataclass
+from math import ceil
 from pathlib import Path
+from subprocess import DEVNULL, PIPE, Popen, TimeoutExpired
+from tempfile import TemporaryDirectory
 
+from rtdvs.errors import (
+    NAME,
+    NUMBER,
+    Crashed,
+    Denied,
+    Differs,
+    EngineError,
+    FileRefused,
+    LoadFailed,
+    NoEngine,
+    NoText,
+    OutOfMemory,
+    OverWorst,
+    TimedOut,
+    TooManyJobs,
+    WordsRefused,
+    WriteFailed,
+    error_of,
+    groups,
+)
 from rtdvs.files import Deadlines, Demands, Machine, Requests, TaskSet
+
+__all__ = [
+    "Admitted", "Answer", "Call", "Constrained", "Crashed", "Denied", "Differs", "Engine", "EngineError",
+    "FileRefused", "GovernorTotals", "Least", "LoadFailed", "NoEngine", "NoText", "OutOfMemory",
+    "OverWorst", "Polled", "Replayed", "Service", "Source", "TimedOut", "TooManyJobs", "TryEngine",
+    "WordsRefused", "WriteFailed", "admit_call", "constrain_call", "find_engine", "least_call",
+    "migrate_call", "parse_admitted", "parse_constrained", "parse_least", "parse_polled", "parse_replayed",
+    "parse_responses", "parse_workload", "poll_call", "replay_call", "response_call", "run_call",
+    "workload_call",
+]
 
 Source = TaskSet | Machine | Demands | Deadlines | Requests | str | bytes | Path
 """A dataclass or a text is written to a file of the call's own folder; a path is handed over as it is."""
 
-
-class EngineError(Exception):
-    """A call that has no answer; the text is the program's line."""
-
-    status: int | None = None
-
-    @property
-    def line(self) -> str:
-        return str(self)
-
-
-class Denied(EngineError):
-    """Status 1: an admission test fails. `test` is edf, rm, offset, misses, demand or units.
-
-    `asked` work units are more than the `capacity`; `ticks` is given by `demand` only, `task` by rm, offset and misses.
-    """
-
-    status = 1
-    test: str
-    task: str | None
-    asked: int | None
-    capacity: int | None
-    ticks: int | None
-
-
-class WordsRefused(EngineError):
-    status = 2
-
-
-class LoadFailed(EngineError):
-    status = 3
-    kind: str
-
-
-class FileRefused(EngineError):
-    status = 4
-    kind: str
-
-
-class TooManyJobs(EngineError):
-    status = 5
-    jobs: int
-    most: int
-
-
-class OverWorst(EngineError):
-    status = 6
-    task: str
-    job: int
-    units: int
-    worst: int
-
-
-class Differs(EngineError):
-    status = 7
-    line_number: int
-    wanted: str
-    found: str
-
-
-class WriteFailed(EngineError):
-    status = 8
-
-
-class OutOfMemory(EngineError):
-    status = 9
-
-
-class NoText(EngineError):
-    status = 10
-
-
-class NoEngine(EngineError):
-    """No program is found; the text says what to build or install."""
-
-
-class Crashed(EngineError):
-    """The program ended by a signal or with another status, or printed what it never prints."""
-
-
-class TimedOut(EngineError):
-    """The program didn't end within the time limit."""
+CRATE = Path(__file__).resolve().parents[3] / "crates" / "rtdvs"
+HOW_TO_GET_ONE = (
+    "no program: build it with `rt run -- workload --seed 1` in crates/rtdvs, install the Debian package, "
+    "or name it by --program or by the variable RTDVS"
+)
 
 
 @dataclass(frozen=True, slots=True)
 class Call:
-    """A call of the program: options with their values, and options with files (a text or a path). It can be pickled."""
+    """A call of the program: options with values, and with files (a text or a path). It can be pickled.
+
+    >>> admit_call(Path("tasks.toml"), "idle = 0", "edf").options
+    (('--scheduler', 'edf'),)
+    """
 
     command: str
     options: tuple[tuple[str, str], ...] = ()
@@ -105,7 +69,12 @@ class Call:
 
 @dataclass(frozen=True, slots=True)
 class Answer:
-    """What a call left: exit status, standard output and standard error."""
+    """What a call left: its exit status (below 0: a signal), standard output and standard error.
+
+    >>> Answer(1, b"", b"denied edf 248 240\\n").text()
+    Traceback (most recent call last):
+    rtdvs.errors.Denied: denied edf 248 240
+    """
 
     status: int
     out: bytes
@@ -113,12 +82,17 @@ class Answer:
 
     def text(self) -> str:
         """Standard output of a call that ended with 0; raises the exception of any other status."""
-        raise NotImplementedError
+        if self.status != 0:
+            raise error_of(self.status, self.notes)
+        return self.out.decode()
 
 
 @dataclass(frozen=True, slots=True)
 class Admitted:
-    """`num`/`den` is the static demand in work units per tick, not reduced; `speed` the lowest that meets it."""
+    """`num`/`den` is the static demand in work units per tick, not reduced.
+
+    `speed` is the lowest that meets it.
+    """
 
     scheduler: str
     num: int
@@ -137,7 +111,7 @@ class Constrained:
 
 @dataclass(frozen=True, slots=True)
 class Replayed:
-    """Jobs released and complete, and the energies of the `run` and of the `idle` lines."""
+    """The jobs released and complete, and the energies of the `run` and of the `idle` lines."""
 
     released: int
     finished: int
@@ -147,7 +121,7 @@ class Replayed:
 
 @dataclass(frozen=True, slots=True)
 class Service:
-    """A request; `job` and `position` ("tick:offset") are of the server's job that completes it, None if none does."""
+    """A request, and the server's job that completes it at a position ("tick:offset"), if one does."""
 
     request: int
     arrival: int
@@ -158,6 +132,8 @@ class Service:
 
 @dataclass(frozen=True, slots=True)
 class Polled:
+    """The requests in file order, the number served, and the energies of the run."""
+
     services: tuple[Service, ...]
     served: int
     run_energy: int
@@ -166,7 +142,10 @@ class Polled:
 
 @dataclass(frozen=True, slots=True)
 class Least:
-    """The least energy: `rounds` repetitions of `low_ticks` at `low` and `high_ticks` at `high` work units per tick."""
+    """The least energy: of `rounds` times the ticks, `low_ticks` have `low` work units, `high_ticks` `high`.
+
+    A tick with w units costs, `rounds` times, at least w times `unit_price` plus `tick_price`.
+    """
 
     rounds: int
     low: int
@@ -180,7 +159,7 @@ class Least:
 
 @dataclass(frozen=True, slots=True)
 class GovernorTotals:
-    """A line of `workload`."""
+    """A governor's run of a generated workload: jobs released and complete, decisions, and the energies."""
 
     governor: str
     released: int
@@ -190,97 +169,343 @@ class GovernorTotals:
     idle_energy: int
 
 
+# Calls
+
+def _content(source: Source) -> str | bytes | Path:
+    """What a call has of a source. A path is made absolute, so that it is the same file for each worker."""
+    if isinstance(source, Path):
+        return source.absolute()
+    return source if isinstance(source, str | bytes) else source.text()
+
+
+def _call(command: str, options: dict[str, str | int], **files: Source | None) -> Call:
+    pairs = tuple((f"--{name}", str(value)) for name, value in options.items())
+    given = ((f"--{name}", source) for name, source in files.items() if source is not None)
+    return Call(command, pairs, tuple((name, _content(source)) for name, source in given))
+
+
 def run_call(tasks: Source, machine: Source, scheduler: str, governor: str, ticks: int,
              demands: Source | None = None, version: int = 2) -> Call:
-    raise NotImplementedError
+    """The call of `run`; its answer's text is the trace."""
+    options: dict[str, str | int] = {
+        "scheduler": scheduler, "governor": governor, "ticks": ticks, "format": version,
+    }
+    return _call("run", options, tasks=tasks, machine=machine, demands=demands)
 
 
 def admit_call(tasks: Source, machine: Source, scheduler: str) -> Call:
-    raise NotImplementedError
+    """The call of `admit`; parse_admitted reads its answer's text."""
+    return _call("admit", {"scheduler": scheduler}, tasks=tasks, machine=machine)
 
 
 def response_call(tasks: Source, machine: Source) -> Call:
-    raise NotImplementedError
+    """The call of `response`; parse_responses reads its answer's text."""
+    return _call("response", {}, tasks=tasks, machine=machine)
 
 
 def constrain_call(tasks: Source, machine: Source, deadlines: Source) -> Call:
-    raise NotImplementedError
+    """The call of `constrain`; parse_constrained reads its answer's text."""
+    return _call("constrain", {}, tasks=tasks, machine=machine, deadlines=deadlines)
 
 
 def poll_call(tasks: Source, machine: Source, requests: Source, server: str, scheduler: str,
               governor: str, ticks: int) -> Call:
-    raise NotImplementedError
+    """The call of `poll`; parse_polled reads its answer's text."""
+    options: dict[str, str | int] = {
+        "server": server, "scheduler": scheduler, "governor": governor, "ticks": ticks,
+    }
+    return _call("poll", options, tasks=tasks, machine=machine, requests=requests)
 
 
 def replay_call(tasks: Source, machine: Source, trace: Source) -> Call:
-    raise NotImplementedError
+    """The call of `replay`; parse_replayed reads its answer's text."""
+    return _call("replay", {}, tasks=tasks, machine=machine, trace=trace)
 
 
 def migrate_call(tasks: Source, machine: Source, trace: Source) -> Call:
-    raise NotImplementedError
+    """The call of `migrate`; its answer's text is the trace in version 2."""
+    return _call("migrate", {}, tasks=tasks, machine=machine, trace=trace)
 
 
 def least_call(machine: Source, units: int, ticks: int) -> Call:
-    raise NotImplementedError
+    """The call of `least`; parse_least reads its answer's text."""
+    return _call("least", {"units": units, "ticks": ticks}, machine=machine)
 
 
 def workload_call(seed: int) -> Call:
-    raise NotImplementedError
+    """The call of `workload`; parse_workload reads its answer's text."""
+    return _call("workload", {"seed": seed})
+
+
+# Answers
+
+def _answer_groups(pattern: str, text: str) -> tuple[str, ...]:
+    """The groups of an answer's text; raises Crashed for what the program never prints."""
+    try:
+        return groups(pattern, text)
+    except ValueError:
+        raise Crashed(f"an unknown answer: {text[:80]!r}") from None
 
 
 def parse_admitted(text: str) -> Admitted:
-    raise NotImplementedError
+    """The answer of `admit`; raises Crashed for any other text.
+
+    >>> parse_admitted("admitted edf 836/280 3\\n")
+    Admitted(scheduler='edf', num=836, den=280, speed=3)
+    """
+    scheduler, *numbers = _answer_groups(f"admitted (edf|rm) {NUMBER}/{NUMBER} {NUMBER}\n", text)
+    return Admitted(scheduler, *map(int, numbers))
+
+
+def parse_responses(text: str) -> dict[str, int]:
+    """The answer of `response`, in ticks by task; raises Crashed for any other text.
+
+    >>> parse_responses("response t1 3\\nresponse t2 6\\n")
+    {'t1': 3, 't2': 6}
+    """
+    lines = (_answer_groups(f"response {NAME} {NUMBER}\n", line) for line in text.splitlines(keepends=True))
+    return {task: int(ticks) for task, ticks in lines}
+
+
+def parse_constrained(text: str) -> Constrained:
+    """The answer of `constrain`; raises Crashed for any other text.
+
+    >>> parse_constrained("constrained 7/6 2\\n")
+    Constrained(num=7, den=6, speed=2)
+    """
+    return Constrained(*map(int, _answer_groups(f"constrained {NUMBER}/{NUMBER} {NUMBER}\n", text)))
+
+
+def parse_replayed(text: str) -> Replayed:
+    """The answer of `replay`; raises Crashed for any other text.
+
+    >>> parse_replayed("replayed 6 6 315000000000 0\\n").run_energy
+    315000000000
+    """
+    return Replayed(*map(int, _answer_groups(f"replayed {NUMBER} {NUMBER} {NUMBER} {NUMBER}\n", text)))
+
+
+def parse_polled(text: str) -> Polled:
+    """The answer of `poll`; raises Crashed for any other text.
+
+    >>> parse_polled("served 1 0 3 1 0:3\\npending 2 12 1\\npolled 1 725000000000 0\\n").services[0].position
+    '0:3'
+    """
+    *lines, last = text.splitlines(keepends=True) or [text]
+    sums = map(int, _answer_groups(f"polled {NUMBER} {NUMBER} {NUMBER}\n", last))
+    return Polled(tuple(map(_service, lines)), *sums)
+
+
+def _service(line: str) -> Service:
+    if line.startswith("pending"):
+        request, arrival, units = _answer_groups(f"pending {NUMBER} {NUMBER} {NUMBER}\n", line)
+        return Service(int(request), int(arrival), int(units))
+    pattern = f"served {NUMBER} {NUMBER} {NUMBER} {NUMBER} ([0-9]+:[0-9]+)\n"
+    request, arrival, units, job, position = _answer_groups(pattern, line)
+    return Service(int(request), int(arrival), int(units), int(job), position)
 
 
 def parse_least(text: str) -> Least:
-    raise NotImplementedError
+    """The answer of `least`; raises Crashed for any other text.
 
+    >>> parse_least("least 2 0 4 2 28 504000000000\\nprices 18000000000 plus 0\\n").energy
+    504000000000
+    """
+    least = " ".join(["least", *[NUMBER] * 6])
+    *numbers, sign, tick_price = _answer_groups(f"{least}\nprices {NUMBER} (plus|minus) {NUMBER}\n", text)
+    prices = [*numbers, tick_price if sign == "plus" else f"-{tick_price}"]
+    return Least(*map(int, prices))
+
+
+def parse_workload(text: str) -> tuple[GovernorTotals, ...]:
+    """The answer of `workload`, a line for each governor; raises Crashed for any other text."""
+    head, *lines = text.splitlines(keepends=True) or [text]
+    _answer_groups(f"workload {NUMBER} {NUMBER} {NUMBER}\n", head)
+    pattern = " ".join(["(none|static|cc|la)", *[NUMBER] * 5]) + "\n"
+    rows = (_answer_groups(pattern, line) for line in lines)
+    return tuple(GovernorTotals(governor, *map(int, numbers)) for governor, *numbers in rows)
+
+
+# Engines
 
 @dataclass(frozen=True)
 class Engine:
-    """The program, and the seconds that a call may take (None: any)."""
+    """The program, and the seconds that a call may take (None: any). It can be pickled.
+
+    >>> Engine(Path("/absent/rtdvs")).workload(1)
+    Traceback (most recent call last):
+    rtdvs.errors.NoEngine: /absent/rtdvs: No such file or directory
+    """
 
     program: Path
     timeout: float | None = None
 
     def answer(self, call: Call) -> Answer:
-        """Makes the call. Any exit status is an answer; raises Crashed after a signal, TimedOut, NoEngine."""
-        raise NotImplementedError
+        """Makes the call. Any exit status is an answer; raises NoEngine and TimedOut."""
+        with TemporaryDirectory(prefix="rtdvs-") as folder:
+            return _ended([str(self.program), *_words(call, Path(folder))], self.timeout)
 
     def answers(self, calls: Iterable[Call], executor: Executor | None = None) -> Iterator[Answer]:
-        """Makes the calls on the executor, or one after the other; the answers come in the order of the calls."""
-        raise NotImplementedError
+        """Makes the calls on the executor, or one after the other; answers come in the order of the calls."""
+        return map(self.answer, calls) if executor is None else executor.map(self.answer, calls)
 
     def run(self, tasks: Source, machine: Source, scheduler: str, governor: str, ticks: int,
             demands: Source | None = None, version: int = 2) -> str:
-        raise NotImplementedError
+        """The trace's text of a run of that many ticks; raises EngineError."""
+        return self.answer(run_call(tasks, machine, scheduler, governor, ticks, demands, version)).text()
 
     def admit(self, tasks: Source, machine: Source, scheduler: str) -> Admitted:
-        raise NotImplementedError
+        """Whether the scheduler admits the set: the static demand; raises Denied and others."""
+        return parse_admitted(self.answer(admit_call(tasks, machine, scheduler)).text())
 
     def respond(self, tasks: Source, machine: Source) -> dict[str, int]:
-        raise NotImplementedError
+        """Each task's response in ticks under RM at the highest speed; raises Denied and others."""
+        return parse_responses(self.answer(response_call(tasks, machine)).text())
 
     def constrain(self, tasks: Source, machine: Source, deadlines: Source) -> Constrained:
-        raise NotImplementedError
+        """The lowest speed for deadlines below the periods, under EDF; raises Denied and others."""
+        return parse_constrained(self.answer(constrain_call(tasks, machine, deadlines)).text())
 
     def poll(self, tasks: Source, machine: Source, requests: Source, server: str, scheduler: str,
              governor: str, ticks: int) -> Polled:
-        raise NotImplementedError
+        """When a polling server serves each request; raises EngineError."""
+        call = poll_call(tasks, machine, requests, server, scheduler, governor, ticks)
+        return parse_polled(self.answer(call).text())
 
     def replay(self, tasks: Source, machine: Source, trace: Source) -> Replayed:
-        raise NotImplementedError
+        """The totals of a trace that is that of its run; raises Differs and others."""
+        return parse_replayed(self.answer(replay_call(tasks, machine, trace)).text())
 
     def migrate(self, tasks: Source, machine: Source, trace: Source) -> str:
-        raise NotImplementedError
+        """Such a trace's text in version 2; raises Differs and others."""
+        return self.answer(migrate_call(tasks, machine, trace)).text()
 
     def least(self, machine: Source, units: int, ticks: int) -> Least:
-        raise NotImplementedError
+        """The minimum energy for that many work units in those ticks; raises Denied and others."""
+        return parse_least(self.answer(least_call(machine, units, ticks)).text())
 
     def workload(self, seed: int) -> tuple[GovernorTotals, ...]:
-        raise NotImplementedError
+        """A generated set's runs under each governor; raises EngineError."""
+        return parse_workload(self.answer(workload_call(seed)).text())
 
+
+def _words(call: Call, folder: Path) -> list[str]:
+    """The call's arguments; the texts become files of the folder."""
+    words = [call.command]
+    for name, value in call.options:
+        words += [name, value]
+    for name, content in call.files:
+        words += [name, str(_file(content, folder / name.removeprefix("--")))]
+    return words
+
+
+def _file(content: str | bytes | Path, path: Path) -> Path:
+    if isinstance(content, Path):
+        return content
+    path.write_bytes(content.encode() if isinstance(content, str) else content)
+    return path
+
+
+def _ended(words: list[str], timeout: float | None, folder: Path | None = None) -> Answer:
+    """Runs a program, in that folder, in a process group of its own, which is killed after the time limit."""
+    try:
+        process = Popen(words, stdin=DEVNULL, stdout=PIPE, stderr=PIPE, process_group=0, cwd=folder)
+    except OSError as error:
+        raise NoEngine(f"{words[0]}: {error.strerror}") from None
+    with process:
+        try:
+            out, notes = process.communicate(timeout=timeout)
+        except TimeoutExpired:
+            raise TimedOut(f"no answer within {timeout} seconds") from None
+        finally:
+            if process.returncode is None:
+                os.killpg(process.pid, signal.SIGKILL)
+    return Answer(process.wait(), out, notes)
+
+
+# Without a built program
+
+@dataclass(frozen=True)
+class TryEngine(Engine):
+    """`rt try` in the program's crate, which `program` names: slow, without a proof, at most 1 MiB an answer.
+
+    It compiles for a minute, so a list of calls is made by one `answers`.
+    """
+
+    def answer(self, call: Call) -> Answer:
+        """Makes the call; raises NoEngine, and Crashed if it has no answer."""
+        return next(self.answers([call]))
+
+    def answers(self, calls: Iterable[Call], executor: Executor | None = None) -> Iterator[Answer]:
+        """Compiles once and makes all calls, one after the other; the executor isn't used."""
+        made = [*calls]
+        if not made:
+            return
+        with TemporaryDirectory(prefix="rtdvs-") as folder:
+            data = _write_cases(made, Path(folder))
+            words = ["rt", "try", "--seconds", str(ceil(self.timeout or 3600)), "--cases", f"{folder}/cases"]
+            words += [word for name, path in data.items() for word in ("--data", f"{name}={path}")]
+            found = _ended([*words, "--"], None, self.program)
+        yield from _tried(found, len(made))
+
+
+def _write_cases(calls: Sequence[Call], folder: Path) -> dict[str, Path]:
+    """Writes each call's arguments as a case, and each text once; gives the files by the arguments' names."""
+    names: dict[str | bytes | Path, str] = {}
+    (folder / "cases").mkdir()
+    for place, call in enumerate(calls):
+        files = ((option, names.setdefault(file, f"file{len(names)}")) for option, file in call.files)
+        words = [call.command, *(word for pair in (*call.options, *files) for word in pair)]
+        (folder / "cases" / f"{place:06}").touch()
+        (folder / "cases" / f"{place:06}.args").write_text("".join(f"{word}\n" for word in words))
+    data = {name: _file(content, folder / name) for content, name in names.items()}
+    return {name: path for name, path in data.items() if path.is_file()}
+
+
+def _tried(found: Answer, count: int) -> Iterator[Answer]:
+    """The answers that `rt try --cases` printed; Crashed for a case without one."""
+    texts = dict(re.findall(rb"^== (\d+)\n((?:(?!== ).*\n)*)", found.out, re.MULTILINE))
+    notes: list[bytes] = []
+    for line in found.notes.splitlines(keepends=True):
+        case = re.match(rb"case=(\d+) run=(\S+)(?: status=(\d+))?", line)
+        if not case:
+            notes.append(line)
+        elif case[2] != b"ended":
+            raise Crashed(_last_words(notes))
+        else:
+            yield Answer(int(case[3]), texts[case[1]], b"".join(notes))
+            notes, count = [], count - 1
+    if count:
+        raise Crashed(_last_words(notes))
+
+
+def _last_words(notes: Sequence[bytes]) -> str:
+    words = b"".join(notes[-1:]).decode(errors="replace").strip()
+    return f"rt try has no answer: {words}"
+
+
+# Which engine
 
 def find_engine(program: Path | None = None, timeout: float | None = None) -> Engine:
-    """The engine: the argument, else $RTDVS, the repository's, `rtdvs` on the path, `rt try`; raises NoEngine."""
-    raise NotImplementedError
+    """The engine of a program and of a limit of seconds for each call; raises NoEngine.
+
+    The first of these: the argument's, that of the variable RTDVS, the repository's built one, `rtdvs` on the
+    path, and `rt try`, which compiles the repository's sources for each list of calls.
+    """
+    named = program or Path(os.environ.get("RTDVS", ""))
+    if named != Path():
+        return Engine(_executable(named), timeout)
+    for built in (CRATE / "out" / "rtdvs", shutil.which("rtdvs")):
+        if built is not None and shutil.which(built):
+            return Engine(Path(built), timeout)
+    if CRATE.is_dir() and shutil.which("rt"):
+        return TryEngine(CRATE, timeout)
+    raise NoEngine(HOW_TO_GET_ONE)
+
+
+def _executable(program: Path) -> Path:
+    """A program's absolute path: a file, or one on the path."""
+    found = shutil.which(program.absolute()) or shutil.which(program)
+    if found is None:
+        raise NoEngine(f"{program}: no such program")
+    return Path(found)
