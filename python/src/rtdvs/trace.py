@@ -149,9 +149,6 @@ class End:
         return f"end {self.ticks} {self.run_energy} {self.idle_energy}"
 
 
-Note = Release | Decision | Run | Idle | Done | TaskEnergy | End
-
-
 @dataclass(frozen=True, slots=True)
 class Head:
     """What the first two lines say: the version of the text, and the run's scheduler, governor and ticks."""
@@ -163,6 +160,10 @@ class Head:
 
     def text(self) -> str:
         return f"trace {self.version}\nplan {self.scheduler} {self.governor} {self.ticks}"
+
+
+Note = Release | Decision | Run | Idle | Done | TaskEnergy | End
+Item = Head | Task | Note
 
 
 # Reading
@@ -199,38 +200,42 @@ def _shape(word: str, *fields: str) -> re.Pattern[str]:
     return re.compile(" ".join([word, *(_SHAPES[field] for field in fields)]) + "\n")
 
 
-def _release(tick: str, task: str, job: str) -> Note:
+def _task(name: str, period: str, offset: str, worst: str) -> Item:
+    return Task(name, int(period), int(worst), int(offset))
+
+
+def _release(tick: str, task: str, job: str) -> Item:
     return Release(int(tick), task, int(job))
 
 
-def _decision(tick: str, speed: str, num: str, den: str) -> Note:
+def _decision(tick: str, speed: str, num: str, den: str) -> Item:
     return Decision(int(tick), int(speed), int(num), int(den))
 
 
-def _run(tick: str, offset: str, end: str, end_offset: str, task: str, job: str, units: str, energy: str) -> Note:
+def _run(tick: str, offset: str, end: str, end_offset: str, task: str, job: str, units: str, energy: str) -> Item:
     begin = Position(int(tick), int(offset))
     return Run(begin, Position(int(end), int(end_offset)), task, int(job), int(units), int(energy))
 
 
-def _idle(tick: str, offset: str, end: str, end_offset: str, units: str, energy: str) -> Note:
+def _idle(tick: str, offset: str, end: str, end_offset: str, units: str, energy: str) -> Item:
     return Idle(Position(int(tick), int(offset)), Position(int(end), int(end_offset)), int(units), int(energy))
 
 
-def _done(tick: str, offset: str, task: str, job: str, used: str) -> Note:
+def _done(tick: str, offset: str, task: str, job: str, used: str) -> Item:
     return Done(Position(int(tick), int(offset)), task, int(job), int(used))
 
 
-def _task_energy(task: str, energy: str) -> Note:
+def _task_energy(task: str, energy: str) -> Item:
     return TaskEnergy(task, int(energy))
 
 
-def _end(ticks: str, run_energy: str, idle_energy: str) -> Note:
+def _end(ticks: str, run_energy: str, idle_energy: str) -> Item:
     return End(int(ticks), int(run_energy), int(idle_energy))
 
 
 _PLAN = _shape("plan", "scheduler", "name", "ticks")
-_TASK = _shape("task", "name", "counted", "number", "counted")
-_NOTES: dict[str, tuple[re.Pattern[str], Callable[..., Note]]] = {
+_ITEMS: dict[str, tuple[re.Pattern[str], Callable[..., Item]]] = {
+    "task": (_shape("task", "name", "counted", "number", "counted"), _task),
     "release": (_shape("release", "number", "name", "number"), _release),
     "speed": (_shape("speed", "number", "counted", "fraction"), _decision),
     "run": (_shape("run", "position", "position", "name", "number", "number", "energy"), _run),
@@ -265,41 +270,75 @@ def _head(numbered: Iterator[tuple[int, str]]) -> Head:
     return Head(version, found[1], found[2], int(found[3]))
 
 
-def _task(number: int, line: str) -> Task:
-    found = _TASK.fullmatch(line)
-    if not found:
-        raise TraceFault(number, "not the line of a task")
-    return Task(found[1], int(found[2]), int(found[4]), int(found[3]))
-
-
-def parse_note(number: int, line: str) -> Note:
-    r"""The note of a line after the head, with its line feed; raises TraceFault with the line's number.
-
-    >>> parse_note(8, "done 2:2 t1 1 8\n")
-    Done(at=Position(tick=2, offset=2), task='t1', job=1, used=8)
-    """
-    shape, make = _NOTES.get(line[:line.find(" ")], (None, None))
+def _item(number: int, line: str) -> Item:
+    shape, make = _ITEMS.get(line[:line.find(" ")], (None, None))
     found = shape and shape.fullmatch(line)
     if not found or not make:
         raise TraceFault(number, "not a line of a trace")
     return make(*found.groups())
 
 
-class _Order:
-    """What the order of the notes needs: whether there is a speed, and each task's energy in version 2."""
+def spelled_lines(lines: Iterable[str]) -> Iterator[Item]:
+    r"""Reads lines with their line feeds, and leaves their order to `Order`, but for the head and the end.
 
-    __slots__ = ("sums", "to_come", "version", "decided")
+    Raises TraceFault for the first line that is spelled wrong, after all lines before it were given.
 
-    def __init__(self, version: int, tasks: Iterable[str]) -> None:
-        self.version = version
-        self.sums = dict.fromkeys(tasks, 0)
-        self.to_come = list(self.sums)[::-1]
+    >>> list(spelled_lines(["trace 1\n", "plan edf mine 2\n", "end 2 0 0\n"]))[1]
+    End(ticks=2, run_energy=0, idle_energy=0)
+    """
+    numbered = _numbered(lines)
+    yield _head(numbered)
+    number, ended = 2, False
+    for number, line in numbered:
+        if ended:
+            raise TraceFault(number, "a line after the end line")
+        item = _item(number, line)
+        yield item
+        ended = isinstance(item, End)
+    if not ended:
+        raise TraceFault(number + 1, "the trace ends before its end line")
+
+
+class Order:
+    """What the order of the lines needs: the version, the energy of each task in version 2, and where the lines are."""
+
+    __slots__ = ("version", "sums", "to_come", "begun", "decided")
+
+    def __init__(self) -> None:
+        self.version = 1
+        self.sums: dict[str, int] = {}
+        self.to_come: list[str] = []  # the tasks whose energy lines are to come, the next one last
+        self.begun = False
         self.decided = False
 
-    def fault(self, note: Note) -> str | None:
-        """Why the note can't be here, or None."""
-        if isinstance(note, (TaskEnergy, End)):
-            return self._closing_fault(note)
+    def fault(self, item: Item) -> str | None:
+        """Why an item can't be the next one, or None.
+
+        >>> order = Order()
+        >>> order.fault(Head(1, "edf", "mine", 2)), order.fault(Idle(Position(0, 0), Position(1, 0), 2, 0))
+        (None, 'there is no decision before it')
+        """
+        if isinstance(item, Head):
+            self.version = item.version
+            return None
+        if isinstance(item, Task):
+            return self._task_fault(item)
+        if not self.begun:
+            self.begun, self.to_come = True, list(self.sums)[::-1]
+            if self.version == 2 and not self.sums:
+                return "the lines of the tasks are missing"
+        return self._closing_fault(item) if isinstance(item, (TaskEnergy, End)) else self._note_fault(item)
+
+    def _task_fault(self, task: Task) -> str | None:
+        if self.version == 1 or self.begun:
+            return "the lines of the tasks are after the plan line of version 2"
+        if len(self.sums) == MOST_TASKS:
+            return f"more than {MOST_TASKS} tasks"
+        fault = "two tasks of one name" if task.name in self.sums else None
+        self.sums[task.name] = 0
+        return fault
+
+    def _note_fault(self, note: Release | Decision | Run | Idle | Done) -> str | None:
         if len(self.to_come) < len(self.sums):
             return "a line between the energy lines and the end line"
         if isinstance(note, Decision):
@@ -319,7 +358,7 @@ class _Order:
         if isinstance(note, End):
             return f"the energy line of {self.to_come[-1]} is missing" if self.to_come else None
         if self.version == 1:
-            return "version 1 has no energy lines"
+            return "only version 2 has energy lines"
         if not self.to_come or self.to_come[-1] != note.task:
             return "the energy lines are one for each task, in the order of the file"
         if self.sums[note.task] != note.energy:
@@ -328,7 +367,7 @@ class _Order:
         return None
 
 
-def parse_lines(lines: Iterable[str]) -> Iterator[Head | Task | Note]:
+def parse_lines(lines: Iterable[str]) -> Iterator[Item]:
     r"""Reads a trace line by line, in little memory: its head, in version 2 its tasks, and its notes.
 
     Each line has its line feed. The head is what the first two lines say, so item n is line n + 1. Raises TraceFault
@@ -337,42 +376,16 @@ def parse_lines(lines: Iterable[str]) -> Iterator[Head | Task | Note]:
     >>> [item.text() for item in parse_lines(["trace 1\n", "plan edf mine 2\n", "end 2 0 0\n"])]
     ['trace 1\nplan edf mine 2', 'end 2 0 0']
     """
-    numbered = _numbered(lines)
-    head = _head(numbered)
-    yield head
-    number, line = next(numbered, (3, ""))
-    names: list[str] = []
-    while head.version == 2 and line.startswith("task "):
-        task = _task(number, line)
-        if task.name in names or len(names) == MOST_TASKS:
-            raise TraceFault(number, "two tasks of one name" if task.name in names else f"more than {MOST_TASKS} tasks")
-        yield task
-        names.append(task.name)
-        number, line = next(numbered, (number + 1, ""))
-    if head.version == 2 and not names:
-        raise TraceFault(number, "not the line of a task")
-    yield from _notes(number, line, numbered, _Order(head.version, names))
-
-
-def _notes(number: int, line: str, numbered: Iterator[tuple[int, str]], order: _Order) -> Iterator[Note]:
-    """The notes from a line on, up to the end line."""
-    while line:
-        note = parse_note(number, line)
-        fault = order.fault(note)
+    order = Order()
+    for number, item in enumerate(spelled_lines(lines), 2):
+        fault = order.fault(item)
         if fault:
             raise TraceFault(number, fault)
-        yield note
-        if type(note) is End:
-            number, line = next(numbered, (0, ""))
-            if number:
-                raise TraceFault(number, "a line after the end line")
-            return
-        number, line = next(numbered, (number + 1, ""))
-    raise TraceFault(number, "the trace ends before its end line")
+        yield item
 
 
 def lines_of(file: TextIO) -> Iterator[str]:
-    r"""The lines of an open file, of which none is longer than a line may be by more than a character.
+    r"""The lines of an open file, in parts of at most two characters more than a line may have.
 
     >>> [len(line) for line in lines_of(io.StringIO("trace 1\n" + 1000 * "x"))]
     [8, 257, 257, 257, 229]
