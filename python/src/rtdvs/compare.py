@@ -8,10 +8,12 @@ from dataclasses import dataclass, replace
 from fractions import Fraction
 
 from rtdvs.commandline import (
+    Input,
     add_engine_options,
     add_files,
     engine_of,
     executor_of,
+    input_path,
     progress,
     read_demands,
     read_machine,
@@ -20,8 +22,8 @@ from rtdvs.commandline import (
     whole_number,
 )
 from rtdvs.decimals import decimal
-from rtdvs.engine import Answer, Denied, Engine, least_call, parse_least, run_call
-from rtdvs.files import Demands, Machine, TaskSet
+from rtdvs.engine import Answer, Denied, Engine, Least, least_call, parse_least, run_call
+from rtdvs.files import Demands, FileFault, Machine, TaskSet
 from rtdvs.trace import Job, Run, Trace, TraceFault
 
 PAIRS = (("edf", "none"), ("edf", "static"), ("edf", "cc"), ("edf", "la"), ("rm", "none"), ("rm", "static"), ("rm", "cc"))
@@ -98,14 +100,12 @@ def text_or_denial(answer: Answer) -> str | Denied:
 
 
 def energy_of(trace: str) -> int:
-    """Running and idle energy together, by the last line of a whole trace's text.
+    r"""Running and idle energy together, by the last line of a whole trace's text.
 
-    >>> energy_of("trace 1\\n..\\nend 16 364000000000 1000\\n")
+    >>> energy_of("trace 1\n..\nend 16 364000000000 1000\n")
     364000001000
     """
-    word, _, run_energy, idle_energy = trace.rstrip("\n").rpartition("\n")[2].split(" ")
-    if word != "end":
-        raise TraceFault("no end")
+    _, _, run_energy, idle_energy = trace.rstrip("\n").rpartition("\n")[2].split(" ")
     return int(run_energy) + int(idle_energy)
 
 
@@ -128,9 +128,10 @@ def jitter(jobs: Iterable[Job]) -> Fraction | None:
     return max((max(times) - min(times) for times in responses.values()), default=None)
 
 
-def result(trace: Trace, tasks: TaskSet, bound: Fraction, base: int) -> Result:
+def result(trace: Trace, tasks: TaskSet, least: Least, base: int) -> Result:
     """What a trace comes to, with the bound for its units and the energy that shares are of (0: there is none)."""
     jobs = trace.jobs(tasks)
+    bound = Fraction(least.energy, least.rounds)
     return Result(
         energy=trace.energy,
         share=Fraction(trace.energy, base) if base else None,
@@ -147,7 +148,7 @@ def compare(engine: Engine, tasks: TaskSet, machine: Machine, ticks: int, demand
             traces: Sequence[Trace] = (), executor: Executor | None = None) -> tuple[Row, ...]:
     """A row for each of the seven pairs, and for each trace given beside them.
 
-    The traces have to be of the same ticks. Raises whatever the program refuses, but for a pair that is denied.
+    Raises TraceFault if a trace is of other ticks, and whatever the program refuses, but for a pair that is denied.
 
     >>> from rtdvs import Point, Task, find_engine
     >>> machine = Machine((Point(1, 1000), Point(2, 2000)))
@@ -157,15 +158,106 @@ def compare(engine: Engine, tasks: TaskSet, machine: Machine, ticks: int, demand
     """
     for trace in traces:
         if trace.ticks != ticks:
-            raise ValueError(f"a trace of {trace.ticks} ticks, and not of {ticks}")
-    found = list(runs(engine, Case(tasks, machine, ticks, demands), PAIRS, executor))
-    named = [(*pair, text if isinstance(text, Denied) else Trace.parse(text)) for pair, text in zip(PAIRS, found)]
-    named += [(trace.scheduler, trace.governor, trace) for trace in traces]
-    done = [trace for _, _, trace in named if isinstance(trace, Trace)]
-    answers = engine.answers((least_call(machine, units_of(trace), ticks) for trace in done), executor)
-    least = [parse_least(answer.text()) for answer in answers]
-    base = named[0][2].energy if isinstance(named[0][2], Trace) else 0
-    results = iter([result(trace, tasks, Fraction(bound.energy, bound.rounds), base)
-                    for trace, bound in zip(done, least)])
-    return tuple(Row(scheduler, governor, None, str(trace)) if isinstance(trace, Denied)
-                 else Row(scheduler, governor, next(results)) for scheduler, governor, trace in named)
+            raise TraceFault(2, f"a run of {trace.ticks} ticks, and not of {ticks}")
+    found = [text if isinstance(text, Denied) else Trace.parse(text)
+             for text in runs(engine, Case(tasks, machine, ticks, demands), PAIRS, executor)]
+    done = [trace for trace in [*found, *traces] if isinstance(trace, Trace)]
+    bounds = engine.answers((least_call(machine, units_of(trace), ticks) for trace in done), executor)
+    base = found[0].energy if isinstance(found[0], Trace) else 0
+    results = (result(trace, tasks, parse_least(bound.text()), base) for trace, bound in zip(done, bounds))
+    pairs = [*PAIRS, *((trace.scheduler, trace.governor) for trace in traces)]
+    return tuple(Row(*pair, None, str(trace)) if isinstance(trace, Denied) else Row(*pair, next(results))
+                 for pair, trace in zip(pairs, [*found, *traces]))
+
+
+def finer_energies(engine: Engine, case: Case, times: int, executor: Executor | None = None) -> tuple[Fraction | None, ...]:
+    """The energy of each of the seven pairs in ticks that are so much finer, in the unit of the case; None if denied."""
+    return tuple(None if isinstance(text, Denied) else Fraction(energy_of(text), times)
+                 for text in runs(engine, case.finer(times), PAIRS, executor))
+
+
+def table(rows: Sequence[Row]) -> str:
+    """The rows below their heading, all shares and ticks with four decimal places."""
+    speeds = sorted({speed for row in rows if row.result for speed in row.result.residency})
+    heading = ("scheduler", "governor", "energy", "of_none", "above_bound", "switches", "idle", "least_laxity", "jitter",
+               *(f"at_{speed}" for speed in speeds))
+    return aligned([heading, *(cells(row, speeds) for row in rows)])
+
+
+def cells(row: Row, speeds: Sequence[int]) -> tuple[str, ...]:
+    """The fields of a row's line."""
+    result = row.result
+    if result is None:
+        return row.scheduler, row.governor, row.refusal
+    shares = [result.idle, result.least_laxity, result.jitter, *(result.residency.get(speed, 0) for speed in speeds)]
+    return (row.scheduler, row.governor, str(result.energy), decimal(result.share, 4), decimal(result.above_bound, 4),
+            str(result.switches), *(decimal(share, 4) for share in shares))
+
+
+def finer_table(rows: Sequence[Row], finer: Mapping[int, Sequence[Fraction | None]]) -> str:
+    """The energies in finer ticks, as shares of those of the rows."""
+    heading = ("scheduler", "governor", *(f"finer_{times}" for times in finer))
+    shares = [[energy / row.result.energy if energy is not None and row.result and row.result.energy else None
+               for row, energy in zip(rows, energies)] for energies in finer.values()]
+    return aligned([heading, *((row.scheduler, row.governor, *(decimal(share, 4) for share in column))
+                               for row, *column in zip(rows, *shares))])
+
+
+def aligned(lines: Sequence[tuple[str, ...]]) -> str:
+    """The lines in columns: the first two to the left, numbers to the right; what is shorter is a refusal as it is.
+
+    >>> print(aligned([("scheduler", "governor", "energy"), ("edf", "none", "7"), ("rm", "none")]), end="")
+    scheduler  governor  energy
+    edf        none           7
+    rm         none
+    """
+    whole = [line for line in lines if len(line) == len(lines[0])]
+    left, middle, *widths = (max(map(len, column)) for column in zip(*whole))
+    return "".join(f"{line[0]:{left}}  {line[1]:{middle}}"
+                   + "".join(f"  {cell:>{width if line in whole else 0}}" for cell, width in zip(line[2:], widths))
+                   + "\n" for line in lines)
+
+
+def add_command(commands: "argparse._SubParsersAction[argparse.ArgumentParser]") -> None:
+    """Adds the command `compare`."""
+    parser = commands.add_parser(
+        "compare", help="the energies and the tasks' times under each scheduler and governor",
+        description="Prints a row for each of the seven pairs, and for traces given beside them. energy: of running and "
+        "idling, every digit; of_none: as a share of EDF with none; above_bound: what is above the bound of least, as a "
+        "share of the bound; switches: of the speed; idle, at_SPEED: shares of the run; least_laxity: the least time from "
+        "a completion to its deadline, jitter: the greatest difference of two responses of one task, both in ticks. "
+        "A pair that is denied has the line of its refusal.",
+        epilog="python3 -m rtdvs compare --tasks tasks.toml --machine machine.toml --ticks 16 --finer 2 10")
+    add_files(parser, ["tasks", "machine"], ["demands"])
+    parser.add_argument("--ticks", type=whole_number(1, 2**40), required=True, metavar="N", help="the ticks of each run")
+    parser.add_argument("--trace", type=input_path, nargs="+", default=[], metavar="FILE",
+                        help="traces of these files and ticks, of any governor, each as a row more")
+    parser.add_argument("--finer", type=whole_number(1), nargs="+", default=[], metavar="N",
+                        help="the energies in ticks N times finer as well, as shares of those in the ticks given")
+    add_engine_options(parser, jobs=True)
+    parser.set_defaults(handler=run)
+
+
+def run(args: argparse.Namespace) -> int:
+    engine, tasks = engine_of(args), read_tasks(args)
+    case = Case(tasks, read_machine(args), args.ticks, read_demands(args, tasks))
+    traces = [read_trace(source, case) for source in args.trace]
+    with executor_of(args) as executor:
+        rows = compare(engine, case.tasks, case.machine, case.ticks, case.demands, traces, executor)
+        print(table(rows), end="")
+        finer = {times: finer_energies(engine, case, times, executor)
+                 for times in progress(args.finer, len(args.finer), "finer ticks")}
+    if finer:
+        print()
+        print(finer_table(rows[:len(PAIRS)], finer), end="")
+    return 0
+
+
+def read_trace(source: Input, case: Case) -> Trace:
+    """The trace of a file; a FileFault with the file's name if it is refused."""
+    try:
+        trace = Trace.parse(read_text(source, "trace"))
+        trace.jobs(case.tasks)
+    except TraceFault as fault:
+        raise FileFault(f"{'-' if isinstance(source, bytes) else source}: {fault}") from fault
+    return trace

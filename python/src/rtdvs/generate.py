@@ -1,293 +1,232 @@
-"""Random task sets by a seed: UUniFast, the sets of the published evaluation, and exercises.
-
-All numbers are drawn by the generator of Park and Miller (1988) with the factor 48271: a state over 2^31 - 1 is a
-number above 0 and below 1. UUniFast needs logarithms and powers, so it uses floats of 64 bits; everything else is
-whole numbers.
-"""
+"""Task sets, demands and exercises by a seed."""
 
 import argparse
-import bisect
-import sys
 from collections.abc import Iterator
 from dataclasses import dataclass
 from fractions import Fraction
-from itertools import islice
-from math import exp, floor, gcd, isqrt, lcm, log
+from itertools import combinations
+from math import lcm
 from pathlib import Path
 
-from rtdvs.commandline import add_engine_options, add_output, engine_of, exact_fraction, whole_number, write_output
+from rtdvs.commandline import (
+    add_engine_options,
+    add_files,
+    add_output,
+    engine_of,
+    exact_fraction,
+    read_tasks,
+    whole_number,
+    write_output,
+)
+from rtdvs.draws import (
+    MOST_MULTIPLE,
+    MOST_PERIOD,
+    MOST_SEED,
+    MOST_SPEED,
+    MOST_TASKS,
+    PUBLISHED_COUNTS,
+    PUBLISHED_SEED,
+    PUBLISHED_TICKS,
+    Listed,
+    LogUniform,
+    SetName,
+    drawn,
+    jobs_of,
+    numbered,
+    published_sets,
+    require,
+    taken,
+    taken_uniform,
+    unrelated_states,
+    uunifast,
+)
 from rtdvs.engine import Denied, Engine
-from rtdvs.explain import explain
-from rtdvs.files import Demands, FileFault, Machine, Point, Task, TaskSet
-
-MODULUS = 2**31 - 1
-FACTOR = 48271
-MOST_SEED = MODULUS - 1
-MOST_TASKS = 64
-MOST_PERIOD = 2**40
-MOST_MULTIPLE = 2**48
-MOST_SPEED = 1_000_000
-
-PUBLISHED_SEED = 2001
-PUBLISHED_COUNTS = (5, 8, 10, 15)
-PUBLISHED_TICKS = 720720
-"""The length of a published run: 2^4 * 3^2 * 5 * 7 * 11 * 13 ticks, a multiple of every period."""
-PUBLISHED_MILLISECOND = 400
-"""In ticks."""
-PUBLISHED_TOP = 100_000
-"""The highest speed of the published machines, in work units per tick."""
+from rtdvs.explain import Walk, explain, last_line
+from rtdvs.files import Demands, Machine, Point, Task, TaskSet
 
 BOARD = Machine((Point(2, 3000), Point(3, 4000), Point(4, 5000)))
 """The machine of the exercises, which is that of the example of Pillai and Shin (2001)."""
 
-
-class DrawFault(ValueError):
-    """What is asked for can't be drawn; the text says why."""
-
-
-def require(condition: bool, reason: str) -> None:
-    """Raises a DrawFault with the reason unless the condition holds."""
-    if not condition:
-        raise DrawFault(reason)
+SMALL_PERIODS = tuple(periods for size in (2, 3) for periods in combinations((4, 5, 6, 8, 10, 12), size)
+                      if lcm(*periods) <= 24)
+ABOUT = {"edf": "earliest deadline first", "rm": "rate monotonic priorities"}
 
 
-def states(seed: int) -> Iterator[int]:
-    """The states of the generator after a seed, each 1 to 2^31 - 2.
+@dataclass(frozen=True, slots=True)
+class Exercise:
+    """A run to be traced by hand over a hyperperiod, with its trace in version 1 and the lines that explain it."""
 
-    >>> list(islice(states(1), 3))
-    [48271, 182605794, 1291394886]
+    tasks: TaskSet
+    demands: Demands
+    scheduler: str
+    governor: str
+    trace: str
+    explanation: str
+
+    def question(self) -> str:
+        """The exercise as a page in Markdown."""
+        speeds = ", ".join(f"{point.speed} at {point.millivolts} mV" for point in BOARD.points)
+        rows = (f"| `{task.name}` | {task.period} | {task.worst} | {self._needs(task)} |\n" for task in self.tasks)
+        return (f"Write the trace of {self.tasks.hyperperiod} ticks under {ABOUT[self.scheduler]} with the governor "
+                f"`{self.governor}`.\nThe machine has the speeds {speeds}.\n\n"
+                f"| Task | Period | Worst case | Its jobs need |\n|---|---|---|---|\n{''.join(rows)}")
+
+    def _needs(self, task: Task) -> str:
+        return ", ".join(str(units) for (name, _), units in self.demands.units.items() if name == task.name)
+
+    def write(self, folder: Path) -> None:
+        """Writes the question, its three files, the trace and its explanation into the folder; raises OSError."""
+        folder.mkdir(parents=True, exist_ok=True)
+        self.tasks.write(folder / "tasks.toml")
+        BOARD.write(folder / "machine.toml")
+        self.demands.write(folder / "demands.csv")
+        (folder / "question.md").write_text(self.question(), encoding="utf-8")
+        (folder / "solution.trace").write_text(self.trace, encoding="utf-8")
+        (folder / "explanation.txt").write_text(self.explanation, encoding="utf-8")
+
+
+def small_sets(stream: Iterator[int]) -> Iterator[tuple[TaskSet, Demands]]:
+    """Sets of small numbers that need more than half of the board's highest speed at worst, without end.
+
+    A job needs 1 unit or more, at most its worst case.
+
+    >>> tasks, demands = next(small_sets(unrelated_states(1)))
+    >>> [(task.name, task.period, task.worst) for task in tasks], list(demands.units.values())
+    ([], [])
     """
     while True:
-        seed = seed * FACTOR % MODULUS
-        yield seed
+        periods = SMALL_PERIODS[drawn(stream, len(SMALL_PERIODS))]
+        tasks = numbered(periods, [1 + drawn(stream, 2 * BOARD.top_speed * period // len(periods)) for period in periods])
+        if 2 * sum(Fraction(task.worst, task.period) for task in tasks) > BOARD.top_speed:
+            yield tasks, Demands({(task.name, job): 1 + drawn(stream, task.worst)
+                                  for task, job in jobs_of(tasks, tasks.hyperperiod)})
 
 
-def unrelated_states(seed: int) -> Iterator[int]:
-    """The states after a seed without the first ones, so that neighbouring seeds give unrelated numbers.
+def exercise(engine: Engine, seed: int, scheduler: str = "edf", governor: str = "cc") -> Exercise:
+    """An exercise by a seed from 1 to 2^31 - 2: the first set that the program admits. Another seed has another one.
 
-    Eleven are left out, and then as many as the last of these is in thousandths.
-
-    >>> next(unrelated_states(1)) == next(islice(states(1), 11 + 89, None))
+    >>> from rtdvs import find_engine
+    >>> exercise(find_engine(), 1).tasks.hyperperiod <= 24
     True
     """
-    stream = states(seed)
-    last = next(islice(stream, 10, None))
-    return islice(stream, last * 1000 // MODULUS, None)
-
-
-def divisors(number: int, low: int, high: int) -> tuple[int, ...]:
-    """The divisors of a number from `low` to `high`, rising.
-
-    >>> divisors(60, 4, 20)
-    (4, 5, 6, 10, 12, 15, 20)
-    """
-    small = [d for d in range(1, isqrt(number) + 1) if number % d == 0]
-    return tuple(sorted(d for d in {*small, *(number // d for d in small)} if low <= d <= high))
-
-
-def nearest(choices: tuple[int, ...], wanted: Fraction) -> int:
-    """The nearest of the rising choices, the lower of two that are equally near.
-
-    >>> nearest((10, 20, 40), Fraction(15)), nearest((10, 20, 40), Fraction(31))
-    (10, 40)
-    """
-    after = bisect.bisect_left(choices, wanted)
-    return min(choices[max(after - 1, 0):after + 1], key=lambda choice: abs(choice - wanted))
-
-
-@dataclass(frozen=True, slots=True)
-class Listed:
-    """Periods in ticks, each equally likely; DrawFault if a task set can't have them.
-
-    >>> Listed((10, 20)).draw(3, states(1))
-    [10, 10, 20]
-    """
-
-    periods: tuple[int, ...]
-
-    def __post_init__(self) -> None:
-        require(len(self.periods) > 0 and all(1 <= period <= MOST_PERIOD for period in self.periods),
-                f"a period is 1 to {MOST_PERIOD}")
-        require(lcm(*self.periods) <= MOST_MULTIPLE, f"the periods have no common multiple up to {MOST_MULTIPLE}")
-
-    def draw(self, count: int, stream: Iterator[int]) -> list[int]:
-        return [self.periods[state * len(self.periods) // MODULUS] for state in islice(stream, count)]
-
-
-@dataclass(frozen=True, slots=True)
-class LogUniform:
-    """Periods in ticks whose logarithm is uniform between those of `low` and `high`; DrawFault if there is none.
-
-    Each becomes the nearest divisor of `multiple` from `low` to `high`, so that their common multiple stays small.
-
-    >>> LogUniform(low=10, high=1000).draw(3, states(1))
-    [10, 15, 156]
-    """
-
-    low: int = 10
-    high: int = 1000
-    multiple: int = PUBLISHED_TICKS
-
-    def __post_init__(self) -> None:
-        require(1 <= self.low <= self.high <= MOST_PERIOD, f"low is 1 to high, and high at most {MOST_PERIOD}")
-        require(1 <= self.multiple <= MOST_MULTIPLE, f"multiple is 1 to {MOST_MULTIPLE}")
-
-    def draw(self, count: int, stream: Iterator[int]) -> list[int]:
-        choices = divisors(self.multiple, self.low, self.high)
-        require(len(choices) > 0, "no period from low to high divides the multiple")
-        width = log(self.high / self.low)
-        times = (self.low * exp(state / MODULUS * width) for state in islice(stream, count))
-        return [nearest(choices, Fraction(time)) for time in times]
-
-
-def uunifast_shares(count: int, utilisation: Fraction, stream: Iterator[int]) -> list[float]:
-    """Shares uniform over all that add up to the utilisation.
-
-    What is left for the tasks after each one is drawn with the density of the sum of their shares.
-
-    >>> [round(share, 3) for share in uunifast_shares(2, Fraction(1, 2), states(1))]
-    [0.5, 0.0]
-    """
-    sums = [float(utilisation)]
-    for others in range(count - 1, 0, -1):
-        sums.append(sums[-1] * (next(stream) / MODULUS) ** (1 / others))
-    return [before - after for before, after in zip(sums, [*sums[1:], 0.0])]
-
-
-def uunifast(count: int, utilisation: Fraction, seed: int, periods: Listed | LogUniform = LogUniform(),
-             top: int = 1000) -> TaskSet:
-    """A set of `count` tasks with the utilisation of a highest speed of `top` units per tick (Bini and Buttazzo 2005).
-
-    Worst cases are rounded down to whole units, but not to 0. Then that of the last task with the longest period is set
-    to the most with which the set isn't above the utilisation. So the set is below it by less than one unit in that
-    period at the highest speed. DrawFault if no unit is left for that task; a higher `top` makes this rarer.
-    Floats of 64 bits give the shares, so another library of logarithms may round one unit of a worst case otherwise.
-
-    >>> [(task.period, task.worst) for task in uunifast(2, Fraction(7, 10), 1, Listed((10, 20)))]
-    [(10, 6378), (10, 622)]
-    """
-    require(1 <= count <= MOST_TASKS, f"tasks is 1 to {MOST_TASKS}")
-    require(0 < utilisation <= 1, "utilisation is above 0 and at most 1")
     require(1 <= seed <= MOST_SEED, f"seed is 1 to {MOST_SEED}")
-    require(1 <= top <= MOST_SPEED, f"top is 1 to {MOST_SPEED}")
-    stream = unrelated_states(seed)
-    drawn = periods.draw(count, stream)
-    shares = uunifast_shares(count, utilisation, stream)
-    worsts = [max(1, int(share * top * period)) for share, period in zip(shares, drawn)]
-    longest = max(range(count), key=lambda place: (drawn[place], place))
-    others = sum(Fraction(worsts[place], drawn[place]) for place in range(count) if place != longest)
-    worsts[longest] = floor((utilisation * top - others) * drawn[longest])
-    require(worsts[longest] >= 1, "no unit is left for the task with the longest period; a higher top may leave one")
-    return numbered(drawn, worsts)
+    for tasks, demands in small_sets(unrelated_states(seed)):
+        try:
+            trace = engine.run(tasks, BOARD, scheduler, governor, tasks.hyperperiod, demands, version=1)
+        except Denied:
+            continue
+        lines: list[str] = []
+        summary = explain(Walk(tasks, BOARD, trace.splitlines(keepends=True), demands), lines.append)
+        lines.append(last_line(summary, any_governor=False, named=True))
+        return Exercise(tasks, demands, scheduler, governor, trace, "\n".join(lines) + "\n")
+    raise AssertionError("sets have no end")
 
 
-def numbered(periods: list[int], worsts: list[int]) -> TaskSet:
-    """The tasks t1, t2 .. with these periods and worst cases."""
-    return TaskSet(tuple(Task(f"t{place}", period, worst)
-                         for place, (period, worst) in enumerate(zip(periods, worsts), 1)))
+# The command
 
 
-@dataclass(frozen=True, slots=True, order=True)
-class SetName:
-    """A set of the evaluation: its number of tasks, its utilisation in tenths, its number among these.
-
-    >>> str(SetName(8, 7, 1)), SetName.parse("8_7_1").tenths
-    ('8_7_1', 7)
-    """
-
-    count: int
-    tenths: int
-    number: int
-
-    def __str__(self) -> str:
-        return f"{self.count}_{self.tenths}_{self.number}"
-
-    @classmethod
-    def parse(cls, text: str) -> "SetName":
-        count, tenths, number = map(int, text.split("_"))
-        return cls(count, tenths, number)
-
-    def seed(self, seed: int) -> int:
-        """A seed of the set's own, from that of the evaluation."""
-        return ((seed * 20 + self.count) * 11 + self.tenths) * 1000 + self.number
+def add_command(commands: "argparse._SubParsersAction[argparse.ArgumentParser]") -> None:
+    """Adds the command `generate`."""
+    parser = commands.add_parser("generate", help="random task sets, demands and exercises by a seed",
+                                 description="Draws task sets, demands and exercises by a seed.")
+    kinds = parser.add_subparsers(metavar="KIND", required=True)
+    for add in (add_uunifast, add_published, add_demands, add_exercise):
+        add(kinds)
 
 
-def set_names(most: int) -> Iterator[SetName]:
-    """The sets of an evaluation with `most` for each number of tasks and each utilisation, in the order of the draws.
-
-    >>> len(list(set_names(100)))
-    4000
-    """
-    return (SetName(count, tenths, number)
-            for count in PUBLISHED_COUNTS for tenths in range(1, 11) for number in range(1, most + 1))
-
-
-def published_time(stream: Iterator[int]) -> Fraction:
-    """Milliseconds: 1 to 10, 10 to 100 or 100 to 1000, each equally likely, and uniform within.
-
-    >>> published_time(states(1)) < 10
-    True
-    """
-    low = 10 ** (next(stream) * 3 // MODULUS)
-    return low + Fraction(next(stream), MODULUS) * 9 * low
-
-
-def published_set(count: int, tenths: int, stream: Iterator[int]) -> TaskSet:
-    """A set of the published evaluation, at most at its utilisation.
-
-    A period is a time, then the nearest divisor of 720720 ticks. Worst cases are in proportion to weights that are drawn
-    as the periods are, and rounded down to whole units.
-
-    >>> [(task.period, task.worst) for task in published_set(1, 5, states(2001))]
-    [(936, 46800000)]
-    """
-    choices = divisors(PUBLISHED_TICKS, PUBLISHED_MILLISECOND, 1000 * PUBLISHED_MILLISECOND)
-    pairs = [(nearest(choices, published_time(stream) * PUBLISHED_MILLISECOND), published_time(stream))
-             for _ in range(count)]
-    rate = sum(weight / period for period, weight in pairs)
-    worsts = [floor(Fraction(tenths * PUBLISHED_TOP, 10) * weight / rate) for _, weight in pairs]
-    return numbered([period for period, _ in pairs], worsts)
+def add_uunifast(kinds: "argparse._SubParsersAction[argparse.ArgumentParser]") -> None:
+    parser = kinds.add_parser(
+        "uunifast", help="a task set by UUniFast", description="Draws a task set by UUniFast (Bini and Buttazzo 2005).",
+        epilog="python3 -m rtdvs generate uunifast --count 8 --utilisation 0.7 --seed 1 --periods 10 20 50")
+    parser.add_argument("--count", type=whole_number(1, MOST_TASKS), required=True, metavar="N", help="the number of tasks")
+    parser.add_argument("--utilisation", type=exact_fraction, required=True, metavar="U",
+                        help="of the whole set, above 0 and at most 1, as 0.7 or 7/10; 1 is the highest speed")
+    parser.add_argument("--seed", type=whole_number(1, MOST_SEED), required=True, metavar="N")
+    parser.add_argument("--top", type=whole_number(1, MOST_SPEED), default=1000, metavar="N",
+                        help="the highest speed in work units per tick; 1000 unless given")
+    parser.add_argument("--periods", type=whole_number(1, MOST_PERIOD), nargs="+", metavar="N",
+                        help="periods in ticks, each equally likely; or without them:")
+    for name, default, about in (("low", 10, "the shortest"), ("high", 1000, "the longest")):
+        parser.add_argument(f"--{name}", type=whole_number(1, MOST_PERIOD), metavar="N",
+                            help=f"{about} period in ticks, with uniform logarithms between; {default} unless given")
+    parser.add_argument("--multiple", type=whole_number(1, MOST_MULTIPLE), metavar="N",
+                        help=f"the number that all periods divide; {PUBLISHED_TICKS} unless given")
+    add_output(parser)
+    parser.set_defaults(handler=run_uunifast)
 
 
-def published_sets(most: int, seed: int = PUBLISHED_SEED) -> Iterator[tuple[SetName, TaskSet]]:
-    """The sets of the published evaluation with `most` for each number of tasks and each utilisation.
-
-    All come from one seed, one after the other, so a set depends on `most`.
-
-    >>> next(published_sets(100))[1].named("t1").period
-    936
-    """
-    stream = states(seed)
-    return ((name, published_set(name.count, name.tenths, stream)) for name in set_names(most))
+def run_uunifast(args: argparse.Namespace) -> int:
+    bounds = {name: value for name in ("low", "high", "multiple") if (value := getattr(args, name)) is not None}
+    require(not (args.periods and bounds), "periods are a list, or from low to high, not both")
+    periods = Listed(tuple(args.periods)) if args.periods else LogUniform(**bounds)
+    write_output(args, uunifast(args.count, args.utilisation, args.seed, periods, args.top).text())
+    return 0
 
 
-def uunifast_sets(most: int, seed: int = PUBLISHED_SEED) -> Iterator[tuple[SetName, TaskSet]]:
-    """Sets by UUniFast with the published range of periods, each from a seed of its own that no demand list has.
-
-    >>> next(uunifast_sets(1))[1].named("t1").period
-    30030
-    """
-    periods = LogUniform(PUBLISHED_MILLISECOND, 1000 * PUBLISHED_MILLISECOND, PUBLISHED_TICKS)
-    return ((name, uunifast(name.count, Fraction(name.tenths, 10), 10**9 + name.seed(seed), periods, PUBLISHED_TOP))
-            for name in set_names(most))
-
-
-def taken(tasks: TaskSet, share: Fraction, ticks: int) -> Demands:
-    """The demands of all jobs of a run in which each takes a share of its worst case, rounded down.
-
-    >>> taken(TaskSet((Task("a", 5, 7),)), Fraction(1, 2), 10).units
-    {('a', 1): 3, ('a', 2): 3}
-    """
-    return Demands({(task.name, job): floor(task.worst * share)
-                    for task in tasks for job in range(1, ticks // task.period + 1)})
+def add_published(kinds: "argparse._SubParsersAction[argparse.ArgumentParser]") -> None:
+    parser = kinds.add_parser(
+        "published", help="a set of the published evaluation",
+        description="Draws a set of docs/EVALUATION.md, whose periods and worst cases are as in Pillai and Shin (2001).",
+        epilog="python3 -m rtdvs generate published --count 8 --tenths 7 --number 1")
+    parser.add_argument("--count", type=int, choices=PUBLISHED_COUNTS, required=True, help="the number of tasks")
+    parser.add_argument("--tenths", type=int, choices=range(1, 11), required=True, help="the utilisation in tenths")
+    parser.add_argument("--number", type=whole_number(1, 999), required=True, metavar="N", help="its number among these")
+    parser.add_argument("--sets", type=whole_number(1, 999), default=100, metavar="N",
+                        help="how many there are of each kind; 100 unless given")
+    parser.add_argument("--seed", type=whole_number(1, MOST_SEED), default=PUBLISHED_SEED, metavar="N",
+                        help=f"{PUBLISHED_SEED} unless given")
+    add_output(parser)
+    parser.set_defaults(handler=run_published)
 
 
-def taken_uniform(tasks: TaskSet, seed: int, ticks: int) -> Demands:
-    """The demands of all jobs of a run, each uniform from 0 to the worst case, by the generator after ten states.
+def run_published(args: argparse.Namespace) -> int:
+    require(args.number <= args.sets, f"number is 1 to {args.sets}")
+    wanted = SetName(args.count, args.tenths, args.number)
+    write_output(args, next(tasks for name, tasks in published_sets(args.sets, args.seed) if name == wanted).text())
+    return 0
 
-    >>> taken_uniform(TaskSet((Task("a", 5, 7),)), 1, 10).units
-    {('a', 1): 0, ('a', 2): 4}
-    """
-    stream = islice(states(seed), 10, None)
-    return Demands({(task.name, job): next(stream) * (task.worst + 1) // MODULUS
-                    for task in tasks for job in range(1, ticks // task.period + 1)})
+
+def add_demands(kinds: "argparse._SubParsersAction[argparse.ArgumentParser]") -> None:
+    parser = kinds.add_parser(
+        "demands", help="demands of all jobs of a run", description="Prints a demand file for all jobs of a run.",
+        epilog="python3 -m rtdvs generate demands --tasks tasks.toml --ticks 100 --share 0.7")
+    add_files(parser, ["tasks"])
+    parser.add_argument("--ticks", type=whole_number(1, 2**40), required=True, metavar="N", help="of the run")
+    which = parser.add_mutually_exclusive_group(required=True)
+    which.add_argument("--share", type=exact_fraction, metavar="S", help="what each job takes of its worst case, 0 to 1")
+    which.add_argument("--seed", type=whole_number(1, MOST_SEED), metavar="N",
+                       help="each job draws its own share by this seed")
+    add_output(parser)
+    parser.set_defaults(handler=run_demands)
+
+
+def run_demands(args: argparse.Namespace) -> int:
+    tasks = read_tasks(args)
+    if args.share is None:
+        demands = taken_uniform(tasks, args.seed, args.ticks)
+    else:
+        require(args.share <= 1, "share is 0 to 1")
+        demands = taken(tasks, args.share, args.ticks)
+    write_output(args, demands.text())
+    return 0
+
+
+def add_exercise(kinds: "argparse._SubParsersAction[argparse.ArgumentParser]") -> None:
+    parser = kinds.add_parser(
+        "exercise", help="an exercise with its solution",
+        description="Draws a set with small numbers, and writes a question, the files, the trace that solves it and the "
+        "explanation of each decision into a folder. The question is printed as well.",
+        epilog="python3 -m rtdvs generate exercise --seed 7 --scheduler edf --governor la --folder seven")
+    parser.add_argument("--seed", type=whole_number(1, MOST_SEED), required=True, metavar="N")
+    parser.add_argument("--scheduler", choices=("edf", "rm"), default="edf", help="edf unless given")
+    parser.add_argument("--governor", choices=("none", "static", "cc", "la"), default="cc", help="cc unless given")
+    parser.add_argument("--folder", type=Path, required=True, help="where the files are written")
+    add_engine_options(parser)
+    parser.set_defaults(handler=run_exercise)
+
+
+def run_exercise(args: argparse.Namespace) -> int:
+    drawn_one = exercise(engine_of(args), args.seed, args.scheduler, args.governor)
+    drawn_one.write(args.folder)
+    print(drawn_one.question(), end="")
+    return 0
