@@ -32,7 +32,8 @@ POINT = 0.75        # points in a pixel, for texts and lines
 ROW = 58            # a task's row
 BAR = 36            # a run at full height
 SPEED = 72          # the speed row up to full height
-DEMANDS = 24        # the row of the demands' values
+TICKS = 5           # the ticks' lines go on below the speed row
+DEMANDS = 28        # the row of the demands' values
 CAP = 1.5           # a demand is drawn up to this share of the full height
 LEAST = 0.6         # the narrowest bar
 NARROW = 3          # narrower bars are drawn over the arrows, others below them
@@ -43,7 +44,10 @@ NAME_LETTER = 7.8   # room for a letter of a name
 INK = "#797979"
 DEMAND = "#c04aa8"
 DEADLINE = "#e0434b"
+RIM = "#555555"
 COLOURS = ("#3f83c8", "#d07a1f", "#2f9e74", "#9a6dd0", "#a08a00", "#2a9fb5", "#9c7350", "#6f7fd8")
+DOTS = (0, (1, 1.6))
+TIP_ABOVE, TIP_BELOW = 6, 7     # matplotlib's carets with their tip at the place
 SMALL, TEXT, TITLE = 10 * POINT, 12 * POINT, 15 * POINT
 
 
@@ -278,6 +282,10 @@ class _Frame:
         return self.speed_height(max(self.top, self.peak)) + DEMANDS + (len(self.names) - 1 - row) * ROW
 
     @property
+    def demand_base(self) -> float:
+        return self.speed_height(max(self.top, self.peak)) + 11
+
+    @property
     def ceiling(self) -> float:
         return self.floor(0) + ROW
 
@@ -289,6 +297,9 @@ class _Frame:
 
     def is_shown(self, tick: float) -> bool:
         return self.view.first <= tick <= self.ticks[1]
+
+    def overlaps(self, bar: Bar) -> bool:
+        return bar.begin < self.ticks[1] and bar.end > self.view.first
 
     def room(self, begin: float, end: float) -> float:
         """The pixels between two ticks, of which only those in the view count."""
@@ -313,16 +324,16 @@ def plot_trace(trace: Trace, axes: "Axes", view: View = View()) -> None:
     width = axes.get_position().width * axes.figure.get_figwidth() / PIXEL
     peak = max(decision.num / decision.den for decision in trace.decisions)
     frame = _Frame(view, tuple(row_names(trace)), peak, width / ((view.last or 0) - view.first))
+    runs = bars(trace)
     _draw_frame(trace, axes, frame)
+    _draw_rows(trace, axes, frame)
     for row, name in enumerate(frame.names):
-        _draw_name(trace, axes, frame, row)
-        _draw_arrows(trace, axes, frame, row)
-        _draw_bars(axes, frame, bars(trace).get(name, []), row)
-        _draw_completions(trace, axes, frame, row)
-    _draw_bars(axes, frame, bars(trace).get("", []), None)
+        _draw_bars(axes, frame, runs.get(name, []), row)
+    _draw_bars(axes, frame, runs.get("", []), None)
+    _draw_scale(trace, axes, frame)
     _draw_speeds(trace, axes, frame)
     _draw_decisions(trace, axes, frame)
-    _draw_legend(trace, axes, frame)
+    _draw_legend(trace, axes, frame, has_idle=any(map(frame.overlaps, runs.get("", []))))
 
 
 def trace_height(trace: Trace, view: View = View()) -> float:
@@ -345,9 +356,9 @@ def save_trace(trace: Trace, path: Path, view: View = View(), width: int = 1000,
         left = max(100, *(18 + NAME_LETTER * len(name) for name in names), *(18 + LETTER * len(fact) for fact in facts))
         if width < left + 220:
             raise FileFault(f"--width has to be at least {math.ceil(left + 220)}")
-        high = trace_height(trace, view)
-        above = 44 + 16 * len(_energy_lines(trace, width - left))
-        below = 46 + 18 * math.ceil(9 / _legend_columns(width - left - 20))
+        high = trace_height(trace, view) + TICKS
+        above = 28 + 16 * len(_energy_lines(trace, width - left - 20))
+        below = 26 + 18 * math.ceil(8 / _legend_columns(width - left - 20))
         figure = _figure(width, above + high + below)
         box = left / width, below / (above + high + below), 1 - (left + 20) / width, high / (above + high + below)
         plot_trace(trace, figure.add_axes(box), view)
@@ -357,7 +368,7 @@ def save_trace(trace: Trace, path: Path, view: View = View(), width: int = 1000,
 def _draw_frame(trace: Trace, axes: "Axes", frame: _Frame) -> None:
     first, last = frame.ticks
     axes.set_xlim(first, last)
-    axes.set_ylim(-4, frame.ceiling)
+    axes.set_ylim(-TICKS, frame.ceiling)
     axes.set_facecolor("none")
     for spine in axes.spines.values():
         spine.set_visible(False)
@@ -368,10 +379,9 @@ def _draw_frame(trace: Trace, axes: "Axes", frame: _Frame) -> None:
     axes.tick_params(axis="x", length=0, colors=INK)
     axes.grid(axis="x", color=INK, alpha=0.4, linewidth=0.5 * POINT)
     axes.set_axisbelow(True)
-    axes.set_xlabel("ticks", fontsize=SMALL, color=INK, loc="left")
     whole = f"{last} ticks" if (first, last) == (0, trace.ticks) else f"ticks {first} to {last} of {trace.ticks}"
     lines = "\n".join(_energy_lines(trace, (last - first) * frame.scale))
-    axes.set_title(f"{trace.scheduler}, {trace.governor}: {whole}\n{lines}", loc="left", fontsize=TEXT, color=INK)
+    axes.set_title(f"{trace.scheduler}, {trace.governor}: {whole}\n{lines}", loc="left", fontsize=TEXT, color=INK, pad=4)
 
 
 def _energy_lines(trace: Trace, width: float) -> list[str]:
@@ -410,41 +420,51 @@ def _facts(trace: Trace, name: str, charge: int) -> str:
     return f"period {task.period}{offset}, worst {task.worst}" + (f"+{2 * charge}" if charge else "")
 
 
-def _beside(axes: "Axes", y: float, text: str, **style: Any) -> None:
+def _beside(axes: "Axes", y: float, text: str, margin: float = 8, **style: Any) -> None:
     """A text on the left of the axes."""
-    axes.annotate(text, (0, y), xycoords=("axes fraction", "data"), xytext=(-8 * POINT, 0), textcoords="offset points",
-                  ha="right", annotation_clip=False, **{"color": INK, "fontsize": SMALL, **style})
+    axes.annotate(text, (0, y), xycoords=("axes fraction", "data"), xytext=(-margin * POINT, 0),
+                  textcoords="offset points", ha="right", annotation_clip=False,
+                  **{"color": INK, "fontsize": SMALL, **style})
 
 
-def _draw_name(trace: Trace, axes: "Axes", frame: _Frame, row: int) -> None:
-    floor, facts = frame.floor(row), _facts(trace, frame.names[row], frame.view.charge)
-    axes.hlines(floor, *frame.ticks, color=INK, linewidth=POINT)
-    _beside(axes, floor + (24 if facts else 16), frame.names[row], fontsize=TEXT, family="monospace")
-    if facts:
+def _draw_rows(trace: Trace, axes: "Axes", frame: _Frame) -> None:
+    """The rows of the tasks, but for their bars."""
+    released, period, complete = releases(trace), periods(trace), completions(trace)
+    worst = {task.name: f"/{task.worst + 2 * frame.view.charge}" for task in trace.tasks}
+    for row, name in enumerate(frame.names):
+        floor, facts = frame.floor(row), _facts(trace, name, frame.view.charge)
+        axes.hlines(floor, *frame.ticks, color=INK, linewidth=POINT)
+        _beside(axes, floor + (24 if facts else 16), name, fontsize=TEXT, family="monospace")
         _beside(axes, floor + 10, facts)
+        ticks = released.get(name, [])
+        _draw_arrows(axes, frame, row, ticks, is_due=False)
+        _draw_arrows(axes, frame, row, [tick + period[name] for tick in ticks if name in period], is_due=True)
+        _draw_completions(axes, frame, row, complete.get(name, []), _Said(worst.get(name, ""), period.get(name)))
 
 
-def _draw_arrows(trace: Trace, axes: "Axes", frame: _Frame, row: int) -> None:
-    name, floor = frame.names[row], frame.floor(row)
-    ticks = releases(trace).get(name, [])
-    period = periods(trace).get(name)
-    due = [tick + period for tick in ticks] if period else []
-    for kind, at, colour, high, marker in (("release", ticks, INK, 48, "caretup"), ("deadline", due, DEADLINE, 28, "caretdown")):
-        kept = thin(filter(frame.is_shown, at), NEAR / frame.scale)
-        tip = floor + high if kind == "release" else floor
-        axes.vlines(kept, floor, floor + high, color=colour, linewidth=1.6 * POINT, zorder=2.2, clip_on=False)
-        axes.plot(kept, [tip] * len(kept), color=colour, linestyle="none", marker=MARKERS[marker], markersize=6 * POINT,
-                  markeredgewidth=1.6 * POINT, fillstyle="none", zorder=2.2, clip_on=False, gid=f"{kind}-{name}")
+@dataclass(frozen=True, slots=True)
+class _Said:
+    """What is said of a task's completions: the worst case after the units; the period, for the room that there is."""
+
+    worst: str
+    period: int | None
 
 
-# matplotlib's markers with their tip at the place
-MARKERS = {"caretup": 6, "caretdown": 7}
+def _draw_arrows(axes: "Axes", frame: _Frame, row: int, ticks: Sequence[int], is_due: bool) -> None:
+    """Draws a task's releases, or its deadlines."""
+    floor, high = frame.floor(row), 28 if is_due else 48
+    style: dict[str, Any] = {"color": DEADLINE if is_due else INK, "zorder": 2.2, "clip_on": False}
+    kept = thin(filter(frame.is_shown, ticks), NEAR / frame.scale)
+    axes.vlines(kept, floor, floor + high, linewidth=1.6 * POINT, **style)
+    axes.plot(kept, [floor if is_due else floor + high] * len(kept), linestyle="none", fillstyle="none",
+              marker=TIP_BELOW if is_due else TIP_ABOVE, markersize=6 * POINT, markeredgewidth=1.6 * POINT,
+              gid=f"{'deadline' if is_due else 'release'}-{frame.names[row]}", **style)
 
 
 def _draw_bars(axes: "Axes", frame: _Frame, row: Sequence[Bar], place: int | None) -> None:
     """Draws the bars of a task's row, or idle time in the speed row."""
     first, last = frame.ticks
-    shown = (Bar(max(bar.begin, first), min(bar.end, last), bar.speed) for bar in row if bar.begin < last and bar.end > first)
+    shown = (Bar(max(bar.begin, first), min(bar.end, last), bar.speed) for bar in filter(frame.overlaps, row))
     joined = list(join_narrow(shown, NARROW / frame.scale, GAP / frame.scale))
     floor = 0 if place is None else frame.floor(place)
     colour = INK if place is None else COLOURS[place % len(COLOURS)]
@@ -470,25 +490,23 @@ def _corners(frame: _Frame, bar: Bar, floor: float, is_idle: bool) -> list[tuple
     return [(bar.begin, floor), (bar.begin, high), (end, high), (end, floor)]
 
 
-def _draw_completions(trace: Trace, axes: "Axes", frame: _Frame, row: int) -> None:
-    name, floor = frame.names[row], frame.floor(row)
-    task = next((task for task in trace.tasks if task.name == name), None)
-    worst = f"/{task.worst + 2 * frame.view.charge}" if task else ""
-    shown = [done for done in completions(trace).get(name, []) if frame.is_shown(done.at)]
+def _draw_completions(axes: "Axes", frame: _Frame, row: int, complete: Sequence[Completion], said: _Said) -> None:
+    floor = frame.floor(row)
+    shown = [done for done in complete if frame.is_shown(done.at)]
     places = set(thin((done.at for done in shown), NEAR / frame.scale))
     kept = [done for done in shown if done.at in places]
     axes.plot([done.at for done in kept], [floor + frame.bar_height(done.speed) for done in kept], linestyle="none",
-              marker="o", markersize=5.2 * POINT, color="white", markeredgecolor="#555555", markeredgewidth=1.2 * POINT,
-              zorder=2.6, clip_on=False, gid=f"done-{name}")
+              marker="o", markersize=5.2 * POINT, color="white", markeredgecolor=RIM, markeredgewidth=1.2 * POINT,
+              zorder=2.6, clip_on=False, gid=f"done-{frame.names[row]}")
     for done in kept:
-        _label_completion(axes, frame, done, floor, (f"{done.used}{worst}", periods(trace).get(name)))
+        _label_completion(axes, frame, done, floor, said)
 
 
-def _label_completion(axes: "Axes", frame: _Frame, done: Completion, floor: float, said: tuple[str, int | None]) -> None:
+def _label_completion(axes: "Axes", frame: _Frame, done: Completion, floor: float, said: _Said) -> None:
     """The units are said between release and deadline: above the bars before the completion, else after it, else not."""
-    text, period = said
+    text = f"{done.used}{said.worst}"
     room = LETTER * len(text) + 10
-    due = done.release + period if period else frame.ticks[1]
+    due = done.release + said.period if said.period else frame.ticks[1]
     if frame.room(done.release, done.at) >= room:
         axes.text(done.at - 4 / frame.scale, floor + frame.bar_height(done.highest) + 4, text, ha="right", fontsize=SMALL,
                   color=INK)
@@ -504,7 +522,8 @@ def _spans(trace: Trace, frame: _Frame) -> Iterator[tuple[float, float, Decision
             yield max(decision.tick, frame.view.first), min(end, frame.ticks[1]), decision
 
 
-def _draw_speeds(trace: Trace, axes: "Axes", frame: _Frame) -> None:
+def _draw_scale(trace: Trace, axes: "Axes", frame: _Frame) -> None:
+    """The scale of speeds: 0, the top, and each other speed of the trace that has room beside those before it."""
     axes.hlines(0, *frame.ticks, color=INK, linewidth=POINT)
     heights: list[float] = []
     for speed in dict.fromkeys([0, frame.top, *(decision.speed for decision in trace.decisions)]):
@@ -513,13 +532,18 @@ def _draw_speeds(trace: Trace, axes: "Axes", frame: _Frame) -> None:
             heights.append(height)
             axes.hlines(height, *frame.ticks, color=INK, alpha=0.4, linewidth=0.5 * POINT)
             _beside(axes, height, str(speed), va="center")
-    _beside(axes, 36, "speed          ", va="center", fontsize=TEXT)
-    _beside(axes, 22, "units/tick            ", va="center")
-    _beside(axes, frame.speed_height(max(frame.top, frame.peak)) + 8, "demand", color=DEMAND)
+    margin = LETTER * len(str(frame.top)) + 14
+    _beside(axes, 36, "speed", margin, fontsize=TEXT)
+    _beside(axes, 22, "units/tick", margin)
+    _beside(axes, frame.demand_base, "demand", color=DEMAND)
+    _beside(axes, -TICKS, "ticks", va="top")
+
+
+def _draw_speeds(trace: Trace, axes: "Axes", frame: _Frame) -> None:
     lines: tuple[tuple[str, Callable[[Decision], float], Mapping[str, Any]], ...] = (
         ("speed", lambda decision: decision.speed, {"color": INK, "linewidth": 1.8 * POINT}),
         ("demand", lambda decision: decision.num / decision.den,
-         {"color": DEMAND, "linewidth": 1.6 * POINT, "linestyle": (0, (1, 1.6))}))
+         {"color": DEMAND, "linewidth": 1.6 * POINT, "linestyle": DOTS}))
     for name, value_of, style in lines:
         corners = steps(((begin, end, frame.speed_height(value_of(each))) for begin, end, each in _spans(trace, frame)),
                         GAP / frame.scale)
@@ -530,7 +554,6 @@ def _draw_decisions(trace: Trace, axes: "Axes", frame: _Frame) -> None:
     low: list[tuple[float, float]] = []
     high: list[tuple[float, float]] = []
     latest: dict[int, float] = {}
-    base = frame.speed_height(max(frame.top, frame.peak)) + 8
     for begin, end, decision in _spans(trace, frame):
         value = Fraction(decision.num, decision.den)
         y = frame.speed_height(float(value))
@@ -540,7 +563,7 @@ def _draw_decisions(trace: Trace, axes: "Axes", frame: _Frame) -> None:
         (high if value > Fraction(CAP) * frame.top else low).append((begin, y))
         text = short(value)
         if (end - begin) * frame.scale >= LETTER * len(text) + 6:
-            axes.text(begin + 2 / frame.scale, base, text, fontsize=SMALL, color=DEMAND)
+            axes.text(begin + 2 / frame.scale, frame.demand_base, text, fontsize=SMALL, color=DEMAND)
     for name, marker, places in (("decision", "o", low), ("over", "^", high)):
         axes.plot([x for x, _ in places], [y for _, y in places], linestyle="none", marker=marker, color=DEMAND,
                   markersize=(4.4 if marker == "o" else 7) * POINT, markeredgewidth=0, zorder=2.7, clip_on=False, gid=name)
@@ -559,32 +582,31 @@ def _legend_columns(width: float) -> int:
     return max(1, int(width / 215))
 
 
-def _draw_legend(trace: Trace, axes: "Axes", frame: _Frame) -> None:
-    from matplotlib.lines import Line2D
+def _draw_legend(trace: Trace, axes: "Axes", frame: _Frame, has_idle: bool) -> None:
     from matplotlib.patches import Patch
 
-    first, last = frame.ticks
-    def mark(colour: str, label: str, marker: object, **style: Any) -> Line2D:
-        return Line2D([], [], color=colour, label=label, **{"linestyle": "none", "marker": marker, **style})
-
-    charged = ", with the charge" if frame.view.charge else ""
+    what = ("/worst case" if trace.tasks else "") + (", with the charge" if frame.view.charge else "")
     handles = [
-        mark(INK, "release", 6, markersize=6 * POINT), mark(DEADLINE, "deadline", 7, markersize=6 * POINT),
-        Patch(color=COLOURS[0], label=f"run, as high as its speed (full: {frame.top})"),
-        mark("white", f"done: units used{'/worst case' if trace.tasks else ''}{charged}", "o", markersize=5.2 * POINT,
-             markeredgecolor="#555555"),
-        mark(INK, "speed", "", linestyle="-"), mark(DEMAND, "demand, a dot at each decision", "o", linestyle=":",
-                                                    markersize=4.4 * POINT),
-    ]
-    if any(bar.begin < last and bar.end > first for bar in bars(trace).get("", [])):
-        handles.append(Patch(color=INK, alpha=0.3, label="idle"))
+        _sign("release", INK, TIP_ABOVE), _sign("deadline", DEADLINE, TIP_BELOW),
+        Patch(facecolor=COLOURS[0], label=f"run, as high as its speed (full: {frame.top})"),
+        _sign(f"done: units used{what}", "white", "o", markeredgecolor=RIM),
+        _sign("speed", INK, "", linestyle="-"), _sign("demand, a dot at each decision", DEMAND, "o", linestyle=DOTS)]
+    if has_idle:
+        handles.append(Patch(facecolor=INK, alpha=0.3, label="idle"))
     if any(each.num > Fraction(CAP) * frame.top * each.den for _, _, each in _spans(trace, frame)):
-        handles.append(mark(DEMAND, "demand above the picture", "^"))
+        handles.append(_sign("demand above the picture", DEMAND, "^"))
     if any(len(thin(ticks, NEAR / frame.scale)) < len(ticks) for ticks in releases(trace).values()):
-        handles.append(mark("none", f"marks within {NEAR} pixels are drawn once", ""))
-    axes.legend(handles=handles, loc="upper left", bbox_to_anchor=(0, -28 / (frame.ceiling + 4)), borderaxespad=0,
-                frameon=False, fontsize=SMALL, labelcolor=INK, ncol=_legend_columns((last - first) * frame.scale),
-                handlelength=1.5, columnspacing=1, handletextpad=0.5, borderpad=0)
+        handles.append(_sign(f"marks within {NEAR} pixels are drawn once", "none", ""))
+    columns = _legend_columns((frame.ticks[1] - frame.view.first) * frame.scale)
+    axes.legend(handles=handles, loc="upper left", bbox_to_anchor=(0, -20 / (frame.ceiling + TICKS)), borderaxespad=0,
+                frameon=False, fontsize=SMALL, labelcolor=INK, ncol=columns, handlelength=1.5, columnspacing=1.5,
+                handletextpad=0.5, borderpad=0)
+
+
+def _sign(label: str, colour: str, marker: object, **style: Any) -> Any:
+    from matplotlib.lines import Line2D
+
+    return Line2D([], [], color=colour, label=label, **{"linestyle": "none", "marker": marker, "markersize": 5 * POINT, **style})
 
 
 # The picture of a comparison
