@@ -23,7 +23,7 @@ def top() -> Path:
 
 @pytest.fixture(scope="session")
 def data() -> Path:
-    """The folder of the examples' files: paper, ahead, controller, deadlines, long, offsets, server, templates."""
+    """The folders of the examples' files: paper, offsets, controller, deadlines, server and others."""
     return TOP / "crates" / "example_runs" / "data"
 
 
