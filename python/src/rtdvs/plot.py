@@ -32,6 +32,7 @@ POINT = 0.75        # points in a pixel, for texts and lines
 ROW = 58            # a task's row
 BAR = 36            # a run at full height
 SPEED = 72          # the speed row up to full height
+LINE = 16           # a line of the energies
 TICKS = 5           # the ticks' lines go on below the speed row
 DEMANDS = 28        # the row of the demands' values
 CAP = 1.5           # a demand is drawn up to this share of the full height
@@ -357,11 +358,13 @@ def save_trace(trace: Trace, path: Path, view: View = View(), width: int = 1000,
         if width < left + 220:
             raise FileFault(f"--width has to be at least {math.ceil(left + 220)}")
         high = trace_height(trace, view) + TICKS
-        above = 28 + 16 * len(_energy_lines(trace, width - left - 20))
-        below = 26 + 18 * math.ceil(8 / _legend_columns(width - left - 20))
-        figure = _figure(width, above + high + below)
-        box = left / width, below / (above + high + below), 1 - (left + 20) / width, high / (above + high + below)
-        plot_trace(trace, figure.add_axes(box), view)
+        above = 30 + LINE * len(_energy_lines(trace, width - left - 20))
+        figure = _figure(width, above + high + 26)
+        axes = figure.add_axes((left / width, 0, 1 - (left + 20) / width, 1))
+        plot_trace(trace, axes, view)
+        below = 26 + 15 * _legend_rows(axes)
+        figure.set_size_inches(width * PIXEL, (above + high + below) * PIXEL)
+        axes.set_position((left / width, below / (above + high + below), 1 - (left + 20) / width, high / (above + high + below)))
         _save(figure, path, background)
 
 
@@ -380,8 +383,11 @@ def _draw_frame(trace: Trace, axes: "Axes", frame: _Frame) -> None:
     axes.grid(axis="x", color=INK, alpha=0.4, linewidth=0.5 * POINT)
     axes.set_axisbelow(True)
     whole = f"{last} ticks" if (first, last) == (0, trace.ticks) else f"ticks {first} to {last} of {trace.ticks}"
-    lines = "\n".join(_energy_lines(trace, (last - first) * frame.scale))
-    axes.set_title(f"{trace.scheduler}, {trace.governor}: {whole}\n{lines}", loc="left", fontsize=TEXT, color=INK, pad=4)
+    lines = _energy_lines(trace, (last - first) * frame.scale)
+    axes.set_title(f"{trace.scheduler}, {trace.governor}: {whole}", loc="left", fontsize=TITLE, color=INK,
+                   pad=(8 + LINE * len(lines)) * POINT)
+    axes.annotate("\n".join(lines), (0, 1), xycoords="axes fraction", xytext=(0, 5 * POINT), textcoords="offset points",
+                  va="bottom", fontsize=TEXT, color=INK, annotation_clip=False)
 
 
 def _energy_lines(trace: Trace, width: float) -> list[str]:
@@ -578,35 +584,38 @@ def short(number: Fraction) -> str:
     return decimal(number, 2).rstrip("0").rstrip(".")
 
 
-def _legend_columns(width: float) -> int:
-    return max(1, int(width / 215))
-
-
 def _draw_legend(trace: Trace, axes: "Axes", frame: _Frame, has_idle: bool) -> None:
     from matplotlib.patches import Patch
 
-    what = ("/worst case" if trace.tasks else "") + (", with the charge" if frame.view.charge else "")
+    what = ("used/worst case" if trace.tasks else "used") + (", with the charge" if frame.view.charge else "")
     handles = [
         _sign("release", INK, TIP_ABOVE), _sign("deadline", DEADLINE, TIP_BELOW),
-        Patch(facecolor=COLOURS[0], label=f"run, as high as its speed (full: {frame.top})"),
-        _sign(f"done: units used{what}", "white", "o", markeredgecolor=RIM),
-        _sign("speed", INK, "", linestyle="-"), _sign("demand, a dot at each decision", DEMAND, "o", linestyle=DOTS)]
+        Patch(facecolor=COLOURS[0], label=f"run (full height: {frame.top})"),
+        _sign(f"done: {what}", "white", "o", markeredgecolor=RIM),
+        _sign("speed", INK, "", linestyle="-"), _sign("demand (dot: decision)", DEMAND, "o", linestyle=DOTS)]
     if has_idle:
         handles.append(Patch(facecolor=INK, alpha=0.3, label="idle"))
     if any(each.num > Fraction(CAP) * frame.top * each.den for _, _, each in _spans(trace, frame)):
         handles.append(_sign("demand above the picture", DEMAND, "^"))
     if any(len(thin(ticks, NEAR / frame.scale)) < len(ticks) for ticks in releases(trace).values()):
-        handles.append(_sign(f"marks within {NEAR} pixels are drawn once", "none", ""))
-    columns = _legend_columns((frame.ticks[1] - frame.view.first) * frame.scale)
+        handles.append(_sign(f"near marks (less than {NEAR} pixels) once", "none", ""))
+    longest = max(len(handle.get_label()) for handle in handles)
+    columns = max(1, int((frame.ticks[1] - frame.view.first) * frame.scale / (longest * LETTER + 36)))
     axes.legend(handles=handles, loc="upper left", bbox_to_anchor=(0, -20 / (frame.ceiling + TICKS)), borderaxespad=0,
                 frameon=False, fontsize=SMALL, labelcolor=INK, ncol=columns, handlelength=1.5, columnspacing=1.5,
                 handletextpad=0.5, borderpad=0)
 
 
+def _legend_rows(axes: "Axes") -> int:
+    legend = axes.get_legend()
+    return math.ceil(len(legend.get_texts()) / legend._ncols)
+
+
 def _sign(label: str, colour: str, marker: object, **style: Any) -> Any:
     from matplotlib.lines import Line2D
 
-    return Line2D([], [], color=colour, label=label, **{"linestyle": "none", "marker": marker, "markersize": 5 * POINT, **style})
+    return Line2D([], [], color=colour, label=label, **{"linestyle": "none", "marker": marker, "markersize": 5 * POINT,
+                                                           "fillstyle": "full" if marker == "o" else "none", **style})
 
 
 # The picture of a comparison
@@ -691,13 +700,13 @@ def _draw_shades(axes: "Axes", shades: Mapping[int, float]) -> None:
 
 @dataclass(frozen=True, slots=True)
 class Mean:
-    """A point of a figure: the number of sets, their mean energy, and the bounds of the middle 80 % of them."""
+    """A point of a figure: the number of sets; their mean energy and the bounds of the middle 80 %, () without sets."""
 
     panel: str
     curve: str
     utilisation: Fraction
     sets: int
-    energies: tuple[Fraction, Fraction, Fraction]
+    energies: tuple[Fraction, ...]
 
 
 def parse_means(text: str) -> tuple[Mean, ...]:
@@ -710,8 +719,8 @@ def parse_means(text: str) -> tuple[Mean, ...]:
     if rows[:1] != [["panel", "curve", "utilisation", "sets", "mean", "low", "high"]]:
         raise FileFault("table: wrong header")
     try:
-        return tuple(Mean(panel, curve, Fraction(utilisation), int(sets), (Fraction(mean), Fraction(low), Fraction(high)))
-                     for panel, curve, utilisation, sets, mean, low, high in rows[1:])
+        return tuple(Mean(panel, curve, Fraction(utilisation), int(sets), tuple(map(Fraction, filter(None, energies))))
+                     for panel, curve, utilisation, sets, *energies in rows[1:])
     except (ValueError, ZeroDivisionError):
         raise FileFault("table: a row isn't a point") from None
 
@@ -748,7 +757,7 @@ def plot_means(means: Sequence[Mean], axes: "Axes") -> None:
     axes.hlines(1, 0.1, 1, color=INK, linewidth=1.5 * POINT, clip_on=False)
     all_sets = {mean.utilisation: mean.sets for mean in means if mean.curve == "edf none"}
     for curve in CURVES:
-        _draw_curve(axes, curve, [mean for mean in means if mean.curve == curve
+        _draw_curve(axes, curve, [mean for mean in means if mean.curve == curve and mean.energies
                                   and 10 * mean.sets >= all_sets.get(mean.utilisation, 0)])
 
 
