@@ -5,30 +5,28 @@ colours that can be read on white and on dark.
 """
 
 import argparse
-import csv
 import math
 import sys
-from collections import defaultdict
-from collections.abc import Callable, Iterable, Iterator, Mapping, Sequence
+from collections.abc import Callable, Iterator, Mapping, Sequence
 from dataclasses import dataclass
 from fractions import Fraction
 from pathlib import Path
 from typing import TYPE_CHECKING, Any
 
+from rtdvs.canvas import INK, PIXEL, POINT, SMALL, TEXT, TITLE, new_figure, save, settings
 from rtdvs.commandline import (add_engine_options, add_files, engine_of, input_path, read_demands, read_machine, read_tasks,
                                read_text, whole_number)
-from rtdvs.compare import Row, compare
-from rtdvs.decimals import decimal
+from rtdvs.compare import compare
+from rtdvs.figures import parse_means, save_compare, save_means
 from rtdvs.files import FileFault
-from rtdvs.trace import Decision, Done, Idle, Release, Run, Trace
+from rtdvs.marks import (Bar, Completion, bars, completions, join_narrow, over_worst, periods, readable, releases, round_step,
+                         row_names, short, steps, thin)
+from rtdvs.trace import Decision, Trace
 
 if TYPE_CHECKING:
     from matplotlib.axes import Axes
-    from matplotlib.figure import Figure
 
 # Lengths are in pixels, 96 to the inch.
-PIXEL = 1 / 96
-POINT = 0.75        # points in a pixel, for texts and lines
 ROW = 58            # a task's row
 BAR = 36            # a run at full height
 SPEED = 72          # the speed row up to full height
@@ -42,14 +40,12 @@ GAP = 0.5           # narrow bars with smaller gaps are drawn as one
 NEAR = 2            # marks of one kind that are nearer are drawn once
 LETTER = 6.4        # room for a letter of small text
 NAME_LETTER = 7.8   # room for a letter of a name
-INK = "#797979"
 DEMAND = "#c04aa8"
 DEADLINE = "#e0434b"
 RIM = "#555555"
 COLOURS = ("#3f83c8", "#d07a1f", "#2f9e74", "#9a6dd0", "#a08a00", "#2a9fb5", "#9c7350", "#6f7fd8")
 DOTS = (0, (1, 1.6))
 TIP_ABOVE, TIP_BELOW = 6, 7     # matplotlib's carets with their tip at the place
-SMALL, TEXT, TITLE = 10 * POINT, 12 * POINT, 15 * POINT
 
 
 @dataclass(frozen=True, slots=True)
@@ -65,29 +61,6 @@ class View:
     last: int | None = None
     top: int | None = None
     charge: int = 0
-
-
-# What is drawn, in ticks
-
-
-@dataclass(frozen=True, slots=True)
-class Bar:
-    """A run or idle time from tick to tick, at a speed."""
-
-    begin: float
-    end: float
-    speed: int
-
-
-@dataclass(frozen=True, slots=True)
-class Completion:
-    """A job's completion at a tick: its release, the units that it used, the speed there and its greatest one."""
-
-    at: float
-    release: int
-    used: int
-    speed: int
-    highest: int
 
 
 def settled(trace: Trace, view: View) -> View:
@@ -109,154 +82,6 @@ def settled(trace: Trace, view: View) -> View:
     if top < fastest:
         raise FileFault(f"--top has to be at least {fastest}, the fastest speed")
     return View(view.first, last, top, view.charge)
-
-
-def row_names(trace: Trace) -> list[str]:
-    """The tasks in file order; in version 1 in the order of the lines that name them.
-
-    >>> from rtdvs.trace import SAMPLE
-    >>> row_names(Trace.parse(SAMPLE))
-    ['t']
-    """
-    seen = (note.task for note in trace.notes if isinstance(note, Release | Run | Done))
-    return list(dict.fromkeys([*(task.name for task in trace.tasks), *seen]))
-
-
-def periods(trace: Trace) -> dict[str, int]:
-    """Each task's period in ticks; in version 1 the distance of its first two releases, if it has two."""
-    if trace.tasks:
-        return {task.name: task.period for task in trace.tasks}
-    ticks = releases(trace)
-    return {task: at[1] - at[0] for task, at in ticks.items() if len(at) > 1}
-
-
-def releases(trace: Trace) -> dict[str, list[int]]:
-    """The ticks of each task's releases."""
-    found: defaultdict[str, list[int]] = defaultdict(list)
-    for note in trace.notes:
-        if isinstance(note, Release):
-            found[note.task].append(note.tick)
-    return dict(found)
-
-
-def bars(trace: Trace) -> dict[str, list[Bar]]:
-    """The runs of each task, and idle time under the empty name. Segments that meet at one speed are one bar.
-
-    >>> from rtdvs.trace import SAMPLE
-    >>> bars(Trace.parse(SAMPLE))["t"]
-    [Bar(begin=0.0, end=1.0, speed=3), Bar(begin=1.0, end=1.5, speed=2)]
-    """
-    found: defaultdict[str, list[Bar]] = defaultdict(list)
-    job, end = None, None
-    for note, speed in trace.at_speeds():
-        if not isinstance(note, Run | Idle):
-            continue
-        mine = (note.task, note.job, speed) if isinstance(note, Run) else ("", 0, speed)
-        row = found[mine[0]]
-        begin = float(note.begin.time(speed))
-        if job == mine and end == note.begin:
-            begin = row.pop().begin
-        row.append(Bar(begin, float(note.end.time(speed)), speed))
-        job, end = mine, note.end
-    return dict(found)
-
-
-def completions(trace: Trace) -> dict[str, list[Completion]]:
-    """The completions of each task's jobs."""
-    found: defaultdict[str, list[Completion]] = defaultdict(list)
-    latest: dict[str, int] = {}
-    highest: dict[str, int] = {}
-    for note, speed in trace.at_speeds():
-        if isinstance(note, Release):
-            latest[note.task], highest[note.task] = note.tick, 0
-        elif isinstance(note, Run):
-            highest[note.task] = max(highest.get(note.task, 0), speed)
-        elif isinstance(note, Done):
-            at = float(note.at.time(speed))
-            found[note.task].append(Completion(at, latest.get(note.task, 0), note.used, speed if note.used else 0,
-                                               highest.get(note.task, 0)))
-    return dict(found)
-
-
-def over_worst(trace: Trace, charge: int) -> str | None:
-    """A task with a job above its declared units and twice the charge: then the machine's charge is another one."""
-    most = {task.name: task.worst + 2 * charge for task in trace.tasks}
-    return next((note.task for note in trace.notes
-                 if isinstance(note, Done) and note.used > most.get(note.task, note.used)), None)
-
-
-# Thinning
-
-
-def thin(places: Iterable[float], near: float) -> list[float]:
-    """Rising places without those that are nearer than that to the last one that is kept.
-
-    >>> thin([0, 1, 2, 5, 6], 2)
-    [0, 2, 5]
-    """
-    kept: list[float] = []
-    for place in places:
-        if not kept or place - kept[-1] >= near:
-            kept.append(place)
-    return kept
-
-
-def join_narrow(row: Iterable[Bar], narrow: float, gap: float) -> Iterator[Bar]:
-    """Bars in order; narrow ones at one speed and with smaller gaps than that as one.
-
-    >>> list(join_narrow([Bar(0, 1, 3), Bar(1, 2, 3), Bar(2, 9, 3)], 2, 0.5))
-    [Bar(begin=0, end=2, speed=3), Bar(begin=2, end=9, speed=3)]
-    """
-    last: Bar | None = None
-    for bar in row:
-        if bar.end - bar.begin >= narrow:
-            yield from (bar for bar in (last, bar) if bar is not None)
-            last = None
-        elif last is not None and last.speed == bar.speed and bar.begin - last.end <= gap:
-            last = Bar(last.begin, bar.end, bar.speed)
-        else:
-            if last is not None:
-                yield last
-            last = bar
-    if last is not None:
-        yield last
-
-
-def steps(values: Iterable[tuple[float, float, float]], gap: float) -> list[tuple[float, float]]:
-    """The corners of a line of steps, each from a begin to an end at a value.
-
-    Of steps that together are shorter than the gap the lowest and the highest value are drawn.
-
-    >>> steps([(0, 2, 1.0), (2, 4, 3.0)], 1)
-    [(0, 1.0), (2, 1.0), (2, 3.0), (4, 3.0)]
-    """
-    corners: list[tuple[float, float]] = []
-    low = high = 0.0
-    start: float | None = None
-    for begin, end, value in values:
-        low, high = (value, value) if start is None else (min(low, value), max(high, value))
-        start = begin if start is None else start
-        if end - start < gap:
-            continue
-        corners += [(start, low), (start, high)] if low < high else []
-        corners += [(start, value), (end, value)]
-        start = None
-    return corners if start is None else [*corners, (start, low), (start, high)]
-
-
-def round_step(span: int, most: int) -> int:
-    """The ticks between two labels: 1, 2 or 5 times a power of ten, for at most that many labels.
-
-    >>> round_step(16, 20), round_step(100, 30), round_step(1000, 3)
-    (1, 5, 500)
-    """
-    power = 1
-    while span / power > most:
-        for factor in (2, 5):
-            if span / (power * factor) <= most:
-                return power * factor
-        power *= 10
-    return power
 
 
 # The picture of a trace
@@ -351,7 +176,7 @@ def trace_height(trace: Trace, view: View = View()) -> float:
 
 def save_trace(trace: Trace, path: Path, view: View = View(), width: int = 1000, background: str = "none") -> None:
     """Draws a trace into a file, `width` pixels wide; raises FileFault, OSError."""
-    with _settings():
+    with settings():
         names = row_names(trace)
         facts = [_facts(trace, name, view.charge) for name in names]
         left = max(100, *(18 + NAME_LETTER * len(name) for name in names), *(18 + LETTER * len(fact) for fact in facts))
@@ -359,13 +184,13 @@ def save_trace(trace: Trace, path: Path, view: View = View(), width: int = 1000,
             raise FileFault(f"--width has to be at least {math.ceil(left + 220)}")
         high = trace_height(trace, view) + TICKS
         above = 30 + LINE * len(_energy_lines(trace, width - left - 20))
-        figure = _figure(width, above + high + 26)
+        figure = new_figure(width, above + high + 26)
         axes = figure.add_axes((left / width, 0, 1 - (left + 20) / width, 1))
         plot_trace(trace, axes, view)
         below = 26 + 15 * _legend_rows(axes)
         figure.set_size_inches(width * PIXEL, (above + high + below) * PIXEL)
         axes.set_position((left / width, below / (above + high + below), 1 - (left + 20) / width, high / (above + high + below)))
-        _save(figure, path, background)
+        save(figure, path, background)
 
 
 def _draw_frame(trace: Trace, axes: "Axes", frame: _Frame) -> None:
@@ -400,22 +225,6 @@ def _energy_lines(trace: Trace, width: float) -> list[str]:
         else:
             lines[-1] += f" {part}"
     return lines
-
-
-def readable(number: int) -> str:
-    """A whole number; one of seven digits or more is rounded to six, with a power of ten.
-
-    >>> readable(999999), readable(364000000000)
-    ('999999', '3.64 × 10¹¹')
-    """
-    if number < 10**6:
-        return str(number)
-    power = len(str(number)) - 1
-    digits = decimal(Fraction(number, 10**power), 5)
-    if digits.startswith("10."):
-        power, digits = power + 1, "1.00000"
-    raised = str(power).translate(str.maketrans("0123456789", "⁰¹²³⁴⁵⁶⁷⁸⁹"))
-    return f"{digits.rstrip('0').rstrip('.')} × 10{raised}"
 
 
 def _facts(trace: Trace, name: str, charge: int) -> str:
@@ -575,15 +384,6 @@ def _draw_decisions(trace: Trace, axes: "Axes", frame: _Frame) -> None:
                   markersize=(4.4 if marker == "o" else 7) * POINT, markeredgewidth=0, zorder=2.7, clip_on=False, gid=name)
 
 
-def short(number: Fraction) -> str:
-    """A number with at most two decimals.
-
-    >>> short(Fraction(836, 280)), short(Fraction(15))
-    ('2.99', '15')
-    """
-    return decimal(number, 2).rstrip("0").rstrip(".")
-
-
 def _draw_legend(trace: Trace, axes: "Axes", frame: _Frame, has_idle: bool) -> None:
     from matplotlib.patches import Patch
 
@@ -600,7 +400,7 @@ def _draw_legend(trace: Trace, axes: "Axes", frame: _Frame, has_idle: bool) -> N
     if any(len(thin(ticks, NEAR / frame.scale)) < len(ticks) for ticks in releases(trace).values()):
         handles.append(_sign(f"near marks (less than {NEAR} pixels) once", "none", ""))
     longest = max(len(handle.get_label()) for handle in handles)
-    columns = max(1, int((frame.ticks[1] - frame.view.first) * frame.scale / (longest * LETTER + 36)))
+    columns = max(1, int((frame.ticks[1] - frame.view.first) * frame.scale / (longest * 5.5 + 38)))
     axes.legend(handles=handles, loc="upper left", bbox_to_anchor=(0, -20 / (frame.ceiling + TICKS)), borderaxespad=0,
                 frameon=False, fontsize=SMALL, labelcolor=INK, ncol=columns, handlelength=1.5, columnspacing=1.5,
                 handletextpad=0.5, borderpad=0)
@@ -608,7 +408,7 @@ def _draw_legend(trace: Trace, axes: "Axes", frame: _Frame, has_idle: bool) -> N
 
 def _legend_rows(axes: "Axes") -> int:
     legend = axes.get_legend()
-    return math.ceil(len(legend.get_texts()) / legend._ncols)
+    return -(-len(legend.get_texts()) // int(legend._ncols))
 
 
 def _sign(label: str, colour: str, marker: object, **style: Any) -> Any:
@@ -616,223 +416,6 @@ def _sign(label: str, colour: str, marker: object, **style: Any) -> Any:
 
     return Line2D([], [], color=colour, label=label, **{"linestyle": "none", "marker": marker, "markersize": 5 * POINT,
                                                            "fillstyle": "full" if marker == "o" else "none", **style})
-
-
-# The picture of a comparison
-
-
-ENERGY, BOUND, TIME = "#d55e00", "#009e73", "#0072b2"
-
-
-def plot_compare(rows: Sequence[Row], energy: "Axes", time: "Axes") -> None:
-    """Draws a comparison into two axes: each energy as a share of EDF with `none`, and the time at each speed.
-
-    A mark is at the bound for the row's units. A pair that is denied has its line in place of a bar.
-    """
-    for axes in (energy, time):
-        axes.set_xlim(0, 1)
-        axes.set_ylim(len(rows) - 0.5, -0.5)
-        _plain_axes(axes)
-        axes.set_xticks([0, 0.25, 0.5, 0.75, 1], ["0.00", "0.25", "0.50", "0.75", "1.00"], fontsize=SMALL)
-        axes.set_yticks([])
-    energy.set_yticks(range(len(rows)), [f"{row.scheduler.upper()} {row.governor}" for row in rows], fontsize=TEXT)
-    energy.set_title("energy, as a share of EDF none; the mark is the bound", loc="left", fontsize=SMALL, color=INK)
-    time.set_title("time at speed", loc="left", fontsize=SMALL, color=INK)
-    speeds = sorted({speed for row in rows if row.result for speed in row.result.residency})
-    shades = {speed: 0.7 if len(speeds) == 1 else 0.3 + 0.6 * place / (len(speeds) - 1) for place, speed in enumerate(speeds)}
-    for place, row in enumerate(rows):
-        _draw_energy(energy, place, row)
-        _draw_times(time, place, row, shades)
-    _draw_shades(time, shades)
-
-
-def save_compare(rows: Sequence[Row], path: Path, background: str = "none") -> None:
-    """Draws a comparison into a file; raises OSError."""
-    with _settings():
-        high = 24 * len(rows) + 70
-        figure = _figure(810, high)
-        low, tall = 30 / high, 24 * len(rows) / high
-        plot_compare(rows, figure.add_axes((90 / 810, low, 300 / 810, tall)), figure.add_axes((480 / 810, low, 300 / 810, tall)))
-        _save(figure, path, background)
-
-
-def _plain_axes(axes: "Axes") -> None:
-    axes.set_facecolor("none")
-    axes.tick_params(length=0, colors=INK)
-    axes.grid(axis="x", color=INK, alpha=0.35, linewidth=POINT)
-    axes.set_axisbelow(True)
-    for spine in axes.spines.values():
-        spine.set_visible(False)
-
-
-def _draw_energy(axes: "Axes", place: int, row: Row) -> None:
-    if row.result is None or row.result.share is None:
-        axes.text(0.02, place, row.refusal or "no share", va="center", fontsize=SMALL, color=INK)
-        return
-    share = row.result.share
-    axes.barh(place, float(share), height=2 / 3, color=ENERGY, alpha=0.75, gid=f"energy-{row.scheduler}-{row.governor}")
-    axes.text(float(share) + 0.013, place, decimal(share, 3), va="center", fontsize=SMALL, color=INK)
-    if row.result.above_bound is not None:
-        bound = float(share / (1 + row.result.above_bound))
-        axes.vlines(bound, place - 0.42, place + 0.42, color=BOUND, linewidth=3 * POINT, zorder=3,
-                    gid=f"bound-{row.scheduler}-{row.governor}")
-
-
-def _draw_times(axes: "Axes", place: int, row: Row, shades: Mapping[int, float]) -> None:
-    begin = Fraction(0)
-    for speed in shades:
-        time = row.result.residency.get(speed, Fraction(0)) if row.result else Fraction(0)
-        if time:
-            axes.barh(place, float(time), left=float(begin), height=2 / 3, color=TIME, alpha=shades[speed], linewidth=0)
-        begin += time
-
-
-def _draw_shades(axes: "Axes", shades: Mapping[int, float]) -> None:
-    from matplotlib.patches import Patch
-
-    axes.legend(handles=[Patch(color=TIME, alpha=shade, linewidth=0, label=str(speed)) for speed, shade in shades.items()],
-                loc="lower right", bbox_to_anchor=(1, 1), ncol=max(1, len(shades)), frameon=False, fontsize=SMALL,
-                labelcolor=INK, handlelength=1, columnspacing=1, borderpad=0)
-
-
-# The pictures of the evaluation
-
-
-@dataclass(frozen=True, slots=True)
-class Mean:
-    """A point of a figure: the number of sets; their mean energy and the bounds of the middle 80 %, () without sets."""
-
-    panel: str
-    curve: str
-    utilisation: Fraction
-    sets: int
-    energies: tuple[Fraction, ...]
-
-
-def parse_means(text: str) -> tuple[Mean, ...]:
-    r"""The points of a table of the evaluation, with tabs between its columns; raises FileFault.
-
-    >>> parse_means("panel\tcurve\tutilisation\tsets\tmean\tlow\thigh\n5 tasks\tbound\t0.1\t100\t0.5\t0.4\t0.6\n")[0].sets
-    100
-    """
-    rows = list(csv.reader(text.splitlines(), delimiter="\t"))
-    if rows[:1] != [["panel", "curve", "utilisation", "sets", "mean", "low", "high"]]:
-        raise FileFault("table: wrong header")
-    try:
-        return tuple(Mean(panel, curve, Fraction(utilisation), int(sets), tuple(map(Fraction, filter(None, energies))))
-                     for panel, curve, utilisation, sets, *energies in rows[1:])
-    except (ValueError, ZeroDivisionError):
-        raise FileFault("table: a row isn't a point") from None
-
-
-# The curves: colour, marker, whether dashed, and pixels to the right, so that bars don't hide each other.
-CURVES = {
-    "bound": (INK, "", True, 0),
-    "edf static": (TIME, "o", False, -2),
-    "rm static": (TIME, "o", True, 4),
-    "edf cc": (ENERGY, "s", False, 0),
-    "rm cc": (ENERGY, "s", True, 6),
-    "edf la": (BOUND, "D", False, 2),
-}
-
-
-def plot_means(means: Sequence[Mean], axes: "Axes") -> None:
-    """Draws a panel of the evaluation: mean energies over utilisation, the middle 80 % as bars, the sets that RM admits.
-
-    A curve has no point if fewer than a tenth of the sets are admitted.
-    """
-    axes.set_xlim(0, 1.03)
-    axes.set_ylim(0, 1)
-    _plain_axes(axes)
-    axes.grid(axis="x", visible=False)
-    axes.grid(axis="y", color=INK, alpha=0.35, linewidth=POINT)
-    admitted = {mean.utilisation: mean.sets for mean in means if mean.curve == "rm none"}
-    tenths = [Fraction(place, 10) for place in range(1, 11)]
-    axes.set_xticks([float(tenth) for tenth in tenths],
-                    [f"{decimal(tenth, 1)}\n{admitted.get(tenth, 0)}" for tenth in tenths], fontsize=SMALL)
-    axes.set_yticks([0, 0.2, 0.4, 0.6, 0.8, 1], ["0.0", "0.2", "0.4", "0.6", "0.8", "1.0"], fontsize=SMALL)
-    axes.annotate("RM", (0, 0), xytext=(-6 * POINT, -27 * POINT), textcoords="offset points", ha="right", fontsize=SMALL,
-                  color=INK, annotation_clip=False)
-    axes.set_title(means[0].panel if means else "", fontsize=TEXT, color=INK)
-    axes.hlines(1, 0.1, 1, color=INK, linewidth=1.5 * POINT, clip_on=False)
-    all_sets = {mean.utilisation: mean.sets for mean in means if mean.curve == "edf none"}
-    for curve in CURVES:
-        _draw_curve(axes, curve, [mean for mean in means if mean.curve == curve and mean.energies
-                                  and 10 * mean.sets >= all_sets.get(mean.utilisation, 0)])
-
-
-def _draw_curve(axes: "Axes", curve: str, means: Sequence[Mean]) -> None:
-    colour, _, _, shift = CURVES[curve]
-    width = axes.get_position().width * axes.figure.get_figwidth() / PIXEL / 1.03
-    places = [float(mean.utilisation) + shift / width for mean in means]
-    spread = [(place, mean) for place, mean in zip(places, means)
-              if curve != "bound" and mean.energies[2] - mean.energies[1] >= Fraction(1, 230)]
-    axes.vlines([place for place, _ in spread], [float(mean.energies[1]) for _, mean in spread],
-                [float(mean.energies[2]) for _, mean in spread], color=colour, alpha=0.75, linewidth=1.2 * POINT, clip_on=False)
-    axes.plot(places, [float(mean.energies[0]) for mean in means], clip_on=False, gid=curve.replace(" ", "-"),
-              **_style(curve), color=colour)
-
-
-def _style(curve: str) -> dict[str, Any]:
-    colour, marker, is_dashed, _ = CURVES[curve]
-    dashes = (0, (1, 1.5)) if curve == "bound" else (0, (3, 2)) if is_dashed else "-"
-    return {"linestyle": dashes, "linewidth": (2 if curve == "bound" else 1.6) * POINT, "marker": marker,
-            "markersize": 7 * POINT, "markerfacecolor": "none" if is_dashed else colour, "markeredgecolor": colour,
-            "markeredgewidth": 1.6 * POINT}
-
-
-def save_means(means: Sequence[Mean], path: Path, columns: int = 3, background: str = "none") -> None:
-    """Draws a figure of the evaluation into a file, a panel for each of its panels; raises OSError."""
-    with _settings():
-        panels = list(dict.fromkeys(mean.panel for mean in means))
-        wide, rows = 44 + columns * 314, -(-len(panels) // columns)
-        high = 52 + rows * 300 + (40 if columns < 3 else 20)
-        figure = _figure(wide, high)
-        for place, panel in enumerate(panels):
-            left, top = 44 + place % columns * 314, 52 + place // columns * 300
-            axes = figure.add_axes((left / wide, 1 - (top + 230) / high, 270 / wide, 230 / high))
-            plot_means([mean for mean in means if mean.panel == panel], axes)
-        figure.text(14 / wide, 1 - 16 / high, "energy, as a share of EDF with none, over worst-case utilisation; "
-                    "numbers at RM: sets that it admits", fontsize=SMALL, color=INK)
-        _draw_curve_legend(figure, columns)
-        _save(figure, path, background)
-
-
-def _draw_curve_legend(figure: "Figure", columns: int) -> None:
-    from matplotlib.lines import Line2D
-
-    shown = [Line2D([], [], color=INK, linewidth=1.5 * POINT, label="none")]
-    shown += [Line2D([], [], color=CURVES[curve][0], label=curve.replace("edf", "EDF").replace("rm", "RM"), **_style(curve))
-              for curve in CURVES]
-    figure.legend(handles=shown, loc="lower left", ncol=4 if columns < 3 else 7, frameon=False, fontsize=SMALL,
-                  labelcolor=INK, handlelength=3, borderaxespad=0.3)
-
-
-# Files
-
-
-def _settings() -> Any:
-    """matplotlib's own settings, whatever the user's are: texts as texts, and the same bytes for the same picture."""
-    import matplotlib
-
-    own = {"svg.hashsalt": "rtdvs", "svg.fonttype": "none", "pdf.fonttype": 42, "axes.formatter.use_locale": False}
-    kept = {key: value for key, value in matplotlib.rcParamsDefault.items() if key not in ("backend", "interactive", "toolbar")}
-    return matplotlib.rc_context({**kept, **own})
-
-
-def _figure(width: float, height: float) -> "Figure":
-    from matplotlib.figure import Figure
-
-    return Figure(figsize=(width * PIXEL, height * PIXEL), dpi=96)
-
-
-def _save(figure: "Figure", path: Path, background: str) -> None:
-    kind = path.suffix.lower().lstrip(".")
-    undated: dict[str, dict[str, None]] = {
-        "svg": {"Date": None, "Creator": None}, "pdf": {"CreationDate": None}, "png": {"Software": None}}
-    if kind not in undated:
-        raise FileFault(f"a picture is a file .svg, .pdf or .png, and not {path.name}")
-    figure.savefig(path, format=kind, facecolor=background, dpi=96 if kind == "svg" else 192, metadata=undated[kind])
 
 
 # The command
