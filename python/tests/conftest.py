@@ -1,5 +1,6 @@
-"""What all tests share: the program, the example folder and hypothesis' profile."""
+"""What all tests share: the locale, the program, the example folder and hypothesis' profile."""
 
+import locale
 import os
 from pathlib import Path
 
@@ -8,6 +9,9 @@ from hypothesis import HealthCheck, settings
 
 from rtdvs.engine import Engine
 
+# Libraries print numbers as the environment asks, be it with a decimal comma; the system's messages stay English.
+locale.setlocale(locale.LC_ALL, "")
+locale.setlocale(locale.LC_MESSAGES, "C")
 TOP = Path(__file__).resolve().parents[2]
 
 settings.register_profile("gate", derandomize=True, deadline=None, max_examples=30, database=None,

@@ -117,7 +117,7 @@ PARSERS = (parse_admitted, parse_least, parse_polled, parse_replayed, parse_resp
 
 
 @pytest.mark.parametrize("parse", PARSERS)
-@pytest.mark.parametrize("text", ["x", "admitted edf 1/2 3", "least 1 2\n", "polled 1 2\n", "response a 01\n"])
+@pytest.mark.parametrize("text", ["x", "admitted edf 1/2 3", "least 1\n", "polled 1 2\n", "response a 01\n"])
 def test_texts_that_no_program_prints(parse: Callable[[str], object], text: str) -> None:
     with pytest.raises(Crashed, match="an unknown answer"):
         parse(text)
@@ -373,7 +373,7 @@ def test_answers_on_mpi(echo: Engine, tmp_path: Path) -> None:
     allowed = ("ALLOW_RUN_AS_ROOT", "ALLOW_RUN_AS_ROOT_CONFIRM", "MCA_rmaps_base_oversubscribe")
     variables = {f"OMPI_{name}": "1" for name in allowed}
     variables["PYTHONPATH"] = str(Path(engine_module.__file__).parents[1])
-    ran = subprocess.run(words, cwd=tmp_path, env=os.environ | variables, capture_output=True, text=True, timeout=120)
+    ran = subprocess.run(words, cwd=tmp_path, env=os.environ | variables, capture_output=True, text=True)
     assert ran.stdout.split() == [str(seed) for seed in range(12)], ran.stderr
 
 

@@ -2,28 +2,29 @@
 
 import argparse
 import importlib
+import importlib.util
 import os
 import sys
 from collections.abc import Sequence
+from types import ModuleType
 
 from rtdvs.engine import EngineError
 
-COMMANDS = (
+_NAMES = (
     "explain", "simulate", "statistics", "compare", "sensitivity", "generate", "evaluate", "paper_table",
     "design", "plot", "convert",
+)
+COMMANDS: tuple[ModuleType, ...] = tuple(
+    importlib.import_module(f"rtdvs.{name}") for name in _NAMES if importlib.util.find_spec(f"rtdvs.{name}")
 )
 
 
 def parser() -> argparse.ArgumentParser:
     """The parser of all commands."""
     top = argparse.ArgumentParser(prog="python3 -m rtdvs", description=__doc__)
-    commands = top.add_subparsers(metavar="COMMAND", required=True)
-    for name in COMMANDS:
-        try:
-            importlib.import_module(f"rtdvs.{name}").add_command(commands)
-        except ModuleNotFoundError as missing:
-            if missing.name != f"rtdvs.{name}":
-                raise
+    commands = top.add_subparsers(title="commands", metavar="COMMAND", required=True)
+    for module in COMMANDS:
+        module.add_command(commands)
     return top
 
 
