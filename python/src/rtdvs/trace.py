@@ -188,7 +188,7 @@ _SHAPES = {  # of the fields of a line
     "number": f"(0|{_up_to(2**64 - 1)})",
     "counted": f"({_up_to(2**64 - 1)})",
     "energy": f"(0|{_up_to(2**128 - 1)})",
-    "fraction": f"(0|{_up_to(2**128 - 1)})/({_up_to(2**128 - 1)})",
+    "fraction": f"(0|{_up_to(2**128 - 1)})/(0|{_up_to(2**128 - 1)})",
     "position": f"(0|{_up_to(2**64 - 1)}):(0|{_up_to(2**64 - 1)})",
     "name": "([A-Za-z0-9_-]{1,32})",
     "ticks": f"({_up_to(MOST_TICKS)})",
@@ -237,7 +237,7 @@ _PLAN = _shape("plan", "scheduler", "name", "ticks")
 _ITEMS: dict[str, tuple[re.Pattern[str], Callable[..., Item]]] = {
     "task": (_shape("task", "name", "counted", "number", "counted"), _task),
     "release": (_shape("release", "number", "name", "number"), _release),
-    "speed": (_shape("speed", "number", "counted", "fraction"), _decision),
+    "speed": (_shape("speed", "number", "number", "fraction"), _decision),
     "run": (_shape("run", "position", "position", "name", "number", "number", "energy"), _run),
     "idle": (_shape("idle", "position", "position", "number", "energy"), _idle),
     "done": (_shape("done", "position", "name", "number", "number"), _done),
@@ -343,7 +343,7 @@ class Order:
             return "a line between the energy lines and the end line"
         if isinstance(note, Decision):
             self.decided = True
-            return None
+            return None if note.speed and note.den else "a speed of 0, or a fraction over 0"
         if not self.decided and (isinstance(note, (Run, Idle)) or isinstance(note, Done) and note.at.offset):
             return "there is no decision before it"
         if self.version == 1 or isinstance(note, Idle):
