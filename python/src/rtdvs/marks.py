@@ -122,22 +122,28 @@ def thin(places: Iterable[float], near: float) -> list[float]:
 def join_narrow(row: Iterable[Bar], narrow: float, gap: float) -> Iterator[Bar]:
     """Bars in order; narrow ones at one speed and with smaller gaps than that as one.
 
+    Bars that together are no wider than two gaps are one as well, as high as the highest.
+
     >>> list(join_narrow([Bar(0, 1, 3), Bar(1, 2, 3), Bar(2, 9, 3)], 2, 0.5))
     [Bar(begin=0, end=2, speed=3), Bar(begin=2, end=9, speed=3)]
     """
     last: Bar | None = None
     for bar in row:
+        if bar.end - bar.begin < narrow and last is not None and _are_one(last, bar, gap):
+            last = Bar(last.begin, bar.end, max(last.speed, bar.speed))
+            continue
+        if last is not None:
+            yield last
+        last = bar
         if bar.end - bar.begin >= narrow:
-            yield from (bar for bar in (last, bar) if bar is not None)
+            yield bar
             last = None
-        elif last is not None and last.speed == bar.speed and bar.begin - last.end <= gap:
-            last = Bar(last.begin, bar.end, bar.speed)
-        else:
-            if last is not None:
-                yield last
-            last = bar
     if last is not None:
         yield last
+
+
+def _are_one(last: Bar, bar: Bar, gap: float) -> bool:
+    return last.speed == bar.speed and bar.begin - last.end <= gap or bar.end - last.begin <= 2 * gap
 
 
 def steps(values: Iterable[tuple[float, float, float]], gap: float) -> list[tuple[float, float]]:
