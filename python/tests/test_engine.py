@@ -179,7 +179,7 @@ def test_unknown_statuses(status: int) -> None:
         Answer(status, b"", b"no\n").text()
 
 
-def test_refusals_of_the_program(engine: Engine, tmp_path: Path) -> None:
+def test_refusals_of_the_program(engine: Engine, data: Path, tmp_path: Path) -> None:
     with pytest.raises(Denied, match="denied edf"):
         engine.admit(TaskSet((Task("a", 1, 5),)), FAST, "edf")
     with pytest.raises(WordsRefused, match="rm has no governor la"):
@@ -194,8 +194,8 @@ def test_refusals_of_the_program(engine: Engine, tmp_path: Path) -> None:
         engine.run(PAPER, FAST, "edf", "none", 2**40)
     with pytest.raises(OverWorst):
         engine.run(PAPER, FAST, "edf", "none", 16, Demands({("t1", 1): 13}))
-    with pytest.raises(Differs, match="differs: line 3\nwanted: task t1 8 0 12\nfound: task t1 8 0 11"):
-        trace = engine.run(PAPER, FAST, "edf", "none", 16).replace("task t1 8 0 12", "task t1 8 0 11")
+    trace = (data / "paper" / "edf_la_with_demands.trace").read_text().replace("speed 3 2", "speed 3 3")
+    with pytest.raises(Differs, match="differs: line 10\nwanted: speed 3 2 8/5\nfound: speed 3 3 8/5"):
         engine.replay(PAPER, FAST, trace)
 
 
@@ -342,12 +342,10 @@ def test_errors_on_executors(tmp_path: Path) -> None:
         list(Engine(tmp_path / "absent").answers(calls(), executor))
 
 
-def test_answers_on_dask(echo: Engine) -> None:
+def test_answers_on_dask(echo: Engine, tmp_path: Path) -> None:
     distributed = pytest.importorskip("distributed")
-    with (
-        distributed.LocalCluster(n_workers=1, processes=False, dashboard_address=None) as cluster,
-        distributed.Client(cluster) as client,
-    ):
+    options = {"n_workers": 1, "processes": False, "dashboard_address": ":0", "local_directory": str(tmp_path)}
+    with distributed.LocalCluster(**options) as cluster, distributed.Client(cluster) as client:
         assert seeds(echo.answers(calls(), client.get_executor())) == [*range(12)]
 
 
@@ -372,8 +370,8 @@ def test_answers_on_mpi(echo: Engine, tmp_path: Path) -> None:
     words = ["mpiexec", "-n", "2", sys.executable, "-m", "mpi4py.futures", "sweep.py", str(echo.program)]
     allowed = ("ALLOW_RUN_AS_ROOT", "ALLOW_RUN_AS_ROOT_CONFIRM", "MCA_rmaps_base_oversubscribe")
     variables = {f"OMPI_{name}": "1" for name in allowed}
-    variables["PYTHONPATH"] = str(Path(engine_module.__file__).parents[1])
-    ran = subprocess.run(words, cwd=tmp_path, env=os.environ | variables, capture_output=True, text=True)
+    environment = os.environ | variables | {"PYTHONPATH": str(Path(engine_module.__file__).parents[1])}
+    ran = subprocess.run(words, cwd=tmp_path, env=environment, capture_output=True, text=True, timeout=300)
     assert ran.stdout.split() == [str(seed) for seed in range(12)], ran.stderr
 
 

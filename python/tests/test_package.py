@@ -14,11 +14,11 @@ import rtdvs
 SOURCE = Path(rtdvs.__file__).parent
 MODULES = sorted(SOURCE.glob("*.py"))
 LAYERS = [
-    {"files", "errors"},
+    {"files", "errors", "decimals"},
     {"engine"},
     {"trace"},
     {"rules", "explain", "simulate", "commandline"},
-    {"statistics", "compare", "sensitivity", "generate", "evaluate", "paper_table"},
+    {"statistics", "compare", "sensitivity", "draws", "generate", "evaluate", "paper_table"},
     {"design", "device_tree"},
     {"plot", "convert"},
     {"cli", "__init__", "__main__"},

@@ -59,7 +59,8 @@ def _handled(words: Sequence[str] | None) -> int:
     try:
         top = parser()
         args = top.parse_args(words)
-        if sum(isinstance(value, bytes) for value in vars(args).values()) > 1:
+        lists = (value if isinstance(value, list) else [value] for value in vars(args).values())
+        if sum(isinstance(value, bytes) for values in lists for value in values) > 1:
             top.error("only one file can be standard input")
         return int(args.handler(args))
     except SystemExit as end:
