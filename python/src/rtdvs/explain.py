@@ -266,7 +266,9 @@ class Walk:
                     wanted = list(self.tasks)[::-1] if item.version == 2 else []
                 elif wanted:
                     _same_task(item, wanted)
-                elif not isinstance(item, Task):
+                elif isinstance(item, Task):
+                    raise Wrong(f"the task {item.name} is not in the task file")
+                else:
                     _check(checker, item)
                 fault = order.fault(item)
                 if fault:

@@ -9,6 +9,7 @@ from collections.abc import Callable, Mapping
 from dataclasses import dataclass, field
 from fractions import Fraction
 from functools import cached_property
+from operator import mul
 
 from rtdvs.files import FileFault, Machine, Point, Task, TaskSet
 from rtdvs.trace import Decision, Done, End, Idle, Note, Release, Run, TaskEnergy
@@ -140,8 +141,9 @@ class State:
     """What has happened in a run up to a position: a tick, and the units of it that have passed.
 
     A governor may read all of it. `jobs` are in the order of the file; `deadlines` and `open` are sorted, the next
-    deadline and the job of the highest priority first, each with the place of its task. `handed` are the jobs that
-    were open at tick `handed_at`, the last one with releases, and what each might need there.
+    deadline and the job of the highest priority first, each with the place of its task. `charged` are the worst cases
+    of open jobs, and what complete ones had. `handed` are the jobs that were open at tick `handed_at`, the last one
+    with releases, and what each might need there.
     """
 
     plan: Plan
@@ -151,6 +153,7 @@ class State:
     point: Point | None = None
     deadlines: list[tuple[int, int]] = field(default_factory=list)
     open: list[tuple[int, int]] = field(default_factory=list)
+    charged: list[int] = field(default_factory=list)
     decided: int = -1
     released: int = -1
     seen: int = -1
@@ -166,7 +169,7 @@ class State:
         """
         worsts = plan.worsts
         jobs = [Latest(task, place, worsts[place], task.offset) for place, task in enumerate(plan.tasks)]
-        return cls(plan, jobs, deadlines=sorted((job.due, job.place) for job in jobs))
+        return cls(plan, jobs, deadlines=sorted((job.due, job.place) for job in jobs), charged=[0] * len(jobs))
 
     @property
     def first_deadline(self) -> int:
@@ -190,6 +193,7 @@ class State:
     def release(self, job: Latest) -> None:
         """Releases the next job of a task, whose deadline is the first of all."""
         job.number, job.due, job.used, job.complete = job.number + 1, job.due + job.task.period, 0, False
+        self.charged[job.place] = job.worst
         self.deadlines.pop(0)
         insort(self.deadlines, (job.due, job.place))
         insort(self.open, self.priority(job))
@@ -213,6 +217,7 @@ class State:
         """Marks an open job as complete; a governor sees it at this tick, or at the next one if this has begun."""
         self.open.remove(self.priority(job))
         job.complete = True
+        self.charged[job.place] = job.used
         self.seen = self.now + (self.behind > 0)
 
 
@@ -234,8 +239,7 @@ def static(state: State) -> Demand:
 def edf_cycle(state: State) -> Demand:
     """`cc` under EDF: open jobs count by their worst cases, complete ones by what they had."""
     plan = state.plan
-    charged = [job.used if job.complete else job.worst for job in state.jobs]
-    return sum(map(int.__mul__, charged, plan.weights)), plan.hyperperiod
+    return sum(map(mul, state.charged, plan.weights)), plan.hyperperiod
 
 
 def rm_cycle(state: State) -> Demand:
@@ -254,19 +258,20 @@ def rm_cycle(state: State) -> Demand:
 
 def edf_ahead(state: State) -> Demand:
     """`la` under EDF: what can't be put off past the earliest deadline."""
-    plan, first = state.plan, state.first_deadline
+    plan, first, jobs, rates = state.plan, state.first_deadline, state.jobs, state.plan.rates
     hyper, most = plan.hyperperiod, plan.machine.top_speed * plan.hyperperiod
     kept, before = plan.rate, 0
     for due, place in reversed(state.deadlines):
-        job, span = state.jobs[place], due - first
+        job, span = jobs[place], due - first
         if span == 0:
             before += job.left
             continue
-        kept -= plan.rates[place]
+        kept -= rates[place]
         if not job.complete:
             left = job.worst - job.used
-            put_off = min(left, (most - kept) * span // hyper)
-            kept += ceiling(put_off * hyper, span)
+            room = (most - kept) * span // hyper
+            put_off = left if left < room else room
+            kept -= -put_off * hyper // span  # the rate, rounded up
             before += left - put_off
     return before, first - state.now
 
@@ -444,24 +449,23 @@ class Checker:
             raise Wrong(f"the decision at tick {state.now} is missing")
         return state.point
 
-    def _span_end(self) -> tuple[int, str]:
-        """The tick up to which nothing changes, and what comes there."""
-        ends = [(self.state.first_deadline, "a release"), (self.ticks, "the end")]
-        if self.governor is not None and self.state.seen > self.state.now:
-            ends.append((self.state.seen, "a decision"))
-        return min(ends)
+    def _span_end(self) -> int:
+        """The tick up to which nothing changes: a release, the end, or the decision after a completion."""
+        state, end = self.state, min(self.state.first_deadline, self.ticks)
+        return state.seen if self.governor is not None and state.now < state.seen < end else end
 
     def _segment(self, note: Run | Idle, speed: int) -> int:
         """Checks the place of a segment, and moves to its end; the units that there are for it."""
-        state, units = self.state, note.units
-        if note.begin.tick != state.now or note.begin.offset != state.behind:
+        state, units, begin, end = self.state, note.units, note.begin, note.end
+        if begin.tick != state.now or begin.offset != state.behind:
             raise Wrong(f"the trace is at {self._place()}")
-        tick, why = self._span_end()
+        tick = self._span_end()
         room = (tick - state.now) * speed - state.behind
         if not 1 <= units <= room:
-            raise Wrong(f"{units} units: at speed {speed} there are {room} up to {why} at tick {tick}")
+            last = "a release" if tick == state.first_deadline else "the end" if tick == self.ticks else "a decision"
+            raise Wrong(f"{units} units: at speed {speed} there are {room} up to {last} at tick {tick}")
         state.advance(units, speed)
-        if note.end.tick != state.now or note.end.offset != state.behind:
+        if end.tick != state.now or end.offset != state.behind:
             raise Wrong(f"{units} units at speed {speed} end at {self._place()}")
         return room
 

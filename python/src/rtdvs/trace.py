@@ -244,38 +244,25 @@ _ITEMS: dict[str, tuple[re.Pattern[str], Callable[..., Item]]] = {
     "energy": (_shape("energy", "name", "energy"), _task_energy),
     "end": (_shape("end", "number", "energy", "energy"), _end),
 }
+_NONE = re.compile("(?!)"), _end  # a pattern that nothing matches
 
 
-def _numbered(lines: Iterable[str]) -> Iterator[tuple[int, str]]:
-    """The lines with their numbers; each is short enough and has its line feed."""
-    for number, line in enumerate(lines, 1):
-        if len(line) > MOST_BYTES and len(line.rstrip("\n")) > MOST_BYTES:
-            raise TraceFault(number, f"it has more than {MOST_BYTES} bytes")
-        if line[-1:] != "\n":
-            raise TraceFault(number, "it doesn't end with a line feed")
-        if number > MOST_LINES:
-            raise TraceFault(number, f"a trace has at most {MOST_LINES} lines")
-        yield number, line
-
-
-def _head(numbered: Iterator[tuple[int, str]]) -> Head:
-    number, line = next(numbered, (1, ""))
+def _head(lines: Iterator[str]) -> Head:
+    line = next(lines, "")
     if line not in ("trace 1\n", "trace 2\n"):
-        raise TraceFault(number, "neither trace 1 nor trace 2")
-    version = int(line[6])
-    number, line = next(numbered, (2, ""))
-    found = _PLAN.fullmatch(line)
+        raise TraceFault(1, "neither trace 1 nor trace 2")
+    plan = next(lines, "")
+    found = _PLAN.fullmatch(plan)
     if not found:
-        raise TraceFault(number, "not a plan line")
-    return Head(version, found[1], found[2], int(found[3]))
+        raise TraceFault(2, _misspelled(plan, "not a plan line"))
+    return Head(int(line[6]), found[1], found[2], int(found[3]))
 
 
-def _item(number: int, line: str) -> Item:
-    shape, make = _ITEMS.get(line[:line.find(" ")], (None, None))
-    found = shape and shape.fullmatch(line)
-    if not found or not make:
-        raise TraceFault(number, "not a line of a trace")
-    return make(*found.groups())
+def _misspelled(line: str, reason: str) -> str:
+    """Why a line is none of a trace: a general reason, if there is one."""
+    if len(line.rstrip("\n")) > MOST_BYTES:
+        return f"it has more than {MOST_BYTES} bytes"
+    return reason if line.endswith("\n") else "it doesn't end with a line feed"
 
 
 def spelled_lines(lines: Iterable[str]) -> Iterator[Item]:
@@ -286,16 +273,19 @@ def spelled_lines(lines: Iterable[str]) -> Iterator[Item]:
     >>> list(spelled_lines(["trace 1\n", "plan edf mine 2\n", "end 2 0 0\n"]))[1]
     End(ticks=2, run_energy=0, idle_energy=0)
     """
-    numbered = _numbered(lines)
-    yield _head(numbered)
-    number, ended = 2, False
-    for number, line in numbered:
-        if ended:
+    source, number, item = iter(lines), 2, None
+    yield _head(source)
+    for number, line in enumerate(source, 3):
+        if isinstance(item, End):
             raise TraceFault(number, "a line after the end line")
-        item = _item(number, line)
+        shape, make = _ITEMS.get(line[:line.find(" ")], _NONE)
+        found = shape.fullmatch(line)
+        if not found or number > MOST_LINES:
+            more = f"a trace has at most {MOST_LINES} lines"
+            raise TraceFault(number, more if found else _misspelled(line, "not a line of a trace"))
+        item = make(*found.groups())
         yield item
-        ended = isinstance(item, End)
-    if not ended:
+    if not isinstance(item, End):
         raise TraceFault(number + 1, "the trace ends before its end line")
 
 
