@@ -11,7 +11,7 @@ from hypothesis import strategies as st
 
 from rtdvs.cli import main
 from rtdvs.compare import PAIRS, Result, compare, table
-from rtdvs.engine import Denied, Engine, LoadFailed, TooManyJobs
+from rtdvs.engine import Denied, Engine, TooManyJobs
 from rtdvs.files import Demands, Machine, Point, Task, TaskSet
 from rtdvs.trace import Trace, TraceFault
 
@@ -20,11 +20,12 @@ def words(text: str) -> list[list[str]]:
     return [line.split() for line in text.strip().splitlines()]
 
 
-# 28 units at 9, 16 and 25 thousand million at speeds 2, 3 and 4; the bound is all of them at 2, 252. The units at each
-# speed, and how long it lasts: none and RM static 28 at 4; EDF static 28 at 3; EDF cc 16 at 3 in 6 ticks; EDF la 9 at 3
-# in 3 ticks; RM cc 12 at 4 in 3 ticks and 10 at 3 in 4. All others run at 2. Completions of the first jobs: at 4 in ticks
-# 2, 3, 4; EDF static 8/3, 4, 16/3; EDF cc 8/3, 4, 6; EDF la 8/3, 9/2, 13/2; RM cc 2, 10/3, 5. The second jobs need one
-# tick at 4, 4/3 at 3 and 2 at 2. So the least laxity is that of the first job of t1, and t3 has the greatest jitter.
+# 28 units at 9, 16 and 25 thousand million at speeds 2, 3 and 4; the bound is all of them at 2, 252. The
+# units at each speed, and how long it lasts: none and RM static 28 at 4; EDF static 28 at 3; EDF cc 16 at 3
+# in 6 ticks; EDF la 9 at 3 in 3 ticks; RM cc 12 at 4 in 3 ticks and 10 at 3 in 4. All others run at 2.
+# Completions of the first jobs: at 4 in ticks 2, 3, 4; EDF static 8/3, 4, 16/3; EDF cc 8/3, 4, 6; EDF la 8/3,
+# 9/2, 13/2; RM cc 2, 10/3, 5. The second jobs need one tick at 4, 4/3 at 3 and 2 at 2. So the least laxity is
+# that of the first job of t1, and t3 has the greatest jitter.
 PAPER = """
 scheduler governor energy of_none above_bound switches idle least_laxity jitter at_2 at_3 at_4
 edf none 700000000000 1.0000 1.7778 0 0.5625 6.0000 3.0000 0.0000 0.0000 1.0000
@@ -36,8 +37,8 @@ rm static 700000000000 1.0000 1.7778 0 0.5625 6.0000 3.0000 0.0000 0.0000 1.0000
 rm cc 514000000000 0.7343 1.0397 6 0.4167 6.0000 3.0000 0.5625 0.2500 0.1875
 """
 
-# At full load every tick runs 2 units, of 10^9 each. In 3 ticks RM has 2 * 2 + 3 units of both tasks. The jobs of x are
-# complete at 1, 7/2 and 5, those of y at 5/2 and 6.
+# At full load every tick runs 2 units, of 10^9 each. In 3 ticks RM has 2 * 2 + 3 units of both tasks. The
+# jobs of x are complete at 1, 7/2 and 5, those of y at 5/2 and 6.
 FULL = """
 scheduler governor energy of_none above_bound switches idle least_laxity jitter at_2
 edf none 12000000000 1.0000 0.0000 0 0.0000 0.0000 0.5000 1.0000
@@ -61,15 +62,17 @@ rm static denied rm x 3 2
 rm cc denied rm x 3 2
 """
 
-# Each second tick runs 999983 units at 399880009000, and the other idles as many at 399880009 * 999. Together 1000 of
-# each cost 999983 * 1000 * 399880009 * 1999.
-LARGE = "scheduler governor energy of_none above_bound switches idle least_laxity jitter at_999983\n" + "".join(
-    f"{scheduler} {governor} 799346548868654153000 1.0000 0.0000 0 0.5000 1.0000 0.0000 1.0000\n"
-    for scheduler, governor in PAIRS)
+# Each second tick runs 999983 units at 399880009000, and the other idles as many at 399880009 * 999. Together
+# 1000 of each cost 999983 * 1000 * 399880009 * 1999.
+LARGE = "\n".join([
+    "scheduler governor energy of_none above_bound switches idle least_laxity jitter at_999983",
+    *(f"{' '.join(pair)} 799346548868654153000 1.0000 0.0000 0 0.5000 1.0000 0.0000 1.0000"
+      for pair in PAIRS)])
 
 # One job of 5 units, in half of the time, at 1210000000 each.
-SMALL = "scheduler governor energy of_none above_bound switches idle least_laxity jitter at_1\n" + "".join(
-    f"{scheduler} {governor} 6050000000 1.0000 0.0000 0 0.5000 5.0000 0.0000 1.0000\n" for scheduler, governor in PAIRS)
+SMALL = "\n".join([
+    "scheduler governor energy of_none above_bound switches idle least_laxity jitter at_1",
+    *(f"{' '.join(pair)} 6050000000 1.0000 0.0000 0 0.5000 5.0000 0.0000 1.0000" for pair in PAIRS)])
 
 
 @pytest.mark.parametrize(("tasks", "machine", "ticks", "wanted"), [
@@ -78,7 +81,8 @@ SMALL = "scheduler governor energy of_none above_bound switches idle least_laxit
     ([(2, 999983)], Machine((Point(999983, 19997),), idle=999), 2000, LARGE),
     ([(10, 5)], Machine((Point(1, 1100),)), 10, SMALL),
 ])
-def test_by_hand(engine: Engine, tasks: list[tuple[int, int]], machine: Machine, ticks: int, wanted: str) -> None:
+def test_by_hand(engine: Engine, tasks: list[tuple[int, int]], machine: Machine, ticks: int,
+                 wanted: str) -> None:
     named = TaskSet(tuple(Task(name, *pair) for name, pair in zip("xy", tasks)))
     assert words(table(compare(engine, named, machine, ticks))) == words(wanted)
 
@@ -122,15 +126,15 @@ def speeds(lines: list[list[str]], ticks: int) -> list[int]:
     return [speed for (tick, speed), end in zip(decisions, ends) for _ in range(tick, end)]
 
 
-def responses(lines: list[list[str]], at: list[int]) -> dict[str, list[tuple[int, Fraction]]]:
-    """By task each complete job's release and response."""
+def responses(lines: list[list[str]], at: list[int]) -> dict[str, list[Fraction]]:
+    """By task each complete job's response."""
     released = {(line[2], line[3]): int(line[1]) for line in lines if line[0] == "release"}
     found = defaultdict(list)
     for line in lines:
         if line[0] == "done":
             tick, offset = map(int, line[1].split(":"))
             release = released[line[2], line[3]]
-            found[line[2]].append((release, tick + (Fraction(offset, at[tick]) if offset else 0) - release))
+            found[line[2]].append(tick + (Fraction(offset, at[tick]) if offset else Fraction(0)) - release)
     return found
 
 
@@ -139,9 +143,11 @@ def recounted(text: str, tasks: TaskSet, machine: Machine, ticks: int, base: int
     lines = words(text)
     at = speeds(lines, ticks)
     square = {point.speed: point.millivolts**2 for point in machine.points}
-    parts = [(line[0], int(line[-2]), at[int(line[1].split(":")[0])]) for line in lines if line[0] in ("run", "idle")]
-    energy = sum(units * square[speed] * (1000 if word == "run" else machine.idle) for word, units, speed in parts)
-    least = bound(machine, sum(units for word, units, _ in parts if word == "run"), ticks)
+    parts = {word: [(int(line[-2]), at[int(line[1].split(":")[0])]) for line in lines if line[0] == word]
+             for word in ("run", "idle")}
+    energy = sum(units * square[speed] * factor for word, factor in (("run", 1000), ("idle", machine.idle))
+                 for units, speed in parts[word])
+    least = bound(machine, sum(units for units, _ in parts["run"]), ticks)
     periods = {task.name: task.period for task in tasks}
     times = responses(lines, at)
     return Result(
@@ -149,9 +155,9 @@ def recounted(text: str, tasks: TaskSet, machine: Machine, ticks: int, base: int
         share=Fraction(energy, base) if base else None,
         above_bound=energy / least - 1 if least else None,
         switches=sum(a != b for a, b in zip(at, at[1:])),
-        idle=sum((Fraction(units, speed) for word, units, speed in parts if word == "idle"), Fraction(0)) / ticks,
-        least_laxity=min((periods[task] - time for task, jobs in times.items() for _, time in jobs), default=None),
-        jitter=max((max(t for _, t in jobs) - min(t for _, t in jobs) for jobs in times.values()), default=None),
+        idle=sum((Fraction(units, speed) for units, speed in parts["idle"]), Fraction(0)) / ticks,
+        least_laxity=min((periods[task] - max(jobs) for task, jobs in times.items()), default=None),
+        jitter=max((max(jobs) - min(jobs) for jobs in times.values()), default=None),
         residency={speed: Fraction(at.count(speed), ticks) for speed in set(at)},
     )
 
@@ -170,7 +176,8 @@ def check(engine: Engine, tasks: TaskSet, machine: Machine, ticks: int, demands:
         assert row.result == recounted(text, tasks, machine, ticks, base)
 
 
-@pytest.mark.parametrize(("example", "ticks"), [("paper", 32), ("ahead", 60), ("offsets", 50), ("controller", 2000)])
+@pytest.mark.parametrize(("example", "ticks"), [
+    ("paper", 32), ("ahead", 60), ("offsets", 50), ("controller", 2000)])
 def test_examples(engine: Engine, data: Path, example: str, ticks: int) -> None:
     folder = data / example
     tasks, machine = TaskSet.read(folder / "tasks.toml"), Machine.read(folder / "machine.toml")
@@ -182,11 +189,13 @@ def test_examples(engine: Engine, data: Path, example: str, ticks: int) -> None:
 def cases(draw: st.DrawFn) -> tuple[TaskSet, Machine]:
     """Small sets, and machines whose energies are up to 1.8 * 10^27."""
     scale = draw(st.sampled_from([1, 7, 30000]))
-    pairs = draw(st.lists(st.tuples(st.integers(1, 9), st.integers(1, 9 * scale), st.integers(0, 3)), min_size=1, max_size=3))
+    task = st.tuples(st.integers(1, 9), st.integers(1, 9 * scale), st.integers(0, 3))
+    pairs = draw(st.lists(task, min_size=1, max_size=3))
     rising = sorted(draw(st.sets(st.integers(1, 10 * scale), min_size=1, max_size=4)))
     volts = sorted(draw(st.lists(st.integers(1, 20000), min_size=len(rising), max_size=len(rising))))
-    machine = Machine(tuple(map(Point, rising, volts)), draw(st.sampled_from([0, 1, 999, 1000])), draw(st.integers(0, 1)))
-    return TaskSet(tuple(Task(f"t{place}", *pair) for place, pair in enumerate(pairs))), machine
+    idle, charge = draw(st.sampled_from([0, 1, 999, 1000])), draw(st.integers(0, 1))
+    tasks = tuple(Task(f"t{place}", *pair) for place, pair in enumerate(pairs))
+    return TaskSet(tasks), Machine(tuple(map(Point, rising, volts)), idle, charge)
 
 
 @given(cases(), st.integers(1, 60))
@@ -196,7 +205,8 @@ def test_random_sets(engine: Engine, case: tuple[TaskSet, Machine], ticks: int) 
 
 def test_energies_of_28_digits(engine: Engine) -> None:
     """10^6 units a tick at 20 V for 2^32 ticks: 2^32 * 10^6 * 4 * 10^11."""
-    rows = compare(engine, TaskSet((Task("a", 2**32, 2**32 * 10**6),)), Machine((Point(10**6, 20000),)), 2**32)
+    tasks = TaskSet((Task("a", 2**32, 2**32 * 10**6),))
+    rows = compare(engine, tasks, Machine((Point(10**6, 20000),)), 2**32)
     assert [row.result and row.result.energy for row in rows] == [2**32 * 4 * 10**17] * 7
 
 
@@ -221,21 +231,21 @@ def test_a_trace_beside_the_pairs(engine: Engine) -> None:
     tasks = TaskSet((Task("x", 2, 4),))
     rows = compare(engine, tasks, machine, 2, traces=[Trace.parse(MINE)])
     assert len(rows) == 8 and (rows[7].scheduler, rows[7].governor) == ("edf", "mine")
-    assert rows[7].result == Result(31000, Fraction(31, 36), Fraction(15, 16), 1, Fraction(1, 4), Fraction(1, 2), Fraction(0),
-                                    {3: Fraction(1, 2), 2: Fraction(1, 2)})
+    half, none = Fraction(1, 2), Fraction(0)
+    assert rows[7].result == Result(31000, Fraction(31, 36), Fraction(15, 16), 1, half / 2, half, none,
+                                    {3: half, 2: half})
     with pytest.raises(TraceFault, match="line 2: a run of 2 ticks, and not of 3"):
         compare(engine, tasks, machine, 3, traces=[Trace.parse(MINE)])
 
 
-def test_other_refusals_end_it(engine: Engine, tmp_path: Path) -> None:
+def test_other_refusals_end_it(engine: Engine) -> None:
     with pytest.raises(TooManyJobs):
         compare(engine, TaskSet((Task("a", 1, 1),)), Machine((Point(1, 1),)), 10**6)
-    assert LoadFailed.status == 3
 
 
 @pytest.mark.parametrize("name", ["absent", "."])
-def test_a_file_that_is_not_there(program: Path, data: Path, tmp_path: Path, capsys: pytest.CaptureFixture[str],
-                                  name: str) -> None:
+def test_a_file_that_is_not_there(program: Path, data: Path, tmp_path: Path, name: str,
+                                  capsys: pytest.CaptureFixture[str]) -> None:
     call = options(data, "paper", program)
     call[call.index("--tasks") + 1] = str(tmp_path / name)
     assert main([*call, "16"]) == 2
@@ -246,4 +256,4 @@ def test_a_file_that_is_not_there(program: Path, data: Path, tmp_path: Path, cap
 def test_a_trace_that_is_none(program: Path, data: Path, capsys: pytest.CaptureFixture[str]) -> None:
     demands = data / "paper" / "demands.csv"
     assert main([*options(data, "paper", program), "16", "--trace", str(demands)]) == 2
-    assert capsys.readouterr() == ("", f"{demands}: line 1: neither trace 1 nor trace 2\n")
+    assert capsys.readouterr() == ("", f"rtdvs: {demands}: line 1: neither trace 1 nor trace 2\n")

@@ -9,7 +9,8 @@ from rtdvs.decimals import decimal
 
 
 @pytest.mark.parametrize(("value", "places", "shown"), [
-    (Fraction(0), 4, "0.0000"), (Fraction(1), 4, "1.0000"), (Fraction(5, 7), 6, "0.714286"), (12345, 0, "12345"),
+    (Fraction(0), 4, "0.0000"), (Fraction(1), 4, "1.0000"), (Fraction(5, 7), 6, "0.714286"),
+    (12345, 0, "12345"),
     (Fraction(1, 20000), 4, "0.0000"), (Fraction(3, 20000), 4, "0.0002"), (Fraction(-1, 20000), 4, "0.0000"),
     (Fraction(-3, 2), 1, "-1.5"), (Fraction(999999, 100000), 4, "10.0000"), (None, 4, "-"),
 ])

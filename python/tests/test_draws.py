@@ -3,6 +3,7 @@
 from collections.abc import Iterator
 from fractions import Fraction
 from math import exp, log, sqrt
+from typing import Any
 from pathlib import Path
 
 import pytest
@@ -67,7 +68,8 @@ SETS = [
 
 
 @pytest.mark.parametrize(("count", "thousandths", "seed", "top", "periods"), SETS)
-def test_uunifast_by_the_rule(count: int, thousandths: int, seed: int, top: int, periods: Listed | LogUniform) -> None:
+def test_uunifast_by_the_rule(count: int, thousandths: int, seed: int, top: int,
+                              periods: Listed | LogUniform) -> None:
     utilisation = Fraction(thousandths, 1000)
     tasks = uunifast(count, utilisation, seed, periods, top)
     if isinstance(periods, Listed):
@@ -92,8 +94,8 @@ def test_neighbouring_seeds_give_periods_on_both_sides() -> None:
 def test_shares_have_the_distribution_of_uunifast() -> None:
     """A share is above x of the whole with the probability (1 - x)^(tasks - 1)."""
     sets, count, top, whole = 400, 4, 100000, Fraction(8, 10)
-    shares = [[Fraction(task.worst, task.period * top) / whole for task in uunifast(count, whole, seed, top=top)]
-              for seed in range(1, sets + 1)]
+    drawn_sets = (uunifast(count, whole, seed, top=top) for seed in range(1, sets + 1))
+    shares = [[Fraction(task.worst, task.period * top) / whole for task in tasks] for tasks in drawn_sets]
     for place in range(count):
         for x in (0.05, 0.2, 0.5):
             chance = (1 - x) ** (count - 1)
@@ -105,16 +107,19 @@ def test_shares_have_the_distribution_of_uunifast() -> None:
     (0, Fraction(1), 1, {}, "count is 1 to 64"), (65, Fraction(1), 1, {}, "count is 1 to 64"),
     (1, Fraction(2), 1, {}, "utilisation is above 0 and at most 1"),
     (1, Fraction(0), 1, {}, "utilisation is above 0 and at most 1"),
-    (1, Fraction(1), 0, {}, "seed is 1 to 2147483646"), (1, Fraction(1), 2**31 - 1, {}, "seed is 1 to 2147483646"),
-    (1, Fraction(1), 1, {"top": 0}, "top is 1 to 1000000"), (1, Fraction(1), 1, {"top": 1000001}, "top is 1 to 1000000"),
+    (1, Fraction(1), 0, {}, "seed is 1 to 2147483646"),
+    (1, Fraction(1), 2**31 - 1, {}, "seed is 1 to 2147483646"),
+    (1, Fraction(1), 1, {"top": 0}, "top is 1 to 1000000"),
+    (1, Fraction(1), 1, {"top": 1000001}, "top is 1 to 1000000"),
     (1, Fraction(1, 10**6), 1, {"periods": Listed((1,))},
      "no unit is left for the task with the longest period; a higher top may leave one"),
-    (1, Fraction(1), 1, {"periods": LogUniform(11, 12, 7)}, "no period from low to high divides the multiple"),
+    (1, Fraction(1), 1, {"periods": LogUniform(11, 12, 7)},
+     "no period from low to high divides the multiple"),
 ])
-def test_what_cannot_be_drawn(count: int, utilisation: Fraction, seed: int, options: dict[str, Listed | LogUniform],
+def test_what_cannot_be_drawn(count: int, utilisation: Fraction, seed: int, options: dict[str, Any],
                               reason: str) -> None:
     with pytest.raises(DrawFault) as fault:
-        uunifast(count, utilisation, seed, **options)  # type: ignore[arg-type]
+        uunifast(count, utilisation, seed, **options)
     assert str(fault.value) == reason
 
 
@@ -124,7 +129,8 @@ def test_lists_of_periods_that_no_set_can_have(periods: tuple[int, ...]) -> None
         Listed(periods)
 
 
-@pytest.mark.parametrize("bounds", [(0, 10, 720720), (-5, 10, 720720), (11, 10, 720720), (1, 2**40 + 1, 1), (1, 2, 0)])
+@pytest.mark.parametrize("bounds", [
+    (0, 10, 720720), (-5, 10, 720720), (11, 10, 720720), (1, 2**40 + 1, 1), (1, 2, 0)])
 def test_bounds_of_periods_that_no_set_can_have(bounds: tuple[int, int, int]) -> None:
     with pytest.raises(DrawFault):
         LogUniform(*bounds)

@@ -24,20 +24,32 @@ from rtdvs.commandline import (
 from rtdvs.decimals import decimal
 from rtdvs.engine import Answer, Denied, Engine, Least, least_call, parse_least, run_call
 from rtdvs.files import Demands, FileFault, Machine, TaskSet
-from rtdvs.trace import Job, Run, Trace, TraceFault
+from rtdvs.trace import MOST_TICKS, Job, Run, Trace, TraceFault
 
-PAIRS = (("edf", "none"), ("edf", "static"), ("edf", "cc"), ("edf", "la"), ("rm", "none"), ("rm", "static"), ("rm", "cc"))
+PAIRS = (("edf", "none"), ("edf", "static"), ("edf", "cc"), ("edf", "la"),
+         ("rm", "none"), ("rm", "static"), ("rm", "cc"))
+
+HEADING = ("scheduler", "governor", "energy", "of_none", "above_bound", "switches", "idle", "least_laxity",
+           "jitter")
+ABOUT = """
+Prints a row for each of the seven pairs, and for traces given beside them. energy: of running and idling,
+every digit; of_none: as a share of EDF with none; above_bound: what is above the bound of least, as a share
+of the bound; switches: of the speed; idle, at_SPEED: shares of the run; least_laxity: the least time from a
+completion to its deadline, jitter: the greatest difference of two responses of one task, both in ticks. A
+pair that is denied has the line of its refusal. Shares and ticks are rounded once, half to even.
+"""
 
 
 @dataclass(frozen=True, slots=True)
 class Result:
     """A run of a pair.
 
-    `energy` is of running and idling, in the unit of a trace. `share` is of the energy of EDF with `none`; None if that
-    is denied or 0. `above_bound` is what the energy is above the bound of `least`, as a share of the bound; None if that
-    is 0. `switches` counts the decisions with another speed than before. `idle` is a share of the run, and so is each
-    speed's `residency`. `least_laxity` and `jitter`, in ticks, are over all complete jobs: the least time from a
-    completion to its deadline, and the greatest difference between two responses of one task. None without such a job.
+    `energy` is of running and idling, in the unit of a trace. `share` is of the energy of EDF with `none`;
+    None if that is denied or 0. `above_bound` is what the energy is above the bound of `least`, as a share of
+    the bound; None if that is 0. `switches` counts the decisions with another speed than before. `idle` is a
+    share of the run, and so is each speed's `residency`. `least_laxity` and `jitter`, in ticks, are over all
+    complete jobs: the least time from a completion to its deadline, and the greatest difference between two
+    responses of one task. None without such a job.
     """
 
     energy: int
@@ -70,7 +82,7 @@ class Case:
     demands: Demands | None = None
 
     def finer(self, times: int) -> "Case":
-        """The same in ticks that are this many times finer: speeds stay in units per tick, so all units grow as well.
+        """The same in ticks this many times finer. Speeds stay in units per tick, so all units grow as well.
 
         >>> from rtdvs import Point, Task
         >>> case = Case(TaskSet((Task("a", 5, 7),)), Machine((Point(2, 1000),), charge=1), 20)
@@ -80,7 +92,8 @@ class Case:
         tasks = TaskSet(tuple(replace(task, period=task.period * times, worst=task.worst * times,
                                       offset=task.offset * times) for task in self.tasks))
         demands = self.demands and Demands({job: units * times for job, units in self.demands.units.items()})
-        return Case(tasks, replace(self.machine, charge=self.machine.charge * times), self.ticks * times, demands)
+        machine = replace(self.machine, charge=self.machine.charge * times)
+        return Case(tasks, machine, self.ticks * times, demands)
 
 
 def runs(engine: Engine, case: Case, pairs: Iterable[tuple[str, str]],
@@ -129,7 +142,7 @@ def jitter(jobs: Iterable[Job]) -> Fraction | None:
 
 
 def result(trace: Trace, tasks: TaskSet, least: Least, base: int) -> Result:
-    """What a trace comes to, with the bound for its units and the energy that shares are of (0: there is none)."""
+    """What a trace comes to, with the bound for its units; `base` is the energy that shares are of, or 0."""
     jobs = trace.jobs(tasks)
     bound = Fraction(least.energy, least.rounds)
     return Result(
@@ -148,7 +161,8 @@ def compare(engine: Engine, tasks: TaskSet, machine: Machine, ticks: int, demand
             traces: Sequence[Trace] = (), executor: Executor | None = None) -> tuple[Row, ...]:
     """A row for each of the seven pairs, and for each trace given beside them.
 
-    Raises TraceFault if a trace is of other ticks, and whatever the program refuses, but for a pair that is denied.
+    Raises TraceFault if a trace is of other ticks, and whatever the program refuses, but for a pair that is
+    denied.
 
     >>> from rtdvs import Point, Task, find_engine
     >>> machine = Machine((Point(1, 1000), Point(2, 2000)))
@@ -170,8 +184,15 @@ def compare(engine: Engine, tasks: TaskSet, machine: Machine, ticks: int, demand
                  for pair, trace in zip(pairs, [*found, *traces]))
 
 
-def finer_energies(engine: Engine, case: Case, times: int, executor: Executor | None = None) -> tuple[Fraction | None, ...]:
-    """The energy of each of the seven pairs in ticks that are so much finer, in the unit of the case; None if denied."""
+def finer_energies(engine: Engine, case: Case, times: int,
+                   executor: Executor | None = None) -> tuple[Fraction | None, ...]:
+    """The energy of each of the seven pairs in finer ticks, in the unit of the case; None if it is denied.
+
+    >>> from rtdvs import Point, Task, find_engine
+    >>> case = Case(TaskSet((Task("a", 4, 4),)), Machine((Point(1, 1000),)), 8)
+    >>> finer_energies(find_engine(), case, 10)[0]
+    Fraction(8000000000, 1)
+    """
     return tuple(None if isinstance(text, Denied) else Fraction(energy_of(text), times)
                  for text in runs(engine, case.finer(times), PAIRS, executor))
 
@@ -179,8 +200,7 @@ def finer_energies(engine: Engine, case: Case, times: int, executor: Executor | 
 def table(rows: Sequence[Row]) -> str:
     """The rows below their heading, all shares and ticks with four decimal places."""
     speeds = sorted({speed for row in rows if row.result for speed in row.result.residency})
-    heading = ("scheduler", "governor", "energy", "of_none", "above_bound", "switches", "idle", "least_laxity", "jitter",
-               *(f"at_{speed}" for speed in speeds))
+    heading = (*HEADING, *(f"at_{speed}" for speed in speeds))
     return aligned([heading, *(cells(row, speeds) for row in rows)])
 
 
@@ -189,9 +209,11 @@ def cells(row: Row, speeds: Sequence[int]) -> tuple[str, ...]:
     result = row.result
     if result is None:
         return row.scheduler, row.governor, row.refusal
-    shares = [result.idle, result.least_laxity, result.jitter, *(result.residency.get(speed, 0) for speed in speeds)]
-    return (row.scheduler, row.governor, str(result.energy), decimal(result.share, 4), decimal(result.above_bound, 4),
-            str(result.switches), *(decimal(share, 4) for share in shares))
+    before = (result.share, result.above_bound)
+    after = (result.idle, result.least_laxity, result.jitter,
+             *(result.residency.get(speed, 0) for speed in speeds))
+    return (row.scheduler, row.governor, str(result.energy), *(decimal(share, 4) for share in before),
+            str(result.switches), *(decimal(share, 4) for share in after))
 
 
 def finer_table(rows: Sequence[Row], finer: Mapping[int, Sequence[Fraction | None]]) -> str:
@@ -204,36 +226,34 @@ def finer_table(rows: Sequence[Row], finer: Mapping[int, Sequence[Fraction | Non
 
 
 def aligned(lines: Sequence[tuple[str, ...]]) -> str:
-    """The lines in columns: the first two to the left, numbers to the right; what is shorter is a refusal as it is.
+    """The lines in columns: the first two to the left, numbers to the right. A shorter line is a refusal.
 
-    >>> print(aligned([("scheduler", "governor", "energy"), ("edf", "none", "7"), ("rm", "none")]), end="")
-    scheduler  governor  energy
-    edf        none           7
-    rm         none
+    >>> print(aligned([("pair", "of", "energy", "idle"), ("rm", "cc", "7", "0"), ("rm", "none", "denied")]))
+    pair  of  energy  idle
+    rm    cc       7     0
+    rm    none  denied
+    <BLANKLINE>
     """
     whole = [line for line in lines if len(line) == len(lines[0])]
     left, middle, *widths = (max(map(len, column)) for column in zip(*whole))
+    rows = ((line, widths if len(line) == len(lines[0]) else [0] * len(line)) for line in lines)
     return "".join(f"{line[0]:{left}}  {line[1]:{middle}}"
-                   + "".join(f"  {cell:>{width if line in whole else 0}}" for cell, width in zip(line[2:], widths))
-                   + "\n" for line in lines)
+                   + "".join(f"  {cell:>{width}}" for cell, width in zip(line[2:], wide)) + "\n"
+                   for line, wide in rows)
 
 
 def add_command(commands: "argparse._SubParsersAction[argparse.ArgumentParser]") -> None:
     """Adds the command `compare`."""
     parser = commands.add_parser(
-        "compare", help="the energies and the tasks' times under each scheduler and governor",
-        description="Prints a row for each of the seven pairs, and for traces given beside them. energy: of running and "
-        "idling, every digit; of_none: as a share of EDF with none; above_bound: what is above the bound of least, as a "
-        "share of the bound; switches: of the speed; idle, at_SPEED: shares of the run; least_laxity: the least time from "
-        "a completion to its deadline, jitter: the greatest difference of two responses of one task, both in ticks. "
-        "A pair that is denied has the line of its refusal.",
+        "compare", help="energies and times under each scheduler and governor", description=ABOUT,
         epilog="python3 -m rtdvs compare --tasks tasks.toml --machine machine.toml --ticks 16 --finer 2 10")
     add_files(parser, ["tasks", "machine"], ["demands"])
-    parser.add_argument("--ticks", type=whole_number(1, 2**40), required=True, metavar="N", help="the ticks of each run")
+    parser.add_argument("--ticks", type=whole_number(1, MOST_TICKS), required=True, metavar="N",
+                        help="the ticks of each run")
     parser.add_argument("--trace", type=input_path, nargs="+", default=[], metavar="FILE",
                         help="traces of these files and ticks, of any governor, each as a row more")
     parser.add_argument("--finer", type=whole_number(1), nargs="+", default=[], metavar="N",
-                        help="the energies in ticks N times finer as well, as shares of those in the ticks given")
+                        help="the energies in ticks N times finer too, as shares of those in the ticks given")
     add_engine_options(parser, jobs=True)
     parser.set_defaults(handler=run)
 

@@ -1,8 +1,8 @@
 """Random task sets and demands by a seed: UUniFast, and those of the published evaluation.
 
-All numbers are drawn by the generator of Park and Miller (1988) with the factor 48271: a state over 2^31 - 1 is a
-number above 0 and below 1. UUniFast needs logarithms and powers, so it uses floats of 64 bits; everything else is
-whole numbers.
+All numbers are drawn by the generator of Park and Miller (1988) with the factor 48271: a state over 2^31 - 1
+is a number above 0 and below 1. UUniFast needs logarithms and powers, so it uses floats of 64 bits;
+everything else is whole numbers.
 """
 
 import bisect
@@ -107,7 +107,8 @@ class Listed:
     def __post_init__(self) -> None:
         require(len(self.periods) > 0 and all(1 <= period <= MOST_PERIOD for period in self.periods),
                 f"a period is 1 to {MOST_PERIOD}")
-        require(lcm(*self.periods) <= MOST_MULTIPLE, f"the periods have no common multiple up to {MOST_MULTIPLE}")
+        require(lcm(*self.periods) <= MOST_MULTIPLE,
+                f"the periods have no common multiple up to {MOST_MULTIPLE}")
 
     def draw(self, count: int, stream: Iterator[int]) -> list[int]:
         return [self.periods[drawn(stream, len(self.periods))] for _ in range(count)]
@@ -115,9 +116,10 @@ class Listed:
 
 @dataclass(frozen=True, slots=True)
 class LogUniform:
-    """Periods in ticks whose logarithm is uniform between those of `low` and `high`; DrawFault if there is none.
+    """Periods in ticks whose logarithm is uniform from that of `low` to that of `high`; DrawFault if none is.
 
-    Each becomes the nearest divisor of `multiple` from `low` to `high`, so that their common multiple stays small.
+    Each becomes the nearest divisor of `multiple` from `low` to `high`, so that their common multiple stays
+    small.
 
     >>> LogUniform(low=10, high=1000).draw(3, states(1))
     [10, 15, 156]
@@ -128,7 +130,8 @@ class LogUniform:
     multiple: int = PUBLISHED_TICKS
 
     def __post_init__(self) -> None:
-        require(1 <= self.low <= self.high <= MOST_PERIOD, f"low is 1 to high, and high at most {MOST_PERIOD}")
+        require(1 <= self.low <= self.high <= MOST_PERIOD,
+                f"low is 1 to high, and high at most {MOST_PERIOD}")
         require(1 <= self.multiple <= MOST_MULTIPLE, f"multiple is 1 to {MOST_MULTIPLE}")
 
     def draw(self, count: int, stream: Iterator[int]) -> list[int]:
@@ -155,12 +158,13 @@ def uunifast_shares(count: int, utilisation: Fraction, stream: Iterator[int]) ->
 
 def uunifast(count: int, utilisation: Fraction, seed: int, periods: Listed | LogUniform = LogUniform(),
              top: int = 1000) -> TaskSet:
-    """A set of `count` tasks with the utilisation of a highest speed of `top` units per tick (Bini and Buttazzo 2005).
+    """A set with a utilisation of a highest speed of `top` units per tick (Bini and Buttazzo 2005).
 
-    Worst cases are rounded down to whole units, but not to 0. Then that of the last task with the longest period is set
-    to the most with which the set isn't above the utilisation. So the set is below it by less than one unit in that
-    period at the highest speed. DrawFault if no unit is left for that task; a higher `top` makes this rarer.
-    Floats of 64 bits give the shares, so another library of logarithms may round one unit of a worst case otherwise.
+    Worst cases are rounded down to whole units, but not to 0. Then that of the last task with the longest
+    period is set to the most with which the set isn't above the utilisation. So the set is below it by less
+    than one unit in that period at the highest speed. DrawFault if no unit is left for that task; a higher
+    `top` makes this rarer. Floats of 64 bits give the shares, so another library of logarithms may round one
+    unit of a worst case otherwise.
 
     >>> [(task.period, task.worst) for task in uunifast(2, Fraction(7, 10), 1, Listed((10, 20)))]
     [(10, 6378), (10, 622)]
@@ -176,7 +180,8 @@ def uunifast(count: int, utilisation: Fraction, seed: int, periods: Listed | Log
     longest = max(range(count), key=lambda place: (times[place], place))
     others = sum(Fraction(worsts[place], times[place]) for place in range(count) if place != longest)
     worsts[longest] = floor((utilisation * top - others) * times[longest])
-    require(worsts[longest] >= 1, "no unit is left for the task with the longest period; a higher top may leave one")
+    require(worsts[longest] >= 1,
+            "no unit is left for the task with the longest period; a higher top may leave one")
     return numbered(times, worsts)
 
 
@@ -212,7 +217,7 @@ class SetName:
 
 
 def set_names(most: int) -> Iterator[SetName]:
-    """The sets of an evaluation with `most` for each number of tasks and each utilisation, in the order of the draws.
+    """The sets of an evaluation, `most` for each number of tasks and utilisation, in the order of the draws.
 
     >>> len(list(set_names(100)))
     4000
@@ -227,15 +232,15 @@ def published_time(stream: Iterator[int]) -> Fraction:
     >>> published_time(states(1)) < 10
     True
     """
-    low = 10 ** drawn(stream, 3)
+    low: int = 10 ** drawn(stream, 3)
     return low + Fraction(next(stream), MODULUS) * 9 * low
 
 
 def published_set(count: int, tenths: int, stream: Iterator[int]) -> TaskSet:
     """A set of the published evaluation, at most at its utilisation.
 
-    A period is a time, then the nearest divisor of 720720 ticks. Worst cases are in proportion to weights that are drawn
-    as the periods are, and rounded down to whole units.
+    A period is a time, then the nearest divisor of 720720 ticks. Worst cases are in proportion to weights
+    that are drawn as the periods are, and rounded down to whole units.
 
     >>> [(task.period, task.worst) for task in published_set(1, 5, states(2001))]
     [(936, 46800000)]
@@ -261,14 +266,14 @@ def published_sets(most: int, seed: int = PUBLISHED_SEED) -> Iterator[tuple[SetN
 
 
 def uunifast_sets(most: int, seed: int = PUBLISHED_SEED) -> Iterator[tuple[SetName, TaskSet]]:
-    """Sets by UUniFast with the published range of periods, each from a seed of its own that no demand list has.
+    """Sets by UUniFast with the published range of periods, each by a seed of its own that no demands have.
 
     >>> next(uunifast_sets(1))[1].named("t1").period
     30030
     """
     periods = LogUniform(PUBLISHED_MILLISECOND, 1000 * PUBLISHED_MILLISECOND, PUBLISHED_TICKS)
-    return ((name, uunifast(name.count, Fraction(name.tenths, 10), 10**9 + name.seed(seed), periods, PUBLISHED_TOP))
-            for name in set_names(most))
+    return ((name, uunifast(name.count, Fraction(name.tenths, 10), 10**9 + name.seed(seed), periods,
+                            PUBLISHED_TOP)) for name in set_names(most))
 
 
 # Demands
@@ -277,7 +282,8 @@ def uunifast_sets(most: int, seed: int = PUBLISHED_SEED) -> Iterator[tuple[SetNa
 def jobs_of(tasks: TaskSet, ticks: int) -> Iterator[tuple[Task, int]]:
     """The jobs that are released in a run: each task in the order of the file, with its jobs' numbers.
 
-    >>> [(task.name, job) for task, job in jobs_of(TaskSet((Task("a", 5, 7, offset=1), Task("b", 5, 7, 9))), 9)]
+    >>> tasks = TaskSet((Task("a", 5, 7, offset=1), Task("b", 5, 7, offset=9)))
+    >>> [(task.name, job) for task, job in jobs_of(tasks, 9)]
     [('a', 1), ('a', 2)]
     """
     return ((task, job) for task in tasks for job in range(1, -(-(ticks - task.offset) // task.period) + 1))
@@ -293,7 +299,7 @@ def taken(tasks: TaskSet, share: Fraction, ticks: int) -> Demands:
 
 
 def taken_uniform(tasks: TaskSet, seed: int, ticks: int) -> Demands:
-    """The demands of all jobs of a run, each uniform from 0 to the worst case, by the generator after ten states.
+    """The demands of all jobs of a run, each uniform from 0 to the worst case, by the states after ten.
 
     >>> taken_uniform(TaskSet((Task("a", 5, 7),)), 1, 10).units
     {('a', 1): 0, ('a', 2): 4}

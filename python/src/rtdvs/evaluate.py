@@ -1,11 +1,11 @@
 """The evaluation of Pillai and Shin (2001) with random sets: energy over utilisation, in tables.
 
-A sweep runs each set under each pair of scheduler and governor, on the machines and for the demands of the figures. It
-leaves a file for each set in its folder, so a sweep that was stopped goes on where it was.
+A sweep runs each set under each pair of scheduler and governor, on the machines and for the demands of the
+figures. It leaves a file for each set in its folder, so a sweep that was stopped goes on where it was.
 """
 
 import argparse
-from collections import defaultdict
+from collections import Counter, defaultdict
 from collections.abc import Collection, Iterable, Iterator, Mapping
 from concurrent.futures import Executor, Future, ProcessPoolExecutor, as_completed
 from dataclasses import dataclass
@@ -28,16 +28,21 @@ from rtdvs.draws import (
     taken_uniform,
     uunifast_sets,
 )
-from rtdvs.trace import Decision, Done, Idle, Release, Run, Trace
+from rtdvs.trace import Done, Idle, Release, Run, Trace
 
 DRAWS = {"published": published_sets, "uunifast": uunifast_sets}
 CURVES = (*(f"{scheduler} {governor}" for scheduler, governor in PAIRS), "bound")
 TENTHS = range(1, 11)
+ABOUT = """
+Runs random sets under each scheduler and governor, and writes a table for each figure of docs/EVALUATION.md
+into the folder. A sweep that was stopped goes on when the call is made again. The last line counts what is
+wrong: a run that is missing, an energy below the bound or above EDF with none.
+"""
 
 
 @dataclass(frozen=True, slots=True)
 class Panel:
-    """A part of a figure: sets with this number of tasks, on a machine, whose jobs take a share of their worst cases.
+    """A part of a figure: sets of `count` tasks on a machine, whose jobs take a share of their worst cases.
 
     The share is a decimal, or `uniform`: each job draws its own.
     """
@@ -65,13 +70,15 @@ def machine(idle: int, *points: tuple[int, int]) -> Machine:
     >>> machine(10, (500, 3000)).points
     (Point(speed=50000, millivolts=3000),)
     """
-    return Machine(tuple(Point(share * PUBLISHED_TOP // 1000, millivolts) for share, millivolts in points), idle)
+    return Machine(tuple(Point(share * PUBLISHED_TOP // 1000, volts) for share, volts in points), idle)
 
 
 MACHINES = {
-    **{f"table1_idle{idle}": machine(idle, (500, 3000), (750, 4000), (1000, 5000)) for idle in (0, 10, 100, 1000)},
+    **{f"table1_idle{idle}": machine(idle, (500, 3000), (750, 4000), (1000, 5000))
+       for idle in (0, 10, 100, 1000)},
     "table2_idle0": machine(0, (500, 3000), (750, 4000), (830, 4500), (1000, 5000)),
-    "table3_idle0": machine(0, (360, 1400), (550, 1500), (640, 1600), (730, 1700), (820, 1800), (910, 1900), (1000, 2000)),
+    "table3_idle0": machine(0, (360, 1400), (550, 1500), (640, 1600), (730, 1700), (820, 1800), (910, 1900),
+                            (1000, 2000)),
 }
 
 
@@ -91,13 +98,17 @@ class Sweep:
                 if name.count in self.counts and name.tenths in self.tenths)
 
     def text(self) -> str:
-        """What all calls for one folder have to have in common."""
-        return f"draws = {self.draws}\nsets = {self.most}\nseed = {self.seed}\n"
+        """What all calls for one folder have to have in common.
+
+        >>> Sweep().text()
+        '100 published sets a point by seed 2001\\n'
+        """
+        return f"{self.most} {self.draws} sets a point by seed {self.seed}\n"
 
 
 @dataclass(frozen=True, slots=True)
 class Record:
-    """A set's energy on a machine and for a share: of one curve's run, of the bound, or None if RM denies the set.
+    """A set's energy on a machine and for a share, by curve; None if RM denies the set.
 
     >>> Record.parse(Record(SetName(8, 7, 1), "table1_idle0", "1", "bound", Fraction(7, 2)).text()).energy
     Fraction(7, 2)
@@ -138,7 +149,7 @@ def panels_of(name: SetName) -> tuple[tuple[str, str], ...]:
 
 
 def recount(board: Machine, text: str) -> None:
-    """Recounts a trace: AssertionError unless its energies and units follow from its speeds, and all its jobs are done.
+    """AssertionError unless a trace's energies and units follow from its speeds, and all its jobs are done.
 
     >>> from rtdvs.trace import SAMPLE
     >>> recount(Machine((Point(2, 1000), Point(3, 1000))), SAMPLE)
@@ -147,13 +158,15 @@ def recount(board: Machine, text: str) -> None:
     """
     trace = Trace.parse(text)
     square = {point.speed: point.millivolts**2 for point in board.points}
-    running = [(note.units, speed) for note, speed in trace.at_speeds() if isinstance(note, Run)]
-    idling = [(note.units, speed) for note, speed in trace.at_speeds() if isinstance(note, Idle)]
+    running = [(note.units, square[speed]) for note, speed in trace.at_speeds() if isinstance(note, Run)]
+    idling = [(note.units, square[speed]) for note, speed in trace.at_speeds() if isinstance(note, Idle)]
+    kinds = Counter(type(note) for note in trace.notes)
     counted = {
-        "running energy": (trace.run_energy, 1000 * sum(units * square[speed] for units, speed in running)),
-        "idle energy": (trace.idle_energy, board.idle * sum(units * square[speed] for units, speed in idling)),
-        "units": (sum(units for units, _ in running + idling), sum(s * t for s, t in trace.residency().items())),
-        "jobs": (sum(isinstance(note, Release) for note in trace.notes), sum(isinstance(note, Done) for note in trace.notes)),
+        "running energy": (trace.run_energy, 1000 * sum(units * price for units, price in running)),
+        "idle energy": (trace.idle_energy, board.idle * sum(units * price for units, price in idling)),
+        "units": (sum(units for units, _ in running + idling),
+                  sum(speed * ticks for speed, ticks in trace.residency().items())),
+        "jobs": (kinds[Release], kinds[Done]),
     }
     for what, (found, wanted) in counted.items():
         if found != wanted:
@@ -161,16 +174,16 @@ def recount(board: Machine, text: str) -> None:
 
 
 def measure(engine: Engine, seed: int, named: tuple[SetName, TaskSet]) -> list[Record]:
-    """All runs of one set; those of a set with number 1 are recounted. Raises Denied under EDF, and other refusals."""
+    """All runs of one set; those of a set with number 1 are recounted. Raises all refusals but those by RM."""
     name, tasks = named
-    return [Record(name, kind, take, curve, energy)
-            for kind, take in panels_of(name)
-            for curve, energy in energies(engine, Case(tasks, MACHINES[kind], PUBLISHED_TICKS,
-                                                       demands_of(name, tasks, take, seed)), name.number == 1)]
+    cases = ((kind, take, Case(tasks, MACHINES[kind], PUBLISHED_TICKS, demands_of(name, tasks, take, seed)))
+             for kind, take in panels_of(name))
+    return [Record(name, kind, take, curve, energy) for kind, take, case in cases
+            for curve, energy in energies(engine, case, name.number == 1)]
 
 
 def energies(engine: Engine, case: Case, recounted: bool = False) -> Iterator[tuple[str, Fraction | None]]:
-    """The energy of each curve: of the seven pairs and the bound for their units, which are those of any pair."""
+    """The energy of each curve: the seven pairs, and the bound for their units, which all pairs share."""
     for (scheduler, governor), text in zip(PAIRS, runs(engine, case, PAIRS)):
         if isinstance(text, Denied):
             if scheduler == "edf":
@@ -195,10 +208,10 @@ def units_of(trace: str) -> int:
 
 
 def evaluate(engine: Engine, folder: Path, sweep: Sweep, executor: Executor) -> Iterator[SetName]:
-    """Runs the sets of a sweep that have no results in the folder; yields each name when its results are there.
+    """Runs the sets of a sweep that have no results in the folder; yields each name with results.
 
-    The executor's workers have to reach the program; results are written by the caller's process. The first failure
-    ends the sweep, and a later call goes on. Raises FileFault if the folder has results of another sweep.
+    The executor's workers have to reach the program; the caller's process writes the results. The first
+    failure ends the sweep, and a later call goes on. Raises FileFault if the folder is another sweep's.
     """
     claim(folder, sweep)
     waiting: dict[Future[list[Record]], SetName] = {}
@@ -209,7 +222,8 @@ def evaluate(engine: Engine, folder: Path, sweep: Sweep, executor: Executor) -> 
             else:
                 waiting[executor.submit(measure, engine, sweep.seed, (name, tasks))] = name
         for future in as_completed(waiting):
-            write_whole(result_file(folder, waiting[future]), "".join(record.text() for record in future.result()))
+            text = "".join(record.text() for record in future.result())
+            write_whole(result_file(folder, waiting[future]), text)
             yield waiting[future]
     finally:
         for future in waiting:
@@ -222,8 +236,9 @@ def claim(folder: Path, sweep: Sweep) -> None:
     (folder / "results").mkdir(parents=True, exist_ok=True)
     if not file.exists():
         write_whole(file, sweep.text())
-    elif file.read_text(encoding="utf-8") != sweep.text():
-        raise FileFault(f"{folder}: results of another sweep, by {', '.join(file.read_text(encoding='utf-8').split(chr(10))[:-1])}")
+    found = file.read_text(encoding="utf-8")
+    if found != sweep.text():
+        raise FileFault(f"{folder}: it has results of {found.rstrip()}, not of {sweep.text().rstrip()}")
 
 
 def result_file(folder: Path, name: SetName) -> Path:
@@ -245,24 +260,28 @@ def read_records(folder: Path, names: Iterable[SetName]) -> list[Record]:
 
 # Tables
 
+Place = tuple[int, str, str, str, int]
+"""A point of a figure: number of tasks, machine, share, curve, utilisation in tenths."""
 
-def shares(records: Iterable[Record]) -> dict[tuple[int, str, str, str, int], list[Fraction]]:
-    """By number of tasks, machine, share, curve and tenths: the rising energies, each over the set's under EDF none."""
+
+def shares(records: Iterable[Record]) -> dict[Place, list[Fraction]]:
+    """The rising energies of each point, each over that of the same set under EDF with `none`."""
     rows = list(records)
     base = {(row.name, row.machine, row.take): row.energy for row in rows if row.curve == CURVES[0]}
-    found: defaultdict[tuple[int, str, str, str, int], list[Fraction]] = defaultdict(list)
+    found: defaultdict[Place, list[Fraction]] = defaultdict(list)
     for row in rows:
         whole = base[row.name, row.machine, row.take]
         if row.energy is not None and whole:
-            found[row.name.count, row.machine, row.take, row.curve, row.name.tenths].append(row.energy / whole)
+            name = row.name
+            found[name.count, row.machine, row.take, row.curve, name.tenths].append(row.energy / whole)
     return {point: sorted(energies) for point, energies in found.items()}
 
 
-def figure_table(panels: Iterable[Panel], found: Mapping[tuple[int, str, str, str, int], list[Fraction]]) -> str:
+def figure_table(panels: Iterable[Panel], found: Mapping[Place, list[Fraction]]) -> str:
     """The table of a figure: a line for each panel, curve and utilisation.
 
-    It has the number of sets that were admitted, the mean over them and the ends of the middle 80 %, each with four
-    decimal places. Without an admitted set these three are left out.
+    It has the number of sets that were admitted, the mean over them and the ends of the middle 80 %, each
+    with four decimal places. Without an admitted set these three are left out.
     """
     lines = (f"{panel.title}\t{curve}\t{decimal(Fraction(tenths, 10), 1)}\t"
              + point(found.get((panel.count, panel.machine, panel.take, curve, tenths), []))
@@ -304,7 +323,8 @@ def mean(values: list[Fraction]) -> Fraction:
 def faults(records: Iterable[Record]) -> Iterator[str]:
     """What is wrong with results, a line each.
 
-    Each set has all its runs. No energy is below the bound; with the idle share 0 none is above that of EDF with `none`.
+    Each set has all its runs. No energy is below the bound; with the idle share 0 none is above that of EDF
+    with `none`.
     """
     groups: defaultdict[tuple[SetName, str, str], dict[str, Fraction | None]] = defaultdict(dict)
     for record in records:
@@ -340,26 +360,34 @@ def summary(records: Collection[Record], wrong: Collection[str]) -> str:
 def add_command(commands: "argparse._SubParsersAction[argparse.ArgumentParser]") -> None:
     """Adds the command `evaluate`."""
     parser = commands.add_parser(
-        "evaluate", help="energy over utilisation, of random sets",
-        description="Runs random sets under each scheduler and governor, and writes a table for each figure of "
-        "docs/EVALUATION.md into the folder. A sweep that was stopped goes on when the call is made again. The last line "
-        "counts what is wrong: a run that is missing, an energy below the bound or above EDF with none.",
-        epilog="python3 -m rtdvs evaluate --folder sweep --jobs 4; only a part: --counts 5 --utilisations 0.1 0.2")
+        "evaluate", help="energy over utilisation, of random sets", description=ABOUT,
+        epilog="python3 -m rtdvs evaluate --folder sweep --jobs 4 --counts 5 --utilisations 0.1 0.2")
     parser.add_argument("--folder", type=Path, required=True, help="where results and tables are kept")
     parser.add_argument("--sets", type=whole_number(1, 999), default=100, metavar="N",
                         help="for each number of tasks and each utilisation; 100 unless given")
     parser.add_argument("--draws", choices=list(DRAWS), default="published", help="published unless given")
     parser.add_argument("--counts", type=int, choices=PUBLISHED_COUNTS, nargs="+", default=PUBLISHED_COUNTS,
                         help="the numbers of tasks; all unless given")
-    parser.add_argument("--utilisations", type=exact_fraction, choices=[Fraction(tenths, 10) for tenths in TENTHS],
-                        nargs="+", default=[Fraction(tenths, 10) for tenths in TENTHS], metavar="U",
+    parser.add_argument("--utilisations", type=tenth, nargs="+", default=TENTHS, metavar="U",
                         help="tenths from 0.1 to 1; all unless given")
     add_engine_options(parser, jobs=True)
     parser.set_defaults(handler=run)
 
 
+def tenth(word: str) -> int:
+    """For argparse's `type`: a utilisation from 0.1 to 1.0, in tenths.
+
+    >>> tenth("0.7"), tenth("1")
+    (7, 10)
+    """
+    tenths = exact_fraction(word) * 10
+    if tenths not in TENTHS:
+        raise argparse.ArgumentTypeError(f"a utilisation is 0.1, 0.2 .. or 1, not {word}")
+    return int(tenths)
+
+
 def run(args: argparse.Namespace) -> int:
-    sweep = Sweep(args.draws, args.sets, counts=args.counts, tenths=[int(share * 10) for share in args.utilisations])
+    sweep = Sweep(args.draws, args.sets, counts=args.counts, tenths=args.utilisations)
     total = len(set(args.counts)) * len(set(args.utilisations)) * args.sets
     with ProcessPoolExecutor(args.jobs) as executor:
         names = sorted(progress(evaluate(engine_of(args), args.folder, sweep, executor), total, "sets"))

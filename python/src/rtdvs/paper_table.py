@@ -23,13 +23,18 @@ PAIRS = (("edf", "none"), ("rm", "static"), ("edf", "static"), ("edf", "cc"), ("
 HEADING = ("k", "none", "RM static", "EDF static", "EDF cc", "RM cc", "EDF la")
 PUBLISHED = ("paper", "1.0", "1.0", "0.64", "0.52", "0.71", "0.44")
 FINER = (1, 3, 10, 100)
+ABOUT = """
+Prints the energies of the worked example of Pillai and Shin (2001), as shares of EDF with none. A row has
+ticks k times finer: periods, worst cases, demands and the ticks of the run times k, at the same speeds. The
+last row is the paper's own.
+"""
 
 
 def shares(engine: Engine, times: int, executor: Executor | None = None) -> tuple[Fraction, ...]:
     """The energies of the published pairs in ticks that are so much finer, each over the first.
 
-    If the ticks are 3 times finer, or a multiple of it, each completion is at a tick. Then it is seen at once, as in
-    the continuous time of the paper, and the shares are exactly those.
+    If the ticks are 3 times finer, or a multiple of it, each completion is at a tick. Then it is seen at
+    once, as in the continuous time of the paper, and the shares are exactly those.
 
     >>> from rtdvs import find_engine
     >>> shares(find_engine(), 3)[3:]
@@ -44,7 +49,7 @@ def shares(engine: Engine, times: int, executor: Executor | None = None) -> tupl
 
 
 def lines(rows: Iterable[tuple[int, tuple[Fraction, ...]]]) -> Iterator[str]:
-    """The table line by line: its heading, a row for each number of finer ticks with six decimal places, the paper's."""
+    """The table line by line: its heading, a row for each k with six decimal places, the paper's own."""
     yield line(HEADING)
     for times, row in rows:
         yield line((str(times), *(decimal(share, 6) for share in row)))
@@ -64,9 +69,7 @@ def add_command(commands: "argparse._SubParsersAction[argparse.ArgumentParser]")
     """Adds the command `paper-table`."""
     parser = commands.add_parser(
         "paper-table", help="the energies of the example of Pillai and Shin, in finer ticks too",
-        description="Prints the energies of the worked example of Pillai and Shin (2001), as shares of EDF with none. "
-        "A row has ticks k times finer: periods, worst cases, demands and the ticks of the run times k, at the same speeds. "
-        "The last row is the paper's own.",
+        description=ABOUT,
         epilog="python3 -m rtdvs paper-table --finer 3 30")
     parser.add_argument("--finer", type=whole_number(1), nargs="+", default=FINER, metavar="K",
                         help="a row for each; 1, 3, 10 and 100 unless given")
@@ -77,7 +80,7 @@ def add_command(commands: "argparse._SubParsersAction[argparse.ArgumentParser]")
 def run(args: argparse.Namespace) -> int:
     engine = engine_of(args)
     with executor_of(args) as executor:
-        rows = ((times, shares(engine, times, executor)) for times in progress(args.finer, len(args.finer), "rows"))
-        for text in lines(rows):
-            print(text)
+        rows = [(times, shares(engine, times, executor))
+                for times in progress(args.finer, len(args.finer), "rows")]
+    print("\n".join(lines(rows)))
     return 0

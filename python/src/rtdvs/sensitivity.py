@@ -1,4 +1,4 @@
-"""How far a task set is from the limit of a test: how much worst cases can grow, how slow the highest speed can be."""
+"""How far a task set is from the limit of a test: how worst cases can grow, how slow a machine can be."""
 
 import argparse
 from collections.abc import Callable, Iterator
@@ -20,6 +20,12 @@ from rtdvs.engine import Denied, Engine, admit_call, response_call
 from rtdvs.files import Machine, Point, TaskSet
 
 TESTS = ("edf", "rm", "response")
+ABOUT = """
+Prints the most thousandths that all worst cases can be multiplied by, each product rounded up; for each task
+its worst case and the most units that it can have; the highest speed and the lowest that is enough. Each
+limit leaves the rest as it is; a dash says that no number is enough. A set that is denied has limits below
+its own numbers.
+"""
 MOST_SPEED = 1_000_000
 """The highest speed that a machine file can have, in work units per tick."""
 
@@ -28,8 +34,8 @@ MOST_SPEED = 1_000_000
 class Limits:
     """The last numbers that a test admits, each with all others as they are; None if no number is enough.
 
-    `thousandths` multiply all worst cases, each product rounded up to whole units. `worsts` are work units, in the order
-    of the tasks. `speed` is the lowest whole highest speed, in work units per tick.
+    `thousandths` multiply all worst cases, each product rounded up to whole units. `worsts` are work units,
+    in the order of the tasks. `speed` is the lowest whole highest speed, in work units per tick.
     """
 
     thousandths: int | None
@@ -47,7 +53,7 @@ class Question:
     test: str
 
     def admits(self) -> bool:
-        """Whether the program's test admits the set; raises what else it answers, as a Denied for an offset."""
+        """Whether the program's test admits the set; raises its other refusals, and Denied for an offset."""
         asked = (response_call(self.tasks, self.machine) if self.test == "response"
                  else admit_call(self.tasks, self.machine, self.test))
         try:
@@ -84,7 +90,8 @@ def last(above: int, holds: Callable[[int], bool]) -> int | None:
 def most_thousandths(question: Question) -> int | None:
     """The most thousandths that all worst cases can be multiplied by."""
     def holds(thousandths: int) -> bool:
-        return question.with_worsts([-(-task.worst * thousandths // 1000) for task in question.tasks]).admits()
+        worsts = [-(-task.worst * thousandths // 1000) for task in question.tasks]
+        return question.with_worsts(worsts).admits()
 
     # A task that needs more than the highest speed does in its period is admitted by no test.
     room = min(question.machine.top_speed * task.period * 1000 // task.worst for task in question.tasks)
@@ -111,17 +118,18 @@ def least_speed(question: Question) -> int | None:
 
 
 def limits_of(question: Question, executor: Executor | None = None) -> Iterator[int | None]:
-    """The thousandths, the lowest highest speed and each task's worst case, as they are found, in this order."""
+    """The thousandths, the lowest highest speed and each task's worst case, in this order."""
     searches = [partial(most_thousandths, question), partial(least_speed, question),
                 *(partial(most_worst, question, place) for place in range(len(question.tasks)))]
     return map(call, searches) if executor is None else executor.map(call, searches)
 
 
-def sensitivity(engine: Engine, tasks: TaskSet, machine: Machine, test: str, executor: Executor | None = None) -> Limits:
+def sensitivity(engine: Engine, tasks: TaskSet, machine: Machine, test: str,
+                executor: Executor | None = None) -> Limits:
     """The limits of a test (edf, rm or response), each by bisection over calls of the program.
 
-    A set that is denied has limits below its own numbers: it has to shrink to them. Raises Denied if `response` meets
-    an offset, and whatever else the program refuses.
+    A set that is denied has limits below its own numbers: it has to shrink to them. Raises Denied if
+    `response` meets an offset, and whatever else the program refuses.
 
     >>> from rtdvs import Point, Task, find_engine
     >>> tasks = TaskSet((Task("a", 10, 6), Task("b", 10, 10)))
@@ -135,10 +143,11 @@ def sensitivity(engine: Engine, tasks: TaskSet, machine: Machine, test: str, exe
 
 
 def table(question: Question, limits: Limits) -> str:
-    """A line for all tasks, for each task and for the speed: what is, and the limit; `-` if no number is enough."""
+    """A line for all tasks, for each task and for the speed: what is, and the limit; `-` for None."""
     worsts = "".join(f"task {task.name} {task.worst} {shown(most)}\n"
                      for task, most in zip(question.tasks, limits.worsts))
-    return f"all {shown(limits.thousandths)}\n{worsts}speed {question.machine.top_speed} {shown(limits.speed)}\n"
+    speed = f"speed {question.machine.top_speed} {shown(limits.speed)}\n"
+    return f"all {shown(limits.thousandths)}\n{worsts}{speed}"
 
 
 def shown(limit: int | None) -> str:
@@ -149,9 +158,7 @@ def add_command(commands: "argparse._SubParsersAction[argparse.ArgumentParser]")
     """Adds the command `sensitivity`."""
     parser = commands.add_parser(
         "sensitivity", help="how far a set is from the limit of a test",
-        description="Prints the most thousandths that all worst cases can be multiplied by, for each task its worst case "
-        "and the most units that it can have, and the highest speed with the lowest that is enough. Each limit leaves the "
-        "rest as it is; a dash says that no number is enough. A set that is denied has limits below its own numbers.",
+        description=ABOUT,
         epilog="python3 -m rtdvs sensitivity --tasks tasks.toml --machine machine.toml --test edf")
     add_files(parser, ["tasks", "machine"])
     parser.add_argument("--test", choices=TESTS, required=True,
