@@ -21,7 +21,7 @@ LAYERS = [
     {"rules", "explain", "simulate", "commandline"},
     {"statistics", "compare", "sensitivity", "draws", "generate", "evaluate", "paper_table"},
     {"design", "device_tree"},
-    {"plot", "convert"},
+    {"canvas", "marks", "figures", "plot", "convert"},
     {"cli", "__init__", "__main__"},
 ]
 
