@@ -1,4 +1,4 @@
-"""An independent model of docs/RULES.md, tick by tick: no state is kept but what each task got in each tick."""
+"""An independent model of docs/RULES.md, tick by tick; its only state is what each task got in each tick."""
 
 import random
 from collections.abc import Iterator
@@ -69,19 +69,20 @@ class Model:
 
     def order(self, tick: int) -> list[int]:
         """The places by priority."""
-        def key(place: int) -> tuple[int, int]:
-            edf = self.pair[0] == "edf"
-            return (self.due(place, self.number(place, tick)) if edf else self.tasks.tasks[place].period), place
-        return sorted(self.places(), key=key)
+        if self.pair[0] == "rm":
+            return sorted(self.places(), key=lambda place: (self.tasks.tasks[place].period, place))
+        return sorted(self.places(), key=lambda place: (self.due(place, self.number(place, tick)), place))
 
     def open(self, tick: int) -> list[int]:
-        return [place for place in self.order(tick) if not self.complete(place, self.number(place, tick), tick)]
+        return [place for place in self.order(tick)
+                if not self.complete(place, self.number(place, tick), tick)]
 
     def static(self) -> Fraction:
         """The static demand, without its denominator."""
         tasks = self.tasks.tasks
         if self.pair[0] == "edf":
-            return sum((Fraction(self.worst(place), tasks[place].period) for place in self.places()), Fraction(0))
+            rates = [Fraction(self.worst(place), tasks[place].period) for place in self.places()]
+            return sum(rates, Fraction(0))
         order = sorted(self.places(), key=lambda place: (tasks[place].period, place))
         works = [(sum(ceil(Fraction(tasks[one].period, tasks[two].period)) * self.worst(two)
                       for two in order[:rank + 1]), tasks[one].period) for rank, one in enumerate(order)]
@@ -95,7 +96,7 @@ class Model:
         return self.static() <= self.machine.points[-1].speed
 
     def handed(self, tick: int) -> tuple[int, list[tuple[int, int, int, int]]]:
-        """Under RM with `cc`: the tick where units were handed out; place, might, allotted, left of each task."""
+        """Under RM with `cc`: where units were handed out; place, might, allotted, left of each task."""
         mark = max([0, *(at for at in range(tick + 1) if self.released(at))])
         room = (self.first_deadline(tick) - mark) * self.lowest(self.static())
         rows = []
@@ -132,8 +133,8 @@ class Model:
             return Fraction(sum(before for _, _, before in self.put_off(tick)), time)
         if scheduler == "rm":
             return Fraction(sum(left for _, _, _, left in self.handed(tick)[1]), time)
-        return sum((Fraction(self.charged(place, tick), self.tasks.tasks[place].period) for place in self.places()),
-                   Fraction(0))
+        rates = [Fraction(self.charged(place, tick), task.period) for place, task in enumerate(self.tasks)]
+        return sum(rates, Fraction(0))
 
     def charged(self, place: int, tick: int) -> int:
         job = self.number(place, tick)
@@ -171,7 +172,9 @@ def random_case(seed: int, long: bool = False) -> tuple[TaskSet, Machine, Demand
     charge = rng.choice([0, 0, 1, 3])
     machine = Machine(tuple(map(Point, speeds, volts)), rng.choice([0, 100, 1000]), charge)
     count = rng.randint(20, 64) if long and rng.random() < 0.05 else rng.randint(1, 6)
-    choices = [2**32, 3 * 2**30, 2**38] if long and rng.random() < 0.1 else rng.choice([PERIODS, PERIODS, [2, 4, 6, 12]])
+    choices = rng.choice([PERIODS, PERIODS, [2, 4, 6, 12]])
+    if long and rng.random() < 0.1:
+        choices = [2**32, 3 * 2**30, 2**38]
     periods = [rng.choice(choices) for _ in range(count)]
     weights = [rng.random() for _ in periods]
     load = rng.uniform(0.2, 1.05) * speeds[-1] / sum(weights)

@@ -46,8 +46,11 @@ class Inputs:
             return fault.line, fault.reason
         return None
 
+    def simulated(self, pair: tuple[str, str], ticks: int) -> Trace:
+        return simulate(self.tasks, self.machine, pair[0], ticks, GOVERNORS[pair], self.demands, pair[1])
+
     def assert_right(self, text: str) -> None:
-        """The trace is right with its demand file, without it, and as that of any governor; each decision is shown."""
+        """The trace is right with its demand file, without it, and as one of any governor."""
         boards: list[str] = []
         lines = text.splitlines(True)
         for known, free in [(True, False), (False, False), (True, True), (False, True)]:
@@ -67,9 +70,11 @@ def folder(name: str, demands: bool = True) -> Inputs:
 STORED = {
     "rtdvs": (Inputs.read(TOP / "crates/rtdvs/data/tasks.toml", TOP / "crates/rtdvs/data/machine.toml"),
               TOP / "crates/rtdvs/stdout"),
-    "exercise": (Inputs.read(EXERCISES / "tasks.toml", DATA / "paper/machine.toml", EXERCISES / "demands.csv"),
-                 EXERCISES / "solution.trace"),
-    "one_task": (Inputs.read(DATA / "long/one_task.toml", DATA / "long/one_point.toml"), DATA / "long/one_task.trace"),
+    "exercise": (
+        Inputs.read(EXERCISES / "tasks.toml", DATA / "paper/machine.toml", EXERCISES / "demands.csv"),
+        EXERCISES / "solution.trace"),
+    "one_task": (Inputs.read(DATA / "long/one_task.toml", DATA / "long/one_point.toml"),
+                 DATA / "long/one_task.trace"),
 } | {
     f"{path.parent.name}/{path.stem}": (folder(path.parent.name, "with_demands" in path.stem), path)
     for path in sorted(DATA.glob("*/*.trace")) if path.stem != "one_task"
@@ -98,7 +103,7 @@ def test_runs_of_the_examples() -> None:
 
 def plain(text: bytes) -> bytes:
     """Text with the escapes of the stored calls, as bytes."""
-    return re.sub(rb"\\(x..|.)", lambda found: bytes([int(found[1][1:], 16)]) if len(found[1]) > 1 else found[1], text)
+    return re.sub(rb"\\(x..|.)", lambda found: bytes.fromhex(found[1][1:].decode()) or found[1], text)
 
 
 def stored_calls() -> Iterator[tuple[dict[str, str], dict[str, bytes], str]]:
@@ -133,8 +138,8 @@ def test_stored_calls() -> None:
     assert calls > 10
 
 
-# Altered by hand: the trace, lines of it with what is there instead, the first wrong line, and a part of the reason.
-# CC is the example of docs/TRACE.md.
+# Altered by hand: the trace, lines of it with what is there instead, the first wrong line, and a part of the
+# reason. CC is the example of docs/TRACE.md.
 
 CC, RM, TEMPLATE = "paper/edf_cc_with_demands", "paper/rm_cc_with_demands", "templates/edf_cc_with_demands"
 BY_HAND: list[tuple[str, dict[int, str | None], int, str]] = [
@@ -144,15 +149,17 @@ BY_HAND: list[tuple[str, dict[int, str | None], int, str]] = [
     (CC, {3: "release 0 t2 1"}, 3, "the release of t1 comes first"),
     (CC, {4: "release 0 t4 1"}, 4, "no task t4"),
     (CC, {5: "release 0 t3 2"}, 5, "wanted job 1"),
-    (CC, {6: "speed 0 3 209/70"}, 6, "the demand is 836/280: t1 job 1 is not complete"),  # the fraction is not reduced
+    # The fraction is not reduced.
+    (CC, {6: "speed 0 3 209/70"}, 6, "the demand is 836/280: t1 job 1 is not complete"),
     (CC, {6: None}, 6, "the decision at tick 0 is missing"),
     (CC, {7: "run 0:0 3:0 t1 1 9 144000000000"}, 7, "8 units left"),  # the demand file says 8
     (CC, {7: "run 00:0 2:2 t1 1 8 128000000000"}, 7, "not a line of a trace"),
     (CC, {9: "run 2:2 3:0 t3 1 1 16000000000"}, 9, "t2 job 1 comes first: it is not complete, and due at 10"),
-    (CC, {9: "run 2:2 3:0 t2 1 2 32000000000"}, 9, "1 up to a decision at tick 3"),  # 2 of the 3 units have passed
+    # 2 of the 3 units of tick 2 have passed.
+    (CC, {9: "run 2:2 3:0 t2 1 2 32000000000"}, 9, "1 up to a decision at tick 3"),
     (CC, {11: "run 3:0 4:0 t2 1 3 48000000001"}, 11, "= 48000000000"),  # 3 * 4000 * 4000 * 1000
     (CC, {12: None}, 12, "t2 job 1 has had all of its 4 units, and its done line is missing"),
-    (CC, {13: "speed 4 3 472/280"}, 13, "speed 2 is the lowest that meets 472/280: speed 2: 2 * 280 = 560, enough"),
+    (CC, {13: "speed 4 3 472/280"}, 13, "lowest that meets 472/280: speed 2: 2 * 280 = 560, enough"),
     (CC, {14: "run 4:0 5:0 t3 1 2 18000000000"}, 14, "gets 4 units"),  # no decision at tick 5
     (CC, {14: "run 4:0 6:0 t1 1 4 36000000000"}, 14, "t1 job 1 is complete"),
     (CC, {16: None}, 16, "the decision at tick 6 is missing"),
@@ -189,9 +196,9 @@ speed 8 2 2/1
 run 8:0 10:0 t2 1 4 36000000000
 release 10 t2 2
 """
-LATE_END = LATE.replace("plan edf slow 16", "plan edf slow 10").replace("release 10 t2 2", "end 10 180000000000 0")
-# A governor that changes the speed at ticks without an event, and keeps it over one: x needs 4 units from the ticks 0
-# and 4 on, y needs 6 from tick 2 on.
+LATE_END = LATE.replace("slow 16", "slow 10").replace("release 10 t2 2", "end 10 180000000000 0")
+# A governor that changes the speed at ticks without an event, and keeps it over one: x needs 4 units from the
+# ticks 0 and 4 on, y needs 6 from tick 2 on.
 SAW = """trace 1
 plan edf saw 8
 release 0 x 1
@@ -213,7 +220,8 @@ done 5:0 x 2 4
 idle 5:0 8:0 12 0
 end 8 318000000000 0
 """
-# Of the levels 4/4, (2 * 4 + 2)/5 and (2 * 4 + 2 * 2 + 4)/8 two are the greatest, and the first of them is published.
+# Of the levels 4/4, (2 * 4 + 2)/5 and (2 * 4 + 2 * 2 + 4)/8 two are the greatest, and the first of them is
+# published.
 TIE_TASKS = "".join(f'[[task]]\nname = "{name}"\nperiod = {period}\nworst = {worst}\n'
                     for name, period, worst in [("a", 4, 4), ("b", 5, 2), ("c", 8, 4)])
 TIE = """trace 1
@@ -241,7 +249,8 @@ def assert_wrong(inputs: Inputs, lines: list[str], wanted: int, part: str, known
 
 @pytest.mark.parametrize(("trace", "edits", "wanted", "part"), BY_HAND)
 def test_altered_by_hand(trace: str, edits: dict[int, str | None], wanted: int, part: str) -> None:
-    assert_wrong(folder(trace.split("/")[0]), edited((DATA / f"{trace}.trace").read_text(), edits), wanted, part)
+    lines = edited((DATA / f"{trace}.trace").read_text(), edits)
+    assert_wrong(folder(trace.split("/")[0]), lines, wanted, part)
 
 
 CC_TEXT, TEMPLATE_TEXT = (DATA / f"{CC}.trace").read_text(), (DATA / f"{TEMPLATE}.trace").read_text()
@@ -286,7 +295,7 @@ def test_of_equal_levels_the_first() -> None:
 # Random plans
 
 def altered(rng: random.Random, lines: list[str]) -> tuple[list[str], int, str]:
-    """The trace with a line changed, left out or repeated, the first line that is then wrong, and that line's word."""
+    """The trace with a line changed, left out or repeated, its first wrong line, and that one's word."""
     notes = [place for place, line in enumerate(lines) if line.split()[0] not in ("trace", "plan", "task")]
     place, how = rng.choice(notes), rng.randint(0, 3)
     word, text = lines[place].split()[0], lines[place]
@@ -313,7 +322,7 @@ def random_inputs(seed: int) -> tuple[Inputs, int]:
 
 @pytest.mark.parametrize("part", range(8))
 def test_random_plans(part: int, engine: Engine) -> None:
-    """The program's traces are the simulated ones and right; altered ones are refused at the first wrong line."""
+    """The program's traces are the simulated ones, and right; altered ones are refused at the wrong line."""
     for seed in range(20 * part, 20 * part + 20):
         inputs, ticks = random_inputs(seed)
         rng = random.Random(seed)
@@ -325,7 +334,7 @@ def test_random_plans(part: int, engine: Engine) -> None:
                 with pytest.raises(FileFault, match=f"^{denied}$"):
                     inputs.refusal(["trace 1\n", f"plan {pair[0]} {pair[1]} 1\n"])
                 continue
-            trace = simulate(inputs.tasks, inputs.machine, pair[0], ticks, GOVERNORS[pair], inputs.demands, pair[1])
+            trace = inputs.simulated(pair, ticks)
             assert text == (trace.text() if version == 2 else version_1(trace))
             inputs.assert_right(text)
             if inputs.demands:
@@ -349,7 +358,7 @@ def test_altered_simulations(pair: tuple[str, str]) -> None:
             Plan(inputs.tasks, inputs.machine, pair[0]).admit()
         except FileFault:
             continue
-        trace = simulate(inputs.tasks, inputs.machine, pair[0], ticks, GOVERNORS[pair], inputs.demands, pair[1])
+        trace = inputs.simulated(pair, ticks)
         inputs.assert_right(trace.text())
         assert_altered(inputs, random.Random(seed), version_1(trace).splitlines(True))
         assert_altered(inputs, random.Random(seed), trace.text().splitlines(True))
@@ -367,7 +376,7 @@ TOTALS = "16 ticks, 6 jobs released, 6 complete, 8 decisions, energy 36400000000
 
 @pytest.fixture
 def call(capsys: pytest.CaptureFixture[str]) -> Run:
-    """Calls `explain` with the files of the paper's example, or others, and gives its status and what it says."""
+    """Calls `explain` with the files of the paper's example, or others; gives its status and what it says."""
     def run(*words: str, **files: str | None) -> Said:
         chosen = PAPER | {f"--{name}": path for name, path in files.items()}
         options = [word for name, path in chosen.items() if path is not None for word in (name, path)]
@@ -418,7 +427,7 @@ def test_rm_board(call: Run) -> None:
 
 
 def test_look_ahead_board(call: Run) -> None:
-    """As on a board: 4 * 280 = 1120 units of the grid, less the rates of the others; 364 * 6/280 = 7.8, 1120/6 = 186.7."""
+    """As on a board: 4 * 280 = 1120, less the rates of the others; 364 * 6/280 = 7.8, and 1120/6 = 186.7."""
     lines = call(trace=str(DATA / "paper/edf_la_with_demands.trace"))[1]
     assert lines[4:10] == [
         "    rates 420 + 336 + 80 = 836, of 4 * 280 = 1120; the earliest deadline is 8",
@@ -452,8 +461,8 @@ def test_a_wrong_trace_has_status_1(call: Run, tmp_path: Path) -> None:
     wrong.write_text("".join(edited(CC_TEXT, {2: "plan edf mine 16"})))
     assert call("--quiet", trace=str(wrong)) == (1, [], "line 2: no scheduler and governor edf mine\n")
     assert call("--any", "--quiet", trace=str(wrong))[0] == 0
-    assert call("--quiet", trace=str(EXERCISES / "wrong.trace"), tasks=str(EXERCISES / "tasks.toml"), demands=None) == (
-        1, [], "line 8: b job 1 is not complete: it has had 0 units\n")
+    files = {"trace": str(EXERCISES / "wrong.trace"), "tasks": str(EXERCISES / "tasks.toml"), "demands": None}
+    assert call("--quiet", **files) == (1, [], "line 8: b job 1 is not complete: it has had 0 units\n")
 
 
 TASK = '[[task]]\nname = "t1"\nperiod = 8\nworst = 12\n'
@@ -501,7 +510,8 @@ def test_no_file(call: Run, tmp_path: Path, kind: str) -> None:
 
 def test_no_text(call: Run, tmp_path: Path) -> None:
     path = tmp_path / "file"
-    for content in (b"", b"\xff\xfe\x00", bytes(range(256)), b"trace 1\nplan edf cc 16\nrelease 0 t\xff 1\n", b"0" * 10**6):
+    named = b"trace 1\nplan edf cc 16\nrelease 0 t\xff 1\n"
+    for content in (b"", b"\xff\xfe\x00", bytes(range(256)), named, b"0" * 10**6):
         path.write_bytes(content)
         assert call("--quiet", trace=str(path))[0] == 1
     path.write_bytes(b"[" * 100000)

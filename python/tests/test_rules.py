@@ -1,4 +1,4 @@
-"""Demands, schedules and boards of random plans against a model that goes tick by tick, and statistics by hand."""
+"""Demands, schedules and boards of random plans against a model that goes tick by tick."""
 
 import re
 from fractions import Fraction
@@ -41,20 +41,23 @@ def test_schedule(pair: tuple[str, str]) -> None:
         found = [(note.tick, Fraction(note.num, note.den), note.speed) for note in trace.decisions]
         assert found == list(model.decisions(ticks)), seed
         volts = {point.speed: point.millivolts for point in model.machine.points}
-        units = {task.name: sum(share[place] for share in model.shares) for place, task in enumerate(model.tasks)}
+        units = {task.name: sum(share[place] for share in model.shares)
+                 for place, task in enumerate(model.tasks)}
         assert units == {task.name: sum(note.units for note in trace.notes if isinstance(note, Run)
                                         and note.task == task.name) for task in model.tasks}
         speeds = dict(model_speeds(trace.decisions, ticks))
         assert trace.run_energy == sum(sum(share) * volts[speeds[tick]] ** 2 * 1000
                                        for tick, share in enumerate(model.shares))
-        assert trace.idle_energy == sum((speeds[tick] - sum(share)) * volts[speeds[tick]] ** 2 * model.machine.idle
-                                        for tick, share in enumerate(model.shares))
+        idle = [(speeds[tick] - sum(share)) * volts[speeds[tick]] ** 2
+                for tick, share in enumerate(model.shares)]
+        assert trace.idle_energy == sum(idle) * model.machine.idle
 
 
 def model_speeds(decisions: tuple[Decision, ...], ticks: int) -> list[tuple[int, int]]:
     """The speed of each tick."""
     ends = [*(note.tick for note in decisions[1:]), ticks]
-    return [(tick, note.speed) for note, end in zip(decisions, ends, strict=True) for tick in range(note.tick, end)]
+    return [(tick, note.speed) for note, end in zip(decisions, ends, strict=True)
+            for tick in range(note.tick, end)]
 
 
 # The board
@@ -87,9 +90,10 @@ def facts(model: Model, tick: int) -> set[str]:
     if model.pair == ("rm", "cc"):
         mark, rows = model.handed(tick)
         end, speed = model.first_deadline(tick), model.lowest(model.static())
-        had = [model.had(place, model.number(place, tick), tick) - model.had(place, model.number(place, tick), mark)
-               for place in model.places()]
-        return {f"handed out at tick {mark}, up to the earliest deadline {end}, at the static speed {speed}:"} | {
+        jobs = [model.number(place, tick) for place in model.places()]
+        had = [model.had(place, job, tick) - model.had(place, job, mark) for place, job in enumerate(jobs)]
+        head = f"handed out at tick {mark}, up to the earliest deadline {end}, at the static speed {speed}:"
+        return {head} | {
             f"{names[place]} might need {might}, is allotted {allotted} and "
             f"{'is complete' if done[place] else f'has had {had[place]} since'}: {left} left"
             for place, might, allotted, left in rows}
@@ -117,7 +121,8 @@ def first_line(model: Model, tick: int, demand: Fraction, speed: int) -> str:
     causes = [f"release of {' and '.join(', '.join(released).rsplit(', ', 1))}"] if released else []
     if completed:
         listed = " and ".join(", ".join(completed).rsplit(", ", 1))
-        causes.append(f"since {listed} {'was' if len(completed) == 1 else 'were'} complete in tick {tick - 1}")
+        verb = "was" if len(completed) == 1 else "were"
+        causes.append(f"since {listed} {verb} complete in tick {tick - 1}")
     return f", tick {tick}, {', '.join(causes) or 'the start'}: "
 
 
@@ -149,7 +154,8 @@ def test_board(pair: tuple[str, str]) -> None:
             head, *body, last = board.split("\n    ")
             number, rest = head.removeprefix("line ").split(first_line(model, tick, demand, speed))
             num, den = map(int, rest.removesuffix(f", speed {speed}").split("/"))
-            assert Fraction(num, den) == demand and lines[int(number) - 1] == f"speed {tick} {speed} {num}/{den}\n"
+            assert Fraction(num, den) == demand
+            assert lines[int(number) - 1] == f"speed {tick} {speed} {num}/{den}\n"
             assert last == next_line(model, tick)
             for line in body:
                 assert_arithmetic(line)
@@ -166,8 +172,9 @@ def assert_speeds(model: Model, body: list[str], num: int, den: int) -> None:
     enough = [speed for speed in speeds if speed * den >= num]
     too_slow = [f"speed {speed}: {speed} * {den} = {speed * den}, less than {num}" for speed in speeds
                 if speed * den < num]
-    wanted = [*too_slow[-1:], f"speed {enough[0]}: {enough[0]} * {den} = {enough[0] * den}, enough"] if enough else [
-        *too_slow[-2:], "no speed meets it: the highest is used"]
+    wanted = [*too_slow[-2:], "no speed meets it: the highest is used"]
+    if enough:
+        wanted = [*too_slow[-1:], f"speed {enough[0]}: {enough[0]} * {den} = {enough[0] * den}, enough"]
     assert body[-len(wanted):] == wanted
     terms = body[:-len(wanted)]
     assert re.search(rf"(= |: |speed, ){num}(, over the .*\b{den}|/{den}|)$", terms[-1]), terms[-1]

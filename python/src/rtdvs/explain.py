@@ -1,11 +1,13 @@
 """Explains each decision of a trace, and checks the whole trace.
 
-For each decision: why it is made, what each task counts in the published demand, the sum, the first speed that meets
-it, and the job that then runs. All of it is computed from the lines before by docs/RULES.md. Each line is checked on
-the way: releases, legal ticks, decisions, demands, speeds, energies, completions, deadlines and totals.
+For each decision: why it is made, what each task counts in the published demand, the sum, the first speed
+that meets it, and the job that then runs. All of it is computed from the lines before by docs/RULES.md. Each
+line is checked on the way: releases, legal ticks, decisions, demands, speeds, energies, completions,
+deadlines and totals.
 
-Without the demand file a job needs what its `done` line says, or its worst case without one. A run that ends too early
-is then found one line later than `replay` finds it, at the line that is there instead of the `done` line.
+Without the demand file a job needs what its `done` line says, or its worst case without one. A run that ends
+too early is then found one line later than `replay` finds it, at the line that is there instead of the `done`
+line.
 """
 
 import argparse
@@ -33,7 +35,19 @@ from rtdvs.rules import (
     rm_cycle,
     static,
 )
-from rtdvs.trace import Decision, Done, Head, Item, Note, Order, Position, Release, TraceFault, lines_of, spelled_lines
+from rtdvs.trace import (
+    Decision,
+    Done,
+    Head,
+    Item,
+    Note,
+    Order,
+    Position,
+    Release,
+    TraceFault,
+    lines_of,
+    spelled_lines,
+)
 
 
 class WrongTrace(TraceFault):
@@ -80,7 +94,8 @@ def quotient(num: int, den: int, up: bool = False) -> tuple[int, str]:
     ((7, '2184/280, down to 7'), (187, '1120/6, up to 187'), (2, '560/280 = 2'))
     """
     value = ceiling(num, den) if up else num // den
-    return value, f"{num}/{den} = {value}" if num % den == 0 else f"{num}/{den}, {'up' if up else 'down'} to {value}"
+    rounded = f", {'up' if up else 'down'} to {value}"
+    return value, f"{num}/{den}" + (rounded if num % den else f" = {value}")
 
 
 def _full(state: State) -> list[str]:
@@ -104,7 +119,8 @@ def _static(state: State) -> list[str]:
         terms = " + ".join(f"{count} * {worst}" for count, worst in jobs)
         work = sum(count * worst for count, worst in jobs)
         lines.append(f"{task.name} and those before it in {task.period} ticks: {terms} = {work}")
-    name = next(task.name for task, work in map(plan.level, range(len(order))) if (work, task.period) == plan.static)
+    levels = map(plan.level, range(len(order)))
+    name = next(task.name for task, work in levels if (work, task.period) == plan.static)
     return [*lines, f"the most work per tick is that of {name}: {plan.static[0]}/{plan.static[1]}"]
 
 
@@ -156,7 +172,7 @@ def _edf_ahead(state: State) -> list[str]:
 
 
 def _put_off(job: Latest, kept: int, state: State) -> tuple[int, int, str]:
-    """For a job that may put off work: the rates that are then kept, its units that aren't put off, and the line."""
+    """For a job that may put off work: the rates that are then kept, its units before, and the line."""
     plan, name, first = state.plan, job.task.name, state.first_deadline
     hyper, span, rate = plan.hyperperiod, job.due - first, plan.rates[job.place]
     without = kept - rate
@@ -168,9 +184,11 @@ def _put_off(job: Latest, kept: int, state: State) -> tuple[int, int, str]:
     put_off = min(job.left, room)
     need, why = quotient(put_off * hyper, span, up=True)
     return without + need, job.left - put_off, (
-        f"{job}, due at {job.due}, may need {job.left} more: {rates}; room from {first} to {job.due}: ({most} - {without}) * {span} / {hyper} = {how}; "
+        f"{job}, due at {job.due}, may need {job.left} more: {rates}; "
+        f"room from {first} to {job.due}: ({most} - {without}) * {span} / {hyper} = {how}; "
         f"{put_off} of {job.left} put off, {job.left - put_off} before {first}; "
-        f"{name} then needs {put_off} * {hyper} / {span} = {why}: rates {without} + {need} = {without + need}")
+        f"{name} then needs {put_off} * {hyper} / {span} = {why}: "
+        f"rates {without} + {need} = {without + need}")
 
 
 TERMS: dict[Governor, Callable[[State], list[str]]] = {
@@ -215,11 +233,13 @@ def cause(tick: int, events: Sequence[Release | Done]) -> str:
     done = [(note.task, note.job) for note in events if isinstance(note, Done)]
     causes = ["the start"] if tick == 0 and not released else []
     if released:
-        words = [f"{task} job {job}{' (it needs nothing)' if (task, job) in done else ''}" for task, job in released]
+        words = [f"{task} job {job}" + " (it needs nothing)" * ((task, job) in done)
+                 for task, job in released]
         causes.append(f"release of {_listed(words)}")
     words = [f"{task} job {job}" for task, job in done if (task, job) not in released]
     if words:
-        causes.append(f"since {_listed(words)} {'was' if len(words) == 1 else 'were'} complete in tick {tick - 1}")
+        verb = "was" if len(words) == 1 else "were"
+        causes.append(f"since {_listed(words)} {verb} complete in tick {tick - 1}")
     return ", ".join(causes)
 
 
@@ -235,12 +255,13 @@ def _next_job(state: State) -> str:
 
 
 def board(number: int, decision: Decision, events: Sequence[Release | Done], checker: Checker) -> str:
-    """The lines for a decision: its line in the trace, its cause, the terms of its demand, and who then runs."""
+    """The lines for a decision: its place in the trace, its cause, the terms of its demand, who then runs."""
     state, governor, lines = checker.state, checker.governor, ["as at tick 0"]
     if governor and (decision.tick == 0 or governor not in (full, static)):
         lines = TERMS[governor](state) + speeds(state.plan.machine.points, decision.num, decision.den)
-    head = f"line {number}, tick {decision.tick}, {cause(decision.tick, events)}: "
-    return "\n    ".join([f"{head}{decision.num}/{decision.den}, speed {decision.speed}", *lines, _next_job(state)])
+    place, why = f"line {number}, tick {decision.tick}", cause(decision.tick, events)
+    head = f"{place}, {why}: {decision.num}/{decision.den}, speed {decision.speed}"
+    return "\n    ".join([head, *lines, _next_job(state)])
 
 
 # The walk over a trace
@@ -248,7 +269,7 @@ def board(number: int, decision: Decision, events: Sequence[Release | Done], che
 
 @dataclass(frozen=True, slots=True)
 class Walk:
-    """A trace's lines and what it is checked against. With `any_governor` its demands and speeds are its own."""
+    """A trace's lines and what they are checked against. With `any_governor` its demands are its own."""
 
     tasks: TaskSet
     machine: Machine
@@ -257,7 +278,7 @@ class Walk:
     any_governor: bool = False
 
     def steps(self) -> Iterator[tuple[int, Item, Checker]]:
-        """Each line's number and content, after it was checked. Raises WrongTrace; FileFault if the test fails."""
+        """Each line's number and content, after it was checked. Raises WrongTrace, FileFault."""
         number, wanted, order = 1, list[Task](), Order()
         try:
             for number, item in enumerate(spelled_lines(self.lines), 2):
@@ -299,7 +320,8 @@ def _check(checker: Checker, note: Note) -> None:
     except WrongDemand as fault:
         raise Wrong(f"{fault}: {'; '.join(TERMS[fault.governor](checker.state))}") from None
     except WrongSpeed as fault:
-        raise Wrong(f"{fault}: {'; '.join(speeds(checker.state.plan.machine.points, *fault.demand))}") from None
+        points = checker.state.plan.machine.points
+        raise Wrong(f"{fault}: {'; '.join(speeds(points, *fault.demand))}") from None
 
 
 def _same_task(found: Item, wanted: list[Task]) -> None:
@@ -314,9 +336,9 @@ def _task_line(task: Task) -> str:
 
 
 def explain(walk: Walk, show: Callable[[str], object] | None = None) -> Summary:
-    """Checks a trace, and gives the text for each decision to `show`. Raises WrongTrace; FileFault if the test fails.
+    """Checks a trace, and gives the text for each decision to `show`; without `show` no text is made.
 
-    Without `show` no text is made.
+    Raises WrongTrace for the first wrong line, and FileFault if the scheduler's test fails.
     """
     events: list[Release | Done] = []
     for number, item, checker in walk.steps():
@@ -334,8 +356,8 @@ def check(tasks: TaskSet, machine: Machine, lines: Iterable[str], demands: Deman
           any_governor: bool = False) -> Summary:
     """Checks a trace, whose lines have their line feeds, and gives its totals.
 
-    Raises WrongTrace for the first wrong line, and FileFault if the scheduler's test fails. With `any_governor` a
-    decision may be at any tick, with any demand and any speed of the machine.
+    Raises WrongTrace for the first wrong line, and FileFault if the scheduler's test fails. With
+    `any_governor` a decision may be at any tick, with any demand and any speed of the machine.
 
     >>> tasks, machine = TaskSet((Task("t", 2, 4),)), Machine((Point(2, 1000), Point(3, 1500)))
     >>> lines = ["trace 1\\n", "plan edf none 1\\n", "release 0 t 1\\n", "speed 0 2 4/2\\n"]
@@ -376,9 +398,10 @@ def add_command(commands: "argparse._SubParsersAction[argparse.ArgumentParser]")
         "explain", help="explain each decision of a trace, and check the whole trace", description=__doc__,
         formatter_class=argparse.RawDescriptionHelpFormatter,
         epilog="The status is 1 if the trace is wrong; standard error then names its first wrong line.\n\n"
-               "example:\n  python3 -m rtdvs explain --tasks tasks.toml --machine machine.toml --trace run.trace")
+               "example:\n"
+               "  python3 -m rtdvs explain --tasks tasks.toml --machine machine.toml --trace run.trace")
     add_files(parser, ("tasks", "machine", "trace"), ("demands",))
     parser.add_argument("--any", action="store_true",
-                        help="the trace of another governor: any demand, and any speed of the machine at any tick")
+                        help="a trace of another governor: any demand, and any of the speeds at any tick")
     parser.add_argument("--quiet", action="store_true", help="the last line only")
     parser.set_defaults(handler=_handle)

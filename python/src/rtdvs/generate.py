@@ -133,7 +133,8 @@ def exercise(engine: Engine, seed: int, scheduler: str = "edf", governor: str = 
 def add_command(commands: "argparse._SubParsersAction[argparse.ArgumentParser]") -> None:
     """Adds the command `generate`."""
     parser = commands.add_parser("generate", help="random task sets, demands and exercises by a seed",
-                                 description="Draws task sets, demands and exercises by a seed.")
+                                 description="Draws task sets, demands and exercises by a seed.",
+                                 epilog="python3 -m rtdvs generate uunifast --count 8 --utilisation 0.7 --seed 1")
     kinds = parser.add_subparsers(metavar="KIND", required=True)
     for add in (add_uunifast, add_published, add_demands, add_exercise):
         add(kinds)

@@ -1,7 +1,7 @@
-"""The rules of docs/RULES.md: jobs, decisions and published demands, and a walk that checks the notes of a trace.
+"""The rules of docs/RULES.md: jobs, decisions and published demands, and a checker of a trace's notes.
 
-All of it is computed from the history of a run, in whole numbers of any size: ticks, work units, and demands as
-fractions num/den of work units per tick that are never reduced.
+All of it is computed from the history of a run, in whole numbers of any size: ticks, work units, and demands
+as fractions num/den of work units per tick that are never reduced.
 """
 
 from bisect import insort
@@ -33,7 +33,8 @@ def ceiling(num: int, den: int) -> int:
 class Plan:
     """Tasks, a machine and a scheduler, with what follows from them.
 
-    >>> plan = Plan(TaskSet((Task("a", 4, 4), Task("b", 6, 9))), Machine((Point(2, 3000), Point(4, 5000))), "edf")
+    >>> machine = Machine((Point(2, 3000), Point(4, 5000)))
+    >>> plan = Plan(TaskSet((Task("a", 4, 4), Task("b", 6, 9))), machine, "edf")
     >>> plan.hyperperiod, plan.rates, plan.static, plan.lowest(30, 12).speed
     (12, (12, 18), (30, 12), 4)
     """
@@ -70,17 +71,18 @@ class Plan:
     @cached_property
     def by_period(self) -> tuple[int, ...]:
         """The places of the tasks in RM order."""
-        return tuple(sorted(range(len(self.tasks)), key=lambda place: (self.tasks.tasks[place].period, place)))
+        periods = [task.period for task in self.tasks]
+        return tuple(sorted(range(len(periods)), key=periods.__getitem__))
 
     def level(self, rank: int) -> tuple[Task, int]:
-        """The task at a place of the RM order, and the work units that it and those before it need in its period."""
+        """The task at a place of the RM order, and the work of it and those before it in its period."""
         tasks = self.tasks.tasks
         task, jobs = tasks[self.by_period[rank]], self.by_period[:rank + 1]
         return task, sum(ceiling(task.period, tasks[place].period) * self.worsts[place] for place in jobs)
 
     @cached_property
     def static(self) -> Demand:
-        """The demand that `static` publishes: under RM that of the first level with the most work per tick."""
+        """The demand of `static`: under RM that of the first level with the most work per tick."""
         if self.scheduler == "edf":
             return self.rate, self.hyperperiod
         levels = [self.level(rank) for rank in range(len(self.tasks))]
@@ -140,10 +142,10 @@ class Latest:
 class State:
     """What has happened in a run up to a position: a tick, and the units of it that have passed.
 
-    A governor may read all of it. `jobs` are in the order of the file; `deadlines` and `open` are sorted, the next
-    deadline and the job of the highest priority first, each with the place of its task. `charged` are the worst cases
-    of open jobs, and what complete ones had. `handed` are the jobs that were open at tick `handed_at`, the last one
-    with releases, and what each might need there.
+    A governor may read all of it. `jobs` are in the order of the file; `deadlines` and `open` are sorted, the
+    next deadline and the job of the highest priority first, each with the place of its task. `charged` are
+    the worst cases of open jobs, and what complete ones had. `handed` are the jobs that were open at tick
+    `handed_at`, the last one with releases, and what each might need there.
     """
 
     plan: Plan
@@ -164,12 +166,14 @@ class State:
     def begin(cls, plan: Plan) -> "State":
         """The state before a run.
 
-        >>> State.begin(Plan(TaskSet((Task("a", 4, 4, 3),)), Machine((Point(2, 3000),)), "edf")).first_deadline
+        >>> plan = Plan(TaskSet((Task("a", 4, 4, offset=3),)), Machine((Point(2, 3000),)), "edf")
+        >>> State.begin(plan).first_deadline
         3
         """
         worsts = plan.worsts
         jobs = [Latest(task, place, worsts[place], task.offset) for place, task in enumerate(plan.tasks)]
-        return cls(plan, jobs, deadlines=sorted((job.due, job.place) for job in jobs), charged=[0] * len(jobs))
+        deadlines = sorted((job.due, job.place) for job in jobs)
+        return cls(plan, jobs, deadlines=deadlines, charged=[0] * len(jobs))
 
     @property
     def first_deadline(self) -> int:
@@ -187,7 +191,7 @@ class State:
         return self.behind == 0 and self.now in (0, self.released, self.seen)
 
     def priority(self, job: Latest) -> tuple[int, int]:
-        """What sorts the open jobs: the deadline under EDF, the period under RM, and then the place in the file."""
+        """What sorts the open jobs: the deadline under EDF, the period under RM; then the place."""
         return (job.due if self.plan.scheduler == "edf" else job.task.period), job.place
 
     def release(self, job: Latest) -> None:
@@ -214,7 +218,7 @@ class State:
         self.now += ticks
 
     def complete(self, job: Latest) -> None:
-        """Marks an open job as complete; a governor sees it at this tick, or at the next one if this has begun."""
+        """Marks an open job as complete; a governor sees it at this tick, or at the next one."""
         self.open.remove(self.priority(job))
         job.complete = True
         self.charged[job.place] = job.used
@@ -323,8 +327,9 @@ NOT_DONE = "{} has no done line here, so it is not complete and gets {} units"
 class Checker:
     """Checks each note against the ones before it.
 
-    Without a governor its decisions may be at any tick, with any demand and speed of the machine. Without `needs`, the
-    work units of named jobs with the charge, a job needs what its `done` note says, or its worst case without one.
+    Without a governor its decisions may be at any tick, with any demand and speed of the machine. Without
+    `needs`, the work units of named jobs with the charge, a job needs what its `done` note says, or its worst
+    case without one.
     """
 
     def __init__(self, state: State, ticks: int, governor: Governor | None,
@@ -462,8 +467,9 @@ class Checker:
         tick = self._span_end()
         room = (tick - state.now) * speed - state.behind
         if not 1 <= units <= room:
-            last = "a release" if tick == state.first_deadline else "the end" if tick == self.ticks else "a decision"
-            raise Wrong(f"{units} units: at speed {speed} there are {room} up to {last} at tick {tick}")
+            events = {state.seen: "a decision", self.ticks: "the end", state.first_deadline: "a release"}
+            most = f"at speed {speed} there are {room} up to {events[tick]} at tick {tick}"
+            raise Wrong(f"{units} units: {most}")
         state.advance(units, speed)
         if end.tick != state.now or end.offset != state.behind:
             raise Wrong(f"{units} units at speed {speed} end at {self._place()}")
@@ -537,7 +543,7 @@ class Checker:
     def _close(self, note: TaskEnergy | End) -> None:
         if isinstance(note, TaskEnergy):
             if self.state.now < self.ticks:
-                raise Wrong(f"the energy lines are at the end of the run, and the trace is at {self._place()}")
+                raise Wrong(f"the energy lines are after the last tick, and the trace is at {self._place()}")
             return
         self._is_at(self.ticks)
         self._all_met()

@@ -1,7 +1,8 @@
 """Simulates a schedule under a governor that is a Python function.
 
-The function gets the state at a decision and returns the demand, a numerator and a denominator in work units per tick.
-The speed is then the lowest of the machine that meets it. The trace is drawn, compared and checked as any other.
+The function gets the state at a decision and returns the demand, a numerator and a denominator in work units
+per tick. The speed is then the lowest of the machine that meets it. The trace is drawn, compared and checked
+as any other.
 """
 
 import argparse
@@ -29,7 +30,8 @@ def _done(state: State, job: Latest) -> Done:
 class _Run:
     """A run: what its jobs need, which a governor doesn't see, and how the next notes come about."""
 
-    def __init__(self, state: State, ticks: int, governor: Governor, needs: Mapping[tuple[str, int], int]) -> None:
+    def __init__(self, state: State, ticks: int, governor: Governor,
+                 needs: Mapping[tuple[str, int], int]) -> None:
         self.state = state
         self.ticks = ticks
         self.governor = governor
@@ -52,7 +54,8 @@ class _Run:
     def _all_met(self) -> None:
         for job in self.state.jobs:
             if job.due == self.state.now and not job.complete:
-                raise DeadlineMissed(f"{job} was due at {job.due} and is not complete: it has had {job.used} units")
+                late = f"was due at {job.due} and is not complete: it has had {job.used} units"
+                raise DeadlineMissed(f"{job} {late}")
 
     def _releases(self) -> Iterator[Note]:
         state = self.state
@@ -109,8 +112,8 @@ def simulate(tasks: TaskSet, machine: Machine, scheduler: str, ticks: int, gover
              demands: Demands | None = None, name: str = "mine") -> Trace:
     """The trace, in version 2, of a run of so many ticks under a governor that is a function.
 
-    The scheduler is "edf" or "rm"; a job whose demand isn't named needs its worst case. Raises DeadlineMissed if a job
-    isn't complete at its deadline, and ValueError if a demand isn't a fraction from 0 on.
+    The scheduler is "edf" or "rm"; a job whose demand isn't named needs its worst case. Raises DeadlineMissed
+    if a job isn't complete at its deadline, and ValueError if a demand isn't a fraction from 0 on.
 
     >>> from rtdvs.files import Point, Task
     >>> tasks, machine = TaskSet((Task("t", 4, 4),)), Machine((Point(2, 1000), Point(4, 2000)))
@@ -151,11 +154,12 @@ def add_command(commands: "argparse._SubParsersAction[argparse.ArgumentParser]")
     parser = commands.add_parser(
         "simulate", help="simulate a run under a governor in Python", description=__doc__,
         formatter_class=argparse.RawDescriptionHelpFormatter,
-        epilog="Here the governor is one of the program's; rtdvs.simulate.simulate takes your own function.\n\n"
-               "example:\n  python3 -m rtdvs simulate --tasks tasks.toml --machine machine.toml --scheduler edf "
-               "--governor cc --ticks 16")
+        epilog="Here the governor is one of the program's; rtdvs.simulate.simulate takes your function.\n\n"
+               "example:\n  python3 -m rtdvs simulate --tasks tasks.toml --machine machine.toml "
+               "--scheduler edf --governor cc --ticks 16")
     add_files(parser, ("tasks", "machine"), ("demands",))
-    parser.add_argument("--scheduler", required=True, choices=SCHEDULERS, help="edf or rm")
-    parser.add_argument("--governor", required=True, choices=("none", "static", "cc", "la"), help="the governor")
-    parser.add_argument("--ticks", required=True, type=whole_number(1, MOST_TICKS), help="the length of the run")
+    parser.add_argument("--scheduler", required=True, choices=SCHEDULERS)
+    parser.add_argument("--governor", required=True, choices=("none", "static", "cc", "la"))
+    parser.add_argument("--ticks", required=True, type=whole_number(1, MOST_TICKS), metavar="TICKS",
+                        help="the length of the run")
     parser.set_defaults(handler=_handle)

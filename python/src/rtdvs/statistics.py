@@ -20,8 +20,8 @@ from rtdvs.decimals import decimal
 from rtdvs.files import TaskSet
 from rtdvs.trace import Job, Trace, TraceFault
 
-COLUMNS = ("task", "jobs", "complete", "mean_response", "greatest_response", "jitter", "least_laxity", "preemptions",
-           "energy")
+COLUMNS = ("task", "jobs", "complete", "mean_response", "greatest_response", "jitter", "least_laxity",
+           "preemptions", "energy")
 
 
 @dataclass(frozen=True, slots=True)
@@ -103,8 +103,8 @@ def _handle(args: argparse.Namespace) -> int:
 def add_command(commands: "argparse._SubParsersAction[argparse.ArgumentParser]") -> None:
     """Adds the command `statistics`."""
     parser = commands.add_parser(
-        "statistics", help="print response times, laxity, preemptions and energy of each task", description=__doc__,
-        formatter_class=argparse.RawDescriptionHelpFormatter,
+        "statistics", help="print response times, laxity, preemptions and energy of each task",
+        description=__doc__, formatter_class=argparse.RawDescriptionHelpFormatter,
         epilog="example:\n  python3 -m rtdvs statistics --tasks tasks.toml --trace run.trace")
     add_files(parser, ("tasks", "trace"))
     parser.set_defaults(handler=_handle)

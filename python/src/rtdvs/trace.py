@@ -1,8 +1,8 @@
 """Traces of runs: their notes, read strictly, and what these say of the jobs.
 
-The text is that of docs/FORMATS.md in version 1 or 2, except that any word may stand for the governor. Energies and
-work units are whole numbers of any size. A position is a tick and the units of that tick that have passed; as a time
-it is an exact fraction of ticks, the units over the speed in force.
+The text is that of docs/FORMATS.md in version 1 or 2, except that any word may stand for the governor.
+Energies and work units are whole numbers of any size. A position is a tick and the units of that tick that
+have passed; as a time it is an exact fraction of ticks, the units over the speed in force.
 """
 
 import io
@@ -180,7 +180,8 @@ def _up_to(limit: int) -> str:
     for place, digit in enumerate(text):
         least, rest = int(place == 0), len(text) - place - 1
         if int(digit) - (rest > 0) >= least:
-            parts.append(f"{text[:place]}[{least}-{int(digit) - (rest > 0)}]" + (f"[0-9]{{{rest}}}" if rest else ""))
+            tail = f"[0-9]{{{rest}}}" if rest else ""
+            parts.append(f"{text[:place]}[{least}-{int(digit) - (rest > 0)}]{tail}")
     return "|".join(parts)
 
 
@@ -212,13 +213,15 @@ def _decision(tick: str, speed: str, num: str, den: str) -> Item:
     return Decision(int(tick), int(speed), int(num), int(den))
 
 
-def _run(tick: str, offset: str, end: str, end_offset: str, task: str, job: str, units: str, energy: str) -> Item:
+def _run(tick: str, offset: str, end: str, end_offset: str, task: str, *numbers: str) -> Item:
+    job, units, energy = map(int, numbers)
     begin = Position(int(tick), int(offset))
-    return Run(begin, Position(int(end), int(end_offset)), task, int(job), int(units), int(energy))
+    return Run(begin, Position(int(end), int(end_offset)), task, job, units, energy)
 
 
 def _idle(tick: str, offset: str, end: str, end_offset: str, units: str, energy: str) -> Item:
-    return Idle(Position(int(tick), int(offset)), Position(int(end), int(end_offset)), int(units), int(energy))
+    begin = Position(int(tick), int(offset))
+    return Idle(begin, Position(int(end), int(end_offset)), int(units), int(energy))
 
 
 def _done(tick: str, offset: str, task: str, job: str, used: str) -> Item:
@@ -290,7 +293,7 @@ def spelled_lines(lines: Iterable[str]) -> Iterator[Item]:
 
 
 class Order:
-    """What the order of the lines needs: the version, the energy of each task in version 2, and where the lines are."""
+    """What the order of the lines needs: the version, each task's energy, and what came before."""
 
     __slots__ = ("version", "sums", "to_come", "begun", "decided")
 
@@ -360,8 +363,9 @@ class Order:
 def parse_lines(lines: Iterable[str]) -> Iterator[Item]:
     r"""Reads a trace line by line, in little memory: its head, in version 2 its tasks, and its notes.
 
-    Each line has its line feed. The head is what the first two lines say, so item n is line n + 1. Raises TraceFault
-    for the first line that the published format doesn't have, after all lines before it were given.
+    Each line has its line feed. The head is what the first two lines say, so item n is line n + 1. Raises
+    TraceFault for the first line that the published format doesn't have, after all lines before it were
+    given.
 
     >>> [item.text() for item in parse_lines(["trace 1\n", "plan edf mine 2\n", "end 2 0 0\n"])]
     ['trace 1\nplan edf mine 2', 'end 2 0 0']
@@ -418,7 +422,7 @@ class Job:
 
 @dataclass(frozen=True, slots=True)
 class Trace:
-    """A whole trace. `tasks` are those of version 2, with their declared worst cases; the last note is the End.
+    """A whole trace. `tasks` are those of version 2, with declared worst cases; the last note is the End.
 
     >>> trace = Trace.parse(SAMPLE)
     >>> trace.energy, trace.switches, trace.idle_time, trace.residency()
@@ -503,7 +507,7 @@ class Trace:
 
     @property
     def switches(self) -> int:
-        """The number of decisions after which the speed is another than before; the first decision is none."""
+        """The number of decisions after which the speed is another than before; the first one is none."""
         decisions = self.decisions
         return sum(one.speed != two.speed for one, two in zip(decisions, decisions[1:], strict=False))
 
@@ -511,7 +515,8 @@ class Trace:
         """The ticks at each speed that was chosen, in the order of their first use."""
         decisions = self.decisions
         times: dict[int, Fraction] = {}
-        for decision, end in zip(decisions, [*(each.tick for each in decisions[1:]), self.ticks], strict=True):
+        ends = [*(each.tick for each in decisions[1:]), self.ticks]
+        for decision, end in zip(decisions, ends, strict=True):
             times[decision.speed] = times.get(decision.speed, Fraction(0)) + end - decision.tick
         return times
 
@@ -524,8 +529,8 @@ class Trace:
     def at_speeds(self) -> Iterator[tuple[Note, int]]:
         """Each note with the speed in force there, in work units per tick; 1 before the first decision.
 
-        >>> [(note.end.time(speed), speed) for note, speed in Trace.parse(SAMPLE).at_speeds() if isinstance(note, Run)]
-        [(Fraction(1, 1), 3), (Fraction(3, 2), 2)]
+        >>> [speed for note, speed in Trace.parse(SAMPLE).at_speeds() if isinstance(note, Run)]
+        [3, 2]
         """
         speed = 1
         for note in self.notes:
@@ -536,7 +541,8 @@ class Trace:
     def jobs(self, tasks: TaskSet | None = None) -> tuple[Job, ...]:
         """The jobs in the order of their release lines. Version 1 needs the task set, for the periods.
 
-        Raises TraceFault if a job runs or is complete without a release line, or if the trace has no task's period.
+        Raises TraceFault if a job runs or is complete without a release line, or if the trace has no task's
+        period.
 
         >>> Trace.parse(SAMPLE).jobs()[0].laxity
         Fraction(1, 2)
