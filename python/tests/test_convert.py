@@ -205,8 +205,8 @@ def test_any_run_is_read_back(text: str) -> None:
 
 def test_rows_of_the_page(data: Path) -> None:
     text = (data / "templates" / "edf_cc_with_demands.trace").read_text()
-    assert csv_text(Trace.parse(text), "jobs").splitlines()[1:] == [
-        "control,1,0,4,1,1,3,3,3", "logger,1,0,8,3.500000,3.500000,4.500000,5,6", "control,2,4,8,6,2,2,4,3"]
+    assert csv_text(Trace.parse(text), "jobs", charge=1).splitlines()[1:] == [
+        "control,1,0,4,1,1,3,3,5", "logger,1,0,8,3.500000,3.500000,4.500000,5,8", "control,2,4,8,6,2,2,4,5"]
 
 
 @pytest.mark.parametrize(("number", "by", "digits", "text"), [

@@ -104,7 +104,7 @@ def test_points_are_added_and_deleted() -> None:
     ('/ { a = "b;\n};', Choice(), "line 1: no end of a string"),
     ("/ { a { };", Choice(), "no end of node /"),
     ("}", Choice(), "a bracket } too many"),
-    ("a { " * 5000, Choice(), "no end of node"),
+    pytest.param("a { " * 5000, Choice(), "no end of node", id="nested"),
 ])
 def test_refusals(text: str, choice: Choice, reason: str) -> None:
     with pytest.raises(FileFault, match=f"^device tree: .*{reason}"):

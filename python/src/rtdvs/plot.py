@@ -167,7 +167,7 @@ def trace_height(trace: Trace, view: View = View()) -> float:
 
     >>> from rtdvs.trace import SAMPLE
     >>> trace_height(Trace.parse(SAMPLE))
-    154.0
+    158.0
     """
     view = settled(trace, view)
     peak = max(decision.num / decision.den for decision in trace.decisions)
