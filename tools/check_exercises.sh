@@ -1,15 +1,20 @@
 # sh tools/check_exercises.sh PROGRAM: makes each call of examples/exercises/solutions.txt, and compares what it prints
-# and its status with what is stored there. It needs python3, for examples/explain.py.
+# and its status with what is stored there. It needs Python 3.11, for the package in python/; PYTHON is the interpreter,
+# /usr/bin/python3 without it.
 case ${1:?no program} in
 /*) program=$1 ;;
 *) program=$PWD/$1 ;;
 esac
 [ -x "$program" ] || { echo "no program: $program"; exit 2; }
-[ -n "$(command -v python3)" ] || { echo 'exercises: skipped, no python3'; exit 0; }
+python=${PYTHON:-/usr/bin/python3}
+"$python" -c 'import tomllib' 2> /dev/null || { echo 'exercises: skipped, no Python 3.11'; exit 0; }
 top=$(cd "$(dirname "$0")/.." && pwd)
 work=$(mktemp -d) || exit 2
 trap 'rm -r "$work"' EXIT
 trap 'exit 2' HUP INT PIPE TERM
+mkdir "$work/bin" && ln -s "$(command -v "$python")" "$work/bin/python3" || exit 2
+PATH=$work/bin:$PATH PYTHONPATH=$top/python/src PYTHONDONTWRITEBYTECODE=1
+export PATH PYTHONPATH PYTHONDONTWRITEBYTECODE
 cd "$work" && ln -s "$program" rtdvs && ln -s "$top/crates" "$top/examples" . || exit 2
 
 : > nothing

@@ -1,4 +1,4 @@
-# package.sh: makes a Debian package of the built program, its man page, completion, pages and examples:
+# package.sh: makes a Debian package of the built program, its man page, completion, Python module, pages and examples:
 #     sh tools/package.sh PROGRAM [FOLDER]
 # It writes rtdvs_VERSION_ARCHITECTURE.deb into FOLDER, or here without one, and prints its name. VERSION and the date of
 # all files are those of the first version of CHANGELOG.md, so the same files give the same package. DEBFULLNAME and
@@ -23,14 +23,15 @@ libc=$(grep -ao 'GLIBC_[0-9.]*' "$program" | sed 's/GLIBC_//' | sort -V | tail -
 root=$(mktemp -d)
 trap 'rm -rf "$root"' EXIT
 trap 'exit 2' HUP INT PIPE TERM
-doc=$root/usr/share/doc/rtdvs
+doc=$root/usr/share/doc/rtdvs module=$root/usr/lib/python3/dist-packages/rtdvs
 umask 022
 chmod 755 "$root"
-mkdir -p "$root/DEBIAN" "$root/usr/bin" "$root/usr/share/man/man1" "$root/usr/share/bash-completion/completions" \
+mkdir -p "$root/DEBIAN" "$module" "$root/usr/bin" "$root/usr/share/man/man1" "$root/usr/share/bash-completion/completions" \
     "$doc/docs" "$doc/crates/example_runs"
 cp "$program" "$root/usr/bin/rtdvs"
 gzip -9n < docs/rtdvs.1 > "$root/usr/share/man/man1/rtdvs.1.gz"
 cp examples/rtdvs.bash "$root/usr/share/bash-completion/completions/rtdvs"
+cp python/src/rtdvs/*.py python/src/rtdvs/py.typed "$module"
 cp README.md CHANGELOG.md "$doc"
 cp docs/*.md "$doc/docs"
 cp -R examples tools "$doc"
@@ -39,12 +40,21 @@ find "$root" -type f -exec chmod 644 {} +
 find "$root" -type d -exec chmod 755 {} +
 chmod 755 "$root/usr/bin/rtdvs"
 
+# Where Python is installed, it compiles the module, and takes what it compiled away again.
+for step in 'postinst compile' 'prerm clean'; do
+    script=$root/DEBIAN/${step% *} command=py3${step#* }
+    printf '#!/bin/sh\nset -e\n! command -v %s > /dev/null || %s -p rtdvs\n' $command $command > "$script"
+    chmod 755 "$script"
+done
+
 architecture=$(dpkg --print-architecture)
 cat > "$root/DEBIAN/control" << END
 Package: rtdvs
 Version: $version
 Architecture: $architecture
 Depends: libc6 (>= $libc)
+Recommends: python3 (>= 3.11)
+Suggests: python3-matplotlib, python3-pandas
 Maintainer: ${DEBFULLNAME:-nobody} <${DEBEMAIL:-nobody@localhost}>
 Installed-Size: $(find "$root/usr" -type f -printf '%s\n' | awk '{ sum += $1 } END { print int(sum / 1024) + 1 }')
 Section: science
@@ -53,6 +63,9 @@ Description: exact schedules and energies of periodic tasks with voltage scaling
  It decides whether a scheduler (EDF or RM) admits a set of periodic tasks on a
  processor whose speed and voltage can be changed, and prints the schedule,
  speeds and energy of a run under one of four governors, in whole numbers.
+ .
+ The Python module rtdvs calls it, and explains, compares, draws and converts
+ what it prints.
 END
 find "$root" -exec touch -h -d "@$SOURCE_DATE_EPOCH" {} +
 dpkg-deb --root-owner-group -Zxz -b "$root" "$folder/rtdvs_${version}_$architecture.deb" > "$root.log" ||

@@ -1,0 +1,3 @@
+from rtdvs.cli import entry
+
+entry()

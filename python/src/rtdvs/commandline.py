@@ -1,0 +1,214 @@
+"""What the commands share: options, input, output and a progress bar."""
+
+import argparse
+import io
+import re
+import sys
+from collections.abc import Callable, Iterable, Iterator, Sequence
+from concurrent.futures import Executor, ThreadPoolExecutor
+from contextlib import AbstractContextManager
+from fractions import Fraction
+from pathlib import Path
+from time import monotonic
+from typing import BinaryIO, TypeVar
+
+from rtdvs.engine import Engine, TryEngine, find_engine
+from rtdvs.files import Demands, FileFault, Machine, TaskSet
+
+Item = TypeVar("Item")
+Input = Path | bytes
+"""A file's path, or what standard input held."""
+
+FILES = {
+    "tasks": "the task file",
+    "machine": "the machine file",
+    "demands": "the demand file: the work units of single jobs",
+    "deadlines": "the deadline file",
+    "requests": "the request file",
+    "trace": "the trace, in version 1 or 2",
+}
+BAR = 30
+
+
+# Options
+
+def add_files(parser: argparse.ArgumentParser, required: Sequence[str], optional: Sequence[str] = ()) -> None:
+    """Adds options for files, each an Input: tasks, machine, demands, deadlines, requests, trace.
+
+    >>> parser = argparse.ArgumentParser()
+    >>> add_files(parser, ["tasks"], ["demands"])
+    >>> parser.parse_args(["--tasks", "a.toml"])
+    Namespace(tasks=PosixPath('a.toml'), demands=None)
+    """
+    for kind in (*required, *optional):
+        about, needed = f"{FILES[kind]}; - is standard input", kind in required
+        parser.add_argument(f"--{kind}", type=input_path, required=needed, metavar="FILE", help=about)
+
+
+def add_output(parser: argparse.ArgumentParser) -> None:
+    """Adds `--output FILE`; without it a command prints."""
+    parser.add_argument("--output", type=Path, metavar="FILE", help="write to this file, and print nothing")
+
+
+def add_engine_options(parser: argparse.ArgumentParser, jobs: bool = False) -> None:
+    """Adds `--program` and `--timeout`, and with `jobs` also `--jobs`, the number of calls at a time."""
+    about = "the program rtdvs; without it that of $RTDVS, the built one, or rtdvs on the path"
+    parser.add_argument("--program", type=Path, metavar="FILE", help=about)
+    parser.add_argument("--timeout", type=seconds, metavar="SECONDS", help="the longest that a call may take")
+    if jobs:
+        parser.add_argument("--jobs", type=whole_number(1, 1024), default=1, metavar="N",
+                            help="calls of the program at a time (default: 1)")
+
+
+def whole_number(least: int = 0, most: int | None = None) -> Callable[[str], int]:
+    """For argparse's `type`: decimal digits without sign or leading zero, within the bounds.
+
+    >>> whole_number(1)("16")
+    16
+    >>> whole_number(1)("016")
+    Traceback (most recent call last):
+    argparse.ArgumentTypeError: a whole number from 1 on, not 016
+    """
+    bounds = f"from {least} on" if most is None else f"from {least} to {most}"
+
+    def number(word: str) -> int:
+        spelled = re.fullmatch("0|[1-9][0-9]{0,99}", word)
+        if spelled and least <= int(word) and (most is None or int(word) <= most):
+            return int(word)
+        raise argparse.ArgumentTypeError(f"a whole number {bounds}, not {word}")
+
+    return number
+
+
+def exact_fraction(word: str) -> Fraction:
+    """For argparse's `type`: a decimal or a fraction, exactly.
+
+    >>> exact_fraction("0.7"), exact_fraction("5/7")
+    (Fraction(7, 10), Fraction(5, 7))
+    """
+    if not re.fullmatch(r"[0-9]{1,99}(\.[0-9]{1,99}|/0*[1-9][0-9]{0,99})?", word):
+        raise argparse.ArgumentTypeError(f"a number such as 0.7 or 7/10, not {word}")
+    return Fraction(word)
+
+
+def seconds(word: str) -> float:
+    """For argparse's `type`: a time above 0 in seconds.
+
+    >>> seconds("0.5")
+    0.5
+    """
+    time = exact_fraction(word)
+    if not 0 < time <= 10**6:
+        raise argparse.ArgumentTypeError(f"seconds above 0 and at most 1000000, not {word}")
+    return float(time)
+
+
+# Input and output
+
+def input_path(word: str) -> Input:
+    """The path that a word names; `-` is standard input, which is read to its end. For argparse's `type`.
+
+    >>> input_path("tasks.toml")
+    PosixPath('tasks.toml')
+    """
+    if word == "":
+        raise argparse.ArgumentTypeError("a file's name, not an empty word")
+    if word == "-" and sys.stdin is None:
+        raise argparse.ArgumentTypeError("standard input is closed")
+    return sys.stdin.buffer.read() if word == "-" else Path(word)
+
+
+def read_tasks(args: argparse.Namespace) -> TaskSet:
+    """The task set of `--tasks`; raises FileFault and OSError."""
+    source: Input = args.tasks
+    return TaskSet.parse(source) if isinstance(source, bytes) else TaskSet.read(source)
+
+
+def read_machine(args: argparse.Namespace) -> Machine:
+    """The machine of `--machine`; raises FileFault and OSError."""
+    source: Input = args.machine
+    return Machine.parse(source) if isinstance(source, bytes) else Machine.read(source)
+
+
+def read_demands(args: argparse.Namespace, tasks: TaskSet) -> Demands | None:
+    """The demands of `--demands`, or None without that option; raises FileFault and OSError."""
+    source: Input | None = args.demands
+    if source is None:
+        return None
+    return Demands.parse(source, tasks) if isinstance(source, bytes) else Demands.read(source, tasks)
+
+
+def open_input(source: Input) -> AbstractContextManager[BinaryIO]:
+    """The file, or what standard input held, to be read line by line; raises OSError.
+
+    >>> with open_input(b"trace 2\\n") as file:
+    ...     next(file)
+    b'trace 2\\n'
+    """
+    return io.BytesIO(source) if isinstance(source, bytes) else source.open("rb")
+
+
+def read_text(source: Input, kind: str) -> str:
+    """All of the input as text; raises OSError, and a FileFault that begins with the kind if it isn't UTF-8.
+
+    >>> read_text(b"\\xff", "trace")
+    Traceback (most recent call last):
+    rtdvs.files.FileFault: trace: not UTF-8
+    """
+    with open_input(source) as file:
+        content = file.read()
+    try:
+        return content.decode("utf-8")
+    except UnicodeDecodeError:
+        raise FileFault(f"{kind}: not UTF-8") from None
+
+
+def write_output(args: argparse.Namespace, text: str | bytes) -> None:
+    """Writes to the file of `--output`, or to standard output; raises OSError."""
+    content = text.encode("utf-8") if isinstance(text, str) else text
+    if args.output is not None:
+        args.output.write_bytes(content)
+        return
+    sys.stdout.flush()
+    sys.stdout.buffer.write(content)
+
+
+# Calls
+
+def engine_of(args: argparse.Namespace) -> Engine:
+    """The engine of `--program` and `--timeout`; raises NoEngine."""
+    engine = find_engine(args.program, args.timeout)
+    if isinstance(engine, TryEngine) and sys.stderr.isatty():
+        print("no built program, so rt try compiles one; it takes a minute", file=sys.stderr)
+    return engine
+
+
+def executor_of(args: argparse.Namespace) -> AbstractContextManager[Executor]:
+    """Makes `--jobs` calls at a time, for `engine.answers(calls, executor)` in a `with` block.
+
+    >>> with executor_of(argparse.Namespace(jobs=2)) as executor:
+    ...     [*executor.map(abs, [1, -2])]
+    [1, 2]
+    """
+    return ThreadPoolExecutor(args.jobs)
+
+
+def progress(items: Iterable[Item], total: int, label: str) -> Iterator[Item]:
+    """The items, with a bar on standard error while they come, if that is a terminal.
+
+    >>> [*progress("abc", 3, "letters")]
+    ['a', 'b', 'c']
+    """
+    if not sys.stderr.isatty():
+        yield from items
+        return
+    shown = 0.0
+    try:
+        for count, item in enumerate(items, 1):
+            if monotonic() - shown > 0.1:
+                shown = monotonic()
+                bar = "#" * (BAR * count // max(total, count))
+                print(f"\r{label} [{bar:{BAR}}] {count}/{total}", end="", file=sys.stderr, flush=True)
+            yield item
+    finally:
+        print("\r\x1b[K", end="", file=sys.stderr, flush=True)

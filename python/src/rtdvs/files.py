@@ -1,0 +1,474 @@
+"""The files that the program reads: task sets, machines, demands, deadlines and requests.
+
+Each is parsed by the rules, the limits and the order of docs/FORMATS.md. The text of a FileFault is the line
+that the program prints for the same file. `tomllib` reads TOML 1.0: a file with TOML 1.1's additions (line
+breaks and a last comma in braces, the escapes `\\e` and `\\x`) is "not TOML" here, and the program reads it.
+A key of more than 80 parts, arrays more than 80 deep and dates out of the calendar are refused by both, not
+always with the same line.
+"""
+
+import csv
+import io
+import json
+import re
+import tomllib
+from collections.abc import Iterator, Mapping, Sequence
+from dataclasses import dataclass
+from math import lcm
+from pathlib import Path
+from typing import Any, Self
+
+LONGEST_FILE = 2**24
+MOST_TASKS, MOST_POINTS, MOST_REQUESTS = 64, 32, 100_000
+LONGEST_TIME, MOST_WORK, LONGEST_HYPERPERIOD = 2**40, 2**60, 2**48
+TOP_SPEED, MOST_MILLIVOLTS, MOST_IDLE, MOST_CHARGE = 1_000_000, 20_000, 1_000, 1_000_000
+
+
+class FileFault(ValueError):
+    """A file is refused; the text is the line that the program prints for it.
+
+    >>> Machine.parse("idle = 5000")
+    Traceback (most recent call last):
+    rtdvs.files.FileFault: machine: idle out of range
+    """
+
+
+@dataclass(frozen=True, slots=True)
+class Task:
+    """A periodic task: period and offset in ticks, worst case in work units.
+
+    >>> Task("t1", period=8, worst=12).offset
+    0
+    """
+
+    name: str
+    period: int
+    worst: int
+    offset: int = 0
+
+
+class _File:
+    """What all files share."""
+
+    __slots__ = ()
+
+    def text(self) -> str:
+        raise NotImplementedError
+
+    def write(self, path: Path) -> None:
+        """Writes the file; raises OSError."""
+        path.write_text(self.text(), encoding="utf-8", newline="\n")
+
+
+@dataclass(frozen=True, slots=True)
+class TaskSet(_File):
+    """The tasks of a task file, in its order.
+
+    >>> tasks = TaskSet.parse('task = [{ name = "a", period = 4, worst = 2 }]')
+    >>> tasks.named("a")
+    Task(name='a', period=4, worst=2, offset=0)
+    >>> print(tasks.text(), end="")
+    [[task]]
+    name = "a"
+    period = 4
+    worst = 2
+    """
+
+    tasks: tuple[Task, ...]
+
+    def __iter__(self) -> Iterator[Task]:
+        return iter(self.tasks)
+
+    def __len__(self) -> int:
+        return len(self.tasks)
+
+    @property
+    def names(self) -> tuple[str, ...]:
+        """The names in file order."""
+        return tuple(task.name for task in self.tasks)
+
+    @property
+    def hyperperiod(self) -> int:
+        """The least common multiple of the periods, in ticks.
+
+        >>> TaskSet((Task("a", 4, 1), Task("b", 6, 1))).hyperperiod
+        12
+        """
+        return lcm(*(task.period for task in self.tasks))
+
+    def named(self, name: str) -> Task:
+        """The task with that name; raises KeyError if there is none."""
+        for task in self.tasks:
+            if task.name == name:
+                return task
+        raise KeyError(name)
+
+    @classmethod
+    def parse(cls, text: str | bytes) -> Self:
+        """The task set of a task file's text; raises FileFault."""
+        top = _document(text, "tasks")
+        top.refuse_others("task")
+        tasks: dict[str, Task] = {}
+        for place, entry in enumerate(top.entries("task", MOST_TASKS), 1):
+            task = _task(entry)
+            if task.name in tasks:
+                raise FileFault(f"tasks: tasks {[*tasks].index(task.name) + 1} and {place} have one name")
+            tasks[task.name] = task
+        found = cls(tuple(tasks.values()))
+        if found.hyperperiod > LONGEST_HYPERPERIOD:
+            raise FileFault(f"tasks: periods have no common multiple up to {LONGEST_HYPERPERIOD}")
+        return found
+
+    @classmethod
+    def read(cls, path: Path) -> Self:
+        """The task set of a file; raises FileFault and OSError."""
+        return cls.parse(_load(path))
+
+    def text(self) -> str:
+        """The task file."""
+        return "\n".join(map(_task_text, self.tasks))
+
+
+@dataclass(frozen=True, slots=True)
+class Point:
+    """A speed in work units per tick, and its voltage in millivolts.
+
+    >>> Point(speed=2, millivolts=3000).speed
+    2
+    """
+
+    speed: int
+    millivolts: int
+
+
+@dataclass(frozen=True, slots=True)
+class Machine(_File):
+    """The points, the slowest first; idle in thousandths, charge in work units for a switch.
+
+    >>> machine = Machine((Point(2, 3000), Point(3, 4000)), charge=1)
+    >>> machine.top_speed
+    3
+    >>> Machine.parse(machine.text()) == machine
+    True
+    """
+
+    points: tuple[Point, ...]
+    idle: int = 0
+    charge: int = 0
+
+    @property
+    def top_speed(self) -> int:
+        """The highest speed, in work units per tick."""
+        return self.points[-1].speed
+
+    @classmethod
+    def parse(cls, text: str | bytes) -> Self:
+        """The machine of a machine file's text; raises FileFault."""
+        top = _document(text, "machine")
+        top.refuse_others("idle", "charge", "point")
+        idle = top.number("idle", (0, MOST_IDLE), 0)
+        charge = top.number("charge", (0, MOST_CHARGE), 0)
+        points: list[Point] = []
+        for entry in top.entries("point", MOST_POINTS):
+            point = _point(entry)
+            if points and not _may_follow(points[-1], point):
+                raise FileFault(f"{entry.place}: not rising")
+            points.append(point)
+        return cls(tuple(points), idle, charge)
+
+    @classmethod
+    def read(cls, path: Path) -> Self:
+        """The machine of a file; raises FileFault and OSError."""
+        return cls.parse(_load(path))
+
+    def text(self) -> str:
+        """The machine file."""
+        settings = f"idle = {self.idle}\ncharge = {self.charge}\n"
+        return settings + "".join(map(_point_text, self.points))
+
+
+@dataclass(frozen=True, slots=True)
+class Demands(_File):
+    """The work units, without the charge, of named jobs: (task, job) to units. Jobs count from 1.
+
+    >>> tasks = TaskSet((Task("a", 4, 2),))
+    >>> Demands.parse("task,job,units\\na,1,2\\n", tasks).units
+    {('a', 1): 2}
+    >>> Demands.parse("task,job,units\\na,1,3\\n", tasks)
+    Traceback (most recent call last):
+    rtdvs.files.FileFault: over worst: a 1 3 2
+    """
+
+    units: Mapping[tuple[str, int], int]
+
+    @classmethod
+    def parse(cls, text: str | bytes, tasks: TaskSet) -> Self:
+        """The demands of a demand file's text for these tasks; raises FileFault."""
+        worsts = {task.name: task.worst for task in tasks}
+        demands: dict[tuple[str, int], int] = {}
+        for row in _rows(text, "demands", ["task", "job", "units"]):
+            task, job = row.name(worsts), row.number(1, "job")
+            if job == 0:
+                raise FileFault(f"{row.place}: job 0")
+            units = row.number(2, "units")
+            if (task, job) in demands:
+                raise FileFault(f"{row.place}: task {task} job {job} stands twice")
+            if units > worsts[task]:
+                raise FileFault(f"over worst: {task} {job} {units} {worsts[task]}")
+            demands[task, job] = units
+        return cls(demands)
+
+    @classmethod
+    def read(cls, path: Path, tasks: TaskSet) -> Self:
+        """The demands of a file for these tasks; raises FileFault and OSError."""
+        return cls.parse(_load(path), tasks)
+
+    def text(self) -> str:
+        """The demand file."""
+        rows = ((task, job, units) for (task, job), units in self.units.items())
+        return _table_text([("task", "job", "units"), *rows])
+
+
+@dataclass(frozen=True, slots=True)
+class Deadlines(_File):
+    """Relative deadlines in ticks from the release, for the tasks whose deadline isn't their period.
+
+    >>> Deadlines.parse("task,deadline\\na,3\\n", TaskSet((Task("a", 4, 2),))).ticks
+    {'a': 3}
+    """
+
+    ticks: Mapping[str, int]
+
+    @classmethod
+    def parse(cls, text: str | bytes, tasks: TaskSet) -> Self:
+        """The deadlines of a deadline file's text for these tasks; raises FileFault."""
+        periods = {task.name: task.period for task in tasks}
+        deadlines: dict[str, int] = {}
+        for row in _rows(text, "deadlines", ["task", "deadline"]):
+            task, deadline = row.name(periods), row.number(1, "deadline")
+            if not 1 <= deadline <= periods[task]:
+                raise FileFault(f"{row.place}: deadline out of range")
+            if task in deadlines:
+                raise FileFault(f"{row.place}: task {task} stands twice")
+            deadlines[task] = deadline
+        return cls(deadlines)
+
+    @classmethod
+    def read(cls, path: Path, tasks: TaskSet) -> Self:
+        """The deadlines of a file for these tasks; raises FileFault and OSError."""
+        return cls.parse(_load(path), tasks)
+
+    def text(self) -> str:
+        """The deadline file."""
+        return _table_text([("task", "deadline"), *self.ticks.items()])
+
+
+@dataclass(frozen=True, slots=True)
+class Request:
+    """A request to a polling server: its tick of arrival, and its work units.
+
+    >>> Request(arrival=0, units=3).units
+    3
+    """
+
+    arrival: int
+    units: int
+
+
+@dataclass(frozen=True, slots=True)
+class Requests(_File):
+    """The requests of a request file, no arrival before the one above it.
+
+    >>> Requests.parse("arrival,units\\n0,3\\n1,6\\n").requests[1]
+    Request(arrival=1, units=6)
+    """
+
+    requests: tuple[Request, ...]
+
+    @classmethod
+    def parse(cls, text: str | bytes) -> Self:
+        """The requests of a request file's text; raises FileFault."""
+        rows = _rows(text, "requests", ["arrival", "units"], MOST_REQUESTS)
+        requests: list[Request] = []
+        for row in rows:
+            request = Request(row.number(0, "arrival"), row.number(1, "units"))
+            if not 1 <= request.units <= MOST_WORK:
+                raise FileFault(f"{row.place}: units out of range")
+            if requests and request.arrival < requests[-1].arrival:
+                raise FileFault(f"{row.place}: too early")
+            requests.append(request)
+        return cls(tuple(requests))
+
+    @classmethod
+    def read(cls, path: Path) -> Self:
+        """The requests of a file; raises FileFault and OSError."""
+        return cls.parse(_load(path))
+
+    def text(self) -> str:
+        """The request file."""
+        return _table_text([("arrival", "units"), *((each.arrival, each.units) for each in self.requests)])
+
+
+# Bytes
+
+def _load(path: Path) -> bytes:
+    with path.open("rb") as file:
+        return file.read(LONGEST_FILE + 1)
+
+
+def _bytes(text: str | bytes, kind: str) -> bytes:
+    """The bytes of a file without a byte order mark."""
+    content = text.encode("utf-8", "surrogatepass") if isinstance(text, str) else text
+    if len(content) > LONGEST_FILE:
+        raise FileFault(f"{kind}: too long")
+    return content.removeprefix(b"\xef\xbb\xbf")
+
+
+def _shown(word: bytes) -> str:
+    """A word as the program's lines have it: at most 32 bytes, and `?` for each that a name can't have."""
+    return re.sub(rb"[^A-Za-z0-9_-]", b"?", word[:32]).decode("ascii")
+
+
+# TOML
+
+@dataclass(frozen=True, slots=True)
+class _Table:
+    """A table of a document; `place` begins each of its refusals."""
+
+    place: str
+    values: Any
+
+    def refuse_others(self, *known: str) -> None:
+        if not isinstance(self.values, dict):
+            raise FileFault(f"{self.place}: wrong kind of entry")
+        others = [key.encode() for key in self.values if key not in known]
+        if others:
+            raise FileFault(f"{self.place}: unknown key {_shown(min(others))}")
+
+    def value(self, key: str, kind: type[int] | type[str]) -> Any:
+        if key not in self.values:
+            raise FileFault(f"{self.place}: missing {key}")
+        if type(self.values[key]) is not kind:
+            raise FileFault(f"{self.place}: wrong kind of {key}")
+        return self.values[key]
+
+    def number(self, key: str, limits: tuple[int, int], default: int | None = None) -> int:
+        if default is not None and key not in self.values:
+            return default
+        number: int = self.value(key, int)
+        if not limits[0] <= number <= limits[1]:
+            raise FileFault(f"{self.place}: {key} out of range")
+        return number
+
+    def entries(self, key: str, most: int) -> "Iterator[_Table]":
+        found = self.values.get(key, [])
+        if not isinstance(found, list):
+            raise FileFault(f"{self.place}: wrong kind of {key}")
+        if not found:
+            raise FileFault(f"{self.place}: no {key}s")
+        if len(found) > most:
+            raise FileFault(f"{self.place}: {len(found)} {key}s, at most {most}")
+        return (_Table(f"{self.place}: {key} {place}", entry) for place, entry in enumerate(found, 1))
+
+
+def _document(text: str | bytes, kind: str) -> _Table:
+    content = _bytes(text, kind)
+    try:
+        table = tomllib.loads(content.decode("utf-8"))
+    except (ValueError, RecursionError):
+        raise FileFault(f"{kind}: not TOML") from None
+    if any(type(leaf) is int and not -2**63 <= leaf < 2**63 for leaf in _leaves(table)):
+        raise FileFault(f"{kind}: not TOML")
+    return _Table(kind, table)
+
+
+def _leaves(table: Any) -> Iterator[Any]:
+    """The values in a TOML table that are neither tables nor arrays, at any depth."""
+    pending = [table]
+    while pending:
+        value = pending.pop()
+        if isinstance(value, dict):
+            pending.extend(value.values())
+        elif isinstance(value, list):
+            pending.extend(value)
+        else:
+            yield value
+
+
+def _task(entry: _Table) -> Task:
+    entry.refuse_others("name", "period", "worst", "offset")
+    name = entry.value("name", str)
+    if not re.fullmatch(r"[A-Za-z0-9_-]{1,32}", name):
+        raise FileFault(f"{entry.place}: bad name")
+    period = entry.number("period", (1, LONGEST_TIME))
+    worst = entry.number("worst", (1, MOST_WORK))
+    return Task(name, period, worst, entry.number("offset", (0, LONGEST_TIME), 0))
+
+
+def _task_text(task: Task) -> str:
+    name = json.dumps(task.name, ensure_ascii=False).replace("\x7f", "\\u007f")
+    offset = f"offset = {task.offset}\n" if task.offset else ""
+    return f"[[task]]\nname = {name}\nperiod = {task.period}\nworst = {task.worst}\n{offset}"
+
+
+def _point(entry: _Table) -> Point:
+    entry.refuse_others("speed", "millivolts")
+    return Point(entry.number("speed", (1, TOP_SPEED)), entry.number("millivolts", (1, MOST_MILLIVOLTS)))
+
+
+def _point_text(point: Point) -> str:
+    return f"\n[[point]]\nspeed = {point.speed}\nmillivolts = {point.millivolts}\n"
+
+
+def _may_follow(before: Point, point: Point) -> bool:
+    return before.speed < point.speed and before.millivolts <= point.millivolts
+
+
+# CSV
+
+@dataclass(frozen=True, slots=True)
+class _Row:
+    """A row of a table; `place` begins each of its refusals. A character of a field is a byte of the file."""
+
+    place: str
+    fields: list[str]
+
+    def name(self, known: Mapping[str, int]) -> str:
+        if self.fields[0] not in known:
+            raise FileFault(f"{self.place}: unknown task {_shown(self.fields[0].encode('latin-1'))}")
+        return self.fields[0]
+
+    def number(self, column: int, what: str) -> int:
+        spelled = re.fullmatch(r"0|[1-9][0-9]{0,19}", self.fields[column])
+        if not spelled or int(spelled[0]) >= 2**64:
+            raise FileFault(f"{self.place}: bad {what}")
+        return int(spelled[0])
+
+
+def _rows(text: str | bytes, kind: str, header: list[str], most: int | None = None) -> Iterator[_Row]:
+    """The rows behind the header, each with as many fields."""
+    records = _records(_bytes(text, kind))
+    if not records or records[0] != header:
+        raise FileFault(f"{kind}: wrong header")
+    if most is not None and len(records) - 1 > most:
+        raise FileFault(f"{kind}: {len(records) - 1} rows, at most {most}")
+    for place, fields in enumerate(records[1:], 1):
+        if len(fields) != len(header):
+            raise FileFault(f"{kind}: row {place}: {len(fields)} fields")
+        yield _Row(f"{kind}: row {place}", fields)
+
+
+def _records(content: bytes) -> list[list[str]]:
+    """The records of a CSV text that aren't empty lines; Latin-1 makes one character of each byte."""
+    lines = io.StringIO(content.decode("latin-1"), newline="")
+    before = csv.field_size_limit(LONGEST_FILE)
+    try:
+        return [record for record in csv.reader(lines) if record]
+    finally:
+        csv.field_size_limit(before)
+
+
+def _table_text(rows: Sequence[Sequence[str | int]]) -> str:
+    text = io.StringIO()
+    csv.writer(text, lineterminator="\n").writerows(rows)
+    return text.getvalue()

@@ -1,0 +1,110 @@
+"""Statistics of a trace: a line for each task.
+
+    task               its name
+    jobs, complete     the jobs that were released, and those that were complete within the run
+    mean_response      from a job's release to its completion, over the complete jobs, in ticks
+    greatest_response  the greatest of these
+    jitter             the greatest response less the least one
+    least_laxity       the least time from a completion to its deadline, in ticks
+    preemptions        how often a job was interrupted by another one
+    energy             of all its runs
+"""
+
+import argparse
+from collections.abc import Sequence
+from dataclasses import dataclass
+from fractions import Fraction
+
+from rtdvs.commandline import add_files, open_input, read_tasks
+from rtdvs.decimals import decimal
+from rtdvs.files import TaskSet
+from rtdvs.trace import Job, Trace, TraceFault
+
+COLUMNS = ("task", "jobs", "complete", "mean_response", "greatest_response", "jitter", "least_laxity",
+           "preemptions", "energy")
+
+
+@dataclass(frozen=True, slots=True)
+class TaskStatistics:
+    """What a task's jobs did. Times are exact, in ticks, and None without a complete job."""
+
+    task: str
+    jobs: int
+    complete: int
+    mean_response: Fraction | None
+    greatest_response: Fraction | None
+    jitter: Fraction | None
+    least_laxity: Fraction | None
+    preemptions: int
+    energy: int
+
+    def row(self, places: int = 4) -> tuple[str, ...]:
+        """The values as text, in the order of COLUMNS; times with this many decimal places."""
+        times = self.mean_response, self.greatest_response, self.jitter, self.least_laxity
+        return (self.task, str(self.jobs), str(self.complete), *(decimal(time, places) for time in times),
+                str(self.preemptions), str(self.energy))
+
+
+def statistics_of(task: str, jobs: Sequence[Job]) -> TaskStatistics:
+    """The statistics of some jobs of a task.
+
+    >>> statistics_of("t", [Job("t", 1, 0, 4, completion=Fraction(5, 2)), Job("t", 2, 4, 8)]).mean_response
+    Fraction(5, 2)
+    """
+    responses = [job.response for job in jobs if job.response is not None]
+    return TaskStatistics(
+        task=task,
+        jobs=len(jobs),
+        complete=len(responses),
+        mean_response=sum(responses, Fraction(0)) / len(responses) if responses else None,
+        greatest_response=max(responses, default=None),
+        jitter=max(responses) - min(responses) if responses else None,
+        least_laxity=min((job.laxity for job in jobs if job.laxity is not None), default=None),
+        preemptions=sum(job.preemptions for job in jobs),
+        energy=sum(job.energy for job in jobs),
+    )
+
+
+def task_statistics(trace: Trace, tasks: TaskSet) -> tuple[TaskStatistics, ...]:
+    """A record for each task, in the order of the task set. Raises TraceFault if a job isn't of the set.
+
+    >>> from rtdvs.files import Task
+    >>> from rtdvs.trace import SAMPLE
+    >>> task_statistics(Trace.parse(SAMPLE), TaskSet((Task("t", 2, 4),)))[0].row(2)
+    ('t', '1', '1', '1.50', '1.50', '0.00', '0.50', '0', '6000')
+    """
+    jobs: dict[str, list[Job]] = {task.name: [] for task in tasks}
+    for job in trace.jobs(tasks):
+        jobs[job.task].append(job)
+    return tuple(statistics_of(name, own) for name, own in jobs.items())
+
+
+def table(rows: Sequence[Sequence[str]]) -> str:
+    """Rows as columns, the first to the left and the others to the right.
+
+    >>> table([("a", "1"), ("bc", "23")])
+    'a    1\\nbc  23\\n'
+    """
+    widths = [max(map(len, column)) for column in zip(*rows, strict=True)]
+    lines = ("  ".join([row[0].ljust(widths[0]), *map(str.rjust, row[1:], widths[1:])]) for row in rows)
+    return "".join(f"{line.rstrip()}\n" for line in lines)
+
+
+def _handle(args: argparse.Namespace) -> int:
+    tasks = read_tasks(args)
+    with open_input(args.trace) as file:
+        trace = Trace.parse(file.read().decode("latin-1"))
+    if trace.tasks and trace.tasks != tasks.tasks:
+        raise TraceFault(3, "its tasks aren't those of the task file")
+    print(table([COLUMNS, *(each.row() for each in task_statistics(trace, tasks))]), end="")
+    return 0
+
+
+def add_command(commands: "argparse._SubParsersAction[argparse.ArgumentParser]") -> None:
+    """Adds the command `statistics`."""
+    parser = commands.add_parser(
+        "statistics", help="print response times, laxity, preemptions and energy of each task",
+        description=__doc__, formatter_class=argparse.RawDescriptionHelpFormatter,
+        epilog="example:\n  python3 -m rtdvs statistics --tasks tasks.toml --trace run.trace")
+    add_files(parser, ("tasks", "trace"))
+    parser.set_defaults(handler=_handle)

@@ -1,0 +1,597 @@
+"""Traces of runs: their notes, read strictly, and what these say of the jobs.
+
+The text is that of docs/FORMATS.md in version 1 or 2, except that any word may stand for the governor.
+Energies and work units are whole numbers of any size. A position is a tick and the units of that tick that
+have passed; as a time it is an exact fraction of ticks, the units over the speed in force.
+"""
+
+import io
+import re
+from collections.abc import Callable, Iterable, Iterator
+from dataclasses import dataclass, replace
+from fractions import Fraction
+from pathlib import Path
+from typing import Self, TextIO
+
+from rtdvs.files import Task, TaskSet
+
+MOST_LINES = 800_000
+MOST_BYTES = 255
+MOST_TASKS = 64
+MOST_TICKS = 2**40
+
+
+class TraceFault(ValueError):
+    """A line of a trace is refused: its number, from 1, and the reason.
+
+    >>> str(TraceFault(3, "a line after the end line"))
+    'line 3: a line after the end line'
+    """
+
+    def __init__(self, line: int, reason: str) -> None:
+        super().__init__(f"line {line}: {reason}")
+        self.line = line
+        self.reason = reason
+
+
+# The notes
+
+
+@dataclass(frozen=True, slots=True, order=True)
+class Position:
+    """A tick, and the work units of it that have passed.
+
+    >>> str(Position(9, 1)), Position(9, 1) < Position(10, 0)
+    ('9:1', True)
+    """
+
+    tick: int
+    offset: int
+
+    def __str__(self) -> str:
+        return f"{self.tick}:{self.offset}"
+
+    def time(self, speed: int) -> Fraction:
+        """The time in ticks, at a speed in work units per tick.
+
+        >>> Position(9, 1).time(3)
+        Fraction(28, 3)
+        """
+        return self.tick + Fraction(self.offset, speed) if self.offset else Fraction(self.tick)
+
+
+@dataclass(frozen=True, slots=True)
+class Release:
+    """A job is released."""
+
+    tick: int
+    task: str
+    job: int
+
+    def text(self) -> str:
+        return f"release {self.tick} {self.task} {self.job}"
+
+
+@dataclass(frozen=True, slots=True)
+class Decision:
+    """A speed is chosen, in work units per tick, for the published demand num/den."""
+
+    tick: int
+    speed: int
+    num: int
+    den: int
+
+    def text(self) -> str:
+        return f"speed {self.tick} {self.speed} {self.num}/{self.den}"
+
+
+@dataclass(frozen=True, slots=True)
+class Run:
+    """A job runs for some work units without interruption, and takes their energy."""
+
+    begin: Position
+    end: Position
+    task: str
+    job: int
+    units: int
+    energy: int
+
+    def text(self) -> str:
+        return f"run {self.begin} {self.end} {self.task} {self.job} {self.units} {self.energy}"
+
+
+@dataclass(frozen=True, slots=True)
+class Idle:
+    """No job runs for some work units."""
+
+    begin: Position
+    end: Position
+    units: int
+    energy: int
+
+    def text(self) -> str:
+        return f"idle {self.begin} {self.end} {self.units} {self.energy}"
+
+
+@dataclass(frozen=True, slots=True)
+class Done:
+    """A job is complete, after all of its work units."""
+
+    at: Position
+    task: str
+    job: int
+    used: int
+
+    def text(self) -> str:
+        return f"done {self.at} {self.task} {self.job} {self.used}"
+
+
+@dataclass(frozen=True, slots=True)
+class TaskEnergy:
+    """The energy of all runs of a task; in version 2 only."""
+
+    task: str
+    energy: int
+
+    def text(self) -> str:
+        return f"energy {self.task} {self.energy}"
+
+
+@dataclass(frozen=True, slots=True)
+class End:
+    """The ticks of the run, and its energies."""
+
+    ticks: int
+    run_energy: int
+    idle_energy: int
+
+    def text(self) -> str:
+        return f"end {self.ticks} {self.run_energy} {self.idle_energy}"
+
+
+@dataclass(frozen=True, slots=True)
+class Head:
+    """What the first two lines say: the version of the text, and the run's scheduler, governor and ticks."""
+
+    version: int
+    scheduler: str
+    governor: str
+    ticks: int
+
+    def text(self) -> str:
+        return f"trace {self.version}\nplan {self.scheduler} {self.governor} {self.ticks}"
+
+
+Note = Release | Decision | Run | Idle | Done | TaskEnergy | End
+Item = Head | Task | Note
+
+
+# Reading
+
+
+def _up_to(limit: int) -> str:
+    """A pattern for the whole numbers from 1 to the limit.
+
+    >>> _up_to(4093)
+    '[1-9][0-9]{0,2}|[1-3][0-9]{3}|40[0-8][0-9]{1}|409[0-3]'
+    """
+    text = str(limit)
+    parts = [f"[1-9][0-9]{{0,{len(text) - 2}}}"]
+    for place, digit in enumerate(text):
+        least, rest = int(place == 0), len(text) - place - 1
+        if int(digit) - (rest > 0) >= least:
+            tail = f"[0-9]{{{rest}}}" if rest else ""
+            parts.append(f"{text[:place]}[{least}-{int(digit) - (rest > 0)}]{tail}")
+    return "|".join(parts)
+
+
+_SHAPES = {  # of the fields of a line
+    "number": f"(0|{_up_to(2**64 - 1)})",
+    "counted": f"({_up_to(2**64 - 1)})",
+    "energy": f"(0|{_up_to(2**128 - 1)})",
+    "fraction": f"(0|{_up_to(2**128 - 1)})/(0|{_up_to(2**128 - 1)})",
+    "position": f"(0|{_up_to(2**64 - 1)}):(0|{_up_to(2**64 - 1)})",
+    "name": "([A-Za-z0-9_-]{1,32})",
+    "ticks": f"({_up_to(MOST_TICKS)})",
+    "scheduler": "(edf|rm)",
+}
+
+
+def _shape(word: str, *fields: str) -> re.Pattern[str]:
+    return re.compile(" ".join([word, *(_SHAPES[field] for field in fields)]) + "\n")
+
+
+def _task(name: str, period: str, offset: str, worst: str) -> Item:
+    return Task(name, int(period), int(worst), int(offset))
+
+
+def _release(tick: str, task: str, job: str) -> Item:
+    return Release(int(tick), task, int(job))
+
+
+def _decision(tick: str, speed: str, num: str, den: str) -> Item:
+    return Decision(int(tick), int(speed), int(num), int(den))
+
+
+def _run(tick: str, offset: str, end: str, end_offset: str, task: str, *numbers: str) -> Item:
+    job, units, energy = map(int, numbers)
+    begin = Position(int(tick), int(offset))
+    return Run(begin, Position(int(end), int(end_offset)), task, job, units, energy)
+
+
+def _idle(tick: str, offset: str, end: str, end_offset: str, units: str, energy: str) -> Item:
+    begin = Position(int(tick), int(offset))
+    return Idle(begin, Position(int(end), int(end_offset)), int(units), int(energy))
+
+
+def _done(tick: str, offset: str, task: str, job: str, used: str) -> Item:
+    return Done(Position(int(tick), int(offset)), task, int(job), int(used))
+
+
+def _task_energy(task: str, energy: str) -> Item:
+    return TaskEnergy(task, int(energy))
+
+
+def _end(ticks: str, run_energy: str, idle_energy: str) -> Item:
+    return End(int(ticks), int(run_energy), int(idle_energy))
+
+
+_PLAN = _shape("plan", "scheduler", "name", "ticks")
+_ITEMS: dict[str, tuple[re.Pattern[str], Callable[..., Item]]] = {
+    "task": (_shape("task", "name", "counted", "number", "counted"), _task),
+    "release": (_shape("release", "number", "name", "number"), _release),
+    "speed": (_shape("speed", "number", "number", "fraction"), _decision),
+    "run": (_shape("run", "position", "position", "name", "number", "number", "energy"), _run),
+    "idle": (_shape("idle", "position", "position", "number", "energy"), _idle),
+    "done": (_shape("done", "position", "name", "number", "number"), _done),
+    "energy": (_shape("energy", "name", "energy"), _task_energy),
+    "end": (_shape("end", "number", "energy", "energy"), _end),
+}
+_NONE = re.compile("(?!)"), _end  # a pattern that nothing matches
+
+
+def _head(lines: Iterator[str]) -> Head:
+    line = next(lines, "")
+    if line not in ("trace 1\n", "trace 2\n"):
+        raise TraceFault(1, "neither trace 1 nor trace 2")
+    plan = next(lines, "")
+    found = _PLAN.fullmatch(plan)
+    if not found:
+        raise TraceFault(2, _misspelled(plan, "not a plan line"))
+    return Head(int(line[6]), found[1], found[2], int(found[3]))
+
+
+def _misspelled(line: str, reason: str) -> str:
+    """Why a line is none of a trace: a general reason, if there is one."""
+    if len(line.rstrip("\n")) > MOST_BYTES:
+        return f"it has more than {MOST_BYTES} bytes"
+    return reason if line.endswith("\n") else "it doesn't end with a line feed"
+
+
+def spelled_lines(lines: Iterable[str]) -> Iterator[Item]:
+    r"""Reads lines with their line feeds, and leaves their order to `Order`, but for the head and the end.
+
+    Raises TraceFault for the first line that is spelled wrong, after all lines before it were given.
+
+    >>> list(spelled_lines(["trace 1\n", "plan edf mine 2\n", "end 2 0 0\n"]))[1]
+    End(ticks=2, run_energy=0, idle_energy=0)
+    """
+    source, number, item = iter(lines), 2, None
+    yield _head(source)
+    for number, line in enumerate(source, 3):
+        if isinstance(item, End):
+            raise TraceFault(number, "a line after the end line")
+        shape, make = _ITEMS.get(line[:line.find(" ")], _NONE)
+        found = shape.fullmatch(line)
+        if not found or number > MOST_LINES:
+            more = f"a trace has at most {MOST_LINES} lines"
+            raise TraceFault(number, more if found else _misspelled(line, "not a line of a trace"))
+        item = make(*found.groups())
+        yield item
+    if not isinstance(item, End):
+        raise TraceFault(number + 1, "the trace ends before its end line")
+
+
+class Order:
+    """What the order of the lines needs: the version, each task's energy, and what came before."""
+
+    __slots__ = ("version", "sums", "to_come", "begun", "decided")
+
+    def __init__(self) -> None:
+        self.version = 1
+        self.sums: dict[str, int] = {}
+        self.to_come: list[str] = []  # the tasks whose energy lines are to come, the next one last
+        self.begun = False
+        self.decided = False
+
+    def fault(self, item: Item) -> str | None:
+        """Why an item can't be the next one, or None.
+
+        >>> order = Order()
+        >>> order.fault(Head(1, "edf", "mine", 2)), order.fault(Idle(Position(0, 0), Position(1, 0), 2, 0))
+        (None, 'there is no decision before it')
+        """
+        if isinstance(item, Head):
+            self.version = item.version
+            return None
+        if isinstance(item, Task):
+            return self._task_fault(item)
+        if not self.begun:
+            self.begun, self.to_come = True, list(self.sums)[::-1]
+            if self.version == 2 and not self.sums:
+                return "the lines of the tasks are missing"
+        return self._closing_fault(item) if isinstance(item, (TaskEnergy, End)) else self._note_fault(item)
+
+    def _task_fault(self, task: Task) -> str | None:
+        if self.version == 1 or self.begun:
+            return "the lines of the tasks are after the plan line of version 2"
+        if len(self.sums) == MOST_TASKS:
+            return f"more than {MOST_TASKS} tasks"
+        fault = "two tasks of one name" if task.name in self.sums else None
+        self.sums[task.name] = 0
+        return fault
+
+    def _note_fault(self, note: Release | Decision | Run | Idle | Done) -> str | None:
+        if len(self.to_come) < len(self.sums):
+            return "a line between the energy lines and the end line"
+        if isinstance(note, Decision):
+            self.decided = True
+            return None if note.speed and note.den else "a speed of 0, or a fraction over 0"
+        if not self.decided and (isinstance(note, (Run, Idle)) or isinstance(note, Done) and note.at.offset):
+            return "there is no decision before it"
+        if self.version == 1 or isinstance(note, Idle):
+            return None
+        if note.task not in self.sums:
+            return f"no task {note.task}"
+        if isinstance(note, Run):
+            self.sums[note.task] += note.energy
+        return None
+
+    def _closing_fault(self, note: TaskEnergy | End) -> str | None:
+        if isinstance(note, End):
+            return f"the energy line of {self.to_come[-1]} is missing" if self.to_come else None
+        if self.version == 1:
+            return "only version 2 has energy lines"
+        if not self.to_come or self.to_come[-1] != note.task:
+            return "the energy lines are one for each task, in the order of the file"
+        if self.sums[note.task] != note.energy:
+            return f"the run lines of {note.task} add up to {self.sums[note.task]}"
+        self.to_come.pop()
+        return None
+
+
+def parse_lines(lines: Iterable[str]) -> Iterator[Item]:
+    r"""Reads a trace line by line, in little memory: its head, in version 2 its tasks, and its notes.
+
+    Each line has its line feed. The head is what the first two lines say, so item n is line n + 1. Raises
+    TraceFault for the first line that the published format doesn't have, after all lines before it were
+    given.
+
+    >>> [item.text() for item in parse_lines(["trace 1\n", "plan edf mine 2\n", "end 2 0 0\n"])]
+    ['trace 1\nplan edf mine 2', 'end 2 0 0']
+    """
+    order = Order()
+    for number, item in enumerate(spelled_lines(lines), 2):
+        fault = order.fault(item)
+        if fault:
+            raise TraceFault(number, fault)
+        yield item
+
+
+def lines_of(file: TextIO) -> Iterator[str]:
+    r"""The lines of an open file, in parts of at most two characters more than a line may have.
+
+    >>> [len(line) for line in lines_of(io.StringIO("trace 1\n" + 1000 * "x"))]
+    [8, 257, 257, 257, 229]
+    """
+    return iter(lambda: file.readline(MOST_BYTES + 2), "")
+
+
+# What a trace says
+
+
+@dataclass(frozen=True, slots=True)
+class Job:
+    """A released job. Times are in ticks; start and completion are None if they aren't within the run.
+
+    >>> job = Job("t2", 1, release=0, deadline=10, start=Fraction(8, 3), completion=Fraction(4), units=4)
+    >>> job.response, job.laxity
+    (Fraction(4, 1), Fraction(6, 1))
+    """
+
+    task: str
+    number: int
+    release: int
+    deadline: int
+    start: Fraction | None = None
+    completion: Fraction | None = None
+    units: int = 0
+    preemptions: int = 0
+    energy: int = 0
+
+    @property
+    def response(self) -> Fraction | None:
+        """The ticks from the release to the completion."""
+        return None if self.completion is None else self.completion - self.release
+
+    @property
+    def laxity(self) -> Fraction | None:
+        """The ticks from the completion to the deadline."""
+        return None if self.completion is None else self.deadline - self.completion
+
+
+@dataclass(frozen=True, slots=True)
+class Trace:
+    """A whole trace. `tasks` are those of version 2, with declared worst cases; the last note is the End.
+
+    >>> trace = Trace.parse(SAMPLE)
+    >>> trace.energy, trace.switches, trace.idle_time, trace.residency()
+    (6000, 1, Fraction(1, 2), {3: Fraction(1, 1), 2: Fraction(1, 1)})
+    >>> trace.text() == SAMPLE
+    True
+    """
+
+    version: int
+    scheduler: str
+    governor: str
+    ticks: int
+    tasks: tuple[Task, ...]
+    notes: tuple[Note, ...]
+
+    @classmethod
+    def parse(cls, text: str) -> Self:
+        r"""The trace of a text; raises TraceFault.
+
+        >>> Trace.parse("trace 1\nplan edf cc 0\n")
+        Traceback (most recent call last):
+        rtdvs.trace.TraceFault: line 2: not a plan line
+        """
+        return cls._of(io.StringIO(text, newline="\n"))
+
+    @classmethod
+    def read(cls, path: Path) -> Self:
+        """The trace of a file; raises TraceFault, OSError.
+
+        >>> Trace.read(Path("/"))
+        Traceback (most recent call last):
+        IsADirectoryError: [Errno 21] Is a directory: '/'
+        """
+        with open(path, encoding="latin-1", newline="\n") as file:
+            return cls._of(file)
+
+    @classmethod
+    def _of(cls, file: TextIO) -> Self:
+        items = parse_lines(lines_of(file))
+        head = next(items)
+        assert isinstance(head, Head)
+        tasks, notes = [], []
+        for item in items:
+            if isinstance(item, Task):
+                tasks.append(item)
+            elif not isinstance(item, Head):
+                notes.append(item)
+        return cls(head.version, head.scheduler, head.governor, head.ticks, tuple(tasks), tuple(notes))
+
+    def text(self) -> str:
+        """The text of the trace, with its last line feed."""
+        head = Head(self.version, self.scheduler, self.governor, self.ticks).text()
+        tasks = [f"task {task.name} {task.period} {task.offset} {task.worst}" for task in self.tasks]
+        return "\n".join([head, *tasks, *(note.text() for note in self.notes), ""])
+
+    @property
+    def end(self) -> End:
+        """The last note."""
+        last = self.notes[-1]
+        assert isinstance(last, End)
+        return last
+
+    @property
+    def run_energy(self) -> int:
+        """The energy of all runs, as the end line has it."""
+        return self.end.run_energy
+
+    @property
+    def idle_energy(self) -> int:
+        """The energy of all idle units, as the end line has it."""
+        return self.end.idle_energy
+
+    @property
+    def energy(self) -> int:
+        """The energy of runs and idle units together."""
+        return self.run_energy + self.idle_energy
+
+    @property
+    def decisions(self) -> tuple[Decision, ...]:
+        """The decisions, in order."""
+        return tuple(note for note in self.notes if isinstance(note, Decision))
+
+    @property
+    def switches(self) -> int:
+        """The number of decisions after which the speed is another than before; the first one is none."""
+        decisions = self.decisions
+        return sum(one.speed != two.speed for one, two in zip(decisions, decisions[1:], strict=False))
+
+    def residency(self) -> dict[int, Fraction]:
+        """The ticks at each speed that was chosen, in the order of their first use."""
+        decisions = self.decisions
+        times: dict[int, Fraction] = {}
+        ends = [*(each.tick for each in decisions[1:]), self.ticks]
+        for decision, end in zip(decisions, ends, strict=True):
+            times[decision.speed] = times.get(decision.speed, Fraction(0)) + end - decision.tick
+        return times
+
+    @property
+    def idle_time(self) -> Fraction:
+        """The ticks, and parts of ticks, in which no job runs."""
+        idle = ((note.units, speed) for note, speed in self.at_speeds() if isinstance(note, Idle))
+        return sum((Fraction(units, speed) for units, speed in idle), Fraction(0))
+
+    def at_speeds(self) -> Iterator[tuple[Note, int]]:
+        """Each note with the speed in force there, in work units per tick; 1 before the first decision.
+
+        >>> [speed for note, speed in Trace.parse(SAMPLE).at_speeds() if isinstance(note, Run)]
+        [3, 2]
+        """
+        speed = 1
+        for note in self.notes:
+            if isinstance(note, Decision):
+                speed = note.speed
+            yield note, speed
+
+    def jobs(self, tasks: TaskSet | None = None) -> tuple[Job, ...]:
+        """The jobs in the order of their release lines. Version 1 needs the task set, for the periods.
+
+        Raises TraceFault if a job runs or is complete without a release line, or if the trace has no task's
+        period.
+
+        >>> Trace.parse(SAMPLE).jobs()[0].laxity
+        Fraction(1, 2)
+        """
+        periods = {task.name: task.period for task in tasks or self.tasks}
+        jobs: dict[tuple[str, int], Job] = {}
+        running = None
+        for line, (note, speed) in enumerate(self.at_speeds(), len(self.tasks) + 3):
+            if not isinstance(note, Release | Run | Done):
+                continue
+            key = note.task, note.job
+            job = jobs.get(key)
+            if isinstance(note, Release):
+                if note.task not in periods:
+                    raise TraceFault(line, f"the period of {note.task} is not known")
+                job = Job(note.task, note.job, note.tick, note.tick + periods[note.task])
+            elif job is None:
+                raise TraceFault(line, f"{note.task} job {note.job} is not released")
+            elif isinstance(note, Run):
+                job = _after(job, note, speed, resumed=running != key)
+                running = key
+            else:
+                job = replace(job, completion=note.at.time(speed))
+            jobs[key] = job
+        return tuple(jobs.values())
+
+
+def _after(job: Job, run: Run, speed: int, resumed: bool) -> Job:
+    """The job after a run; it was preempted if it had begun, and another job ran last."""
+    return replace(
+        job,
+        start=run.begin.time(speed) if job.start is None else job.start,
+        units=job.units + run.units,
+        preemptions=job.preemptions + (resumed and job.start is not None),
+        energy=job.energy + run.energy,
+    )
+
+
+SAMPLE = """trace 2
+plan edf mine 2
+task t 2 0 4
+release 0 t 1
+speed 0 3 3/1
+run 0:0 1:0 t 1 3 5000
+speed 1 2 2/1
+run 1:0 1:1 t 1 1 1000
+done 1:1 t 1 4
+idle 1:1 2:0 1 0
+energy t 6000
+end 2 6000 0
+"""
+"""A small trace, for the examples."""

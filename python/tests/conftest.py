@@ -1,0 +1,46 @@
+"""What all tests share: the locale, the program, the example folder and hypothesis' profile."""
+
+import locale
+import os
+from pathlib import Path
+
+import pytest
+from hypothesis import HealthCheck, settings
+
+from rtdvs.engine import Engine
+
+# Libraries print numbers as the environment asks, be it with a decimal comma; messages stay English.
+locale.setlocale(locale.LC_ALL, "")
+locale.setlocale(locale.LC_MESSAGES, "C")
+TOP = Path(__file__).resolve().parents[2]
+
+settings.register_profile("gate", derandomize=True, deadline=None, max_examples=30, database=None,
+                          suppress_health_check=list(HealthCheck))
+settings.load_profile(os.environ.get("RTDVS_PROFILE", "gate"))
+
+
+@pytest.fixture(scope="session")
+def top() -> Path:
+    """The top of the repository."""
+    return TOP
+
+
+@pytest.fixture(scope="session")
+def data() -> Path:
+    """The folders of the examples' files: paper, offsets, controller, deadlines, server and others."""
+    return TOP / "crates" / "example_runs" / "data"
+
+
+@pytest.fixture(scope="session")
+def program() -> Path:
+    """The built program: $RTDVS or the repository's; without one a test is skipped."""
+    built = Path(os.environ.get("RTDVS", TOP / "crates" / "rtdvs" / "out" / "rtdvs"))
+    if not built.is_file():
+        pytest.skip("no built program")
+    return built
+
+
+@pytest.fixture(scope="session")
+def engine(program: Path) -> Engine:
+    """The built program as an engine."""
+    return Engine(program, timeout=60.0)

@@ -1,0 +1,305 @@
+"""The command line: usage, failures in one line, standard streams that are closed, full or left."""
+
+import argparse
+import io
+import subprocess
+import sys
+import types
+from collections.abc import Callable
+from fractions import Fraction
+from pathlib import Path
+
+import pytest
+
+from rtdvs import cli, commandline
+from rtdvs.engine import Crashed, Engine, NoEngine, OverWorst
+from rtdvs.files import Demands, FileFault, TaskSet
+
+Handler = Callable[[argparse.Namespace], int]
+
+
+@pytest.fixture
+def stub(monkeypatch: pytest.MonkeyPatch) -> Callable[[Handler], None]:
+    """Makes a handler the only command, `stub`, with the options that commands share."""
+
+    def replace(handler: Handler) -> None:
+        def add_command(commands: "argparse._SubParsersAction[argparse.ArgumentParser]") -> None:
+            parser = commands.add_parser("stub", help="a stand-in")
+            commandline.add_files(parser, ["tasks"], ["machine", "demands"])
+            commandline.add_output(parser)
+            commandline.add_engine_options(parser, jobs=True)
+            parser.set_defaults(handler=handler)
+
+        module = types.ModuleType("stub")
+        module.add_command = add_command  # type: ignore[attr-defined]
+        monkeypatch.setattr(cli, "COMMANDS", (module,))
+
+    return replace
+
+
+def parsed(*words: str) -> argparse.Namespace:
+    """The arguments of the stub's options."""
+    parser = argparse.ArgumentParser()
+    commandline.add_files(parser, [], ["tasks", "machine", "demands"])
+    commandline.add_output(parser)
+    commandline.add_engine_options(parser, jobs=True)
+    return parser.parse_args(words)
+
+
+def standard_input(content: bytes) -> io.TextIOWrapper:
+    return io.TextIOWrapper(io.BytesIO(content))
+
+
+# Commands
+
+COMMANDS = [module.__name__.removeprefix("rtdvs.").replace("_", "-") for module in cli.COMMANDS]
+
+
+@pytest.mark.parametrize("command", COMMANDS)
+def test_help_of_each_command(command: str, capsys: pytest.CaptureFixture[str]) -> None:
+    assert cli.main([command, "--help"]) == 0
+    out = capsys.readouterr().out
+    assert out.startswith(f"usage: python3 -m rtdvs {command}")
+    assert f"rtdvs {command} " in out.split("options:")[1], "no example in the epilog"
+
+
+@pytest.mark.parametrize("command", COMMANDS)
+def test_unknown_option_of_each_command(command: str, capsys: pytest.CaptureFixture[str]) -> None:
+    assert cli.main([command, "--foo"]) == 2
+    assert capsys.readouterr().err.startswith("usage: python3 -m rtdvs ")
+
+
+@pytest.mark.parametrize("words", [[], ["--foo"], ["foo"], ["stub"], ["stub", "--tasks"], ["stub", "--foo"]])
+def test_usage(words: list[str], stub: Callable[[Handler], None], capsys: pytest.CaptureFixture[str]) -> None:
+    stub(lambda args: 0)
+    assert cli.main(words) == 2
+    assert "python3 -m rtdvs" in capsys.readouterr().err
+
+
+def test_two_files_from_one_input(
+    stub: Callable[[Handler], None], capsys: pytest.CaptureFixture[str], monkeypatch: pytest.MonkeyPatch
+) -> None:
+    stub(lambda args: 0)
+    monkeypatch.setattr(sys, "stdin", standard_input(b"x"))
+    assert cli.main(["stub", "--tasks", "-", "--machine", "-"]) == 2
+    assert "only one file can be standard input" in capsys.readouterr().err
+
+
+@pytest.mark.parametrize("status", [0, 1, 2])
+def test_status(status: int, stub: Callable[[Handler], None]) -> None:
+    stub(lambda args: status)
+    assert cli.main(["stub", "--tasks", "x"]) == status
+
+
+FAULTS = [
+    (FileFault("tasks: no tasks"), "tasks: no tasks"),
+    (OverWorst("over worst: a 1 3 2"), "over worst: a 1 3 2"),
+    (NoEngine("no program"), "no program"),
+    (Crashed("signal 9"), "signal 9"),
+    (FileNotFoundError(2, "No such file or directory", "a.toml"), "a.toml: No such file or directory"),
+    (IsADirectoryError(21, "Is a directory"), "input or output: Is a directory"),
+    (MemoryError(), "no memory"),
+]
+
+
+@pytest.mark.parametrize(("fault", "line"), FAULTS, ids=[line for _, line in FAULTS])
+def test_faults(
+    fault: Exception, line: str, stub: Callable[[Handler], None], capsys: pytest.CaptureFixture[str]
+) -> None:
+    def handler(args: argparse.Namespace) -> int:
+        raise fault
+
+    stub(handler)
+    assert cli.main(["stub", "--tasks", "x"]) == 2
+    assert capsys.readouterr() == ("", f"rtdvs: {line}\n")
+
+
+def test_interrupted(stub: Callable[[Handler], None], capsys: pytest.CaptureFixture[str]) -> None:
+    def handler(args: argparse.Namespace) -> int:
+        raise KeyboardInterrupt
+
+    stub(handler)
+    assert cli.main(["stub", "--tasks", "x"]) == 130
+    assert capsys.readouterr() == ("", "")
+
+
+# Bad files
+
+BAD_FILES = {
+    "a text that is not UTF-8": b"\xff\xfe",
+    "no byte": b"",
+    "zero bytes": b"\0\0",
+    "one bracket": b"[task]\n[point]\n",
+    "deep nesting": b"task = " + b"[" * 100_000,
+    "an unknown key": b"[[task]]\nofset = 1\n[[point]]\nofset = 1\n",
+    "a number past each limit": b"[[task]]\nname = 'a'\nperiod = 1099511627777\nworst = 1\n",
+    "a cut trace": b"trace 2\nplan edf cc 4\ntask a 4 0",
+}
+READERS_OF_FILES = [
+    "explain --tasks BAD --machine machine.toml --trace edf_none.trace",
+    "explain --tasks tasks.toml --machine BAD --trace edf_none.trace",
+    "explain --tasks tasks.toml --machine machine.toml --trace edf_none.trace --demands BAD",
+    "simulate --tasks BAD --machine machine.toml --scheduler edf --governor cc --ticks 4",
+    "statistics --tasks tasks.toml --trace BAD",
+    "statistics --tasks BAD --trace edf_none.trace",
+    "compare --tasks BAD --machine machine.toml --ticks 4",
+    "compare --tasks tasks.toml --machine machine.toml --ticks 4 --demands BAD",
+    "sensitivity --tasks tasks.toml --machine BAD --test edf",
+    "design --board BAD",
+    "convert --to csv --trace BAD",
+    "convert --to vcd --trace BAD",
+]
+
+
+@pytest.fixture(params=["absent", "folder", *BAD_FILES])
+def bad_file(request: pytest.FixtureRequest, tmp_path: Path) -> Path:
+    """A file that nothing reads, one that isn't there, and a folder."""
+    path = tmp_path / "bad"
+    if request.param == "folder":
+        path.mkdir()
+    elif request.param in BAD_FILES:
+        path.write_bytes(BAD_FILES[request.param])
+    return path
+
+
+@pytest.mark.parametrize("words", READERS_OF_FILES)
+def test_bad_files(
+    words: str, bad_file: Path, data: Path, capsys: pytest.CaptureFixture[str], monkeypatch: pytest.MonkeyPatch
+) -> None:
+    """Each is refused in one line, with status 2."""
+    monkeypatch.chdir(data / "paper")
+    assert cli.main([str(bad_file) if word == "BAD" else word for word in words.split()]) == 2
+    out, err = capsys.readouterr()
+    assert out == "" and err.startswith("rtdvs: ") and err.count("\n") == 1, err
+
+
+# Standard streams
+
+STREAMS = [
+    (">&-", 2, "rtdvs: standard output is closed\n"),
+    ("> /dev/full", 2, "rtdvs: input or output: No space left on device\n"),
+    ("2>&- > /dev/full", 2, ""),
+    ("> /dev/null 2>&-", 0, ""),
+]
+
+
+@pytest.mark.parametrize(("streams", "status", "line"), STREAMS)
+def test_streams(streams: str, status: int, line: str) -> None:
+    ran = in_shell(f'"$0" -m rtdvs --help {streams}')
+    assert (ran.returncode, ran.stdout, ran.stderr) == (status, "", line)
+
+
+def test_a_reader_that_leaves() -> None:
+    ran = in_shell('{ sleep 1; "$0" -m rtdvs --help; echo $? >&2; } | exec true')
+    assert (ran.stdout, ran.stderr) == ("", "2\n")
+
+
+def in_shell(line: str) -> "subprocess.CompletedProcess[str]":
+    source = str(Path(cli.__file__).parents[1])
+    words = ["sh", "-c", line, sys.executable]
+    return subprocess.run(words, env={"PYTHONPATH": source}, capture_output=True, text=True, timeout=60)
+
+
+# What commands share
+
+def test_files_of_options(data: Path) -> None:
+    paper = data / "paper"
+    words = [f"--{kind}={paper / name}" for kind, name in (
+        ("tasks", "tasks.toml"), ("machine", "machine.toml"), ("demands", "demands.csv"),
+    )]
+    args = parsed(*words)
+    tasks = commandline.read_tasks(args)
+    assert tasks.names == ("t1", "t2", "t3")
+    assert commandline.read_machine(args).top_speed == 4
+    demands = commandline.read_demands(args, tasks)
+    assert demands is not None and demands.units["t1", 1] == 8
+    assert commandline.read_demands(parsed(*words[:2]), tasks) is None
+
+
+def test_files_from_standard_input(monkeypatch: pytest.MonkeyPatch) -> None:
+    tasks = TaskSet.parse('task = [{name = "a", period = 1, worst = 1}]')
+    monkeypatch.setattr(sys, "stdin", standard_input(tasks.text().encode()))
+    assert commandline.read_tasks(parsed("--tasks", "-")) == tasks
+    monkeypatch.setattr(sys, "stdin", standard_input(b"point = [{speed = 7, millivolts = 1}]"))
+    assert commandline.read_machine(parsed("--machine", "-")).top_speed == 7
+    monkeypatch.setattr(sys, "stdin", standard_input(b"task,job,units\na,1,0\n"))
+    assert commandline.read_demands(parsed("--demands", "-"), tasks) == Demands({("a", 1): 0})
+
+
+def test_closed_standard_input(monkeypatch: pytest.MonkeyPatch, capsys: pytest.CaptureFixture[str]) -> None:
+    monkeypatch.setattr(sys, "stdin", None)
+    with pytest.raises(SystemExit):
+        parsed("--tasks", "-")
+    assert "standard input is closed" in capsys.readouterr().err
+
+
+def test_text_of_a_file(tmp_path: Path) -> None:
+    (tmp_path / "trace").write_bytes("trace \u00e4\r\n".encode())
+    assert commandline.read_text(tmp_path / "trace", "trace") == "trace \u00e4\r\n"
+    with pytest.raises(FileNotFoundError):
+        commandline.read_text(tmp_path / "absent", "trace")
+
+
+def test_output(tmp_path: Path, capsysbinary: pytest.CaptureFixture[bytes]) -> None:
+    commandline.write_output(parsed("--output", str(tmp_path / "out")), "\u00e4\n")
+    assert (tmp_path / "out").read_bytes() == b"\xc3\xa4\n"
+    commandline.write_output(parsed(), b"\xff")
+    assert capsysbinary.readouterr().out == b"\xff"
+
+
+@pytest.mark.parametrize("word", ["", "-1", "+1", "01", "1.0", "1e3", "65", "0", "\u0661", "1" * 5000])
+def test_numbers_that_are_none(word: str) -> None:
+    with pytest.raises(argparse.ArgumentTypeError, match="a whole number from 1 to 64, not"):
+        commandline.whole_number(1, 64)(word)
+
+
+@pytest.mark.parametrize(("word", "value"), [
+    ("0", Fraction(0)), ("0.10", Fraction(1, 10)), ("14/4", Fraction(7, 2)), ("007/070", Fraction(1, 10)),
+])
+def test_fractions(word: str, value: Fraction) -> None:
+    assert commandline.exact_fraction(word) == value
+
+
+@pytest.mark.parametrize("word", ["", "1/0", "1/00", "-1", ".5", "1,5", "1e3", "nan", "0.5/2"])
+def test_fractions_that_are_none(word: str) -> None:
+    with pytest.raises(argparse.ArgumentTypeError, match="a number such as"):
+        commandline.exact_fraction(word)
+
+
+@pytest.mark.parametrize("word", ["0", "0.0", "1000001", "x"])
+def test_seconds_that_are_none(word: str) -> None:
+    with pytest.raises(argparse.ArgumentTypeError):
+        commandline.seconds(word)
+
+
+def test_engine_of_options() -> None:
+    assert commandline.engine_of(parsed("--program", sys.executable, "--timeout", "0.5")) == Engine(
+        Path(sys.executable), 0.5
+    )
+
+
+def test_executor_of_options() -> None:
+    with commandline.executor_of(parsed("--jobs", "3")) as executor:
+        assert [*executor.map(abs, [-1, 2])] == [1, 2]
+
+
+class Terminal(io.StringIO):
+    """A standard error that is a terminal."""
+
+    def isatty(self) -> bool:
+        return True
+
+
+def test_progress_on_a_terminal(monkeypatch: pytest.MonkeyPatch) -> None:
+    terminal = Terminal()
+    monkeypatch.setattr(sys, "stderr", terminal)
+    monkeypatch.setattr(commandline, "monotonic", iter(range(1, 100)).__next__)
+    assert [*commandline.progress("ab", 4, "runs")] == ["a", "b"]
+    bars = terminal.getvalue().split("\r")
+    assert bars[1:3] == [f"runs [{'#' * 7:30}] 1/4", f"runs [{'#' * 15:30}] 2/4"]
+    assert bars[3] == "\x1b[K"
+
+
+def test_no_progress_elsewhere(capsys: pytest.CaptureFixture[str]) -> None:
+    assert [*commandline.progress(range(3), 3, "runs")] == [0, 1, 2]
+    assert capsys.readouterr().err == ""

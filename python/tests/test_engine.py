@@ -1,0 +1,436 @@
+"""The engine: typed answers, an exception for each status, failing programs, and lists of calls."""
+
+import os
+import pickle
+import shutil
+import subprocess
+import sys
+import time
+from collections.abc import Callable, Iterator
+from concurrent.futures import Executor, ProcessPoolExecutor, ThreadPoolExecutor
+from pathlib import Path
+
+import pytest
+
+from rtdvs import engine as engine_module
+from rtdvs.engine import (
+    Admitted,
+    Answer,
+    Call,
+    Constrained,
+    Crashed,
+    Denied,
+    Differs,
+    Engine,
+    EngineError,
+    FileRefused,
+    Least,
+    LoadFailed,
+    NoEngine,
+    NoText,
+    OutOfMemory,
+    OverWorst,
+    Service,
+    TimedOut,
+    TooManyJobs,
+    TryEngine,
+    WordsRefused,
+    WriteFailed,
+    admit_call,
+    find_engine,
+    parse_admitted,
+    parse_least,
+    parse_polled,
+    parse_replayed,
+    parse_responses,
+    parse_workload,
+    workload_call,
+)
+from rtdvs.files import Deadlines, Demands, Machine, Point, Requests, Task, TaskSet
+
+FAST = Machine((Point(2, 3000), Point(3, 4000), Point(4, 5000)))
+PAPER = TaskSet((Task("t1", 8, 12), Task("t2", 10, 12), Task("t3", 14, 4)))
+
+
+def fake(folder: Path, body: str, name: str = "rtdvs") -> Path:
+    """A program that runs these lines of the shell."""
+    folder.mkdir(exist_ok=True)
+    program = folder / name
+    program.write_text(f"#!/bin/sh\n{body}\n")
+    program.chmod(0o755)
+    return program
+
+
+# The program's answers; the expected ones are those of docs/COMMANDS.md.
+
+def test_admitted(engine: Engine) -> None:
+    assert engine.admit(PAPER, FAST, "edf") == Admitted("edf", 836, 280, 3)
+    assert engine.admit(PAPER, FAST, "rm") == Admitted("rm", 52, 14, 4)
+
+
+def test_run(engine: Engine, data: Path) -> None:
+    paper = data / "paper"
+    demands = Demands.read(paper / "demands.csv", PAPER)
+    stored = (paper / "edf_cc_with_demands.trace").read_text()
+    assert engine.run(PAPER, FAST, "edf", "cc", 16, demands, version=1) == stored
+    second = engine.run(paper / "tasks.toml", FAST, "edf", "cc", 16, demands)
+    assert second.startswith("trace 2\nplan edf cc 16\ntask t1 8 0 12\n")
+
+
+def test_replay_and_migrate(engine: Engine, data: Path) -> None:
+    trace = data / "paper" / "edf_la_with_demands.trace"
+    found = engine.replay(PAPER, FAST, trace)
+    assert (found.released, found.finished, found.run_energy, found.idle_energy) == (6, 6, 315_000_000_000, 0)
+    assert engine.migrate(PAPER, FAST, trace).startswith("trace 2\n")
+
+
+def test_responses(engine: Engine) -> None:
+    assert engine.respond(PAPER, FAST) == {"t1": 3, "t2": 6, "t3": 7}
+
+
+def test_constrained(engine: Engine, data: Path) -> None:
+    folder = data / "deadlines"
+    tasks = TaskSet.read(folder / "tasks.toml")
+    deadlines = Deadlines.read(folder / "deadlines.csv", tasks)
+    assert engine.constrain(tasks, folder / "machine.toml", deadlines) == Constrained(7, 6, 2)
+
+
+def test_polled(engine: Engine, data: Path) -> None:
+    folder = data / "server"
+    requests = Requests.read(folder / "requests.csv")
+    found = engine.poll(folder / "tasks.toml", folder / "machine.toml", requests, "s", "edf", "none", 15)
+    assert found.services[1:] == (Service(2, 1, 6, 3, "10:2"), Service(3, 12, 1))
+    assert (found.served, found.run_energy, found.idle_energy) == (2, 725_000_000_000, 0)
+
+
+def test_least(engine: Engine) -> None:
+    assert engine.least(FAST, 28, 16) == Least(2, 0, 4, 2, 28, 504_000_000_000, 18_000_000_000, 0)
+
+
+def test_workload(engine: Engine) -> None:
+    none, static, cc, la = engine.workload(1)
+    assert (none.governor, none.finished, none.run_energy) == ("none", 29150, 644_393_500_000_000_000)
+    assert (static.decisions, cc.decisions, la.decisions) == (23323, 23379, 24710)
+
+
+PARSERS = (parse_admitted, parse_least, parse_polled, parse_replayed, parse_responses, parse_workload)
+
+
+@pytest.mark.parametrize("parse", PARSERS)
+@pytest.mark.parametrize("text", ["x", "admitted edf 1/2 3", "least 1\n", "polled 1 2\n", "response a 01\n"])
+def test_texts_that_no_program_prints(parse: Callable[[str], object], text: str) -> None:
+    with pytest.raises(Crashed, match="an unknown answer"):
+        parse(text)
+
+
+def test_an_answer_that_is_no_text() -> None:
+    with pytest.raises(Crashed, match="not UTF-8"):
+        Answer(0, b"\xff", b"").text()
+
+
+def test_a_price_below_nothing() -> None:
+    assert parse_least("least 1 2 3 4 5 6\nprices 7 minus 8\n").tick_price == -8
+
+
+# Statuses
+
+LINES: list[tuple[int, str, type[EngineError], dict[str, object]]] = [
+    (1, "denied edf 248 240", Denied, {"test": "edf", "task": None, "asked": 248, "ticks": None}),
+    (1, "denied rm c 42 40", Denied, {"test": "rm", "task": "c", "asked": 42, "capacity": 40}),
+    (1, "denied rm 7 42 40", Denied, {"test": "rm", "task": "7", "asked": 42}),
+    (1, "denied offset b", Denied, {"test": "offset", "task": "b", "asked": None}),
+    (1, "misses c 42 40", Denied, {"test": "misses", "task": "c", "capacity": 40}),
+    (1, "denied demand 3 9 8", Denied, {"test": "demand", "ticks": 3, "asked": 9, "capacity": 8}),
+    (1, "denied units 65 64", Denied, {"test": "units", "asked": 65, "capacity": 64}),
+    (2, "words: no command", WordsRefused, {}),
+    (3, "load: trace", LoadFailed, {"kind": "trace"}),
+    (4, "machine: not TOML", FileRefused, {"kind": "machine"}),
+    (4, "trace: line 3: word", FileRefused, {"kind": "trace"}),
+    (5, "limit: 100001 jobs, at most 100000", TooManyJobs, {"jobs": 100_001, "most": 100_000}),
+    (6, "over worst: a 1 3 2", OverWorst, {"task": "a", "job": 1, "units": 3, "worst": 2}),
+    (7, "differs: line 9\nwanted: a b\nfound: ", Differs, {"line_number": 9, "wanted": "a b", "found": ""}),
+    (8, "write: out failed", WriteFailed, {}),
+    (9, "no memory", OutOfMemory, {}),
+]
+
+
+@pytest.mark.parametrize(("status", "line", "kind", "fields"), LINES, ids=[line for _, line, _, _ in LINES])
+def test_each_status(status: int, line: str, kind: type[EngineError], fields: dict[str, object]) -> None:
+    with pytest.raises(kind) as caught:
+        Answer(status, b"", f"{line}\n".encode()).text()
+    error = caught.value
+    assert (error.status, error.line, str(error)) == (status, line, line)
+    assert {name: getattr(error, name) for name in fields} == fields
+    again = pickle.loads(pickle.dumps(error))
+    assert (type(again), vars(again)) == (kind, vars(error))
+
+
+@pytest.mark.parametrize(("status", "kind"), [(9, OutOfMemory), (10, NoText)])
+def test_statuses_without_a_line(status: int, kind: type[EngineError]) -> None:
+    with pytest.raises(kind, match="."):
+        Answer(status, b"", b"").text()
+
+
+@pytest.mark.parametrize("status", range(1, 8))
+@pytest.mark.parametrize("notes", [b"", b"\xff\n", b"denied\n", b"load: tasks: x\n", b"differs: line 1\n"])
+def test_unknown_lines(status: int, notes: bytes) -> None:
+    with pytest.raises(Crashed, match=f"status {status} and an unknown line"):
+        Answer(status, b"", notes).text()
+
+
+@pytest.mark.parametrize("status", [11, 127, 255])
+def test_unknown_statuses(status: int) -> None:
+    with pytest.raises(Crashed, match=f"status {status}: no"):
+        Answer(status, b"", b"no\n").text()
+
+
+def test_refusals_of_the_program(engine: Engine, data: Path, tmp_path: Path) -> None:
+    with pytest.raises(Denied, match="denied edf"):
+        engine.admit(TaskSet((Task("a", 1, 5),)), FAST, "edf")
+    with pytest.raises(WordsRefused, match="rm has no governor la"):
+        engine.run(PAPER, FAST, "rm", "la", 16)
+    with pytest.raises(LoadFailed, match="load: tasks"):
+        engine.admit(tmp_path / "absent", FAST, "edf")
+    with pytest.raises(LoadFailed, match="load: machine"):
+        engine.admit(PAPER, tmp_path, "edf")
+    with pytest.raises(FileRefused, match="tasks: not TOML"):
+        engine.admit(b"\xff", FAST, "edf")
+    with pytest.raises(TooManyJobs):
+        engine.run(PAPER, FAST, "edf", "none", 2**40)
+    with pytest.raises(OverWorst):
+        engine.run(PAPER, FAST, "edf", "none", 16, Demands({("t1", 1): 13}))
+    trace = (data / "paper" / "edf_la_with_demands.trace").read_text().replace("speed 3 2", "speed 3 3")
+    with pytest.raises(Differs, match="differs: line 10\nwanted: speed 3 2 8/5\nfound: speed 3 3 8/5"):
+        engine.replay(PAPER, FAST, trace)
+
+
+# Programs that fail
+
+def test_a_program_that_is_not_there(tmp_path: Path) -> None:
+    with pytest.raises(NoEngine, match="absent: No such file or directory"):
+        Engine(tmp_path / "absent").workload(1)
+    with pytest.raises(NoEngine, match="Permission denied"):
+        Engine(tmp_path).workload(1)
+
+
+def test_a_file_that_is_no_program(tmp_path: Path) -> None:
+    fake(tmp_path, "").write_bytes(b"\x7fELF broken")
+    with pytest.raises(NoEngine, match="Exec format error"):
+        Engine(tmp_path / "rtdvs").workload(1)
+
+
+def test_a_program_that_is_killed(tmp_path: Path) -> None:
+    with pytest.raises(Crashed, match="signal 9"):
+        Engine(fake(tmp_path, "kill -9 $$")).workload(1)
+
+
+@pytest.mark.parametrize(("status", "kind"), [(8, WriteFailed), (9, OutOfMemory), (42, Crashed)])
+def test_a_program_that_ends_otherwise(status: int, kind: type[EngineError], tmp_path: Path) -> None:
+    with pytest.raises(kind):
+        Engine(fake(tmp_path, f"echo workload; exit {status}")).workload(1)
+
+
+def test_a_program_that_never_ends(tmp_path: Path) -> None:
+    """The program is killed with all that it started."""
+    program = fake(tmp_path, f"sleep 60 & echo $! > {tmp_path}/child; wait")
+    before = time.monotonic()
+    with pytest.raises(TimedOut, match="no answer within 0.5 seconds"):
+        Engine(program, timeout=0.5).workload(1)
+    assert time.monotonic() - before < 20
+    assert not running(int((tmp_path / "child").read_text()))
+
+
+def running(process: int) -> bool:
+    """Whether a process does anything still; one that ended may wait for its parent."""
+    for _ in range(50):
+        try:
+            state = Path(f"/proc/{process}/stat").read_text().rpartition(") ")[2][0]
+        except FileNotFoundError:
+            return False
+        if state == "Z":
+            return False
+        time.sleep(0.1)
+    return True
+
+
+def test_what_a_program_gets(tmp_path: Path, monkeypatch: pytest.MonkeyPatch) -> None:
+    """The folder and the environment of the caller, no input, and files that are gone after the call."""
+    monkeypatch.chdir(tmp_path)
+    monkeypatch.setenv("LEFT_ALONE", "as it was")
+    engine = Engine(fake(tmp_path, 'pwd; echo "$LEFT_ALONE"; cat; cat "$5"; echo "$@"'))
+    out = engine.answer(admit_call(Path("a b.toml"), "idle = 1\n", "edf")).out.decode().splitlines()
+    assert out[:2] == [str(tmp_path), "as it was"]
+    words = out[-1].split(" --")
+    assert words[:3] == ["admit", "scheduler edf", f"tasks {tmp_path}/a b.toml"]
+    assert not Path(words[3].removeprefix("machine ")).exists()
+    assert os.environ["LEFT_ALONE"] == "as it was"
+
+
+def test_output_in_plenty(tmp_path: Path) -> None:
+    """Both streams are read at once, so neither blocks the program."""
+    program = fake(tmp_path, "head -c 300000 /dev/zero >&2; head -c 300000 /dev/zero; exit 9")
+    answer = Engine(program, timeout=30).answer(workload_call(1))
+    assert (answer.status, len(answer.out), len(answer.notes)) == (9, 300_000, 300_000)
+
+
+# Which engine
+
+@pytest.fixture
+def bare(tmp_path: Path, monkeypatch: pytest.MonkeyPatch) -> Path:
+    """A place with no program at all."""
+    monkeypatch.delenv("RTDVS", raising=False)
+    monkeypatch.setenv("PATH", str(tmp_path / "bin"))
+    monkeypatch.setattr(engine_module, "CRATE", tmp_path / "crate")
+    return tmp_path
+
+
+def test_no_engine(bare: Path) -> None:
+    with pytest.raises(NoEngine, match="build it with .* install the Debian package"):
+        find_engine()
+    with pytest.raises(NoEngine, match="absent: no such program"):
+        find_engine(Path("absent"))
+
+
+def test_order_of_engines(bare: Path, monkeypatch: pytest.MonkeyPatch) -> None:
+    """Each one that is there is preferred to those before it."""
+    (bare / "crate").mkdir()
+    fake(bare / "bin", "", "rt")
+    assert find_engine(timeout=3) == TryEngine(bare / "crate", 3)
+    on_path = fake(bare / "bin", "")
+    assert find_engine() == Engine(on_path)
+    built = fake(bare / "crate" / "out", "")
+    assert find_engine() == Engine(built)
+    monkeypatch.setenv("RTDVS", str(fake(bare / "named", "")))
+    assert find_engine() == Engine(bare / "named" / "rtdvs")
+    monkeypatch.chdir(bare)
+    assert find_engine(Path("./bin/rtdvs")) == Engine(on_path)
+    assert find_engine(Path("rtdvs")) == Engine(on_path)
+    monkeypatch.setenv("RTDVS", str(bare))
+    with pytest.raises(NoEngine, match="no such program"):
+        find_engine()
+
+
+def test_folder_named_as_the_program(bare: Path) -> None:
+    (bare / "crate" / "out" / "rtdvs").mkdir(parents=True)
+    with pytest.raises(NoEngine):
+        find_engine()
+
+
+# Lists of calls
+
+def calls() -> list[Call]:
+    return [workload_call(seed) for seed in range(12)]
+
+
+@pytest.fixture
+def echo(tmp_path: Path) -> Engine:
+    """A program that prints its seed, the later ones sooner."""
+    return Engine(fake(tmp_path, '[ "$3" -gt 3 ] || sleep 0.2; echo "$3"'))
+
+
+def seeds(answers: Iterator[Answer]) -> list[int]:
+    return [int(answer.out) for answer in answers]
+
+
+def test_answers_are_lazy(echo: Engine) -> None:
+    assert int(next(echo.answers(iter(calls()[5:]))).out) == 5
+
+
+@pytest.mark.parametrize("kind", [ThreadPoolExecutor, ProcessPoolExecutor])
+def test_answers_on_executors(kind: type[Executor], echo: Engine) -> None:
+    with kind(2) as executor:  # type: ignore[call-arg]
+        assert seeds(echo.answers(calls(), executor)) == [*range(12)]
+
+
+def test_errors_on_executors(tmp_path: Path) -> None:
+    with ProcessPoolExecutor(1) as executor, pytest.raises(NoEngine, match="absent"):
+        list(Engine(tmp_path / "absent").answers(calls(), executor))
+
+
+def test_answers_on_dask(echo: Engine, tmp_path: Path) -> None:
+    distributed = pytest.importorskip("distributed")
+    options = {"processes": False, "dashboard_address": ":0", "local_directory": str(tmp_path)}
+    with distributed.LocalCluster(1, **options) as cluster, distributed.Client(cluster) as client:
+        assert seeds(echo.answers(calls(), client.get_executor())) == [*range(12)]
+
+
+MPI = """
+import sys
+from pathlib import Path
+from mpi4py.futures import MPIPoolExecutor
+from rtdvs.engine import Engine, workload_call
+
+if __name__ == "__main__":
+    with MPIPoolExecutor() as executor:
+        for answer in Engine(Path(sys.argv[1])).answers(map(workload_call, range(12)), executor):
+            print(answer.out.decode(), end="")
+"""
+
+
+def test_answers_on_mpi(echo: Engine, tmp_path: Path) -> None:
+    pytest.importorskip("mpi4py")
+    if not shutil.which("mpiexec"):
+        pytest.skip("no mpiexec")
+    (tmp_path / "sweep.py").write_text(MPI)
+    words = ["mpiexec", "-n", "2", sys.executable, "-m", "mpi4py.futures", "sweep.py", str(echo.program)]
+    allowed = ("ALLOW_RUN_AS_ROOT", "ALLOW_RUN_AS_ROOT_CONFIRM", "MCA_rmaps_base_oversubscribe")
+    variables = {f"OMPI_{name}": "1" for name in allowed}
+    environment = os.environ | variables | {"PYTHONPATH": str(Path(engine_module.__file__).parents[1])}
+    ran = subprocess.run(words, cwd=tmp_path, env=environment, capture_output=True, text=True, timeout=300)
+    assert ran.stdout.split() == [str(seed) for seed in range(12)], ran.stderr
+
+
+# rt try
+
+TRIED = r"""
+[ "$1 $2 $3 $4" = 'try --seconds 3600 --cases' ] && [ "$(basename "$PWD")" = crate ] || exit 2
+echo "$@" >> "$0.log"
+for case in "$5"/*[0-9]; do
+    echo "== $(basename "$case")"
+    if grep -q seven "$case.args"; then
+        echo 'checked: no-answer: too much' >&2
+        echo "case=$(basename "$case") run=no-answer proved=no" >&2
+    elif grep -q admit "$case.args"; then
+        echo 'denied edf 248 240' >&2
+        echo "case=$(basename "$case") run=ended status=1 runners=1 proved=no" >&2
+    else
+        tail -n 1 "$case.args"
+        echo "case=$(basename "$case") run=ended status=0 runners=1 proved=no" >&2
+    fi
+done
+echo cases=3 proved=no >&2
+"""
+
+
+@pytest.fixture
+def tried(bare: Path, monkeypatch: pytest.MonkeyPatch) -> TryEngine:
+    """A stand-in for `rt try --cases`, which prints each case's last argument."""
+    (bare / "crate").mkdir()
+    fake(bare / "bin", TRIED, "rt")
+    monkeypatch.setenv("PATH", f"{bare}/bin:/usr/bin:/bin")
+    return TryEngine(bare / "crate")
+
+
+def test_one_build_for_all_calls(tried: TryEngine, bare: Path) -> None:
+    admits = [admit_call(PAPER, FAST, "edf"), admit_call(PAPER, bare / "absent", "rm")]
+    found = [*tried.answers([workload_call(1), *admits, workload_call(2)])]
+    assert [answer.status for answer in found] == [0, 1, 1, 0]
+    assert [found[0].out, found[3].out] == [b"1\n", b"2\n"]
+    assert found[1] == Answer(1, b"", b"denied edf 248 240\n")
+    log = (bare / "bin" / "rt.log").read_text()
+    assert log.count("try") == 1 and log.count("--data") == 2 and "absent" not in log
+    assert [*tried.answers([])] == []
+
+
+def test_a_case_without_an_answer(tried: TryEngine) -> None:
+    answers = tried.answers([workload_call(1), Call("run", (("--ticks", "seven"),)), workload_call(2)])
+    assert next(answers).out == b"1\n"
+    with pytest.raises(Crashed, match="rt try has no answer: checked: no-answer: too much"):
+        next(answers)
+
+
+def test_a_build_that_fails(tried: TryEngine, bare: Path) -> None:
+    fake(bare / "bin", "echo 'error: no crate' >&2; exit 2", "rt")
+    with pytest.raises(Crashed, match="rt try has no answer: error: no crate"):
+        tried.answer(workload_call(1))
+

@@ -1,0 +1,385 @@
+"""Files: the rules of docs/FORMATS.md by hand, broken files against the program, and texts that come back."""
+
+import random
+import string
+from collections.abc import Callable, Iterator
+from pathlib import Path
+
+import pytest
+from hypothesis import given
+from hypothesis import strategies as st
+
+from rtdvs.engine import (
+    Call,
+    Engine,
+    admit_call,
+    constrain_call,
+    least_call,
+    poll_call,
+    run_call,
+)
+from rtdvs.files import Deadlines, Demands, FileFault, Machine, Point, Request, Requests, Task, TaskSet
+
+TASKS = """[[task]]
+name = "a"
+period = 4
+worst = 2
+
+[[task]]
+name = "b_2"
+period = 6
+worst = 3
+offset = 1
+"""
+MACHINE = """idle = 100
+charge = 0
+
+[[point]]
+speed = 2
+millivolts = 3000
+
+[[point]]
+speed = 3
+millivolts = 4000
+"""
+TABLES = {
+    "demands": "task,job,units\na,1,2\nb_2,2,0\na,3,1\n",
+    "deadlines": "task,deadline\na,3\nb_2,6\n",
+    "requests": "arrival,units\n0,3\n2,1\n2,5\n",
+}
+SET = TaskSet.parse(TASKS)
+READERS: dict[str, Callable[[bytes], TaskSet | Machine | Demands | Deadlines | Requests]] = {
+    "tasks": TaskSet.parse,
+    "machine": Machine.parse,
+    "demands": lambda text: Demands.parse(text, SET),
+    "deadlines": lambda text: Deadlines.parse(text, SET),
+    "requests": Requests.parse,
+}
+
+
+def line_of(kind: str, content: bytes) -> str | None:
+    """The line of the refusal, None if the file is read."""
+    try:
+        READERS[kind](content)
+    except FileFault as fault:
+        return str(fault)
+    return None
+
+
+# By hand
+
+def entry(**changes: str) -> str:
+    values = {"name": '"a"', "period": "4", "worst": "2"} | changes
+    return "[[task]]\n" + "".join(f"{key} = {value}\n" for key, value in values.items() if value)
+
+
+def point(**changes: str) -> str:
+    values = {"speed": "2", "millivolts": "3000"} | changes
+    return "[[point]]\n" + "".join(f"{key} = {value}\n" for key, value in values.items() if value)
+
+
+REFUSED_TASKS = {
+    "": "no tasks",
+    "task = []": "no tasks",
+    "task = 3": "wrong kind of task",
+    "[task]": "wrong kind of task",
+    "[[task]": "not TOML",
+    "task = [": "not TOML",
+    "x = 9223372036854775808": "not TOML",
+    "a = " + "[" * 5000: "not TOML",
+    "z = 1\nb = 1\ntask = 3": "unknown key b",
+    '"ä b" = 1': "unknown key ???b",
+    "k" * 40 + " = 1": "unknown key " + "k" * 32,
+    "task = [1]": "task 1: wrong kind of entry",
+    "".join(entry(name=f'"t{place}"') for place in range(65)): "65 tasks, at most 64",
+    entry(ofset="1", period="0"): "task 1: unknown key ofset",
+    entry(name=""): "task 1: missing name",
+    entry(name="5", period="0"): "task 1: wrong kind of name",
+    entry(name='"a b"'): "task 1: bad name",
+    entry(name='""'): "task 1: bad name",
+    entry(name=f'"{"a" * 33}"'): "task 1: bad name",
+    entry(name='"ä"'): "task 1: bad name",
+    entry(name='"a\\n"'): "task 1: bad name",
+    entry(period=""): "task 1: missing period",
+    entry(period="4.0"): "task 1: wrong kind of period",
+    entry(period="true"): "task 1: wrong kind of period",
+    entry(period="0", worst="0"): "task 1: period out of range",
+    entry(period=str(2**40 + 1)): "task 1: period out of range",
+    entry(worst=""): "task 1: missing worst",
+    entry(worst='"2"'): "task 1: wrong kind of worst",
+    entry(worst=str(2**60 + 1)): "task 1: worst out of range",
+    entry(worst="-1"): "task 1: worst out of range",
+    entry(offset="0.5"): "task 1: wrong kind of offset",
+    entry(offset="-1"): "task 1: offset out of range",
+    entry(offset=str(2**40 + 1)): "task 1: offset out of range",
+    entry(name='"c"') + entry() + entry() + "[[task]]": "tasks 2 and 3 have one name",
+    entry(period=str(2**40)) + entry(name='"b"', period="257"):
+        "periods have no common multiple up to 281474976710656",
+}
+REFUSED_MACHINES = {
+    "": "no points",
+    "point = {}": "wrong kind of point",
+    "idle = 08": "not TOML",
+    "speed = 2\n" + point(): "unknown key speed",
+    "idle = 0.1": "wrong kind of idle",
+    "idle = 5000": "idle out of range",
+    "idle = -1\ncharge = -1": "idle out of range",
+    "charge = [1]": "wrong kind of charge",
+    "charge = 1000001": "charge out of range",
+    "point = [1]": "point 1: wrong kind of entry",
+    point() + "idle = 0": "point 1: unknown key idle",
+    point(speed=""): "point 1: missing speed",
+    point(speed="2.5", millivolts=""): "point 1: wrong kind of speed",
+    point(speed="1000001"): "point 1: speed out of range",
+    point(millivolts=""): "point 1: missing millivolts",
+    point(millivolts="20001"): "point 1: millivolts out of range",
+    point() + point(millivolts="4000"): "point 2: not rising",
+    point() + point(speed="3", millivolts="2999"): "point 2: not rising",
+    "".join(point(speed=str(speed)) for speed in range(1, 34)): "33 points, at most 32",
+}
+REFUSED_TABLES = {
+    "demands": {
+        "": "demands: wrong header",
+        "task,job, units\n": "demands: wrong header",
+        "task,job,units\na,1\n": "demands: row 1: 2 fields",
+        "task,job,units\n\n\r\na,1,2\n\nx y,0,1,": "demands: row 2: 4 fields",
+        "task,job,units\nx y,0,1": "demands: row 1: unknown task x?y",
+        "task,job,units\na,+1,1": "demands: row 1: bad job",
+        "task,job,units\na,18446744073709551616,1": "demands: row 1: bad job",
+        "task,job,units\na," + "1" * 5000 + ",1": "demands: row 1: bad job",
+        "task,job,units\na,0,x": "demands: row 1: job 0",
+        "task,job,units\na,1,01": "demands: row 1: bad units",
+        "task,job,units\na,1,\u0661": "demands: row 1: bad units",
+        "task,job,units\na,1,1\na,1,9": "demands: row 2: task a job 1 stands twice",
+        "task,job,units\na,1,3\nx": "over worst: a 1 3 2",
+        'task,job,units\n"a"b,1,1': "demands: row 1: unknown task ab",
+        'task,job,units\n"a,1,1\n': "demands: row 1: 1 fields",
+        "task,job,units\n" + "x" * 200_000 + ",1,1": "demands: row 1: unknown task " + "x" * 32,
+    },
+    "deadlines": {
+        "task,deadline\nc,1": "deadlines: row 1: unknown task c",
+        "task,deadline\na,0": "deadlines: row 1: deadline out of range",
+        "task,deadline\na,5": "deadlines: row 1: deadline out of range",
+        "task,deadline\na, 3": "deadlines: row 1: bad deadline",
+        "task,deadline\na,3\na,3": "deadlines: row 2: task a stands twice",
+    },
+    "requests": {
+        "arrival;units\n": "requests: wrong header",
+        "arrival,units\n0": "requests: row 1: 1 fields",
+        "arrival,units\n-1,1": "requests: row 1: bad arrival",
+        "arrival,units\n1,1.5": "requests: row 1: bad units",
+        "arrival,units\n1,0": "requests: row 1: units out of range",
+        f"arrival,units\n1,{2**60 + 1}": "requests: row 1: units out of range",
+        "arrival,units\n2,1\n1,1": "requests: row 2: too early",
+        "arrival,units\n" + "x\n" * 100_001: "requests: 100001 rows, at most 100000",
+    },
+}
+BY_HAND = (
+    [("tasks", text, f"tasks: {line}") for text, line in REFUSED_TASKS.items()]
+    + [("machine", text, f"machine: {line}") for text, line in REFUSED_MACHINES.items()]
+    + [(kind, text, line) for kind, lines in REFUSED_TABLES.items() for text, line in lines.items()]
+)
+
+
+@pytest.mark.parametrize(("kind", "text", "line"), BY_HAND, ids=[line[:60] for _, _, line in BY_HAND])
+def test_refused(kind: str, text: str, line: str) -> None:
+    assert line_of(kind, text.encode()) == line
+
+
+@pytest.mark.parametrize("kind", READERS)
+@pytest.mark.parametrize("content", [b"\xff\xfe", b"\0", "ä".encode("latin-1"), b"\xef\xbb\xbf\xef\xbb\xbf"])
+def test_no_text(kind: str, content: bytes) -> None:
+    assert line_of(kind, content) in (f"{kind}: not TOML", f"{kind}: wrong header")
+
+
+@pytest.mark.parametrize("kind", READERS)
+def test_too_long(kind: str) -> None:
+    assert line_of(kind, b"\n" * (2**24 + 1)) == f"{kind}: too long"
+
+
+def test_a_byte_order_mark_is_skipped() -> None:
+    assert TaskSet.parse(b"\xef\xbb\xbf" + TASKS.encode()) == SET == TaskSet.parse("\ufeff" + TASKS)
+    assert Requests.parse("\ufeffarrival,units\r\n1,2\r\n").requests == (Request(1, 2),)
+
+
+def test_quoted_fields() -> None:
+    text = '"task",job,"units"\r"a",1,"2"\r\n\n\r\nb_2,7,"0"'
+    assert Demands.parse(text, SET).units == {("a", 1): 2, ("b_2", 7): 0}
+
+
+def test_greatest_values() -> None:
+    task = Task("A" * 32, 2**40, 2**60, 2**40)
+    assert TaskSet.parse(TaskSet((task,)).text()).tasks == (task,)
+    machine = Machine((Point(1, 1), Point(1_000_000, 20_000)), 1000, 1_000_000)
+    assert Machine.parse(machine.text()) == machine
+
+
+@pytest.mark.parametrize("reader", [TaskSet.read, Machine.read, Requests.read])
+def test_files_that_are_not_there(reader: Callable[[Path], object], tmp_path: Path) -> None:
+    with pytest.raises(FileNotFoundError):
+        reader(tmp_path / "absent")
+    with pytest.raises(IsADirectoryError):
+        reader(tmp_path)
+
+
+def test_an_endless_file() -> None:
+    with pytest.raises(FileFault, match="tasks: too long"):
+        TaskSet.read(Path("/dev/zero"))
+
+
+def test_names() -> None:
+    assert SET.names == ("a", "b_2")
+    assert SET.named("b_2").offset == 1
+    assert SET.hyperperiod == 12
+    with pytest.raises(KeyError):
+        SET.named("c")
+
+
+# Against the program
+
+VALUES = (
+    "0", "-1", "1", "7", "20001", "1000001", "1099511627776", "1099511627777", "1152921504606846976",
+    "1152921504606846977", "9223372036854775807", "9223372036854775808", "-9223372036854775808", "8.0", "1e3",
+    "inf", "true", '"x"', '""', '"a b"', '"a"', "'b_2'", "[1]", "{a = 1}", "1979-05-27", "0x10", "1_0", "+5",
+    "08", "_1", "", "1 1", "# 1", "[[[[]]]]", "07:32:00", "nan", "0b11", "0o7", '"\\u0061"', '"\\t"', "'''a",
+)
+FIELDS = (
+    "0", "1", "2", "01", "-1", "+1", " 1", "1 ", "", "18446744073709551615", "18446744073709551616", "1e3",
+    "a", "b_2", "A", "c d", '"a"', '"1"', '"a', 'a"', '"a"1', '"""a"""', "1152921504606846977", "9" * 30,
+    "\u00e4", "x" * 40, "a,b", "a\rb", "1\n", "1\r\n\r\n", "\0", "1;2", "#",
+)
+
+
+def changed_settings(text: str) -> Iterator[str]:
+    """Each line's value, key and place changed."""
+    lines = text.splitlines()
+    for place, line in enumerate(lines):
+        before, after = lines[:place], lines[place + 1:]
+        key, equals, _ = line.partition(" =")
+        others = [f"{key} = {value}" for value in VALUES] if equals else ["[x]", "[[task]]", "[[point]]"]
+        for other in (*others, "", line + "\n" + line, "x" + line, f'"{key}" = 1'):
+            yield "\n".join([*before, other, *after])
+
+
+def changed_fields(text: str) -> Iterator[str]:
+    """Each field changed, each row doubled or left out."""
+    rows = text.splitlines()
+    for place, row in enumerate(rows):
+        before, after = rows[:place], rows[place + 1:]
+        fields = row.split(",")
+        others = [
+            ",".join([*fields[:column], other, *fields[column + 1:]])
+            for column in range(len(fields)) for other in FIELDS
+        ]
+        for other in (*others, "", row + "\r\n" + row, row + ",", "," + row, row + "\r"):
+            yield "\n".join([*before, other, *after])
+
+
+def changed_bytes(text: str, count: int) -> Iterator[bytes]:
+    """One to three bytes changed, put in or taken out, by a fixed seed."""
+    draw = random.Random(7)
+    marks = [b"\n", b"\r", b'"', b"[", b"]", b"=", b",", *(bytes([draw.randrange(256)]) for _ in range(40))]
+    for _ in range(count):
+        content = text.encode()
+        for _ in range(draw.randint(1, 3)):
+            place = draw.randrange(len(content))
+            content = content[:place] + draw.choice([*marks, b""]) + content[place + draw.randint(0, 1):]
+        yield content
+
+
+def broken_files(kind: str) -> list[bytes]:
+    base = {"tasks": TASKS, "machine": MACHINE} | TABLES
+    changed = changed_fields if kind in TABLES else changed_settings
+    by_hand = [text.encode() for of, text, _ in BY_HAND if of == kind and len(text) < 4000]
+    return [*by_hand, *(text.encode() for text in changed(base[kind])), *changed_bytes(base[kind], 150)]
+
+
+CALLS: dict[str, Callable[[str | bytes], Call]] = {
+    "tasks": lambda text: admit_call(text, MACHINE, "edf"),
+    "machine": lambda text: least_call(text, 3, 2),
+    "demands": lambda text: run_call(TASKS, MACHINE, "edf", "cc", 24, demands=text),
+    "deadlines": lambda text: constrain_call(TASKS.removesuffix("offset = 1\n"), MACHINE, text),
+    "requests": lambda text: poll_call(TASKS, MACHINE, text, "a", "edf", "none", 24),
+}
+
+
+@pytest.mark.parametrize("kind", READERS)
+def test_lines_are_the_program_s(kind: str, engine: Engine) -> None:
+    """What the program refuses is refused with its line; what it reads, it reads again from the text."""
+    files = broken_files(kind)
+    answers = engine.answers(map(CALLS[kind], files))
+    lines = [line_of(kind, content) for content in files]
+    read = [content for content, line in zip(files, lines, strict=True) if line is None]
+    again = engine.answers(CALLS[kind](READERS[kind](content).text()) for content in read)
+    for content, line, answer in zip(files, lines, answers, strict=True):
+        refused = answer.status in (4, 6)
+        assert line == (answer.notes.decode().rstrip("\n") if refused else None), content
+        assert refused or answer == next(again), content
+
+
+# Texts come back
+
+NAMES = st.text(string.ascii_letters + string.digits + "_-", min_size=1, max_size=32)
+PERIODS = st.sampled_from([1, 2, 3, 4, 6, 12, 2**40])
+
+
+@st.composite
+def task_sets(draw: st.DrawFn) -> TaskSet:
+    names = draw(st.lists(NAMES, min_size=1, max_size=6, unique=True))
+    numbers = (draw(PERIODS), draw(st.integers(1, 2**60)), draw(st.integers(0, 2**40)))
+    return TaskSet(tuple(Task(name, *numbers) for name in names))
+
+
+@st.composite
+def machines(draw: st.DrawFn) -> Machine:
+    speeds = sorted(draw(st.sets(st.integers(1, 10**6), min_size=1, max_size=32)))
+    millivolts = sorted(draw(st.integers(1, 20_000)) for _ in speeds)
+    points = tuple(map(Point, speeds, millivolts))
+    return Machine(points, draw(st.integers(0, 1000)), draw(st.integers(0, 10**6)))
+
+
+@given(task_sets())
+def test_task_sets_come_back(tasks: TaskSet) -> None:
+    assert TaskSet.parse(tasks.text()) == tasks
+
+
+@given(machines())
+def test_machines_come_back(machine: Machine) -> None:
+    assert Machine.parse(machine.text()) == machine
+
+
+@given(task_sets(), st.data())
+def test_demands_and_deadlines_come_back(tasks: TaskSet, data: st.DataObject) -> None:
+    keys = st.tuples(st.sampled_from(tasks.names), st.integers(1, 2**64 - 1))
+    demands = Demands(data.draw(st.dictionaries(keys, st.integers(0, tasks.tasks[0].worst))))
+    assert Demands.parse(demands.text(), tasks) == demands
+    ticks = st.dictionaries(st.sampled_from(tasks.names), st.integers(1, tasks.tasks[0].period))
+    deadlines = Deadlines(data.draw(ticks))
+    assert Deadlines.parse(deadlines.text(), tasks) == deadlines
+
+
+@given(st.lists(st.tuples(st.integers(0, 2**64 - 1), st.integers(1, 2**60))))
+def test_requests_come_back(pairs: list[tuple[int, int]]) -> None:
+    requests = Requests(tuple(Request(*pair) for pair in sorted(pairs)))
+    assert Requests.parse(requests.text()) == requests
+
+
+@given(st.text(st.characters(blacklist_categories=["Cs"]), max_size=40))
+def test_any_name_is_written_as_toml(name: str) -> None:
+    """A name that the program refuses is refused as a name, and never read as another text."""
+    assert line_of("tasks", TaskSet((Task(name, 1, 1),)).text().encode()) in (None, "tasks: task 1: bad name")
+
+
+@given(st.binary(max_size=60), st.sampled_from([*READERS]))
+def test_random_bytes_are_refused(content: bytes, kind: str) -> None:
+    assert (line_of(kind, content) or f"{kind}: ").startswith(f"{kind}: ")
+
+
+def test_written_and_read(tmp_path: Path, data: Path) -> None:
+    for folder in ("paper", "offsets", "controller", "server"):
+        tasks = TaskSet.read(data / folder / "tasks.toml")
+        machine = Machine.read(data / folder / "machine.toml")
+        tasks.write(tmp_path / "tasks.toml")
+        machine.write(tmp_path / "machine.toml")
+        assert TaskSet.read(tmp_path / "tasks.toml") == tasks
+        assert Machine.read(tmp_path / "machine.toml") == machine

@@ -1,0 +1,213 @@
+"""Demands, schedules and boards of random plans against a model that goes tick by tick."""
+
+import re
+from fractions import Fraction
+from itertools import pairwise
+
+import pytest
+from model import PAIRS, Model, random_case
+
+from rtdvs.explain import Walk, explain
+from rtdvs.files import Demands, FileFault, Machine, Point, Task, TaskSet
+from rtdvs.rules import GOVERNORS, Plan, State
+from rtdvs.simulate import DeadlineMissed, simulate
+from rtdvs.trace import Decision, Run, Trace
+
+SEEDS = range(60)
+
+
+def pair_id(pair: tuple[str, str]) -> str:
+    return "-".join(pair)
+
+
+def case(seed: int, pair: tuple[str, str]) -> tuple[Model, int, Trace | None]:
+    """A random plan with at most 40 ticks, and its simulated trace if it is admitted."""
+    tasks, machine, demands, ticks = random_case(seed)
+    model, ticks = Model(tasks, machine, pair, demands), min(ticks, 40)
+    if not model.admitted():
+        with pytest.raises(FileFault, match=f"denied {pair[0]} "):
+            Plan(tasks, machine, pair[0]).admit()
+        return model, ticks, None
+    Plan(tasks, machine, pair[0]).admit()
+    return model, ticks, simulate(tasks, machine, pair[0], ticks, GOVERNORS[pair], demands, pair[1])
+
+
+@pytest.mark.parametrize("pair", PAIRS, ids=pair_id)
+def test_schedule(pair: tuple[str, str]) -> None:
+    for seed in SEEDS:
+        model, ticks, trace = case(seed, pair)
+        if trace is None:
+            continue
+        found = [(note.tick, Fraction(note.num, note.den), note.speed) for note in trace.decisions]
+        assert found == list(model.decisions(ticks)), seed
+        volts = {point.speed: point.millivolts for point in model.machine.points}
+        units = {task.name: sum(share[place] for share in model.shares)
+                 for place, task in enumerate(model.tasks)}
+        assert units == {task.name: sum(note.units for note in trace.notes if isinstance(note, Run)
+                                        and note.task == task.name) for task in model.tasks}
+        speeds = dict(model_speeds(trace.decisions, ticks))
+        assert trace.run_energy == sum(sum(share) * volts[speeds[tick]] ** 2 * 1000
+                                       for tick, share in enumerate(model.shares))
+        idle = [(speeds[tick] - sum(share)) * volts[speeds[tick]] ** 2
+                for tick, share in enumerate(model.shares)]
+        assert trace.idle_energy == sum(idle) * model.machine.idle
+
+
+def model_speeds(decisions: tuple[Decision, ...], ticks: int) -> list[tuple[int, int]]:
+    """The speed of each tick."""
+    ends = [*(note.tick for note in decisions[1:]), ticks]
+    return [(tick, note.speed) for note, end in zip(decisions, ends, strict=True)
+            for tick in range(note.tick, end)]
+
+
+# The board
+
+ARITHMETIC = re.compile(r"[\d(][\d+\-*/() ]*$")
+
+
+def assert_arithmetic(line: str) -> None:
+    """All sides of each equation are equal; what is rounded is rounded down or up."""
+    for part in re.split(r"[:;,] ", line):
+        sides = [found[0] for side in part.split(" = ") if (found := ARITHMETIC.search(side))]
+        assert all(value(one) == value(two) for one, two in pairwise(sides)), line
+    for num, den, way, rounded in re.findall(r"= (\d+)/(\d+), (up|down) to (\d+)", line):
+        exact = Fraction(int(num), int(den))
+        assert exact.denominator > 1 and int(rounded) == exact.__ceil__() - (way == "down"), line
+
+
+def value(text: str) -> Fraction:
+    """The value of sums, differences, products and quotients of whole numbers."""
+    return Fraction(eval(re.sub(r"\d+", r"Fraction(\g<0>)", text), {"Fraction": Fraction}))
+
+
+def facts(model: Model, tick: int) -> set[str]:
+    """What the lines for a decision have to say, by the model."""
+    names = [f"{task.name} job {model.number(place, tick)}" for place, task in enumerate(model.tasks)]
+    done = [model.complete(place, model.number(place, tick), tick) for place in model.places()]
+    if model.pair == ("edf", "cc"):
+        why = ["complete with" if complete else "not complete, worst case" for complete in done]
+        return {f"{names[place]} is {why[place]} {model.charged(place, tick)}:" for place in model.places()}
+    if model.pair == ("rm", "cc"):
+        mark, rows = model.handed(tick)
+        end, speed = model.first_deadline(tick), model.lowest(model.static())
+        jobs = [model.number(place, tick) for place in model.places()]
+        had = [model.had(place, job, tick) - model.had(place, job, mark) for place, job in enumerate(jobs)]
+        head = f"handed out at tick {mark}, up to the earliest deadline {end}, at the static speed {speed}:"
+        return {head} | {
+            f"{names[place]} might need {might}, is allotted {allotted} and "
+            f"{'is complete' if done[place] else f'has had {had[place]} since'}: {left} left"
+            for place, might, allotted, left in rows}
+    if model.pair == ("edf", "la"):
+        first, wanted = model.first_deadline(tick), {f"the earliest deadline is {model.first_deadline(tick)}"}
+        for place, might, before in model.put_off(tick):
+            due = model.due(place, model.number(place, tick))
+            last = due == first
+            wanted.add(f"{names[place]}, due at {due}, " + ("is complete:" if done[place] and not last else
+                                                           f"may need {might} more:"))
+            if not done[place] or last:
+                wanted.add(f"due first, it puts off nothing, {might} before {first}" if last else
+                           f"{might - before} of {might} put off, {before} before {first};")
+        return wanted
+    return set()
+
+
+def first_line(model: Model, tick: int, demand: Fraction, speed: int) -> str:
+    """A pattern for the first line of a decision: its cause, and the demand."""
+    names = [task.name for task in model.tasks]
+    released = [f"{names[place]} job {model.number(place, tick)}" + (
+        " (it needs nothing)" if model.need(place, model.number(place, tick)) == 0 else "")
+        for place in model.released(tick)]
+    completed = [f"{names[place]} job {model.number(place, tick - 1)}" for place in model.completed(tick)]
+    causes = [f"release of {' and '.join(', '.join(released).rsplit(', ', 1))}"] if released else []
+    if completed:
+        listed = " and ".join(", ".join(completed).rsplit(", ", 1))
+        verb = "was" if len(completed) == 1 else "were"
+        causes.append(f"since {listed} {verb} complete in tick {tick - 1}")
+    return f", tick {tick}, {', '.join(causes) or 'the start'}: "
+
+
+def next_line(model: Model, tick: int) -> str:
+    """Which job runs after a decision."""
+    if not model.open(tick):
+        return "no job is open: idle units follow"
+    first, *others = model.open(tick)
+    edf = model.pair[0] == "edf"
+    keys = {place: model.due(place, model.number(place, tick)) if edf else model.tasks.tasks[place].period
+            for place in [first, *others]}
+    ties = [model.tasks.tasks[place].name for place in others if keys[place] == keys[first]]
+    tie = f", and stands before {' and '.join(', '.join(ties).rsplit(', ', 1))} in the file" if ties else ""
+    why = "is due first, at" if edf else "has the shortest period,"
+    name = f"{model.tasks.tasks[first].name} job {model.number(first, tick)}"
+    return f"{name} runs: of {1 + len(others)} open it {why} {keys[first]}{tie}"
+
+
+@pytest.mark.parametrize("pair", PAIRS, ids=pair_id)
+def test_board(pair: tuple[str, str]) -> None:
+    for seed in SEEDS:
+        model, ticks, trace = case(seed, pair)
+        if trace is None:
+            continue
+        boards: list[str] = []
+        lines = trace.text().splitlines(True)
+        explain(Walk(model.tasks, model.machine, lines, model.demands), boards.append)
+        for board, (tick, demand, speed) in zip(boards, model.decisions(ticks), strict=True):
+            head, *body, last = board.split("\n    ")
+            number, rest = head.removeprefix("line ").split(first_line(model, tick, demand, speed))
+            num, den = map(int, rest.removesuffix(f", speed {speed}").split("/"))
+            assert Fraction(num, den) == demand
+            assert lines[int(number) - 1] == f"speed {tick} {speed} {num}/{den}\n"
+            assert last == next_line(model, tick)
+            for line in body:
+                assert_arithmetic(line)
+            for fact in facts(model, tick):
+                assert any(fact in line for line in body), (fact, board)
+            assert_speeds(model, body, num, den)
+
+
+def assert_speeds(model: Model, body: list[str], num: int, den: int) -> None:
+    """The last lines are about the speed before the chosen one, and the chosen one."""
+    if body == ["as at tick 0"]:
+        return
+    speeds = [point.speed for point in model.machine.points]
+    enough = [speed for speed in speeds if speed * den >= num]
+    too_slow = [f"speed {speed}: {speed} * {den} = {speed * den}, less than {num}" for speed in speeds
+                if speed * den < num]
+    wanted = [*too_slow[-2:], "no speed meets it: the highest is used"]
+    if enough:
+        wanted = [*too_slow[-1:], f"speed {enough[0]}: {enough[0]} * {den} = {enough[0] * den}, enough"]
+    assert body[-len(wanted):] == wanted
+    terms = body[:-len(wanted)]
+    assert re.search(rf"(= |: |speed, ){num}(, over the .*\b{den}|/{den}|)$", terms[-1]), terms[-1]
+    assert f"speed {enough[0] if enough else speeds[-1]}:" in body[-1] or not enough
+
+
+# Governors of one's own
+
+TASKS = TaskSet((Task("a", 4, 4), Task("b", 6, 9)))
+MACHINE = Machine((Point(2, 3000), Point(3, 4000), Point(4, 5000)))
+
+
+def test_own_governor() -> None:
+    def careful(state: State) -> tuple[int, int]:
+        """What is open, over the time to the earliest deadline."""
+        return sum(job.left for job in state.jobs), state.first_deadline - state.now
+
+    trace = simulate(TASKS, MACHINE, "edf", 12, careful, Demands({("a", 1): 2}))
+    lines = trace.text().splitlines(True)
+    summary = explain(Walk(TASKS, MACHINE, lines, Demands({("a", 1): 2}), any_governor=True))
+    # a needs 2 + 4 + 4 units and b 9 + 9; all are complete.
+    assert (summary.released, summary.complete) == (5, 5)
+    assert sum(note.units for note in trace.notes if isinstance(note, Run)) == 28
+    assert trace.decisions[0] == Decision(0, 4, 13, 4)
+
+
+def test_a_slow_governor_misses() -> None:
+    # At 2 units a tick a takes the ticks 0 and 1, and b, due at 6, has 8 of its 9 units in the next four.
+    with pytest.raises(DeadlineMissed, match="b job 1 was due at 6 and is not complete: it has had 8 units"):
+        simulate(TASKS, MACHINE, "edf", 12, lambda state: (0, 1))
+
+
+@pytest.mark.parametrize("demand", [(-1, 1), (1, 0)])
+def test_no_demand(demand: tuple[int, int]) -> None:
+    with pytest.raises(ValueError, match="the governor's demand at tick 0 is "):
+        simulate(TASKS, MACHINE, "edf", 12, lambda state: demand)

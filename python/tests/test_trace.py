@@ -1,0 +1,172 @@
+"""Traces: the worked one of docs/TRACE.md by hand, and what is refused."""
+
+from fractions import Fraction
+from pathlib import Path
+
+import pytest
+from hypothesis import given
+from hypothesis import strategies as st
+
+from rtdvs.cli import main
+from rtdvs.files import Task, TaskSet
+from rtdvs.statistics import task_statistics
+from rtdvs.trace import Decision, End, Job, Position, Run, Trace, TraceFault, parse_lines
+
+TOP = Path(__file__).resolve().parents[2]
+DATA = TOP / "crates" / "example_runs" / "data"
+PAPER = DATA / "paper" / "edf_cc_with_demands.trace"
+TASKS = TaskSet((Task("t1", 8, 12), Task("t2", 10, 12), Task("t3", 14, 4)))
+TEXTS = [path.read_text() for path in sorted(DATA.glob("*/*.trace"))]
+
+
+def third(ticks: int, thirds: int) -> Fraction:
+    return ticks + Fraction(thirds, 3)
+
+
+def test_worked_trace() -> None:
+    """At 3 units a tick to tick 4 and from 8 to 10, otherwise at 2; a unit costs 16 * 10^9 or 9 * 10^9."""
+    trace = Trace.read(PAPER)
+    assert (trace.version, trace.scheduler, trace.governor) == (1, "edf", "cc")
+    assert (trace.ticks, trace.tasks) == (16, ())
+    milliard = 10**9
+    assert trace.jobs(TASKS) == (
+        Job("t1", 1, 0, 8, Fraction(0), third(2, 2), 8, 0, 128 * milliard),
+        Job("t2", 1, 0, 10, third(2, 2), Fraction(4), 4, 0, 64 * milliard),
+        Job("t3", 1, 0, 14, Fraction(4), Fraction(6), 4, 0, 36 * milliard),
+        Job("t1", 2, 8, 16, Fraction(8), third(9, 1), 4, 0, 64 * milliard),
+        Job("t2", 2, 10, 20, Fraction(10), Fraction(12), 4, 0, 36 * milliard),
+        Job("t3", 2, 14, 28, Fraction(14), Fraction(16), 4, 0, 36 * milliard),
+    )
+    assert [job.response for job in trace.jobs(TASKS)] == [third(2, 2), 4, 6, third(1, 1), 2, 2]
+    assert [job.laxity for job in trace.jobs(TASKS)] == [third(5, 1), 6, 8, third(6, 2), 8, 12]
+    assert trace.residency() == {3: Fraction(4 + 2), 2: Fraction(4 + 6)}
+    assert (trace.switches, len(trace.decisions), trace.decisions[0]) == (3, 8, Decision(0, 3, 836, 280))
+    assert trace.idle_time == 2 + Fraction(2, 3) + 2  # ticks 6 and 7, two units of tick 9, ticks 12 and 13
+    assert (trace.run_energy, trace.idle_energy, trace.energy) == (364 * milliard, 0, 364 * milliard)
+    assert trace.end == End(16, 364 * milliard, 0)
+
+
+def test_preemption() -> None:
+    """b begins in tick 0, and has its last units after the second job of a."""
+    trace = Trace.parse("trace 1\nplan edf mine 4\nrelease 0 a 1\nrelease 0 b 1\nspeed 0 2 2/1\n"
+                        "run 0:0 0:1 a 1 1 5\ndone 0:1 a 1 1\nrun 0:1 1:0 b 1 1 5\n"
+                        "speed 1 4 4/1\nrun 1:0 2:0 b 1 4 20\nrelease 2 a 2\n"
+                        "run 2:0 2:1 a 2 1 5\ndone 2:1 a 2 1\nrun 2:1 2:3 b 1 2 10\ndone 2:3 b 1 7\n"
+                        "idle 2:3 4:0 5 0\nend 4 45 0\n")
+    tasks = TaskSet((Task("a", 2, 1), Task("b", 8, 7)))
+    half, quarter = Fraction(1, 2), Fraction(1, 4)
+    assert trace.jobs(tasks) == (
+        Job("a", 1, 0, 2, Fraction(0), half, 1, 0, 5),
+        Job("b", 1, 0, 8, half, 2 + 3 * quarter, 7, 1, 35),
+        Job("a", 2, 2, 4, Fraction(2), 2 + quarter, 1, 0, 5),
+    )
+    first, second = task_statistics(trace, tasks)
+    assert first.row() == ("a", "2", "2", "0.3750", "0.5000", "0.2500", "1.5000", "0", "10")
+    assert second.row(2) == ("b", "1", "1", "2.75", "2.75", "0.00", "5.25", "1", "35")
+
+
+def test_jobs_that_are_not_complete() -> None:
+    """At 4 ticks only t2's first job is complete beside t1's; t3 has no start."""
+    lines = PAPER.read_text().replace("cc 16", "cc 4").splitlines(True)[:12]
+    cut = Trace.parse("".join(lines) + "end 4 192000000000 0\n")
+    assert [job.completion for job in cut.jobs(TASKS)] == [third(2, 2), 4, None]
+    waiting = task_statistics(cut, TASKS)[2]
+    assert waiting.row() == ("t3", "1", "0", "-", "-", "-", "-", "0", "0")
+
+
+@pytest.mark.parametrize("text", TEXTS)
+def test_text_of_a_trace(text: str) -> None:
+    assert Trace.parse(text).text() == text
+
+
+HEAD = "trace 2\nplan edf mine 4\ntask a 4 0 4\n"
+START = HEAD + "release 0 a 1\nspeed 0 2 1/1\n"
+REFUSED = [
+    ("", 1, "neither trace 1 nor trace 2"),
+    ("trace 1", 1, "neither"),
+    ("trace 1\n", 2, "line feed"),
+    ("trace 1\nplan edf mine 0\nend 0 0 0\n", 2, "not a plan line"),
+    (f"trace 1\nplan edf mine {2**40 + 1}\n", 2, "not a plan line"),
+    ("trace 1\nplan fifo mine 4\n", 2, "not a plan line"),
+    ("trace 1\nplan edf mine 4\n", 3, "ends before its end line"),
+    ("trace 1\nplan edf mine 4\ntask a 4 0 4\n", 3, "version 2"),
+    ("trace 2\nplan edf mine 4\nend 4 0 0\n", 3, "lines of the tasks are missing"),
+    (HEAD + "task a 4 0 4\n", 4, "two tasks of one name"),
+    (HEAD + "task b 0 0 4\n", 4, "not a line of a trace"),
+    (HEAD + "release 0 b 1\n", 4, "no task b"),
+    (HEAD + "release 0 a 01\n", 4, "not a line of a trace"),
+    (HEAD + f"release 0 a {2**64}\n", 4, "not a line of a trace"),
+    (HEAD + "release  0 a 1\n", 4, "not a line of a trace"),
+    (HEAD + "release 0 a 1\r\n", 4, "not a line of a trace"),
+    (HEAD + "speed 0 0 1/1\n", 4, "a speed of 0"),
+    (HEAD + "speed 0 2 1/0\n", 4, "a fraction over 0"),
+    (HEAD + f"speed 0 2 {2**128}/1\n", 4, "not a line of a trace"),
+    (HEAD + "run 0:0 1:0 a 1 2 5\n", 4, "no decision before it"),
+    (HEAD + "idle 0:0 1:0 2 5\n", 4, "no decision before it"),
+    (HEAD + "done 0:1 a 1 1\n", 4, "no decision before it"),
+    (START + "run 0:0 1:0 a 1 2 5\nend 4 5 0\n", 7, "the energy line of a is missing"),
+    (START + "run 0:0 1:0 a 1 2 5\nenergy a 4\n", 7, "add up to 5"),
+    (START + "energy a 0\nidle 1:0 4:0 6 0\n", 7, "between the energy lines and the end line"),
+    (START + "energy a 0\nenergy a 0\n", 7, "one for each task"),
+    (START + "energy a 0\ntask b 4 0 4\n", 7, "after the plan line"),
+    (START + "energy a 0\nend 4 0 0\nend 4 0 0\n", 8, "a line after the end line"),
+    (START + "energy a 0\nend 4 0 0\n\n", 8, "a line after the end line"),
+    ("trace 1\nplan edf mine 4\nenergy a 0\n", 3, "only version 2"),
+    ("trace 1\nplan edf mine 4\n" + "x" * 256 + "\n", 3, "more than 255 bytes"),
+    ("trace 1\nplan edf mine 4\n" + "x" * 10**6, 3, "more than 255 bytes"),
+    ("trace 1\nplan edf mine 4\nrelease 0 \u00e9 1\n", 3, "not a line of a trace"),
+    ("trace 1\nplan edf mine 4\n" + "release 0 a 1\n" * 800_000, 800_001, "at most 800000 lines"),
+]
+
+
+@pytest.mark.parametrize(("text", "line", "part"), REFUSED, ids=range(len(REFUSED)))
+def test_refused(text: str, line: int, part: str) -> None:
+    with pytest.raises(TraceFault) as found:
+        Trace.parse(text)
+    assert found.value.line == line and part in found.value.reason
+
+
+def test_jobs_need_their_releases_and_periods() -> None:
+    trace = Trace.parse("trace 1\nplan edf mine 1\nspeed 0 2 1/1\nrun 0:0 1:0 a 1 2 5\nend 1 5 0\n")
+    with pytest.raises(TraceFault, match="line 4: a job 1 is not released"):
+        trace.jobs(TASKS)
+    with pytest.raises(TraceFault, match="line 3: the period of t1 is not known"):
+        Trace.read(PAPER).jobs()
+
+
+@given(st.sampled_from(TEXTS), st.data())
+def test_changed_bytes(text: str, data: st.DataObject) -> None:
+    """A changed text is refused at a line of it or the one after, or is the text of its trace."""
+    place = data.draw(st.integers(0, len(text) - 1))
+    length = data.draw(st.integers(0, 3))
+    new = data.draw(st.text("019:/ \nabenru\u00e9", max_size=3))
+    changed = text[:place] + new + text[place + length:]
+    try:
+        assert Trace.parse(changed).text() == changed
+    except TraceFault as fault:
+        assert 1 <= fault.line <= changed.count("\n") + 1
+
+
+@given(st.integers(0, 2**64 - 1), st.integers(0, 2**64 - 1), st.integers(0, 2**128 - 1))
+def test_widest_numbers(one: int, two: int, energy: int) -> None:
+    run = Run(Position(one, two), Position(two, one), "a", one, two, energy)
+    head, end = ["trace 1\n", "plan rm mine 1\n", "speed 0 1 1/1\n"], f"end {one} {energy} {energy}\n"
+    lines = [*head, run.text() + "\n", end]
+    assert list(parse_lines(lines))[2] == run
+    lines[3] = lines[3].replace("run ", "run 1" + "0" * 20)
+    with pytest.raises(TraceFault):
+        list(parse_lines(lines))
+
+
+def test_statistics_command(capsys: pytest.CaptureFixture[str]) -> None:
+    words = ["statistics", "--tasks", str(DATA / "paper/tasks.toml"), "--trace"]
+    assert main([*words, str(PAPER)]) == 0
+    # t1: (8/3 + 4/3)/2; t2: (4 + 2)/2; t3: (6 + 2)/2
+    assert capsys.readouterr().out.split() == (
+        "task jobs complete mean_response greatest_response jitter least_laxity preemptions energy "
+        "t1 2 2 2.0000 2.6667 1.3333 5.3333 0 192000000000 t2 2 2 3.0000 4.0000 2.0000 6.0000 0 100000000000 "
+        "t3 2 2 4.0000 6.0000 4.0000 8.0000 0 72000000000").split()
+    assert main([*words, str(DATA / "templates/edf_cc_with_demands.trace")]) == 2
+    assert main([*words, str(DATA / "templates/tasks.toml")]) == 2
+    assert capsys.readouterr().err == ("rtdvs: line 3: its tasks aren't those of the task file\n"
+                                       "rtdvs: line 1: neither trace 1 nor trace 2\n")

@@ -1,0 +1,29 @@
+# setup.sh: installs what the checks need beside the kit:
+#     sh tools/setup.sh
+# On Debian and its relatives it calls apt-get, as root, for what isn't installed; where all is, it does nothing. Elsewhere
+# it says what to take. The status is 1 where something stays missing: the checks that need it then say `skipped`.
+python='python3 python3-pytest python3-hypothesis python3-matplotlib python3-pandas python3-distributed python3-mpi4py
+    python3-hatchling python3-venv mypy'
+others='bash gcc libc6-dev locales openmpi-bin'
+
+if [ -z "$(command -v dpkg-query)" ] || [ -z "$(command -v apt-get)" ]; then
+    echo 'setup: no apt-get here. Take Python 3.11 or later as /usr/bin/python3 or by the variable PYTHON, with pytest,'
+    echo 'hypothesis, matplotlib, pandas, distributed, mpi4py, hatchling, venv and mypy; and bash, a C compiler as cc,'
+    echo 'localedef with the sources of de_DE, and mpiexec.'
+    exit 1
+fi
+installed=$(dpkg-query -W -f '${Package} ${db:Status-Abbrev}\n' $python $others 2> /dev/null | sed -n 's/ ii.*//p')
+missing=
+for package in $python $others; do
+    printf '%s\n' "$installed" | grep -q -x "$package" || missing="$missing $package"
+done
+[ -n "$missing" ] || exit 0
+[ "$(id -u)" = 0 ] || { echo "setup: as root, apt-get install$missing"; exit 1; }
+
+notes=$(mktemp) || exit 1
+trap 'rm -f "$notes"' EXIT
+trap 'exit 1' HUP INT PIPE TERM
+export DEBIAN_FRONTEND=noninteractive
+{ apt-get update -q && apt-get install -q -y --no-install-recommends $missing; } > "$notes" 2>&1 ||
+    { tail -n 5 "$notes"; echo "setup: not installed:$missing"; exit 1; }
+echo "setup: installed$missing"
