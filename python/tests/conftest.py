@@ -9,7 +9,7 @@ from hypothesis import HealthCheck, settings
 
 from rtdvs.engine import Engine
 
-# Libraries print numbers as the environment asks, be it with a decimal comma; the system's messages stay English.
+# Libraries print numbers as the environment asks, be it with a decimal comma; messages stay English.
 locale.setlocale(locale.LC_ALL, "")
 locale.setlocale(locale.LC_MESSAGES, "C")
 TOP = Path(__file__).resolve().parents[2]

@@ -123,6 +123,56 @@ def test_interrupted(stub: Callable[[Handler], None], capsys: pytest.CaptureFixt
     assert capsys.readouterr() == ("", "")
 
 
+# Bad files
+
+BAD_FILES = {
+    "a text that is not UTF-8": b"\xff\xfe",
+    "no byte": b"",
+    "zero bytes": b"\0\0",
+    "one bracket": b"[task]\n[point]\n",
+    "deep nesting": b"task = " + b"[" * 100_000,
+    "an unknown key": b"[[task]]\nofset = 1\n[[point]]\nofset = 1\n",
+    "a number past each limit": b"[[task]]\nname = 'a'\nperiod = 1099511627777\nworst = 1\n",
+    "a cut trace": b"trace 2\nplan edf cc 4\ntask a 4 0",
+}
+READERS_OF_FILES = [
+    "explain --tasks BAD --machine machine.toml --trace edf_none.trace",
+    "explain --tasks tasks.toml --machine BAD --trace edf_none.trace",
+    "explain --tasks tasks.toml --machine machine.toml --trace edf_none.trace --demands BAD",
+    "simulate --tasks BAD --machine machine.toml --scheduler edf --governor cc --ticks 4",
+    "statistics --tasks tasks.toml --trace BAD",
+    "statistics --tasks BAD --trace edf_none.trace",
+    "compare --tasks BAD --machine machine.toml --ticks 4",
+    "compare --tasks tasks.toml --machine machine.toml --ticks 4 --demands BAD",
+    "sensitivity --tasks tasks.toml --machine BAD --test edf",
+    "design --board BAD",
+    "convert --to csv --trace BAD",
+    "convert --to vcd --trace BAD",
+]
+
+
+@pytest.fixture(params=["absent", "folder", *BAD_FILES])
+def bad_file(request: pytest.FixtureRequest, tmp_path: Path) -> Path:
+    """A file that nothing reads, one that isn't there, and a folder."""
+    path = tmp_path / "bad"
+    if request.param == "folder":
+        path.mkdir()
+    elif request.param in BAD_FILES:
+        path.write_bytes(BAD_FILES[request.param])
+    return path
+
+
+@pytest.mark.parametrize("words", READERS_OF_FILES)
+def test_bad_files(
+    words: str, bad_file: Path, data: Path, capsys: pytest.CaptureFixture[str], monkeypatch: pytest.MonkeyPatch
+) -> None:
+    """Each is refused in one line, with status 2."""
+    monkeypatch.chdir(data / "paper")
+    assert cli.main([str(bad_file) if word == "BAD" else word for word in words.split()]) == 2
+    out, err = capsys.readouterr()
+    assert out == "" and err.startswith("rtdvs: ") and err.count("\n") == 1, err
+
+
 # Standard streams
 
 STREAMS = [

@@ -123,6 +123,11 @@ def test_texts_that_no_program_prints(parse: Callable[[str], object], text: str)
         parse(text)
 
 
+def test_an_answer_that_is_no_text() -> None:
+    with pytest.raises(Crashed, match="not UTF-8"):
+        Answer(0, b"\xff", b"").text()
+
+
 def test_a_price_below_nothing() -> None:
     assert parse_least("least 1 2 3 4 5 6\nprices 7 minus 8\n").tick_price == -8
 
@@ -344,8 +349,8 @@ def test_errors_on_executors(tmp_path: Path) -> None:
 
 def test_answers_on_dask(echo: Engine, tmp_path: Path) -> None:
     distributed = pytest.importorskip("distributed")
-    options = {"n_workers": 1, "processes": False, "dashboard_address": ":0", "local_directory": str(tmp_path)}
-    with distributed.LocalCluster(**options) as cluster, distributed.Client(cluster) as client:
+    options = {"processes": False, "dashboard_address": ":0", "local_directory": str(tmp_path)}
+    with distributed.LocalCluster(1, **options) as cluster, distributed.Client(cluster) as client:
         assert seeds(echo.answers(calls(), client.get_executor())) == [*range(12)]
 
 

@@ -15,12 +15,13 @@ SOURCE = Path(rtdvs.__file__).parent
 MODULES = sorted(SOURCE.glob("*.py"))
 LAYERS = [
     {"files", "errors", "decimals"},
+    {"answers"},
     {"engine"},
     {"trace"},
     {"rules", "explain", "simulate", "commandline"},
     {"statistics", "compare", "sensitivity", "draws", "generate", "evaluate", "paper_table"},
     {"design", "device_tree"},
-    {"plot", "convert"},
+    {"canvas", "marks", "figures", "plot", "convert"},
     {"cli", "__init__", "__main__"},
 ]
 
@@ -32,7 +33,7 @@ def layer(module: str) -> int | None:
 def imports(module: Path) -> set[str]:
     """The modules of the package that a module imports, also inside functions."""
     nodes = [node for node in ast.walk(ast.parse(module.read_text())) if isinstance(node, ast.ImportFrom)]
-    direct = {node.module.partition(".")[2] for node in nodes if node.module and node.module.startswith("rtdvs.")}
+    direct = {(node.module or "").partition("rtdvs.")[2] for node in nodes}
     return direct | {name.name for node in nodes if node.module == "rtdvs" for name in node.names}
 
 
@@ -67,5 +68,6 @@ def test_functions_are_short(module: Path) -> None:
 def test_no_dependencies() -> None:
     """All modules are imported where matplotlib and pandas are missing."""
     names = [f"rtdvs.{module.stem}" for module in MODULES if module.stem != "__main__"]
-    code = f"import sys; sys.modules |= dict.fromkeys(['matplotlib', 'pandas', 'numpy']); import {', '.join(names)}"
-    subprocess.run([sys.executable, "-c", code], env={"PYTHONPATH": str(SOURCE.parent)}, check=True)
+    missing = "import sys; sys.modules |= dict.fromkeys(['matplotlib', 'pandas', 'numpy'])"
+    words = [sys.executable, "-c", f"{missing}; import {', '.join(names)}"]
+    subprocess.run(words, env={"PYTHONPATH": str(SOURCE.parent)}, check=True)

@@ -1,21 +1,28 @@
 """Exact schedules and energies of periodic tasks with voltage scaling: tools beside the program rtdvs."""
 
 import argparse
-import importlib
-import importlib.util
 import os
 import sys
 from collections.abc import Sequence
 from types import ModuleType
 
+from rtdvs import (
+    compare,
+    convert,
+    design,
+    evaluate,
+    explain,
+    generate,
+    paper_table,
+    plot,
+    sensitivity,
+    simulate,
+    statistics,
+)
 from rtdvs.engine import EngineError
 
-_NAMES = (
-    "explain", "simulate", "statistics", "compare", "sensitivity", "generate", "evaluate", "paper_table",
-    "design", "plot", "convert",
-)
-COMMANDS: tuple[ModuleType, ...] = tuple(
-    importlib.import_module(f"rtdvs.{name}") for name in _NAMES if importlib.util.find_spec(f"rtdvs.{name}")
+COMMANDS: tuple[ModuleType, ...] = (
+    explain, simulate, statistics, compare, sensitivity, generate, evaluate, paper_table, design, plot, convert,
 )
 
 

@@ -12,9 +12,23 @@ from pathlib import Path
 from subprocess import DEVNULL, PIPE, Popen, TimeoutExpired
 from tempfile import TemporaryDirectory
 
+from rtdvs.answers import (
+    Admitted,
+    Constrained,
+    GovernorTotals,
+    Least,
+    Polled,
+    Replayed,
+    Service,
+    parse_admitted,
+    parse_constrained,
+    parse_least,
+    parse_polled,
+    parse_replayed,
+    parse_responses,
+    parse_workload,
+)
 from rtdvs.errors import (
-    NAME,
-    NUMBER,
     Crashed,
     Denied,
     Differs,
@@ -30,7 +44,6 @@ from rtdvs.errors import (
     WordsRefused,
     WriteFailed,
     error_of,
-    groups,
 )
 from rtdvs.files import Deadlines, Demands, Machine, Requests, TaskSet
 
@@ -58,8 +71,8 @@ HOW_TO_GET_ONE = (
 class Call:
     """A call of the program: options with values, and with files (a text or a path). It can be pickled.
 
-    >>> admit_call(Path("tasks.toml"), "idle = 0", "edf").options
-    (('--scheduler', 'edf'),)
+    >>> Call("workload", (("--seed", "1"),)).files
+    ()
     """
 
     command: str
@@ -84,89 +97,10 @@ class Answer:
         """Standard output of a call that ended with 0; raises the exception of any other status."""
         if self.status != 0:
             raise error_of(self.status, self.notes)
-        return self.out.decode()
-
-
-@dataclass(frozen=True, slots=True)
-class Admitted:
-    """`num`/`den` is the static demand in work units per tick, not reduced.
-
-    `speed` is the lowest that meets it.
-    """
-
-    scheduler: str
-    num: int
-    den: int
-    speed: int
-
-
-@dataclass(frozen=True, slots=True)
-class Constrained:
-    """`num` work units are due within `den` ticks; `speed` is the lowest that meets all deadlines."""
-
-    num: int
-    den: int
-    speed: int
-
-
-@dataclass(frozen=True, slots=True)
-class Replayed:
-    """The jobs released and complete, and the energies of the `run` and of the `idle` lines."""
-
-    released: int
-    finished: int
-    run_energy: int
-    idle_energy: int
-
-
-@dataclass(frozen=True, slots=True)
-class Service:
-    """A request, and the server's job that completes it at a position ("tick:offset"), if one does."""
-
-    request: int
-    arrival: int
-    units: int
-    job: int | None = None
-    position: str | None = None
-
-
-@dataclass(frozen=True, slots=True)
-class Polled:
-    """The requests in file order, the number served, and the energies of the run."""
-
-    services: tuple[Service, ...]
-    served: int
-    run_energy: int
-    idle_energy: int
-
-
-@dataclass(frozen=True, slots=True)
-class Least:
-    """The least energy: of `rounds` times the ticks, `low_ticks` have `low` work units, `high_ticks` `high`.
-
-    A tick with w units costs, `rounds` times, at least w times `unit_price` plus `tick_price`.
-    """
-
-    rounds: int
-    low: int
-    low_ticks: int
-    high: int
-    high_ticks: int
-    energy: int
-    unit_price: int
-    tick_price: int
-
-
-@dataclass(frozen=True, slots=True)
-class GovernorTotals:
-    """A governor's run of a generated workload: jobs released and complete, decisions, and the energies."""
-
-    governor: str
-    released: int
-    finished: int
-    decisions: int
-    run_energy: int
-    idle_energy: int
+        try:
+            return self.out.decode()
+        except UnicodeDecodeError:
+            raise Crashed("an answer that is not UTF-8") from None
 
 
 # Calls
@@ -186,7 +120,11 @@ def _call(command: str, options: dict[str, str | int], **files: Source | None) -
 
 def run_call(tasks: Source, machine: Source, scheduler: str, governor: str, ticks: int,
              demands: Source | None = None, version: int = 2) -> Call:
-    """The call of `run`; its answer's text is the trace."""
+    """The call of `run` for that many ticks; its answer's text is the trace.
+
+    >>> run_call(Path("/t.toml"), Path("/m.toml"), "edf", "cc", ticks=16).options[2]
+    ('--ticks', '16')
+    """
     options: dict[str, str | int] = {
         "scheduler": scheduler, "governor": governor, "ticks": ticks, "format": version,
     }
@@ -194,23 +132,39 @@ def run_call(tasks: Source, machine: Source, scheduler: str, governor: str, tick
 
 
 def admit_call(tasks: Source, machine: Source, scheduler: str) -> Call:
-    """The call of `admit`; parse_admitted reads its answer's text."""
+    """The call of `admit`; parse_admitted reads its answer's text.
+
+    >>> admit_call(Path("/t.toml"), Path("/m.toml"), "edf").options
+    (('--scheduler', 'edf'),)
+    """
     return _call("admit", {"scheduler": scheduler}, tasks=tasks, machine=machine)
 
 
 def response_call(tasks: Source, machine: Source) -> Call:
-    """The call of `response`; parse_responses reads its answer's text."""
+    """The call of `response`; parse_responses reads its answer's text.
+
+    >>> response_call(Path("/t.toml"), Path("/m.toml")).files
+    (('--tasks', PosixPath('/t.toml')), ('--machine', PosixPath('/m.toml')))
+    """
     return _call("response", {}, tasks=tasks, machine=machine)
 
 
 def constrain_call(tasks: Source, machine: Source, deadlines: Source) -> Call:
-    """The call of `constrain`; parse_constrained reads its answer's text."""
+    """The call of `constrain`; parse_constrained reads its answer's text.
+
+    >>> constrain_call(Path("/t.toml"), Path("/m.toml"), Deadlines({"a": 3})).files[2]
+    ('--deadlines', 'task,deadline\\na,3\\n')
+    """
     return _call("constrain", {}, tasks=tasks, machine=machine, deadlines=deadlines)
 
 
 def poll_call(tasks: Source, machine: Source, requests: Source, server: str, scheduler: str,
               governor: str, ticks: int) -> Call:
-    """The call of `poll`; parse_polled reads its answer's text."""
+    """The call of `poll` for that many ticks; parse_polled reads its answer's text.
+
+    >>> poll_call(Path("/t"), Path("/m"), Path("/r"), "s", "edf", "none", ticks=15).options[0]
+    ('--server', 's')
+    """
     options: dict[str, str | int] = {
         "server": server, "scheduler": scheduler, "governor": governor, "ticks": ticks,
     }
@@ -218,112 +172,39 @@ def poll_call(tasks: Source, machine: Source, requests: Source, server: str, sch
 
 
 def replay_call(tasks: Source, machine: Source, trace: Source) -> Call:
-    """The call of `replay`; parse_replayed reads its answer's text."""
+    """The call of `replay`; parse_replayed reads its answer's text.
+
+    >>> replay_call(Path("/t.toml"), Path("/m.toml"), "trace 2\\n").files[2]
+    ('--trace', 'trace 2\\n')
+    """
     return _call("replay", {}, tasks=tasks, machine=machine, trace=trace)
 
 
 def migrate_call(tasks: Source, machine: Source, trace: Source) -> Call:
-    """The call of `migrate`; its answer's text is the trace in version 2."""
+    """The call of `migrate`; its answer's text is the trace in version 2.
+
+    >>> migrate_call(Path("/t.toml"), Path("/m.toml"), "trace 1\\n").command
+    'migrate'
+    """
     return _call("migrate", {}, tasks=tasks, machine=machine, trace=trace)
 
 
 def least_call(machine: Source, units: int, ticks: int) -> Call:
-    """The call of `least`; parse_least reads its answer's text."""
+    """The call of `least` for work units in ticks; parse_least reads its answer's text.
+
+    >>> least_call(Path("/m.toml"), units=28, ticks=16).options
+    (('--units', '28'), ('--ticks', '16'))
+    """
     return _call("least", {"units": units, "ticks": ticks}, machine=machine)
 
 
 def workload_call(seed: int) -> Call:
-    """The call of `workload`; parse_workload reads its answer's text."""
+    """The call of `workload`; parse_workload reads its answer's text.
+
+    >>> workload_call(1)
+    Call(command='workload', options=(('--seed', '1'),), files=())
+    """
     return _call("workload", {"seed": seed})
-
-
-# Answers
-
-def _answer_groups(pattern: str, text: str) -> tuple[str, ...]:
-    """The groups of an answer's text; raises Crashed for what the program never prints."""
-    try:
-        return groups(pattern, text)
-    except ValueError:
-        raise Crashed(f"an unknown answer: {text[:80]!r}") from None
-
-
-def parse_admitted(text: str) -> Admitted:
-    """The answer of `admit`; raises Crashed for any other text.
-
-    >>> parse_admitted("admitted edf 836/280 3\\n")
-    Admitted(scheduler='edf', num=836, den=280, speed=3)
-    """
-    scheduler, *numbers = _answer_groups(f"admitted (edf|rm) {NUMBER}/{NUMBER} {NUMBER}\n", text)
-    return Admitted(scheduler, *map(int, numbers))
-
-
-def parse_responses(text: str) -> dict[str, int]:
-    """The answer of `response`, in ticks by task; raises Crashed for any other text.
-
-    >>> parse_responses("response t1 3\\nresponse t2 6\\n")
-    {'t1': 3, 't2': 6}
-    """
-    lines = (_answer_groups(f"response {NAME} {NUMBER}\n", line) for line in text.splitlines(keepends=True))
-    return {task: int(ticks) for task, ticks in lines}
-
-
-def parse_constrained(text: str) -> Constrained:
-    """The answer of `constrain`; raises Crashed for any other text.
-
-    >>> parse_constrained("constrained 7/6 2\\n")
-    Constrained(num=7, den=6, speed=2)
-    """
-    return Constrained(*map(int, _answer_groups(f"constrained {NUMBER}/{NUMBER} {NUMBER}\n", text)))
-
-
-def parse_replayed(text: str) -> Replayed:
-    """The answer of `replay`; raises Crashed for any other text.
-
-    >>> parse_replayed("replayed 6 6 315000000000 0\\n").run_energy
-    315000000000
-    """
-    return Replayed(*map(int, _answer_groups(f"replayed {NUMBER} {NUMBER} {NUMBER} {NUMBER}\n", text)))
-
-
-def parse_polled(text: str) -> Polled:
-    """The answer of `poll`; raises Crashed for any other text.
-
-    >>> parse_polled("served 1 0 3 1 0:3\\npending 2 12 1\\npolled 1 725000000000 0\\n").services[0].position
-    '0:3'
-    """
-    *lines, last = text.splitlines(keepends=True) or [text]
-    sums = map(int, _answer_groups(f"polled {NUMBER} {NUMBER} {NUMBER}\n", last))
-    return Polled(tuple(map(_service, lines)), *sums)
-
-
-def _service(line: str) -> Service:
-    if line.startswith("pending"):
-        request, arrival, units = _answer_groups(f"pending {NUMBER} {NUMBER} {NUMBER}\n", line)
-        return Service(int(request), int(arrival), int(units))
-    pattern = f"served {NUMBER} {NUMBER} {NUMBER} {NUMBER} ([0-9]+:[0-9]+)\n"
-    request, arrival, units, job, position = _answer_groups(pattern, line)
-    return Service(int(request), int(arrival), int(units), int(job), position)
-
-
-def parse_least(text: str) -> Least:
-    """The answer of `least`; raises Crashed for any other text.
-
-    >>> parse_least("least 2 0 4 2 28 504000000000\\nprices 18000000000 plus 0\\n").energy
-    504000000000
-    """
-    least = " ".join(["least", *[NUMBER] * 6])
-    *numbers, sign, tick_price = _answer_groups(f"{least}\nprices {NUMBER} (plus|minus) {NUMBER}\n", text)
-    prices = [*numbers, tick_price if sign == "plus" else f"-{tick_price}"]
-    return Least(*map(int, prices))
-
-
-def parse_workload(text: str) -> tuple[GovernorTotals, ...]:
-    """The answer of `workload`, a line for each governor; raises Crashed for any other text."""
-    head, *lines = text.splitlines(keepends=True) or [text]
-    _answer_groups(f"workload {NUMBER} {NUMBER} {NUMBER}\n", head)
-    pattern = " ".join(["(none|static|cc|la)", *[NUMBER] * 5]) + "\n"
-    rows = (_answer_groups(pattern, line) for line in lines)
-    return tuple(GovernorTotals(governor, *map(int, numbers)) for governor, *numbers in rows)
 
 
 # Engines
@@ -457,7 +338,7 @@ def _write_cases(calls: Sequence[Call], folder: Path) -> dict[str, Path]:
         files = ((option, names.setdefault(file, f"file{len(names)}")) for option, file in call.files)
         words = [call.command, *(word for pair in (*call.options, *files) for word in pair)]
         (folder / "cases" / f"{place:06}").touch()
-        (folder / "cases" / f"{place:06}.args").write_text("".join(f"{word}\n" for word in words))
+        (folder / "cases" / f"{place:06}.args").write_bytes("".join(f"{word}\n" for word in words).encode())
     data = {name: _file(content, folder / name) for content, name in names.items()}
     return {name: path for name, path in data.items() if path.is_file()}
 
@@ -473,31 +354,37 @@ def _tried(found: Answer, count: int) -> Iterator[Answer]:
         elif case[2] != b"ended":
             raise Crashed(_last_words(notes))
         else:
-            yield Answer(int(case[3]), texts[case[1]], b"".join(notes))
+            yield Answer(int(case[3]), texts.get(case[1], b""), b"".join(notes))
             notes, count = [], count - 1
     if count:
         raise Crashed(_last_words(notes))
 
 
 def _last_words(notes: Sequence[bytes]) -> str:
-    words = b"".join(notes[-1:]).decode(errors="replace").strip()
+    words = b"; ".join(line.strip() for line in notes[-3:]).decode(errors="replace")
     return f"rt try has no answer: {words}"
 
 
 # Which engine
 
 def find_engine(program: Path | None = None, timeout: float | None = None) -> Engine:
-    """The engine of a program and of a limit of seconds for each call; raises NoEngine.
+    """The engine of a program, with a limit of seconds for each call; raises NoEngine.
 
     The first of these: the argument's, that of the variable RTDVS, the repository's built one, `rtdvs` on the
     path, and `rt try`, which compiles the repository's sources for each list of calls.
+
+    >>> find_engine(Path("/absent/rtdvs"))
+    Traceback (most recent call last):
+    rtdvs.errors.NoEngine: /absent/rtdvs: no such program
     """
-    named = program or Path(os.environ.get("RTDVS", ""))
-    if named != Path():
-        return Engine(_executable(named), timeout)
-    for built in (CRATE / "out" / "rtdvs", shutil.which("rtdvs")):
-        if built is not None and shutil.which(built):
-            return Engine(Path(built), timeout)
+    variable = os.environ.get("RTDVS")
+    if program is None and variable:
+        program = Path(variable)
+    if program is not None:
+        return Engine(_executable(program), timeout)
+    found = shutil.which(CRATE / "out" / "rtdvs") or shutil.which("rtdvs")
+    if found is not None:
+        return Engine(Path(found).absolute(), timeout)
     if CRATE.is_dir() and shutil.which("rt"):
         return TryEngine(CRATE, timeout)
     raise NoEngine(HOW_TO_GET_ONE)
@@ -508,4 +395,4 @@ def _executable(program: Path) -> Path:
     found = shutil.which(program.absolute()) or shutil.which(program)
     if found is None:
         raise NoEngine(f"{program}: no such program")
-    return Path(found)
+    return Path(found).absolute()

@@ -1,0 +1,283 @@
+"""What each scheduler and governor does to the energy and to the tasks of one set."""
+
+import argparse
+from collections import defaultdict
+from collections.abc import Iterable, Iterator, Mapping, Sequence
+from concurrent.futures import Executor
+from dataclasses import dataclass, replace
+from fractions import Fraction
+
+from rtdvs.commandline import (
+    Input,
+    add_engine_options,
+    add_files,
+    engine_of,
+    executor_of,
+    input_path,
+    progress,
+    read_demands,
+    read_machine,
+    read_tasks,
+    read_text,
+    whole_number,
+)
+from rtdvs.decimals import decimal
+from rtdvs.engine import Answer, Denied, Engine, Least, least_call, parse_least, run_call
+from rtdvs.files import Demands, FileFault, Machine, TaskSet
+from rtdvs.trace import MOST_TICKS, Job, Run, Trace, TraceFault
+
+PAIRS = (("edf", "none"), ("edf", "static"), ("edf", "cc"), ("edf", "la"),
+         ("rm", "none"), ("rm", "static"), ("rm", "cc"))
+
+HEADING = ("scheduler", "governor", "energy", "of_none", "above_bound", "switches", "idle", "least_laxity",
+           "jitter")
+ABOUT = """
+Prints a row for each of the seven pairs, and for traces given beside them. energy: of running and idling,
+every digit; of_none: as a share of EDF with none; above_bound: what is above the bound of least, as a share
+of the bound; switches: of the speed; idle, at_SPEED: shares of the run; least_laxity: the least time from a
+completion to its deadline, jitter: the greatest difference of two responses of one task, both in ticks. A
+pair that is denied has the line of its refusal. Shares and ticks are rounded once, half to even.
+"""
+
+
+@dataclass(frozen=True, slots=True)
+class Result:
+    """A run of a pair.
+
+    `energy` is of running and idling, in the unit of a trace. `share` is of the energy of EDF with `none`;
+    None if that is denied or 0. `above_bound` is what the energy is above the bound of `least`, as a share of
+    the bound; None if that is 0. `switches` counts the decisions with another speed than before. `idle` is a
+    share of the run, and so is each speed's `residency`. `least_laxity` and `jitter`, in ticks, are over all
+    complete jobs: the least time from a completion to its deadline, and the greatest difference between two
+    responses of one task. None without such a job.
+    """
+
+    energy: int
+    share: Fraction | None
+    above_bound: Fraction | None
+    switches: int
+    idle: Fraction
+    least_laxity: Fraction | None
+    jitter: Fraction | None
+    residency: Mapping[int, Fraction]
+
+
+@dataclass(frozen=True, slots=True)
+class Row:
+    """A pair with its result; a pair that is denied has no result, but the line of the refusal."""
+
+    scheduler: str
+    governor: str
+    result: Result | None
+    refusal: str = ""
+
+
+@dataclass(frozen=True, slots=True)
+class Case:
+    """The files of a comparison, and its ticks."""
+
+    tasks: TaskSet
+    machine: Machine
+    ticks: int
+    demands: Demands | None = None
+
+    def finer(self, times: int) -> "Case":
+        """The same in ticks this many times finer. Speeds stay in units per tick, so all units grow as well.
+
+        >>> from rtdvs import Point, Task
+        >>> case = Case(TaskSet((Task("a", 5, 7),)), Machine((Point(2, 1000),), charge=1), 20)
+        >>> case.finer(3).tasks.tasks[0], case.finer(3).machine.charge
+        (Task(name='a', period=15, worst=21, offset=0), 3)
+        """
+        tasks = TaskSet(tuple(replace(task, period=task.period * times, worst=task.worst * times,
+                                      offset=task.offset * times) for task in self.tasks))
+        demands = self.demands and Demands({job: units * times for job, units in self.demands.units.items()})
+        machine = replace(self.machine, charge=self.machine.charge * times)
+        return Case(tasks, machine, self.ticks * times, demands)
+
+
+def runs(engine: Engine, case: Case, pairs: Iterable[tuple[str, str]],
+         executor: Executor | None = None) -> Iterator[str | Denied]:
+    """The text of each pair's trace, or its denial; raises the program's other refusals."""
+    calls = (run_call(case.tasks, case.machine, scheduler, governor, case.ticks, case.demands)
+             for scheduler, governor in pairs)
+    return map(text_or_denial, engine.answers(calls, executor))
+
+
+def text_or_denial(answer: Answer) -> str | Denied:
+    """Standard output of the answer, or the Denied that it stands for; raises any other refusal."""
+    try:
+        return answer.text()
+    except Denied as denied:
+        return denied
+
+
+def energy_of(trace: str) -> int:
+    r"""Running and idle energy together, by the last line of a whole trace's text.
+
+    >>> energy_of("trace 1\n..\nend 16 364000000000 1000\n")
+    364000001000
+    """
+    _, _, run_energy, idle_energy = trace.rstrip("\n").rpartition("\n")[2].split(" ")
+    return int(run_energy) + int(idle_energy)
+
+
+def units_of(trace: Trace) -> int:
+    """The work units of all runs, with the charge."""
+    return sum(note.units for note in trace.notes if isinstance(note, Run))
+
+
+def least_laxity(jobs: Iterable[Job]) -> Fraction | None:
+    """The least time in ticks from a completion to its deadline."""
+    return min((job.laxity for job in jobs if job.laxity is not None), default=None)
+
+
+def jitter(jobs: Iterable[Job]) -> Fraction | None:
+    """The greatest difference in ticks between two responses of one task."""
+    responses: defaultdict[str, list[Fraction]] = defaultdict(list)
+    for job in jobs:
+        if job.response is not None:
+            responses[job.task].append(job.response)
+    return max((max(times) - min(times) for times in responses.values()), default=None)
+
+
+def result(trace: Trace, tasks: TaskSet, least: Least, base: int) -> Result:
+    """What a trace comes to, with the bound for its units; `base` is the energy that shares are of, or 0."""
+    jobs = trace.jobs(tasks)
+    bound = Fraction(least.energy, least.rounds)
+    return Result(
+        energy=trace.energy,
+        share=Fraction(trace.energy, base) if base else None,
+        above_bound=trace.energy / bound - 1 if bound else None,
+        switches=trace.switches,
+        idle=trace.idle_time / trace.ticks,
+        least_laxity=least_laxity(jobs),
+        jitter=jitter(jobs),
+        residency={speed: time / trace.ticks for speed, time in trace.residency().items()},
+    )
+
+
+def compare(engine: Engine, tasks: TaskSet, machine: Machine, ticks: int, demands: Demands | None = None,
+            traces: Sequence[Trace] = (), executor: Executor | None = None) -> tuple[Row, ...]:
+    """A row for each of the seven pairs, and for each trace given beside them.
+
+    Raises TraceFault if a trace is of other ticks, and whatever the program refuses, but for a pair that is
+    denied.
+
+    >>> from rtdvs import Point, Task, find_engine
+    >>> machine = Machine((Point(1, 1000), Point(2, 2000)))
+    >>> rows = compare(find_engine(), TaskSet((Task("a", 4, 4),)), machine, 8)
+    >>> [(row.governor, row.result.energy, row.result.share) for row in rows[:2]]
+    [('none', 32000000000, Fraction(1, 1)), ('static', 8000000000, Fraction(1, 4))]
+    """
+    for trace in traces:
+        if trace.ticks != ticks:
+            raise TraceFault(2, f"a run of {trace.ticks} ticks, and not of {ticks}")
+    found = [text if isinstance(text, Denied) else Trace.parse(text)
+             for text in runs(engine, Case(tasks, machine, ticks, demands), PAIRS, executor)]
+    done = [trace for trace in [*found, *traces] if isinstance(trace, Trace)]
+    bounds = engine.answers((least_call(machine, units_of(trace), ticks) for trace in done), executor)
+    base = found[0].energy if isinstance(found[0], Trace) else 0
+    results = (result(trace, tasks, parse_least(bound.text()), base) for trace, bound in zip(done, bounds))
+    pairs = [*PAIRS, *((trace.scheduler, trace.governor) for trace in traces)]
+    return tuple(Row(*pair, None, str(trace)) if isinstance(trace, Denied) else Row(*pair, next(results))
+                 for pair, trace in zip(pairs, [*found, *traces]))
+
+
+def finer_energies(engine: Engine, case: Case, times: int,
+                   executor: Executor | None = None) -> tuple[Fraction | None, ...]:
+    """The energy of each of the seven pairs in finer ticks, in the unit of the case; None if it is denied.
+
+    >>> from rtdvs import Point, Task, find_engine
+    >>> case = Case(TaskSet((Task("a", 4, 4),)), Machine((Point(1, 1000),)), 8)
+    >>> finer_energies(find_engine(), case, 10)[0]
+    Fraction(8000000000, 1)
+    """
+    return tuple(None if isinstance(text, Denied) else Fraction(energy_of(text), times)
+                 for text in runs(engine, case.finer(times), PAIRS, executor))
+
+
+def table(rows: Sequence[Row]) -> str:
+    """The rows below their heading, all shares and ticks with four decimal places."""
+    speeds = sorted({speed for row in rows if row.result for speed in row.result.residency})
+    heading = (*HEADING, *(f"at_{speed}" for speed in speeds))
+    return aligned([heading, *(cells(row, speeds) for row in rows)])
+
+
+def cells(row: Row, speeds: Sequence[int]) -> tuple[str, ...]:
+    """The fields of a row's line."""
+    result = row.result
+    if result is None:
+        return row.scheduler, row.governor, row.refusal
+    before = (result.share, result.above_bound)
+    after = (result.idle, result.least_laxity, result.jitter,
+             *(result.residency.get(speed, 0) for speed in speeds))
+    return (row.scheduler, row.governor, str(result.energy), *(decimal(share, 4) for share in before),
+            str(result.switches), *(decimal(share, 4) for share in after))
+
+
+def finer_table(rows: Sequence[Row], finer: Mapping[int, Sequence[Fraction | None]]) -> str:
+    """The energies in finer ticks, as shares of those of the rows."""
+    heading = ("scheduler", "governor", *(f"finer_{times}" for times in finer))
+    shares = [[energy / row.result.energy if energy is not None and row.result and row.result.energy else None
+               for row, energy in zip(rows, energies)] for energies in finer.values()]
+    return aligned([heading, *((row.scheduler, row.governor, *(decimal(share, 4) for share in column))
+                               for row, *column in zip(rows, *shares))])
+
+
+def aligned(lines: Sequence[tuple[str, ...]]) -> str:
+    """The lines in columns: the first two to the left, numbers to the right. A shorter line is a refusal.
+
+    >>> print(aligned([("pair", "of", "energy", "idle"), ("rm", "cc", "7", "0"), ("rm", "none", "denied")]))
+    pair  of  energy  idle
+    rm    cc       7     0
+    rm    none  denied
+    <BLANKLINE>
+    """
+    whole = [line for line in lines if len(line) == len(lines[0])]
+    left, middle, *widths = (max(map(len, column)) for column in zip(*whole))
+    rows = ((line, widths if len(line) == len(lines[0]) else [0] * len(line)) for line in lines)
+    return "".join(f"{line[0]:{left}}  {line[1]:{middle}}"
+                   + "".join(f"  {cell:>{width}}" for cell, width in zip(line[2:], wide)) + "\n"
+                   for line, wide in rows)
+
+
+def add_command(commands: "argparse._SubParsersAction[argparse.ArgumentParser]") -> None:
+    """Adds the command `compare`."""
+    parser = commands.add_parser(
+        "compare", help="energies and times under each scheduler and governor", description=ABOUT,
+        epilog="python3 -m rtdvs compare --tasks tasks.toml --machine machine.toml --ticks 16 --finer 2 10")
+    add_files(parser, ["tasks", "machine"], ["demands"])
+    parser.add_argument("--ticks", type=whole_number(1, MOST_TICKS), required=True, metavar="N",
+                        help="the ticks of each run")
+    parser.add_argument("--trace", type=input_path, nargs="+", default=[], metavar="FILE",
+                        help="traces of these files and ticks, of any governor, each as a row more")
+    parser.add_argument("--finer", type=whole_number(1), nargs="+", default=[], metavar="N",
+                        help="the energies in ticks N times finer too, as shares of those in the ticks given")
+    add_engine_options(parser, jobs=True)
+    parser.set_defaults(handler=run)
+
+
+def run(args: argparse.Namespace) -> int:
+    engine, tasks = engine_of(args), read_tasks(args)
+    case = Case(tasks, read_machine(args), args.ticks, read_demands(args, tasks))
+    traces = [read_trace(source, case) for source in args.trace]
+    with executor_of(args) as executor:
+        rows = compare(engine, case.tasks, case.machine, case.ticks, case.demands, traces, executor)
+        print(table(rows), end="")
+        finer = {times: finer_energies(engine, case, times, executor)
+                 for times in progress(args.finer, len(args.finer), "finer ticks")}
+    if finer:
+        print()
+        print(finer_table(rows[:len(PAIRS)], finer), end="")
+    return 0
+
+
+def read_trace(source: Input, case: Case) -> Trace:
+    """The trace of a file; a FileFault with the file's name if it is refused."""
+    try:
+        trace = Trace.parse(read_text(source, "trace"))
+        trace.jobs(case.tasks)
+    except TraceFault as fault:
+        raise FileFault(f"{'-' if isinstance(source, bytes) else source}: {fault}") from fault
+    return trace

@@ -1,0 +1,249 @@
+"""Task sets, demands and exercises by a seed."""
+
+import argparse
+from collections.abc import Iterator
+from dataclasses import dataclass
+from fractions import Fraction
+from itertools import combinations
+from math import lcm
+from pathlib import Path
+
+from rtdvs.commandline import (
+    add_engine_options,
+    add_files,
+    add_output,
+    engine_of,
+    exact_fraction,
+    read_tasks,
+    whole_number,
+    write_output,
+)
+from rtdvs.draws import (
+    MOST_MULTIPLE,
+    MOST_PERIOD,
+    MOST_SEED,
+    MOST_SPEED,
+    MOST_TASKS,
+    PUBLISHED_COUNTS,
+    PUBLISHED_SEED,
+    PUBLISHED_TICKS,
+    Listed,
+    LogUniform,
+    SetName,
+    drawn,
+    jobs_of,
+    numbered,
+    published_sets,
+    require,
+    taken,
+    taken_uniform,
+    unrelated_states,
+    uunifast,
+)
+from rtdvs.engine import Denied, Engine
+from rtdvs.explain import Walk, explain, last_line
+from rtdvs.files import Demands, Machine, Point, Task, TaskSet
+from rtdvs.trace import MOST_TICKS
+
+BOARD = Machine((Point(2, 3000), Point(3, 4000), Point(4, 5000)))
+"""The machine of the exercises, which is that of the example of Pillai and Shin (2001)."""
+
+SMALL_PERIODS = tuple(periods for size in (2, 3) for periods in combinations((4, 5, 6, 8, 10, 12), size)
+                      if lcm(*periods) <= 24)
+ABOUT = {"edf": "earliest deadline first", "rm": "rate monotonic priorities"}
+
+
+@dataclass(frozen=True, slots=True)
+class Exercise:
+    """A run to be traced by hand over a hyperperiod, its trace in version 1 and the lines that explain it."""
+
+    tasks: TaskSet
+    demands: Demands
+    scheduler: str
+    governor: str
+    trace: str
+    explanation: str
+
+    def question(self) -> str:
+        """The exercise as a page in Markdown."""
+        speeds = ", ".join(f"{point.speed} at {point.millivolts} mV" for point in BOARD.points)
+        rows = "".join(f"| `{task.name}` | {task.period} | {task.worst} | {self._needs(task)} |\n"
+                       for task in self.tasks)
+        return (f"Write the trace of {self.tasks.hyperperiod} ticks under {ABOUT[self.scheduler]} with the "
+                f"governor `{self.governor}`.\nThe machine has the speeds {speeds}.\n\n"
+                f"| Task | Period | Worst case | Its jobs need |\n|---|---|---|---|\n{rows}")
+
+    def _needs(self, task: Task) -> str:
+        return ", ".join(str(units) for (name, _), units in self.demands.units.items() if name == task.name)
+
+    def write(self, folder: Path) -> None:
+        """Writes the question, the files, the trace and its explanation into a folder; raises OSError."""
+        folder.mkdir(parents=True, exist_ok=True)
+        self.tasks.write(folder / "tasks.toml")
+        BOARD.write(folder / "machine.toml")
+        self.demands.write(folder / "demands.csv")
+        (folder / "question.md").write_text(self.question(), encoding="utf-8")
+        (folder / "solution.trace").write_text(self.trace, encoding="utf-8")
+        (folder / "explanation.txt").write_text(self.explanation, encoding="utf-8")
+
+
+def small_sets(stream: Iterator[int]) -> Iterator[tuple[TaskSet, Demands]]:
+    """Sets of small numbers that need more than half of the board's highest speed at worst, without end.
+
+    A job needs 1 unit or more, at most its worst case.
+
+    >>> tasks, demands = next(small_sets(unrelated_states(1)))
+    >>> [(task.name, task.period, task.worst) for task in tasks]
+    [('t1', 6, 9), ('t2', 8, 1), ('t3', 12, 18)]
+    >>> list(demands.units.values())
+    [7, 5, 5, 1, 1, 1, 1, 3, 11]
+    """
+    while True:
+        periods = SMALL_PERIODS[drawn(stream, len(SMALL_PERIODS))]
+        mosts = [2 * BOARD.top_speed * period // len(periods) for period in periods]
+        tasks = numbered(periods, [1 + drawn(stream, most) for most in mosts])
+        if 2 * sum(Fraction(task.worst, task.period) for task in tasks) > BOARD.top_speed:
+            yield tasks, Demands({(task.name, job): 1 + drawn(stream, task.worst)
+                                  for task, job in jobs_of(tasks, tasks.hyperperiod)})
+
+
+def exercise(engine: Engine, seed: int, scheduler: str = "edf", governor: str = "cc") -> Exercise:
+    """An exercise by a seed from 1 to 2^31 - 2: the first of its sets that the program admits.
+
+    >>> from rtdvs import find_engine
+    >>> exercise(find_engine(), 1).tasks.hyperperiod <= 24
+    True
+    """
+    require(1 <= seed <= MOST_SEED, f"seed is 1 to {MOST_SEED}")
+    for tasks, demands in small_sets(unrelated_states(seed)):
+        try:
+            trace = engine.run(tasks, BOARD, scheduler, governor, tasks.hyperperiod, demands, version=1)
+        except Denied:
+            continue
+        lines: list[str] = []
+        summary = explain(Walk(tasks, BOARD, trace.splitlines(keepends=True), demands), lines.append)
+        lines.append(last_line(summary, any_governor=False, named=True))
+        return Exercise(tasks, demands, scheduler, governor, trace, "\n".join(lines) + "\n")
+    raise AssertionError("sets have no end")
+
+
+# The command
+
+
+def add_command(commands: "argparse._SubParsersAction[argparse.ArgumentParser]") -> None:
+    """Adds the command `generate`."""
+    parser = commands.add_parser("generate", help="random task sets, demands and exercises by a seed",
+                                 description="Draws task sets, demands and exercises by a seed.",
+                                 epilog="python3 -m rtdvs generate uunifast --count 8 --utilisation 0.7 --seed 1")
+    kinds = parser.add_subparsers(metavar="KIND", required=True)
+    for add in (add_uunifast, add_published, add_demands, add_exercise):
+        add(kinds)
+
+
+def add_uunifast(kinds: "argparse._SubParsersAction[argparse.ArgumentParser]") -> None:
+    parser = kinds.add_parser(
+        "uunifast", help="a task set by UUniFast",
+        description="Draws a task set by UUniFast (Bini and Buttazzo 2005).",
+        epilog="python3 -m rtdvs generate uunifast --count 8 --utilisation 0.7 --seed 1 --periods 10 20 50")
+    parser.add_argument("--count", type=whole_number(1, MOST_TASKS), required=True, metavar="N",
+                        help="the number of tasks")
+    parser.add_argument("--utilisation", type=exact_fraction, required=True, metavar="U",
+                        help="of the whole set, above 0 and at most 1, as 0.7 or 7/10")
+    parser.add_argument("--seed", type=whole_number(1, MOST_SEED), required=True, metavar="N")
+    parser.add_argument("--top", type=whole_number(1, MOST_SPEED), default=1000, metavar="N",
+                        help="the highest speed in work units per tick; 1000 unless given")
+    parser.add_argument("--periods", type=whole_number(1, MOST_PERIOD), nargs="+", metavar="N",
+                        help="periods in ticks, each equally likely; or without them:")
+    for name, default, about in (("low", 10, "the shortest"), ("high", 1000, "the longest")):
+        parser.add_argument(f"--{name}", type=whole_number(1, MOST_PERIOD), metavar="N",
+                            help=f"{about} period in ticks, with uniform logarithms; {default} unless given")
+    parser.add_argument("--multiple", type=whole_number(1, MOST_MULTIPLE), metavar="N",
+                        help=f"the number that all periods divide; {PUBLISHED_TICKS} unless given")
+    add_output(parser)
+    parser.set_defaults(handler=run_uunifast)
+
+
+def run_uunifast(args: argparse.Namespace) -> int:
+    given = {name: getattr(args, name) for name in ("low", "high", "multiple")}
+    bounds = {name: value for name, value in given.items() if value is not None}
+    require(not (args.periods and bounds), "periods are a list, or from low to high, not both")
+    periods = Listed(tuple(args.periods)) if args.periods else LogUniform(**bounds)
+    write_output(args, uunifast(args.count, args.utilisation, args.seed, periods, args.top).text())
+    return 0
+
+
+def add_published(kinds: "argparse._SubParsersAction[argparse.ArgumentParser]") -> None:
+    parser = kinds.add_parser(
+        "published", help="a set of the published evaluation",
+        description="Draws a set of docs/EVALUATION.md, as those of Pillai and Shin (2001).",
+        epilog="python3 -m rtdvs generate published --count 8 --tenths 7 --number 1")
+    parser.add_argument("--count", type=int, choices=PUBLISHED_COUNTS, required=True,
+                        help="the number of tasks")
+    parser.add_argument("--tenths", type=whole_number(1, 10), required=True, metavar="N",
+                        help="the utilisation in tenths")
+    parser.add_argument("--number", type=whole_number(1, 999), required=True, metavar="N",
+                        help="the set's number among these")
+    parser.add_argument("--sets", type=whole_number(1, 999), default=100, metavar="N",
+                        help="how many there are of each kind; 100 unless given")
+    parser.add_argument("--seed", type=whole_number(1, MOST_SEED), default=PUBLISHED_SEED, metavar="N",
+                        help=f"{PUBLISHED_SEED} unless given")
+    add_output(parser)
+    parser.set_defaults(handler=run_published)
+
+
+def run_published(args: argparse.Namespace) -> int:
+    require(args.number <= args.sets, f"number is 1 to {args.sets}")
+    wanted = SetName(args.count, args.tenths, args.number)
+    sets = published_sets(args.sets, args.seed)
+    write_output(args, next(tasks for name, tasks in sets if name == wanted).text())
+    return 0
+
+
+def add_demands(kinds: "argparse._SubParsersAction[argparse.ArgumentParser]") -> None:
+    parser = kinds.add_parser(
+        "demands", help="demands of all jobs of a run",
+        description="Prints a demand file for all jobs of a run.",
+        epilog="python3 -m rtdvs generate demands --tasks tasks.toml --ticks 100 --share 0.7")
+    add_files(parser, ["tasks"])
+    parser.add_argument("--ticks", type=whole_number(1, MOST_TICKS), required=True, metavar="N",
+                        help="of the run")
+    which = parser.add_mutually_exclusive_group(required=True)
+    which.add_argument("--share", type=exact_fraction, metavar="S",
+                       help="what each job takes of its worst case, 0 to 1")
+    which.add_argument("--seed", type=whole_number(1, MOST_SEED), metavar="N",
+                       help="each job draws its own share by this seed")
+    add_output(parser)
+    parser.set_defaults(handler=run_demands)
+
+
+def run_demands(args: argparse.Namespace) -> int:
+    tasks = read_tasks(args)
+    if args.share is None:
+        demands = taken_uniform(tasks, args.seed, args.ticks)
+    else:
+        require(args.share <= 1, "share is 0 to 1")
+        demands = taken(tasks, args.share, args.ticks)
+    write_output(args, demands.text())
+    return 0
+
+
+def add_exercise(kinds: "argparse._SubParsersAction[argparse.ArgumentParser]") -> None:
+    parser = kinds.add_parser(
+        "exercise", help="an exercise with its solution",
+        description="Draws a set with small numbers, and writes a question, the files, the trace that solves "
+        "it and the explanation of each decision into a folder. The question is printed as well.",
+        epilog="python3 -m rtdvs generate exercise --seed 7 --scheduler edf --governor la --folder seven")
+    parser.add_argument("--seed", type=whole_number(1, MOST_SEED), required=True, metavar="N")
+    parser.add_argument("--scheduler", choices=("edf", "rm"), default="edf", help="edf unless given")
+    parser.add_argument("--governor", choices=("none", "static", "cc", "la"), default="cc",
+                        help="cc unless given")
+    parser.add_argument("--folder", type=Path, required=True, help="where the files are written")
+    add_engine_options(parser)
+    parser.set_defaults(handler=run_exercise)
+
+
+def run_exercise(args: argparse.Namespace) -> int:
+    drawn_one = exercise(engine_of(args), args.seed, args.scheduler, args.governor)
+    drawn_one.write(args.folder)
+    print(drawn_one.question(), end="")
+    return 0

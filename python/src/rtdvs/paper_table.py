@@ -1,0 +1,86 @@
+"""The energies of the worked example of Pillai and Shin (2001), as shares of EDF with `none`."""
+
+import argparse
+from collections.abc import Iterable, Iterator
+from concurrent.futures import Executor
+from fractions import Fraction
+
+from rtdvs.commandline import add_engine_options, engine_of, executor_of, progress, whole_number
+from rtdvs.compare import Case, energy_of, runs
+from rtdvs.decimals import decimal
+from rtdvs.engine import Denied, Engine
+from rtdvs.files import Demands, Machine, Point, Task, TaskSet
+
+EXAMPLE = Case(
+    TaskSet((Task("t1", 8, 12), Task("t2", 10, 12), Task("t3", 14, 4))),
+    Machine((Point(2, 3000), Point(3, 4000), Point(4, 5000))),
+    16,
+    Demands({("t1", 1): 8, ("t1", 2): 4, ("t2", 1): 4, ("t2", 2): 4, ("t3", 1): 4, ("t3", 2): 4}),
+)
+"""A tick is a millisecond, and 4 work units are one at full speed."""
+
+PAIRS = (("edf", "none"), ("rm", "static"), ("edf", "static"), ("edf", "cc"), ("rm", "cc"), ("edf", "la"))
+HEADING = ("k", "none", "RM static", "EDF static", "EDF cc", "RM cc", "EDF la")
+PUBLISHED = ("paper", "1.0", "1.0", "0.64", "0.52", "0.71", "0.44")
+FINER = (1, 3, 10, 100)
+ABOUT = """
+Prints the energies of the worked example of Pillai and Shin (2001), as shares of EDF with none. A row has
+ticks k times finer: periods, worst cases, demands and the ticks of the run times k, at the same speeds. The
+last row is the paper's own.
+"""
+
+
+def shares(engine: Engine, times: int, executor: Executor | None = None) -> tuple[Fraction, ...]:
+    """The energies of the published pairs in ticks that are so much finer, each over the first.
+
+    If the ticks are 3 times finer, or a multiple of it, each completion is at a tick. Then it is seen at
+    once, as in the continuous time of the paper, and the shares are exactly those.
+
+    >>> from rtdvs import find_engine
+    >>> shares(find_engine(), 3)[3:]
+    (Fraction(13, 25), Fraction(5, 7), Fraction(11, 25))
+    """
+    energies = []
+    for text in runs(engine, EXAMPLE.finer(times), PAIRS, executor):
+        if isinstance(text, Denied):
+            raise text
+        energies.append(energy_of(text))
+    return tuple(Fraction(energy, energies[0]) for energy in energies)
+
+
+def lines(rows: Iterable[tuple[int, tuple[Fraction, ...]]]) -> Iterator[str]:
+    """The table line by line: its heading, a row for each k with six decimal places, the paper's own."""
+    yield line(HEADING)
+    for times, row in rows:
+        yield line((str(times), *(decimal(share, 6) for share in row)))
+    yield line(PUBLISHED)
+
+
+def line(cells: tuple[str, ...]) -> str:
+    """The cells in columns.
+
+    >>> line(("3", "1.000000"))
+    '     3    1.000000'
+    """
+    return f"{cells[0]:>6}" + "".join(f"  {cell:>10}" for cell in cells[1:])
+
+
+def add_command(commands: "argparse._SubParsersAction[argparse.ArgumentParser]") -> None:
+    """Adds the command `paper-table`."""
+    parser = commands.add_parser(
+        "paper-table", help="the energies of the example of Pillai and Shin, in finer ticks too",
+        description=ABOUT,
+        epilog="python3 -m rtdvs paper-table --finer 3 30")
+    parser.add_argument("--finer", type=whole_number(1), nargs="+", default=FINER, metavar="K",
+                        help="a row for each; 1, 3, 10 and 100 unless given")
+    add_engine_options(parser, jobs=True)
+    parser.set_defaults(handler=run)
+
+
+def run(args: argparse.Namespace) -> int:
+    engine = engine_of(args)
+    with executor_of(args) as executor:
+        rows = [(times, shares(engine, times, executor))
+                for times in progress(args.finer, len(args.finer), "rows")]
+    print("\n".join(lines(rows)))
+    return 0

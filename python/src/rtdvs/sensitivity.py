@@ -1,0 +1,177 @@
+"""How far a task set is from the limit of a test: how worst cases can grow, how slow a machine can be."""
+
+import argparse
+from collections.abc import Callable, Iterator
+from concurrent.futures import Executor
+from dataclasses import dataclass, replace
+from functools import partial
+from operator import call
+
+from rtdvs.commandline import (
+    add_engine_options,
+    add_files,
+    engine_of,
+    executor_of,
+    progress,
+    read_machine,
+    read_tasks,
+)
+from rtdvs.engine import Denied, Engine, admit_call, response_call
+from rtdvs.files import Machine, Point, TaskSet
+
+TESTS = ("edf", "rm", "response")
+ABOUT = """
+Prints the most thousandths that all worst cases can be multiplied by, each product rounded up; for each task
+its worst case and the most units that it can have; the highest speed and the lowest that is enough. Each
+limit leaves the rest as it is; a dash says that no number is enough. A set that is denied has limits below
+its own numbers.
+"""
+MOST_SPEED = 1_000_000
+"""The highest speed that a machine file can have, in work units per tick."""
+
+
+@dataclass(frozen=True, slots=True)
+class Limits:
+    """The last numbers that a test admits, each with all others as they are; None if no number is enough.
+
+    `thousandths` multiply all worst cases, each product rounded up to whole units. `worsts` are work units,
+    in the order of the tasks. `speed` is the lowest whole highest speed, in work units per tick.
+    """
+
+    thousandths: int | None
+    worsts: tuple[int | None, ...]
+    speed: int | None
+
+
+@dataclass(frozen=True, slots=True)
+class Question:
+    """A test of a set on a machine: edf and rm are those of `admit`, response is the exact one under RM."""
+
+    engine: Engine
+    tasks: TaskSet
+    machine: Machine
+    test: str
+
+    def admits(self) -> bool:
+        """Whether the program's test admits the set; raises its other refusals, and Denied for an offset."""
+        asked = (response_call(self.tasks, self.machine) if self.test == "response"
+                 else admit_call(self.tasks, self.machine, self.test))
+        try:
+            self.engine.answer(asked).text()
+        except Denied as denied:
+            if denied.test == "offset":
+                raise
+            return False
+        return True
+
+    def with_worsts(self, worsts: list[int]) -> "Question":
+        tasks = tuple(replace(task, worst=worst) for task, worst in zip(self.tasks, worsts))
+        return replace(self, tasks=TaskSet(tasks))
+
+
+def last(above: int, holds: Callable[[int], bool]) -> int | None:
+    """The last number from 1 up to below `above` for which the condition holds, None if it holds for none.
+
+    The condition holds up to some number, and for no greater one.
+
+    >>> last(1000, lambda number: number**2 < 50), last(1000, lambda number: False)
+    (7, None)
+    """
+    found = 0
+    while above - found > 1:
+        middle = (found + above) // 2
+        if holds(middle):
+            found = middle
+        else:
+            above = middle
+    return found or None
+
+
+def most_thousandths(question: Question) -> int | None:
+    """The most thousandths that all worst cases can be multiplied by."""
+    def holds(thousandths: int) -> bool:
+        worsts = [-(-task.worst * thousandths // 1000) for task in question.tasks]
+        return question.with_worsts(worsts).admits()
+
+    # A task that needs more than the highest speed does in its period is admitted by no test.
+    room = min(question.machine.top_speed * task.period * 1000 // task.worst for task in question.tasks)
+    return last(room + 1, holds)
+
+
+def most_worst(question: Question, place: int) -> int | None:
+    """The most work units that the task at this place, from 0, can have."""
+    def holds(units: int) -> bool:
+        worsts = [task.worst for task in question.tasks]
+        worsts[place] = units
+        return question.with_worsts(worsts).admits()
+
+    return last(question.machine.top_speed * question.tasks.tasks[place].period + 1, holds)
+
+
+def least_speed(question: Question) -> int | None:
+    """The lowest whole speed with which the set is admitted if it is the only one."""
+    def too_slow(speed: int) -> bool:
+        return not replace(question, machine=Machine((Point(speed, 1),), 0, question.machine.charge)).admits()
+
+    slowest = (last(MOST_SPEED + 1, too_slow) or 0) + 1
+    return slowest if slowest <= MOST_SPEED else None
+
+
+def limits_of(question: Question, executor: Executor | None = None) -> Iterator[int | None]:
+    """The thousandths, the lowest highest speed and each task's worst case, in this order."""
+    searches = [partial(most_thousandths, question), partial(least_speed, question),
+                *(partial(most_worst, question, place) for place in range(len(question.tasks)))]
+    return map(call, searches) if executor is None else executor.map(call, searches)
+
+
+def sensitivity(engine: Engine, tasks: TaskSet, machine: Machine, test: str,
+                executor: Executor | None = None) -> Limits:
+    """The limits of a test (edf, rm or response), each by bisection over calls of the program.
+
+    A set that is denied has limits below its own numbers: it has to shrink to them. Raises Denied if
+    `response` meets an offset, and whatever else the program refuses.
+
+    >>> from rtdvs import Point, Task, find_engine
+    >>> tasks = TaskSet((Task("a", 10, 6), Task("b", 10, 10)))
+    >>> sensitivity(find_engine(), tasks, Machine((Point(2, 1000),)), "edf")
+    Limits(thousandths=1200, worsts=(10, 14), speed=2)
+    """
+    question = Question(engine, tasks, machine, test)
+    question.admits()
+    thousandths, speed, *worsts = limits_of(question, executor)
+    return Limits(thousandths, tuple(worsts), speed)
+
+
+def table(question: Question, limits: Limits) -> str:
+    """A line for all tasks, for each task and for the speed: what is, and the limit; `-` for None."""
+    worsts = "".join(f"task {task.name} {task.worst} {shown(most)}\n"
+                     for task, most in zip(question.tasks, limits.worsts))
+    speed = f"speed {question.machine.top_speed} {shown(limits.speed)}\n"
+    return f"all {shown(limits.thousandths)}\n{worsts}{speed}"
+
+
+def shown(limit: int | None) -> str:
+    return "-" if limit is None else str(limit)
+
+
+def add_command(commands: "argparse._SubParsersAction[argparse.ArgumentParser]") -> None:
+    """Adds the command `sensitivity`."""
+    parser = commands.add_parser(
+        "sensitivity", help="how far a set is from the limit of a test",
+        description=ABOUT,
+        epilog="python3 -m rtdvs sensitivity --tasks tasks.toml --machine machine.toml --test edf")
+    add_files(parser, ["tasks", "machine"])
+    parser.add_argument("--test", choices=TESTS, required=True,
+                        help="edf or rm: the test of admit; response: the exact one under RM")
+    add_engine_options(parser, jobs=True)
+    parser.set_defaults(handler=run)
+
+
+def run(args: argparse.Namespace) -> int:
+    question = Question(engine_of(args), read_tasks(args), read_machine(args), args.test)
+    question.admits()
+    with executor_of(args) as executor:
+        found = progress(limits_of(question, executor), len(question.tasks) + 2, "limits")
+        thousandths, speed, *worsts = found
+    print(table(question, Limits(thousandths, tuple(worsts), speed)), end="")
+    return 0

@@ -1,0 +1,62 @@
+"""Makes the pictures of the pages again: PYTHONPATH=python/src python3 python/tests/pictures.py"""
+
+from collections.abc import Iterator
+from pathlib import Path
+
+from rtdvs.compare import compare
+from rtdvs.engine import Engine, find_engine
+from rtdvs.figures import parse_means, save_compare, save_means
+from rtdvs.files import Demands, Machine, TaskSet
+from rtdvs.plot import View, save_trace
+from rtdvs.trace import Trace
+
+TOP = Path(__file__).resolve().parents[2]
+DATA = TOP / "crates" / "example_runs" / "data"
+PAIRS = (("edf", "none"), ("edf", "static"), ("edf", "cc"), ("edf", "la"), ("rm", "none"), ("rm", "static"), ("rm", "cc"))
+TRACES = {  # a picture's name: the folder, the pair, the ticks, the view and the width
+    "edf_cc_with_demands": ("paper", ("edf", "cc"), 16, View(top=4), 1000),
+    **{f"{scheduler}_{governor}": ("paper", (scheduler, governor), 16, View(top=4), 500) for scheduler, governor in PAIRS},
+    "look_ahead": ("ahead", ("edf", "la"), 3, View(), 700),
+    "controller": ("controller", ("edf", "cc"), 100, View(top=100, charge=2), 1000),
+}
+FIGURES = {"demands": 2, "idle": 2, "machines": 3, "tasks": 3}     # the evaluation's, and their columns
+
+
+def files(folder: str) -> tuple[TaskSet, Machine, Demands | None]:
+    """The files of an example."""
+    tasks = TaskSet.read(DATA / folder / "tasks.toml")
+    demands = DATA / folder / "demands.csv"
+    return tasks, Machine.read(DATA / folder / "machine.toml"), Demands.read(demands, tasks) if demands.exists() else None
+
+
+def draw_traces(engine: Engine, target: Path) -> Iterator[Path]:
+    """Draws the pictures of traces into a folder."""
+    for name, (folder, pair, ticks, view, width) in TRACES.items():
+        tasks, machine, demands = files(folder)
+        trace = Trace.parse(engine.run(tasks, machine, *pair, ticks, demands))
+        save_trace(trace, target / f"{name}.svg", view, width)
+        yield target / f"{name}.svg"
+
+
+def draw_compare(engine: Engine, target: Path) -> Path:
+    """Draws the comparison of the pairs on the controller into a folder."""
+    tasks, machine, demands = files("controller")
+    save_compare(compare(engine, tasks, machine, 2000, demands), target / "compare.svg")
+    return target / "compare.svg"
+
+
+def draw_figures(target: Path) -> Iterator[Path]:
+    """Draws the figures of the evaluation into a folder, from their tables."""
+    for name, columns in FIGURES.items():
+        table = (TOP / "examples" / "evaluation" / f"{name}.tsv").read_text(encoding="utf-8")
+        save_means(parse_means(table), target / f"{name}.svg", columns)
+        yield target / f"{name}.svg"
+
+
+if __name__ == "__main__":
+    program = find_engine()
+    for made in draw_traces(program, TOP / "examples" / "pictures"):
+        print(made)
+    print(draw_compare(program, TOP / "examples" / "pictures"))
+    for made in draw_figures(TOP / "examples" / "evaluation"):
+        print(made)

@@ -1,0 +1,259 @@
+"""Comparisons, against values worked out by hand and recounted from the text of traces."""
+
+from collections import defaultdict
+from fractions import Fraction
+from itertools import combinations
+from pathlib import Path
+
+import pytest
+from hypothesis import given
+from hypothesis import strategies as st
+
+from rtdvs.cli import main
+from rtdvs.compare import PAIRS, Result, compare, table
+from rtdvs.engine import Denied, Engine, TooManyJobs
+from rtdvs.files import Demands, Machine, Point, Task, TaskSet
+from rtdvs.trace import Trace, TraceFault
+
+
+def words(text: str) -> list[list[str]]:
+    return [line.split() for line in text.strip().splitlines()]
+
+
+# 28 units at 9, 16 and 25 thousand million at speeds 2, 3 and 4; the bound is all of them at 2, 252. The
+# units at each speed, and how long it lasts: none and RM static 28 at 4; EDF static 28 at 3; EDF cc 16 at 3
+# in 6 ticks; EDF la 9 at 3 in 3 ticks; RM cc 12 at 4 in 3 ticks and 10 at 3 in 4. All others run at 2.
+# Completions of the first jobs: at 4 in ticks 2, 3, 4; EDF static 8/3, 4, 16/3; EDF cc 8/3, 4, 6; EDF la 8/3,
+# 9/2, 13/2; RM cc 2, 10/3, 5. The second jobs need one tick at 4, 4/3 at 3 and 2 at 2. So the least laxity is
+# that of the first job of t1, and t3 has the greatest jitter.
+PAPER = """
+scheduler governor energy of_none above_bound switches idle least_laxity jitter at_2 at_3 at_4
+edf none 700000000000 1.0000 1.7778 0 0.5625 6.0000 3.0000 0.0000 0.0000 1.0000
+edf static 448000000000 0.6400 0.7778 0 0.4167 5.3333 4.0000 0.0000 1.0000 0.0000
+edf cc 364000000000 0.5200 0.4444 3 0.2917 5.3333 4.0000 0.6250 0.3750 0.0000
+edf la 315000000000 0.4500 0.2500 1 0.2188 5.3333 4.5000 0.8125 0.1875 0.0000
+rm none 700000000000 1.0000 1.7778 0 0.5625 6.0000 3.0000 0.0000 0.0000 1.0000
+rm static 700000000000 1.0000 1.7778 0 0.5625 6.0000 3.0000 0.0000 0.0000 1.0000
+rm cc 514000000000 0.7343 1.0397 6 0.4167 6.0000 3.0000 0.5625 0.2500 0.1875
+"""
+
+# At full load every tick runs 2 units, of 10^9 each. In 3 ticks RM has 2 * 2 + 3 units of both tasks. The
+# jobs of x are complete at 1, 7/2 and 5, those of y at 5/2 and 6.
+FULL = """
+scheduler governor energy of_none above_bound switches idle least_laxity jitter at_2
+edf none 12000000000 1.0000 0.0000 0 0.0000 0.0000 0.5000 1.0000
+edf static 12000000000 1.0000 0.0000 0 0.0000 0.0000 0.5000 1.0000
+edf cc 12000000000 1.0000 0.0000 0 0.0000 0.0000 0.5000 1.0000
+edf la 12000000000 1.0000 0.0000 0 0.0000 0.0000 0.5000 1.0000
+rm none denied rm y 7 6
+rm static denied rm y 7 6
+rm cc denied rm y 7 6
+"""
+
+# Each tick asks for a unit more than it has: 15 units in 6 ticks under EDF, 3 in 2 under RM.
+DENIED = """
+scheduler governor energy of_none above_bound switches idle least_laxity jitter
+edf none denied edf 15 6
+edf static denied edf 15 6
+edf cc denied edf 15 6
+edf la denied edf 15 6
+rm none denied rm x 3 2
+rm static denied rm x 3 2
+rm cc denied rm x 3 2
+"""
+
+# Each second tick runs 999983 units at 399880009000, and the other idles as many at 399880009 * 999. Together
+# 1000 of each cost 999983 * 1000 * 399880009 * 1999.
+LARGE = "\n".join([
+    "scheduler governor energy of_none above_bound switches idle least_laxity jitter at_999983",
+    *(f"{' '.join(pair)} 799346548868654153000 1.0000 0.0000 0 0.5000 1.0000 0.0000 1.0000"
+      for pair in PAIRS)])
+
+# One job of 5 units, in half of the time, at 1210000000 each.
+SMALL = "\n".join([
+    "scheduler governor energy of_none above_bound switches idle least_laxity jitter at_1",
+    *(f"{' '.join(pair)} 6050000000 1.0000 0.0000 0 0.5000 5.0000 0.0000 1.0000" for pair in PAIRS)])
+
+
+@pytest.mark.parametrize(("tasks", "machine", "ticks", "wanted"), [
+    ([(2, 2), (3, 3)], Machine((Point(2, 1000),)), 6, FULL),
+    ([(2, 3), (3, 3)], Machine((Point(1, 1000),)), 6, DENIED),
+    ([(2, 999983)], Machine((Point(999983, 19997),), idle=999), 2000, LARGE),
+    ([(10, 5)], Machine((Point(1, 1100),)), 10, SMALL),
+])
+def test_by_hand(engine: Engine, tasks: list[tuple[int, int]], machine: Machine, ticks: int,
+                 wanted: str) -> None:
+    named = TaskSet(tuple(Task(name, *pair) for name, pair in zip("xy", tasks)))
+    assert words(table(compare(engine, named, machine, ticks))) == words(wanted)
+
+
+def options(data: Path, example: str, program: Path) -> list[str]:
+    folder = data / example
+    return ["compare", "--program", str(program), "--tasks", str(folder / "tasks.toml"), "--machine",
+            str(folder / "machine.toml"), "--ticks"]
+
+
+def test_the_paper_by_hand(program: Path, data: Path, capsys: pytest.CaptureFixture[str]) -> None:
+    call = options(data, "paper", program)
+    assert main([*call, "16", "--demands", str(data / "paper" / "demands.csv"), "--jobs", "2"]) == 0
+    assert words(capsys.readouterr().out) == words(PAPER)
+
+
+def test_finer_ticks_of_the_paper(program: Path, data: Path, capsys: pytest.CaptureFixture[str]) -> None:
+    """In ticks 3 times finer EDF la needs 308 of the 700 and RM cc 500, in the natural ones 315 and 514."""
+    call = options(data, "paper", program)
+    assert main([*call, "16", "--demands", str(data / "paper" / "demands.csv"), "--finer", "1", "3"]) == 0
+    _, _, second = capsys.readouterr().out.partition("\n\n")
+    shares = [row[3] for row in words(second)[1:]]
+    assert words(second)[0] == ["scheduler", "governor", "finer_1", "finer_3"]
+    assert shares == ["1.0000", "1.0000", "1.0000", "0.9778", "1.0000", "1.0000", "0.9728"]
+
+
+def bound(machine: Machine, units: int, ticks: int) -> Fraction:
+    """The cheapest mix of two corners that does the units in the ticks."""
+    slowest = machine.points[0]
+    corners = [(0, slowest.speed * slowest.millivolts**2 * machine.idle)]
+    corners += [(point.speed, point.speed * point.millivolts**2 * 1000) for point in machine.points]
+    need = Fraction(units, ticks)
+    return ticks * min(slow[1] + (fast[1] - slow[1]) * (need - slow[0]) / (fast[0] - slow[0])
+                       for slow, fast in combinations(corners, 2) if slow[0] <= need <= fast[0])
+
+
+def speeds(lines: list[list[str]], ticks: int) -> list[int]:
+    """The speed of each tick."""
+    decisions = [(int(line[1]), int(line[2])) for line in lines if line[0] == "speed"]
+    ends = [tick for tick, _ in decisions[1:]] + [ticks]
+    return [speed for (tick, speed), end in zip(decisions, ends) for _ in range(tick, end)]
+
+
+def responses(lines: list[list[str]], at: list[int]) -> dict[str, list[Fraction]]:
+    """By task each complete job's response."""
+    released = {(line[2], line[3]): int(line[1]) for line in lines if line[0] == "release"}
+    found = defaultdict(list)
+    for line in lines:
+        if line[0] == "done":
+            tick, offset = map(int, line[1].split(":"))
+            release = released[line[2], line[3]]
+            found[line[2]].append(tick + (Fraction(offset, at[tick]) if offset else Fraction(0)) - release)
+    return found
+
+
+def recounted(text: str, tasks: TaskSet, machine: Machine, ticks: int, base: int) -> Result:
+    """What the lines of a trace come to: from units and speeds, not from its energies."""
+    lines = words(text)
+    at = speeds(lines, ticks)
+    square = {point.speed: point.millivolts**2 for point in machine.points}
+    parts = {word: [(int(line[-2]), at[int(line[1].split(":")[0])]) for line in lines if line[0] == word]
+             for word in ("run", "idle")}
+    energy = sum(units * square[speed] * factor for word, factor in (("run", 1000), ("idle", machine.idle))
+                 for units, speed in parts[word])
+    least = bound(machine, sum(units for units, _ in parts["run"]), ticks)
+    periods = {task.name: task.period for task in tasks}
+    times = responses(lines, at)
+    return Result(
+        energy=energy,
+        share=Fraction(energy, base) if base else None,
+        above_bound=energy / least - 1 if least else None,
+        switches=sum(a != b for a, b in zip(at, at[1:])),
+        idle=sum((Fraction(units, speed) for units, speed in parts["idle"]), Fraction(0)) / ticks,
+        least_laxity=min((periods[task] - max(jobs) for task, jobs in times.items()), default=None),
+        jitter=max((max(jobs) - min(jobs) for jobs in times.values()), default=None),
+        residency={speed: Fraction(at.count(speed), ticks) for speed in set(at)},
+    )
+
+
+def check(engine: Engine, tasks: TaskSet, machine: Machine, ticks: int, demands: Demands | None) -> None:
+    base = 0
+    for row, pair in zip(compare(engine, tasks, machine, ticks, demands), PAIRS, strict=True):
+        assert (row.scheduler, row.governor) == pair
+        try:
+            text = engine.run(tasks, machine, *pair, ticks, demands)
+        except Denied as denied:
+            assert (row.result, row.refusal) == (None, str(denied))
+            continue
+        if pair == PAIRS[0]:
+            base = recounted(text, tasks, machine, ticks, 0).energy
+        assert row.result == recounted(text, tasks, machine, ticks, base)
+
+
+@pytest.mark.parametrize(("example", "ticks"), [
+    ("paper", 32), ("ahead", 60), ("offsets", 50), ("controller", 2000)])
+def test_examples(engine: Engine, data: Path, example: str, ticks: int) -> None:
+    folder = data / example
+    tasks, machine = TaskSet.read(folder / "tasks.toml"), Machine.read(folder / "machine.toml")
+    demands = Demands.read(folder / "demands.csv", tasks) if example == "controller" else None
+    check(engine, tasks, machine, ticks, demands)
+
+
+@st.composite
+def cases(draw: st.DrawFn) -> tuple[TaskSet, Machine]:
+    """Small sets, and machines whose energies are up to 1.8 * 10^27."""
+    scale = draw(st.sampled_from([1, 7, 30000]))
+    task = st.tuples(st.integers(1, 9), st.integers(1, 9 * scale), st.integers(0, 3))
+    pairs = draw(st.lists(task, min_size=1, max_size=3))
+    rising = sorted(draw(st.sets(st.integers(1, 10 * scale), min_size=1, max_size=4)))
+    volts = sorted(draw(st.lists(st.integers(1, 20000), min_size=len(rising), max_size=len(rising))))
+    idle, charge = draw(st.sampled_from([0, 1, 999, 1000])), draw(st.integers(0, 1))
+    tasks = tuple(Task(f"t{place}", *pair) for place, pair in enumerate(pairs))
+    return TaskSet(tasks), Machine(tuple(map(Point, rising, volts)), idle, charge)
+
+
+@given(cases(), st.integers(1, 60))
+def test_random_sets(engine: Engine, case: tuple[TaskSet, Machine], ticks: int) -> None:
+    check(engine, *case, ticks, None)
+
+
+def test_energies_of_28_digits(engine: Engine) -> None:
+    """10^6 units a tick at 20 V for 2^32 ticks: 2^32 * 10^6 * 4 * 10^11."""
+    tasks = TaskSet((Task("a", 2**32, 2**32 * 10**6),))
+    rows = compare(engine, tasks, Machine((Point(10**6, 20000),)), 2**32)
+    assert [row.result and row.result.energy for row in rows] == [2**32 * 4 * 10**17] * 7
+
+
+MINE = """trace 2
+plan edf mine 2
+task x 2 0 4
+release 0 x 1
+speed 0 3 3/1
+run 0:0 1:0 x 1 3 27000
+speed 1 2 2/1
+run 1:0 1:1 x 1 1 4000
+done 1:1 x 1 4
+idle 1:1 2:0 1 0
+energy x 31000
+end 2 31000 0
+"""
+
+
+def test_a_trace_beside_the_pairs(engine: Engine) -> None:
+    """Four units at 3 * 9000 + 4000; two ticks at 2 are 4 * 4000."""
+    machine = Machine((Point(2, 2), Point(3, 3)))
+    tasks = TaskSet((Task("x", 2, 4),))
+    rows = compare(engine, tasks, machine, 2, traces=[Trace.parse(MINE)])
+    assert len(rows) == 8 and (rows[7].scheduler, rows[7].governor) == ("edf", "mine")
+    half, none = Fraction(1, 2), Fraction(0)
+    assert rows[7].result == Result(31000, Fraction(31, 36), Fraction(15, 16), 1, half / 2, half, none,
+                                    {3: half, 2: half})
+    with pytest.raises(TraceFault, match="line 2: a run of 2 ticks, and not of 3"):
+        compare(engine, tasks, machine, 3, traces=[Trace.parse(MINE)])
+
+
+def test_other_refusals_end_it(engine: Engine) -> None:
+    with pytest.raises(TooManyJobs):
+        compare(engine, TaskSet((Task("a", 1, 1),)), Machine((Point(1, 1),)), 10**6)
+
+
+@pytest.mark.parametrize("name", ["absent", "."])
+def test_a_file_that_is_not_there(program: Path, data: Path, tmp_path: Path, name: str,
+                                  capsys: pytest.CaptureFixture[str]) -> None:
+    call = options(data, "paper", program)
+    call[call.index("--tasks") + 1] = str(tmp_path / name)
+    assert main([*call, "16"]) == 2
+    out, notes = capsys.readouterr()
+    assert out == "" and notes.count("\n") == 1
+
+
+def test_a_trace_that_is_none(program: Path, data: Path, capsys: pytest.CaptureFixture[str]) -> None:
+    demands = data / "paper" / "demands.csv"
+    assert main([*options(data, "paper", program), "16", "--trace", str(demands)]) == 2
+    assert capsys.readouterr() == ("", f"rtdvs: {demands}: line 1: neither trace 1 nor trace 2\n")

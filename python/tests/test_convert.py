@@ -1,0 +1,312 @@
+"""Tables, events and waves of a trace: each is read by another reader, and compared with the trace's own lines."""
+
+import csv
+import io
+import json
+import locale
+import shutil
+import subprocess
+from collections import defaultdict
+from fractions import Fraction
+from pathlib import Path
+from typing import Any
+
+import pytest
+from hypothesis import given
+from hypothesis import strategies as st
+
+from rtdvs.cli import main
+from rtdvs.convert import csv_text, events_text, frame, millionths, significant, vcd_text
+from rtdvs.engine import Engine
+from rtdvs.files import Machine, Point, Task, TaskSet
+from rtdvs.rules import GOVERNORS
+from rtdvs.simulate import simulate
+from rtdvs.trace import Position, Trace
+
+STEP = Fraction(1, 10**6)
+EXAMPLES = sorted(Path(__file__).resolve().parents[2].glob("crates/example_runs/data/*/*.trace"))
+Waves = dict[tuple[str, ...], list[tuple[int, Fraction]]]
+
+
+class Lines:
+    """A trace as its lines say it, read apart from the package."""
+
+    def __init__(self, text: str) -> None:
+        self.lines = [line.split() for line in text.splitlines()]
+        self.ticks, self.run_energy, self.idle_energy = map(int, self.lines[-1][1:])
+        self.period = {line[1]: int(line[2]) for line in self.lines if line[0] == "task"}
+        self.releases = {(line[2], line[3]): int(line[1]) for line in self.lines if line[0] == "release"}
+        self.used = {(line[2], line[3]): line[4] for line in self.lines if line[0] == "done"}
+        self.decisions = [(int(line[1]), int(line[2]), Fraction(line[3])) for line in self.lines if line[0] == "speed"]
+        self.ran: defaultdict[str, Fraction] = defaultdict(Fraction)    # ticks of each task, and of idle time as ""
+        self.segments: list[tuple[str, str, Fraction, Fraction, int, int]] = []
+        self.ends: dict[tuple[str, str], Fraction] = {}
+        speed = 1
+
+        def at(position: str) -> Fraction:
+            tick, units = map(int, position.split(":"))
+            return tick + Fraction(units, speed)
+
+        for line in self.lines:
+            if line[0] == "speed":
+                speed = int(line[2])
+            elif line[0] == "run":
+                self.segments.append((line[3], line[4], at(line[1]), at(line[2]), int(line[5]), int(line[6])))
+            elif line[0] == "idle":
+                self.segments.append(("", "", at(line[1]), at(line[2]), int(line[3]), int(line[4])))
+            elif line[0] == "done":
+                self.ends[line[2], line[3]] = at(line[1])
+        for task, _, begin, end, _, _ in self.segments:
+            self.ran[task] += end - begin
+
+    def due(self, task: str, job: str) -> int | None:
+        """A job's deadline; in version 1 the next release."""
+        if self.period:
+            return self.releases[task, job] + self.period[task]
+        return self.releases.get((task, str(int(job) + 1)))
+
+
+def near(found: str | Fraction | None, wanted: Fraction) -> bool:
+    return found not in (None, "") and abs(Fraction(str(found)) - wanted) <= STEP / 2
+
+
+def check_tables(text: str) -> None:
+    trace, lines = Trace.parse(text), Lines(text)
+    segments = list(csv.DictReader(io.StringIO(csv_text(trace))))
+    assert [(row["task"], row["job"], int(row["units"]), int(row["energy"])) for row in segments] == [
+        (task, job, units, energy) for task, job, _, _, units, energy in lines.segments]
+    for row, (_, _, begin, end, _, _) in zip(segments, lines.segments):
+        assert near(row["start"], begin) and near(row["stop"], end)
+        assert row["kind"] == ("run" if row["task"] else "idle")
+    jobs = {(row["task"], row["job"]): row for row in csv.DictReader(io.StringIO(csv_text(trace, "jobs")))}
+    assert {key: int(row["release"]) for key, row in jobs.items()} == lines.releases
+    assert {key: row["used"] for key, row in jobs.items() if row["used"]} == lines.used
+    for key, row in jobs.items():
+        due, done = lines.due(*key), lines.ends.get(key)
+        assert row["deadline"] == ("" if due is None else str(due))
+        assert row["done"] == row["response"] == "" if done is None else near(row["done"], done)
+        if done is not None:
+            assert Fraction(row["response"]) == Fraction(row["done"]) - lines.releases[key]
+        assert row["laxity"] == "" if due is None or done is None else Fraction(row["laxity"]) == due - Fraction(row["done"])
+    decisions = list(csv.DictReader(io.StringIO(csv_text(trace, "decisions"))))
+    assert [(int(row["tick"]), int(row["speed"]), Fraction(int(row["num"]), int(row["den"]))) for row in decisions] == lines.decisions
+    assert all(abs(Fraction(row["quotient"]) - demand) <= demand / 10**8 for row, (_, _, demand) in zip(decisions, lines.decisions))
+
+
+def check_events(text: str) -> None:
+    lines = Lines(text)
+    events: list[Any] = json.loads(events_text(Trace.parse(text)), parse_float=Fraction)["traceEvents"]
+    kinds = {kind: [event for event in events if event["ph"] == kind] for kind in "MXiC"}
+    tracks = {event["tid"]: event["args"]["name"] for event in kinds["M"] if event["name"] == "thread_name"}
+    assert tracks.pop(65) == "idle"
+    slices = [(tracks.get(event["tid"], ""), event["name"], event["args"]["units"], int(event["args"]["energy"])) for event in kinds["X"]]
+    assert slices == [(task, f"{task} {job}" if task else "idle", units, energy) for task, job, _, _, units, energy in lines.segments]
+    for event, (_, _, begin, end, _, _) in zip(kinds["X"], lines.segments):
+        assert near(event["ts"], begin) and near(event["dur"], end - begin)
+    marks = {(tracks[event["tid"]], *event["name"].split()): Fraction(event["ts"]) for event in kinds["i"]}
+    assert {(task, job): int(at) for (task, kind, job), at in marks.items() if kind == "release"} == lines.releases
+    ends = {(task, job): at for (task, kind, job), at in marks.items() if kind == "done"}
+    assert ends.keys() == lines.ends.keys() and all(near(at, lines.ends[key]) for key, at in ends.items())
+    speeds = [(event["ts"], event["args"]["units per tick"]) for event in kinds["C"] if event["name"] == "speed"]
+    assert speeds == [(tick, speed) for tick, speed, _ in lines.decisions]
+    demands = [Fraction(event["args"]["units per tick"]) for event in kinds["C"] if event["name"] == "demand"]
+    assert all(abs(found - demand) <= demand / 10**8 for found, (_, _, demand) in zip(demands, lines.decisions, strict=True))
+
+
+def read_waves(text: str) -> Waves:
+    """Of each wire, by its scopes and its name, the pairs of a time and the value from then on, up to the last time."""
+    scope: list[str] = []
+    wires: dict[str, tuple[tuple[str, ...], list[tuple[int, Fraction]]]] = {}
+    now = 0
+    for word in (line.split() for line in text.splitlines()):
+        if word[0] == "$scope":
+            scope.append(word[2])
+        elif word[0] == "$upscope":
+            scope.pop()
+        elif word[0] == "$var":
+            assert word[1:3] in (["wire", "1"], ["real", "64"])
+            wires[word[3]] = (*scope, word[4]), []
+        elif word[0][0] == "#":
+            assert int(word[0][1:]) >= now
+            now = int(word[0][1:])
+        elif word[0][0] == "r":
+            wires[word[1]][1].append((now, Fraction(word[0][1:])))
+        elif word[0][1:] in wires:
+            wires[word[0][1:]][1].append((now, Fraction(int(word[0][0]))))
+    return {name: [*changes, (now, changes[-1][1])] for name, changes in wires.values()}
+
+
+def area(changes: list[tuple[int, Fraction]]) -> Fraction:
+    """The sum of the values, each times the ticks that it lasts."""
+    return sum((value * Fraction(after - before, 10**6) for (before, value), (after, _) in zip(changes, changes[1:])), Fraction(0))
+
+
+def check_waves(text: str, vcd: str) -> None:
+    lines, waves = Lines(text), read_waves(vcd)
+    tasks = [*lines.period] or list(dict.fromkeys(task for task, _ in lines.releases))
+    assert {*waves} == {(name,) for name in ("idle", "job", "speed", "demand", "energy")} | {
+        ("tasks", task + end) for task in tasks for end in ("", "/open")}
+    assert waves["idle",][-1][0] == lines.ticks * 10**6
+    energy = lines.run_energy + lines.idle_energy
+    assert abs(waves["energy",][-1][1] - energy) <= Fraction(energy, 10**14)
+    assert area(waves["speed",]) == sum(units for *_, units, _ in lines.segments)
+    spans = zip(lines.decisions, [*(tick for tick, _, _ in lines.decisions[1:]), lines.ticks])
+    wanted = sum(demand * (end - tick) for (tick, _, demand), end in spans)
+    assert abs(area(waves["demand",]) - wanted) <= wanted / 10**8
+    jobs = [(end - begin, int(job or 0)) for _, job, begin, end, _, _ in lines.segments]
+    assert abs(area(waves["job",]) - sum(time * job for time, job in jobs)) <= STEP * sum(job for _, job in jobs)
+    for task, wire in [("", ("idle",)), *((task, ("tasks", task)) for task in tasks)]:
+        assert abs(area(waves[wire]) - lines.ran[task]) <= STEP * len(lines.segments)
+    for task in tasks:
+        spent = [lines.ends.get(key, Fraction(lines.ticks)) - at for key, at in lines.releases.items() if key[0] == task]
+        assert abs(area(waves["tasks", f"{task}/open"]) - sum(spent)) <= STEP * len(spent)
+
+
+def version_1(text: str) -> str:
+    """The same run in version 1."""
+    kept = [line for line in text.splitlines() if line.split()[0] not in ("task", "energy")]
+    return "\n".join(["trace 1", *kept[1:], ""])
+
+
+def check_all(text: str) -> None:
+    check_tables(text)
+    check_events(text)
+    check_waves(text, vcd_text(Trace.parse(text)))
+
+
+@pytest.mark.parametrize("path", EXAMPLES, ids=lambda path: f"{path.parent.name}/{path.stem}")
+def test_examples(path: Path) -> None:
+    check_all(path.read_text())
+
+
+@pytest.mark.parametrize("path", [path for path in EXAMPLES if path.parent.name != "long"],
+                         ids=lambda path: f"{path.parent.name}/{path.stem}")
+def test_examples_in_version_2(path: Path, engine: Engine) -> None:
+    check_all(engine.migrate(path.parent / "tasks.toml", path.parent / "machine.toml", path))
+
+
+@st.composite
+def runs(draw: st.DrawFn) -> str:
+    """The trace of a random run, in either version; the worst cases fill the processor to a half at most."""
+    top = draw(st.sampled_from([4, 7, 60, 128, 999983]))
+    periods = draw(st.lists(st.sampled_from([2, 3, 4, 6, 8, 12]), min_size=1, max_size=5))
+    tasks = TaskSet(tuple(Task(f"t{place}", period, max(1, draw(st.integers(1, max(1, top * period // (2 * len(periods)))))),
+                               draw(st.integers(0, 3))) for place, period in enumerate(periods)))
+    machine = Machine((Point(max(1, top // 2), 1100), Point(top, 1900)), draw(st.sampled_from([0, 150])))
+    pair = draw(st.sampled_from(sorted(pair for pair in GOVERNORS if pair[0] == "edf")))
+    text = simulate(tasks, machine, *pair[:1], draw(st.integers(1, 40)), GOVERNORS[pair], None, "mine").text()
+    return text if draw(st.booleans()) else version_1(text)
+
+
+@given(runs())
+def test_any_run_is_read_back(text: str) -> None:
+    check_all(text)
+
+
+def test_rows_of_the_page(data: Path) -> None:
+    text = (data / "templates" / "edf_cc_with_demands.trace").read_text()
+    assert csv_text(Trace.parse(text), "jobs", charge=1).splitlines()[1:] == [
+        "control,1,0,4,1,1,3,3,5", "logger,1,0,8,3.500000,3.500000,4.500000,5,8", "control,2,4,8,6,2,2,4,5"]
+
+
+@pytest.mark.parametrize(("number", "by", "digits", "text"), [
+    (2, 3, 9, "0.666666667"), (10**9, 1, 9, "1e+09"), (999999999, 1, 9, "999999999"), (10**10 - 1, 10, 9, "1e+09"),
+    (1, 8192, 9, "0.000122070312"), (1, 10**5, 9, "1e-05"), (3 * 2**128, 1, 15, "1.02084710076282e+39"), (0, 5, 9, "0"),
+])
+def test_numbers_in_the_form_of_c(number: int, by: int, digits: int, text: str) -> None:
+    assert significant(number, by, digits) == text
+
+
+@given(st.integers(0, 2**128), st.integers(1, 2**128), st.sampled_from([9, 15]))
+def test_any_number_is_rounded_once(number: int, by: int, digits: int) -> None:
+    found, wanted = Fraction(significant(number, by, digits)), Fraction(number, by)
+    assert abs(found - wanted) * 2 * 10 ** (digits - 1) <= wanted
+    assert len(significant(number, by, digits).split("e")[0].replace(".", "").lstrip("0")) <= digits
+
+
+@given(st.integers(0, 2**40), st.integers(1, 10**6).flatmap(lambda speed: st.tuples(st.integers(0, speed - 1), st.just(speed))))
+def test_any_time_is_rounded_once(tick: int, part: tuple[int, int]) -> None:
+    offset, speed = part
+    assert abs(millionths(Position(tick, offset), speed) - (tick + Fraction(offset, speed)) * 10**6) <= Fraction(1, 2)
+
+
+def test_charge_is_in_the_declared_units(data: Path, tmp_path: Path, capsys: pytest.CaptureFixture[str]) -> None:
+    (tmp_path / "a").write_text("trace 2\nplan edf mine 2\ntask a 2 0 4\nrelease 0 a 1\nspeed 0 4 1/1\nrun 0:0 2:0 a 1 8 8\n"
+                                "done 2:0 a 1 8\nenergy a 8\nend 2 8 0\n")
+    words = ["convert", "--to", "csv", "--table", "jobs", "--trace", str(tmp_path / "a")]
+    assert main(words) == 0
+    said = capsys.readouterr()
+    assert said.out.endswith(",8,4\n") and "a job 1 used 8 of 4 declared units: give the machine's charge" in said.err
+    assert main([*words, "--charge", "2"]) == 0
+    said = capsys.readouterr()
+    assert said.out.endswith(",8,8\n") and said.err == ""
+
+
+@pytest.mark.parametrize(("words", "line"), [
+    (["--to", "vcd", "--table", "jobs"], "--table and --charge are for csv only, and not for vcd"),
+    (["--to", "pdf"], "invalid choice: 'pdf'"),
+    (["--to", "csv", "--table", "all"], "invalid choice: 'all'"),
+    (["--to", "csv", "--charge", "-1"], "a whole number from 0 on, not -1"),
+    (["--to", "csv", "--charge", "1.5"], "a whole number from 0 on, not 1.5"),
+])
+def test_usage(words: list[str], line: str, data: Path, capsys: pytest.CaptureFixture[str]) -> None:
+    assert main(["convert", *words, "--trace", str(data / "templates" / "edf_cc_with_demands.trace")]) == 2
+    said = capsys.readouterr()
+    assert said.out == "" and line in said.err
+
+
+@pytest.mark.parametrize("change", ["cut", "no plan", "more"])
+def test_what_is_no_whole_trace_is_refused(change: str, data: Path, tmp_path: Path, capsys: pytest.CaptureFixture[str]) -> None:
+    lines = (data / "offsets" / "edf_cc.trace").read_text().splitlines(keepends=True)
+    broken = {"cut": lines[:-1], "no plan": lines[:1] + lines[2:], "more": [*lines, lines[0]]}[change]
+    (tmp_path / "broken").write_text("".join(broken))
+    assert main(["convert", "--to", "vcd", "--trace", str(tmp_path / "broken"), "--output", str(tmp_path / "out")]) == 2
+    said = capsys.readouterr()
+    assert said.out == "" and said.err.count("\n") == 1 and not (tmp_path / "out").exists()
+
+
+def test_frames(data: Path) -> None:
+    pandas = pytest.importorskip("pandas")
+    text = (data / "controller" / "edf_cc_with_demands.trace").read_text()
+    trace, lines = Trace.parse(text), Lines(text)
+    segments = frame(trace, "segments", joule=Fraction(1, 10**12))
+    assert list(segments["energy"]) == [energy for *_, energy in lines.segments]
+    assert all(type(energy) is int for energy in segments["energy"])
+    assert list(segments["joules"]) == [energy / 10**12 for *_, energy in lines.segments]
+    assert list(segments["start"]) == [float(begin) for _, _, begin, _, _, _ in lines.segments]
+    jobs = frame(trace, "jobs")
+    assert len(jobs) == len(lines.releases) and jobs["laxity"].isna().sum() == sum(
+        lines.due(*key) is None or key not in lines.ends for key in lines.releases)
+    decisions = frame(trace, "decisions")
+    assert [*zip(decisions["tick"], decisions["speed"], map(Fraction, decisions["num"], decisions["den"]))] == lines.decisions
+    assert isinstance(decisions, pandas.DataFrame)
+
+
+def test_long_sums_stay_whole_in_a_frame() -> None:
+    pytest.importorskip("pandas")
+    head = "trace 1\nplan edf cc 2\nrelease 0 a 1\nspeed 0 1 1/1\n"
+    text = f"{head}run 0:0 1:0 a 1 1 {2**100}\nrun 1:0 2:0 a 1 1 {2**100}\nend 2 {2**101} 0\n"
+    assert frame(Trace.parse(text))["energy"].sum() == 2**101
+
+
+def test_waves_through_another_reader(data: Path, tmp_path: Path) -> None:
+    if not shutil.which("vcd2fst") or not shutil.which("fst2vcd"):
+        pytest.skip("no vcd2fst and fst2vcd")
+    text = (data / "paper" / "edf_cc_with_demands.trace").read_text()
+    (tmp_path / "a.vcd").write_text(vcd_text(Trace.parse(text)))
+    subprocess.run(["vcd2fst", tmp_path / "a.vcd", tmp_path / "a.fst"], check=True, capture_output=True)
+    check_waves(text, subprocess.run(["fst2vcd", tmp_path / "a.fst"], check=True, capture_output=True, text=True).stdout)
+
+
+def test_decimal_comma(data: Path) -> None:
+    text = (data / "paper" / "edf_cc_with_demands.trace").read_text()
+    before = locale.setlocale(locale.LC_NUMERIC)
+    plain = csv_text(Trace.parse(text)), events_text(Trace.parse(text)), vcd_text(Trace.parse(text))
+    try:
+        locale.setlocale(locale.LC_NUMERIC, "de_DE.UTF-8")
+    except locale.Error:
+        pytest.skip("no locale with a decimal comma")
+    try:
+        assert plain == (csv_text(Trace.parse(text)), events_text(Trace.parse(text)), vcd_text(Trace.parse(text)))
+    finally:
+        locale.setlocale(locale.LC_NUMERIC, before)

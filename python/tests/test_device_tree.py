@@ -1,0 +1,119 @@
+"""Device trees: each expected point is read off the text by hand, or is what the text was made of."""
+
+from pathlib import Path
+
+import pytest
+from hypothesis import given
+from hypothesis import strategies as st
+
+from rtdvs.device_tree import Choice, operating_points
+from rtdvs.files import FileFault
+
+CHIPS = """
+/* three kinds of a chip;
+   " a quote in a comment, and { brackets } */
+#define MHZ(n) (n * 1000000)
+/ {
+    cpu_table: opp-table {
+        compatible = "operating-points-v2";
+        slow { opp-hz = /bits/ 64 <300000000>; opp-microvolt = <950000 931000 969000>; opp-supported-hw = <0x06 0x10>; };
+        also { opp-hz = /bits/ 64 <0x11e1a300>; opp-microvolt = <1100000>; opp-supported-hw = <6 0x20>, <1 0xff>; };
+        fast { opp-hz = /bits/ 64 <MHZ(600)>; opp-microvolt = <1200000>; opp-supported-hw = <0x1 0xffff>; };
+    };
+};
+"""
+OLD = """/ { cpus { #address-cells = <1>;
+    cpu0: cpu@0 { operating-points = < /* kHz uV */
+            996000 1250000
+            0x60ae0 975000
+        >; clock-latency = <61036>; // transition
+    };
+}; };"""
+
+
+def pairs(text: str, choice: Choice = Choice()) -> list[tuple[int, int]]:
+    return [(point.hertz, point.microvolts) for point in operating_points(text, choice)[1]]
+
+
+def table(*statements: str) -> str:
+    """A tree whose table `t` has a point of 100 MHz at 1 V, and one with these statements."""
+    first = "first { opp-hz = /bits/ 64 <100000000>; opp-microvolt = <1000000>; };"
+    return "/ { t { %s second { %s; }; }; };" % (first, "; ".join(statements))
+
+
+@pytest.mark.parametrize(("choice", "points"), [
+    (Choice("little"), [(500000000, 825000), (747500000, 900000), (1400000000, 1187250)]),
+    (Choice("big", suffix="slow"), [(600000000, 850000), (1800000000, 1100000)]),
+    (Choice("big", suffix="fast"), [(600000000, 800000), (1800000000, 1050000)]),
+    (Choice("soc/opp-table"), [(10**9, 900000), (5 * 10**9, 1100000)]),
+])
+def test_board(top: Path, choice: Choice, points: list[tuple[int, int]]) -> None:
+    assert pairs((top / "examples" / "board.dts").read_text(), choice) == points
+
+
+@pytest.mark.parametrize(("hardware", "points"), [
+    ((2, 0x10), [(300000000, 950000)]),
+    ((1, 1), [(300000000, 1100000)]),
+    ((4, 0x30), [(300000000, 950000), (300000000, 1100000)]),
+])
+def test_hardware_is_chosen(hardware: tuple[int, ...], points: list[tuple[int, int]]) -> None:
+    assert pairs(CHIPS.replace("MHZ(600)", "600000000").replace("0x1 0xffff", "8 8"), Choice(supported_hw=hardware)) == points
+
+
+def test_old_points() -> None:
+    assert operating_points(OLD)[0] == "cpu0"
+    assert pairs(OLD) == [(396000000, 975000), (996000000, 1250000)]
+
+
+@pytest.mark.parametrize(("statement", "hertz"), [
+    ("opp-hz = <0 200000000>", 200000000),
+    ("opp-hz = /bits/ 64 <0100000000>", 8**8),
+    ("opp-hz = /bits/ 64 <200000000ULL>", 200000000),
+    ('compatible = "a; { < b"; opp-hz = /bits/ 64 <200000000>', 200000000),
+])
+def test_numbers(statement: str, hertz: int) -> None:
+    assert (hertz, 1100000) in pairs(table(statement, "opp-microvolt = <1100000>, <1200000 1 2>"))
+
+
+def test_points_are_added_and_deleted() -> None:
+    added = "&two { more { opp-hz = /bits/ 64 <3>; opp-microvolt = <9>; }; /delete-node/ second; };"
+    text = table("opp-hz = /bits/ 64 <2>", "opp-microvolt = <8>").replace("/ { t {", "/ { one: two: t {")
+    assert pairs(text + added) == [(3, 9), (100000000, 1000000)]
+    assert pairs("&two { only { opp-hz = /bits/ 64 <3>; opp-microvolt = <9>; }; };") == [(3, 9)]
+    with pytest.raises(FileFault, match="second has no opp-microvolt"):
+        pairs(text + "&{/t/second} { /delete-property/ opp-microvolt; };")
+
+
+@pytest.mark.parametrize(("text", "choice", "reason"), [
+    ("", Choice(), "no table of operating points"),
+    ("[[task]]\nname = 1", Choice(), "no table of operating points"),
+    (OLD + OLD.replace("cpu0", "cpu1").replace("cpus", "more"), Choice(), "one table has to be chosen of these: cpu0, cpu1"),
+    (OLD, Choice("cpu2"), "no table cpu2; the tables are: cpu0"),
+    (OLD.replace("0x60ae0", ""), Choice(), "operating-points has no pairs of kHz and microvolts"),
+    (CHIPS, Choice(), "slow is for some hardware only; choose the hardware by --supported-hw"),
+    (CHIPS, Choice(supported_hw=(1, 1, 1)), "slow has 2 numbers in opp-supported-hw, which are no groups of 3"),
+    (CHIPS, Choice(supported_hw=(1, 1)), "not a number: MHZ"),
+    (CHIPS, Choice(supported_hw=(8, 8)), "no point of cpu_table is for this hardware"),
+    (table("opp-hz = <200000000>", "opp-microvolt = <1>"), Choice(), "second has an opp-hz that is neither"),
+    (table("opp-hz = /bits/ 64 <08>", "opp-microvolt = <1>"), Choice(), "not a number: 08"),
+    (table("opp-hz = /bits/ 64 <(2 * (3 + 4))>", "opp-microvolt = <1>"), Choice(), r"not a number: \(2 \* \(3 \+ 4\)\)"),
+    (table("opp-hz = <1 4294967296>", "opp-microvolt = <1>"), Choice(), "not a number of 32 bits: 4294967296"),
+    (table("opp-hz = /bits/ 64 <9>"), Choice(), "second has no opp-microvolt"),
+    (table("opp-hz = /bits/ 64 <9>", "opp-microvolt = <1>"), Choice(supply=2), "no supply 2"),
+    ("/ {\n /* no end", Choice(), "line 2: no end of a comment"),
+    ('/ { a = "b;\n};', Choice(), "line 1: no end of a string"),
+    ("/ { a { };", Choice(), "no end of node /"),
+    ("}", Choice(), "a bracket } too many"),
+    pytest.param("a { " * 5000, Choice(), "no end of node", id="nested"),
+])
+def test_refusals(text: str, choice: Choice, reason: str) -> None:
+    with pytest.raises(FileFault, match=f"^device tree: .*{reason}"):
+        operating_points(text, choice)
+
+
+@given(st.dictionaries(st.integers(1, 2**40), st.integers(0, 2**31), min_size=1), st.sampled_from(["{}", "{:#x}", "0{:o}"]),
+       st.sampled_from([" ", "\n", " /* ; } \n */ ", " // <\n"]))
+def test_any_table_is_read_back(points: dict[int, int], form: str, gap: str) -> None:
+    nodes = gap.join(f"p{hertz}{gap}{{ opp-hz = /bits/ 64 <{form.format(hertz)}>;{gap}opp-microvolt ={gap}"
+                     f"<{form.format(volts)}>; }};" for hertz, volts in points.items())
+    assert pairs(f"/ {{{gap}x: t {{ {nodes} }}; }};") == sorted(points.items())

@@ -1,0 +1,175 @@
+"""The evaluation: what its tables are made of, and a sweep that is stopped."""
+
+from concurrent.futures import ThreadPoolExecutor
+from dataclasses import replace
+from fractions import Fraction
+from pathlib import Path
+
+import pytest
+from hypothesis import given
+from hypothesis import strategies as st
+
+from rtdvs.cli import main
+from rtdvs.draws import SetName, published_sets
+from rtdvs.engine import Engine
+from rtdvs.evaluate import (
+    CURVES,
+    FIGURES,
+    MACHINES,
+    Record,
+    Sweep,
+    evaluate,
+    faults,
+    figure_table,
+    mean,
+    panels_of,
+    point,
+    read_records,
+    recount,
+    shares,
+    summary,
+)
+from rtdvs.files import FileFault, Machine, Point
+
+NAME = SetName(8, 7, 1)
+SMALL = Sweep("published", 1, counts=(5,), tenths=(1, 9))
+
+
+def records(name: SetName = NAME, **energies: Fraction | int | None) -> list[Record]:
+    """A whole group of runs: EDF with `none` has 100, the bound 50 and the others 80."""
+    given = {curve: energies.get(curve.replace(" ", "_"), 100 if curve == "edf none" else 50 if curve == "bound" else 80)
+             for curve in CURVES}
+    return [Record(name, "table1_idle0", "1", curve, None if energy is None else Fraction(energy))
+            for curve, energy in given.items()]
+
+
+def test_right_results_have_no_faults() -> None:
+    right = records(rm_static=None)
+    assert list(faults(right)) == []
+    assert summary(right, []) == "8 lines, 1 groups, 1 denied under RM, 0 faults"
+
+
+@pytest.mark.parametrize(("wrong", "reason"), [
+    (records(edf_la=49), "8_7_1 table1_idle0 1: edf la: below the bound"),
+    (records(edf_cc=101), "8_7_1 table1_idle0 1: edf cc: above EDF with none"),
+    (records(edf_cc=None), "8_7_1 table1_idle0 1: edf cc: it is denied"),
+    (records()[1:], "8_7_1 table1_idle0 1: runs are missing"),
+])
+def test_wrong_results(wrong: list[Record], reason: str) -> None:
+    assert list(faults(wrong)) == [reason]
+
+
+def test_an_idle_share_may_take_more_than_none() -> None:
+    assert list(faults([replace(record, machine="table1_idle10") for record in records(edf_cc=101)])) == []
+
+
+def test_a_table_by_hand() -> None:
+    """Two sets of 8 tasks at 0.7: RM denies one under `cc`, and `la` has 0.6 and 0.7004 of `none`."""
+    both = records(edf_la=60) + records(SetName(8, 7, 2), edf_none=10000, edf_la=7004, rm_cc=None)
+    table = figure_table(FIGURES["machines"][:1], shares(both)).splitlines()
+    assert table[0].split("\t") == ["panel", "curve", "utilisation", "sets", "mean", "low", "high"]
+    lines = {tuple(line.split("\t")[:3]): line.split("\t")[3:] for line in table[1:]}
+    assert lines["machine 1", "edf la", "0.7"] == ["2", "0.6502", "0.6000", "0.7004"]
+    assert lines["machine 1", "rm cc", "0.7"] == ["1", "0.8000", "0.8000", "0.8000"]
+    assert lines["machine 1", "edf la", "0.8"] == ["0", "", "", ""]
+    assert len(lines) == 80
+
+
+@given(st.lists(st.fractions(0, 2, max_denominator=10**9), min_size=1, max_size=25))
+def test_ends_of_the_middle(values: list[Fraction]) -> None:
+    assert mean(values) == sum(values) / len(values)
+    rising = sorted(values)
+    tenth = len(values) // 10
+    kept = rising[tenth:len(values) - tenth]
+    wanted = [mean(values), kept[0], kept[-1]]
+    fields = point(rising).rstrip("\n").split("\t")
+    assert fields[0] == str(len(values))
+    assert all(abs(Fraction(field) - value) <= Fraction(1, 20000) for field, value in zip(fields[1:], wanted, strict=True))
+
+
+@pytest.mark.parametrize("figure", FIGURES)
+def test_stored_tables_have_these_panels(top: Path, figure: str) -> None:
+    stored = (top / "examples" / "evaluation" / f"{figure}.tsv").read_text().splitlines()
+    made = figure_table(FIGURES[figure], {}).splitlines()
+    assert [line.split("\t")[:3] for line in stored] == [line.split("\t")[:3] for line in made]
+
+
+def test_what_is_run_of_a_set() -> None:
+    assert panels_of(SetName(5, 1, 1)) == (("table1_idle0", "1"),)
+    assert len(panels_of(NAME)) == 10
+    assert {kind for kind, _ in panels_of(NAME)} == set(MACHINES)
+
+
+def test_a_sweep_that_is_stopped_goes_on(engine: Engine, tmp_path: Path) -> None:
+    with ThreadPoolExecutor(1) as executor:
+        begun = evaluate(engine, tmp_path, SMALL, executor)
+        first = next(begun)
+        begun.close()
+    file = tmp_path / "results" / f"{first}.tsv"
+    (tmp_path / "results" / "5_9_1.tsv.part").write_text("half of")
+    written = file.stat().st_mtime_ns
+    with ThreadPoolExecutor(2) as executor:
+        assert sorted(map(str, evaluate(engine, tmp_path, SMALL, executor))) == ["5_1_1", "5_9_1"]
+    assert file.stat().st_mtime_ns == written
+    found = read_records(tmp_path, [SetName(5, 1, 1), SetName(5, 9, 1)])
+    assert len(found) == 16 and list(faults(found)) == []
+
+
+def test_energies_of_a_set_are_those_of_its_units(engine: Engine, tmp_path: Path) -> None:
+    """All pairs run the same units, and EDF with `none` runs them at 5 V and idles for nothing."""
+    sweep = replace(SMALL, tenths=(1,))
+    with ThreadPoolExecutor(1) as executor:
+        names = list(evaluate(engine, tmp_path, sweep, executor))
+    tasks = dict(published_sets(1))[names[0]]
+    units = sum(task.worst * (720720 // task.period) for task in tasks)
+    by_curve = {record.curve: record.energy for record in read_records(tmp_path, names)}
+    assert by_curve["edf none"] == by_curve["rm none"] == units * 5000**2 * 1000
+    assert by_curve["edf static"] == by_curve["bound"] == units * 3000**2 * 1000
+
+
+def test_a_folder_has_one_sweep(program: Path, tmp_path: Path, capsys: pytest.CaptureFixture[str]) -> None:
+    (tmp_path / "sweep").write_text("100 uunifast sets a point by seed 2001\n")
+    with ThreadPoolExecutor(1) as executor, pytest.raises(FileFault, match="it has results of 100 uunifast sets"):
+        next(evaluate(Engine(program), tmp_path, SMALL, executor))
+
+
+def test_the_command_writes_tables(program: Path, tmp_path: Path, capsys: pytest.CaptureFixture[str]) -> None:
+    call = ["evaluate", "--program", str(program), "--folder", str(tmp_path), "--sets", "1", "--counts", "5",
+            "--utilisations", "0.1", "1", "--jobs", "2"]
+    assert main(call) == 0
+    assert capsys.readouterr().out.splitlines()[-1].endswith("2 groups, 3 denied under RM, 0 faults")
+    rows = [line.split("\t") for line in (tmp_path / "tasks.tsv").read_text().splitlines()[1:]]
+    assert [row[2] for row in rows if row[:2] == ["5 tasks", "edf la"] and row[3] == "1"] == ["0.1", "1.0"]
+
+
+@pytest.mark.parametrize("words", [
+    ["--utilisations", "0.15"], ["--counts", "6"], ["--sets", "0"], ["--draws", "other"], ["--jobs", "0"]])
+def test_what_cannot_be_swept(program: Path, tmp_path: Path, words: list[str]) -> None:
+    assert main(["evaluate", "--program", str(program), "--folder", str(tmp_path), *words]) == 2
+
+
+BOARD = Machine((Point(2, 2), Point(3, 3)), idle=10)
+RIGHT = """trace 1
+plan edf mine 2
+release 0 x 1
+speed 0 3 3/1
+run 0:0 1:0 x 1 3 27000
+speed 1 2 2/1
+run 1:0 1:1 x 1 1 4000
+done 1:1 x 1 4
+idle 1:1 2:0 1 40
+end 2 31000 40
+"""
+
+
+@pytest.mark.parametrize(("old", "new", "reason"), [
+    ("end 2 31000 40", "end 2 31001 40", "running energy 31001, counted 31000"),
+    ("end 2 31000 40", "end 2 31000 41", "idle energy 41, counted 40"),
+    ("x 1 3 27000", "x 1 4 36000", "running energy 31000, counted 40000"),
+    ("done 1:1 x 1 4\n", "", "jobs 1, counted 0"),
+    ("idle 1:1 2:0 1 40\nend 2 31000 40", "end 2 31000 0", "units 4, counted 5"),
+])
+def test_recounted_traces(old: str, new: str, reason: str) -> None:
+    recount(BOARD, RIGHT)
+    with pytest.raises(AssertionError, match=reason):
+        recount(BOARD, RIGHT.replace(old, new))

@@ -1,0 +1,67 @@
+"""The table of the paper's example, against energies worked out by hand.
+
+A unit costs 9, 16 and 25 thousand million at speeds 2, 3 and 4, and the jobs need 28 units, each times k. In
+time without ticks they run so:
+
+    EDF and RM at 4: 28 * 25 = 700        EDF static at 3: 28 * 16 = 448
+    EDF cc: 16 at 3, 12 at 2, 364         EDF la: 8 at 3, 20 at 2, 308
+    RM cc: 12 at 4, 8 at 3, 8 at 2, 500
+
+In ticks k times finer a speed lasts to the end of the tick in which a job ends. Under EDF cc the rest of such
+a tick idles, or is followed by speed 3 again. Under RM cc the first job of t2 ends 4/3 of a tick after that
+of t1, and under EDF la that of t1 ends at 8/3: the rest of that tick runs the next job at 3 in place of 2.
+Such a unit costs 7 more.
+"""
+
+from fractions import Fraction
+from pathlib import Path
+
+import pytest
+
+from rtdvs.cli import main
+from rtdvs.engine import Engine
+from rtdvs.files import Demands, Machine, TaskSet
+from rtdvs.paper_table import EXAMPLE, PAIRS, shares
+from rtdvs.trace import Done, Trace
+
+
+def rest(units: int, times: int) -> int:
+    """The units of the tick at speed 3 in which a job ends that come after it."""
+    return -units * times % 3
+
+
+@pytest.mark.parametrize("times", [1, 2, 3, 10, 100, 1000, 10000])
+def test_by_hand(engine: Engine, times: int) -> None:
+    rm_cc = 500 + Fraction(7 * rest(4, times), times)
+    edf_la = 308 + Fraction(7 * rest(8, times), times)
+    energies = (700, 700, 448, 364, rm_cc, edf_la)
+    assert shares(engine, times) == tuple(Fraction(energy) / 700 for energy in energies)
+
+
+@pytest.mark.parametrize("pair", PAIRS)
+def test_no_job_is_complete_inside_a_tick_if_there_are_3(engine: Engine, pair: tuple[str, str]) -> None:
+    case = EXAMPLE.finer(3)
+    trace = Trace.parse(engine.run(case.tasks, case.machine, *pair, case.ticks, case.demands))
+    assert {note.at.offset for note in trace.notes if isinstance(note, Done)} == {0}
+
+
+def test_the_example_is_that_of_the_files(data: Path) -> None:
+    folder = data / "paper"
+    assert EXAMPLE.tasks == TaskSet.read(folder / "tasks.toml")
+    assert EXAMPLE.machine == Machine.read(folder / "machine.toml")
+    assert EXAMPLE.demands == Demands.read(folder / "demands.csv", EXAMPLE.tasks)
+
+
+def test_printed(program: Path, capsys: pytest.CaptureFixture[str]) -> None:
+    assert main(["paper-table", "--program", str(program), "--finer", "1", "3", "100"]) == 0
+    assert capsys.readouterr().out == (
+        "     k        none   RM static  EDF static      EDF cc       RM cc      EDF la\n"
+        "     1    1.000000    1.000000    0.640000    0.520000    0.734286    0.450000\n"
+        "     3    1.000000    1.000000    0.640000    0.520000    0.714286    0.440000\n"
+        "   100    1.000000    1.000000    0.640000    0.520000    0.714486    0.440100\n"
+        " paper         1.0         1.0        0.64        0.52        0.71        0.44\n")
+
+
+@pytest.mark.parametrize("times", ["0", "-1", "1.5", "x"])
+def test_what_ticks_cannot_be(program: Path, times: str) -> None:
+    assert main(["paper-table", "--program", str(program), "--finer", times]) == 2

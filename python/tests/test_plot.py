@@ -1,0 +1,224 @@
+"""Pictures: their marks are counted in the trace's lines, and the stored ones are made again and compared."""
+
+import sys
+import xml.etree.ElementTree as ElementTree
+from collections import Counter
+from pathlib import Path
+
+import pictures
+import pytest
+from hypothesis import given
+from hypothesis import strategies as st
+
+from rtdvs.cli import main
+from rtdvs.compare import Result, Row
+from rtdvs.engine import Engine
+from rtdvs.figures import plot_compare
+from rtdvs.files import FileFault
+from rtdvs.marks import Bar, join_narrow, over_worst, readable, round_step, steps, thin
+from rtdvs.plot import View, plot_trace, save_trace, settled, trace_height
+from rtdvs.trace import Trace
+
+pytest.importorskip("matplotlib")
+SVG = "{http://www.w3.org/2000/svg}"
+TOP = Path(__file__).resolve().parents[2]
+EXAMPLES = [path for path in sorted(TOP.glob("crates/example_runs/data/*/*.trace")) if path.parent.name != "long"]
+
+
+def marks(path: Path) -> dict[str, int]:
+    """The marks of each named group of a picture."""
+    def count(group: ElementTree.Element, *kinds: str) -> int:
+        return sum(len(list(group.iter(SVG + kind))) for kind in kinds)
+
+    groups = ElementTree.parse(path).getroot().iter(f"{SVG}g")
+    # A shape that is used is defined by a path of its own.
+    return {group.get("id", ""): count(group, "use", "path") - count(group, "defs") for group in groups}
+
+
+def texts(path: Path) -> list[str]:
+    return ["".join(text.itertext()) for text in ElementTree.parse(path).getroot().iter(f"{SVG}text")]
+
+
+@pytest.mark.parametrize("path", EXAMPLES, ids=lambda path: f"{path.parent.name}/{path.stem}")
+def test_marks_are_those_of_the_trace(path: Path, tmp_path: Path) -> None:
+    lines = [line.split() for line in path.read_text().splitlines()]
+    save_trace(Trace.read(path), tmp_path / "a.svg")
+    found, said = marks(tmp_path / "a.svg"), texts(tmp_path / "a.svg")
+    for word, place in ("release", 2), ("done", 2):
+        assert Counter(line[place] for line in lines if line[0] == word) == Counter(
+            {name.removeprefix(f"{word}-"): count for name, count in found.items() if name.startswith(f"{word}-") and count})
+    assert found["decision"] + found["over"] == sum(line[0] == "speed" for line in lines)
+    assert {name.removeprefix("run-") for name in found if name.startswith("run-")} == {line[3] for line in lines if line[0] == "run"}
+    assert ("idle" in found) == any(line[0] == "idle" for line in lines)
+    assert {line[4] for line in lines if line[0] == "done"} <= {text.split("/")[0] for text in said}
+    assert f"{lines[1][1]}, {lines[1][2]}: {lines[1][3]} ticks" in said
+
+
+def same_picture(made: Path, stored: Path) -> None:
+    """The same texts in the same order, and the same numbers of marks; other versions of matplotlib place them otherwise."""
+    assert texts(made) == texts(stored)
+    named = {name: count for name, count in marks(made).items() if "-" in name or name in ("idle", "decision", "over")}
+    assert named == {name: count for name, count in marks(stored).items() if name in named} and len(named) > 4
+
+
+def test_stored_traces(engine: Engine, tmp_path: Path) -> None:
+    made = list(pictures.draw_traces(engine, tmp_path))
+    for path in made:
+        same_picture(path, TOP / "examples" / "pictures" / path.name)
+    stored = {path.name for path in (TOP / "examples" / "pictures").iterdir()}
+    assert stored == {path.name for path in made} | {"compare.svg"}
+
+
+def test_stored_comparison(engine: Engine, tmp_path: Path) -> None:
+    same_picture(pictures.draw_compare(engine, tmp_path), TOP / "examples" / "pictures" / "compare.svg")
+
+
+def test_stored_figures(tmp_path: Path) -> None:
+    for path in pictures.draw_figures(tmp_path):
+        same_picture(path, TOP / "examples" / "evaluation" / path.name)
+
+
+def test_same_bytes_each_time(data: Path, tmp_path: Path) -> None:
+    trace = Trace.read(data / "templates" / "edf_cc_with_demands.trace")
+    for kind in "svg", "pdf":
+        for name in "a", "b":
+            save_trace(trace, tmp_path / f"{name}.{kind}")
+        assert (tmp_path / f"a.{kind}").read_bytes() == (tmp_path / f"b.{kind}").read_bytes()
+
+
+def head(ticks: int, tasks: str) -> str:
+    return f"trace 2\nplan edf my_own {ticks}\n{tasks}"
+
+
+def long_trace(jobs: int) -> Trace:
+    """A task of period 2 that runs for a tick, at another speed each time."""
+    lines = [f"release {2 * job} a {job + 1}\nspeed {2 * job} {1 + job % 2} {1 + job % 2}/1\nrun {2 * job}:0 {2 * job + 1}:0 a "
+             f"{job + 1} {1 + job % 2} 5\ndone {2 * job + 1}:0 a {job + 1} {1 + job % 2}\nidle {2 * job + 1}:0 {2 * job + 2}:0 "
+             f"{1 + job % 2} 0\n" for job in range(jobs)]
+    return Trace.parse(head(2 * jobs, "task a 2 0 2\n") + "".join(lines) + f"energy a {5 * jobs}\nend {2 * jobs} {5 * jobs} 0\n")
+
+
+def test_long_run_is_thinned(tmp_path: Path) -> None:
+    save_trace(long_trace(4000), tmp_path / "a.svg", width=400)
+    found = marks(tmp_path / "a.svg")
+    assert all(50 < found[name] <= 160 for name in ("release-a", "deadline-a", "done-a"))
+    assert found["decision"] <= 320 and found["run-a-narrow"] <= 640
+    assert "near marks (less than 2 pixels) once" in texts(tmp_path / "a.svg")
+    assert (tmp_path / "a.svg").stat().st_size < 300_000
+
+
+def test_window(tmp_path: Path) -> None:
+    save_trace(long_trace(50), tmp_path / "a.svg", View(first=10, last=20))
+    found = marks(tmp_path / "a.svg")
+    assert [found[name] for name in ("release-a", "deadline-a", "done-a", "run-a", "idle", "decision")] == [6, 6, 5, 5, 5, 5]
+    assert "edf, my_own: ticks 10 to 20 of 100" in texts(tmp_path / "a.svg")
+
+
+def test_64_tasks_and_a_demand_above_the_picture(tmp_path: Path) -> None:
+    names = [f"t{'x' * 29}{place:02}" for place in range(64)]
+    lines = "".join(f"release 0 {name} 1\n" for name in names) + f"speed 0 1 {2**100}/1\nidle 0:0 9:0 9 0\n"
+    energies = "".join(f"energy {name} 0\n" for name in names)
+    trace = Trace.parse(head(9, "".join(f"task {name} 9 0 1\n" for name in names)) + f"{lines}{energies}end 9 0 {2**127}\n")
+    save_trace(trace, tmp_path / "a.svg", View(charge=3))
+    said = texts(tmp_path / "a.svg")
+    assert marks(tmp_path / "a.svg")["over"] == 1 and {*names} < {*said}
+    assert "period 9, worst 1+6" in said and "demand above the picture" in said
+    assert any("1.70141 × 10³⁸ idle" in text for text in said)
+    assert trace_height(trace) > 64 * 50
+
+
+def test_into_the_axes_of_a_caller(data: Path) -> None:
+    from matplotlib.figure import Figure
+
+    one, two = Figure(figsize=(8, 8)).subplots(2)
+    plot_trace(Trace.read(data / "paper" / "edf_none.trace"), one, View(top=8))
+    result = Result(1, None, None, 0, *3 * [one.get_xlim()[0] * 0], residency={})    # type: ignore[misc]
+    plot_compare([Row("rm", "cc", None, "denied rm 3 of 2"), Row("edf", "cc", result)], one, two)
+    assert "denied rm 3 of 2" in [text.get_text() for text in one.texts]
+
+
+@pytest.mark.parametrize(("view", "line"), [
+    (View(last=17), "--to has to be at most 16, the ticks of the run"), (View(first=16), "--from has to be below 16"),
+    (View(first=3, last=3), "--from has to be below 3"), (View(top=2), "--top has to be at least 4, the fastest speed"),
+])
+def test_views(view: View, line: str, data: Path) -> None:
+    with pytest.raises(FileFault, match=line):
+        settled(Trace.read(data / "paper" / "edf_none.trace"), view)
+
+
+@pytest.mark.parametrize(("words", "line"), [
+    (["--width", "200"], "--width has to be at least 320"), (["--output", "a.gif"], "a picture is a file .svg, .pdf or .png"),
+    (["--background", "no"], "no colour: no"), (["--trace", "absent"], "absent: No such file or directory"),
+    (["--trace", "README.md"], "line 1: "), (["--from", "x"], "a whole number from 0 on"),
+    (["--output", "/absent/a.svg"], "/absent/a.svg: No such file or directory"),
+])
+def test_usage(words: list[str], line: str, monkeypatch: pytest.MonkeyPatch, tmp_path: Path, capsys: pytest.CaptureFixture[str]) -> None:
+    monkeypatch.chdir(TOP)
+    trace = "crates/example_runs/data/paper/edf_none.trace"
+    assert main(["plot", "trace", "--trace", trace, "--output", str(tmp_path / "a.svg"), *words]) == 2
+    assert line in capsys.readouterr().err and not list(tmp_path.iterdir())
+
+
+@pytest.mark.parametrize("table", ["", "a\tb\n", "panel\tcurve\tutilisation\tsets\tmean\tlow\thigh\na\tb\tx\t1\t1\t1\t1\n"])
+def test_tables_are_refused(table: str, tmp_path: Path, capsys: pytest.CaptureFixture[str]) -> None:
+    (tmp_path / "t.tsv").write_text(table)
+    assert main(["plot", "evaluation", "--table", str(tmp_path / "t.tsv"), "--output", str(tmp_path / "a.svg")]) == 2
+    assert "table: " in capsys.readouterr().err
+
+
+def test_without_matplotlib(data: Path, tmp_path: Path, monkeypatch: pytest.MonkeyPatch, capsys: pytest.CaptureFixture[str]) -> None:
+    modules: dict[str, object] = sys.modules    # type: ignore[assignment]
+    monkeypatch.setitem(modules, "matplotlib", None)
+    words = ["--trace", str(data / "paper" / "edf_none.trace"), "--output", str(tmp_path / "a.svg")]
+    assert main(["plot", "trace", *words]) == 2
+    assert "plot: matplotlib is not installed" in capsys.readouterr().err
+
+
+def test_charge_is_asked_for(data: Path) -> None:
+    trace = Trace.parse(head(2, "task a 2 0 4\n") + "release 0 a 1\nspeed 0 4 1/1\nrun 0:0 2:0 a 1 8 8\ndone 2:0 a 1 8\nenergy a 8\nend 2 8 0\n")
+    assert over_worst(trace, 1) == "a" and over_worst(trace, 2) is None
+
+
+places = st.lists(st.integers(0, 1000)).map(lambda ticks: sorted(ticks))
+
+
+@given(places, st.integers(0, 50))
+def test_thinned_places_are_apart_and_near_all(given_places: list[int], near: int) -> None:
+    kept = thin(given_places, near)
+    assert all(after - before >= near for before, after in zip(kept, kept[1:]))
+    assert all(any(0 <= place - other < max(near, 1) for other in kept) for place in given_places)
+
+
+@given(st.lists(st.tuples(st.integers(0, 5), st.integers(1, 9), st.integers(1, 2))), st.integers(0, 6))
+def test_joined_bars_cover_all(row: list[tuple[int, int, int]], narrow: int) -> None:
+    bars, now = [], 0
+    for gap, length, speed in row:
+        bars.append(Bar(now + gap, now + gap + length, speed))
+        now += gap + length
+    joined = list(join_narrow(bars, narrow, 1))
+    assert all(any(one.begin <= bar.begin and bar.end <= one.end and one.speed >= bar.speed for one in joined) for bar in bars)
+    assert all(before.end <= after.begin for before, after in zip(joined, joined[1:]))
+    assert sum(bar.end - bar.begin for bar in joined) <= sum(bar.end - bar.begin + 2 for bar in bars)
+
+
+@given(st.lists(st.tuples(st.integers(1, 5), st.integers(0, 9)), min_size=1), st.integers(0, 8))
+def test_steps_show_each_extreme(values: list[tuple[int, int]], gap: int) -> None:
+    ends = [sum(length for length, _ in values[:place + 1]) for place in range(len(values))]
+    corners = steps(((end - length, end, float(value)) for end, (length, value) in zip(ends, values)), gap)
+    assert {max(y for _, y in corners), min(y for _, y in corners)} == {max(y for _, y in values), min(y for _, y in values)}
+    assert all(before[0] <= after[0] for before, after in zip(corners, corners[1:]))
+
+
+@given(st.integers(1, 2**40), st.integers(1, 50))
+def test_round_step_is_the_least_that_fits(span: int, most: int) -> None:
+    step = round_step(span, most)
+    lower = {"1": step // 2, "2": step // 2, "5": step * 2 // 5}[str(step)[0]]
+    assert span <= step * most and str(step).strip("0") in "125" and (step == 1 or span > lower * most)
+
+
+@given(st.integers(0, 2**128))
+def test_readable_is_near(number: int) -> None:
+    digits, _, power = readable(number).partition(" × 10")
+    raised = int(power.translate(str.maketrans("⁰¹²³⁴⁵⁶⁷⁸⁹", "0123456789")) or "0")
+    whole, _, places = digits.partition(".")
+    assert abs(int(whole + places) * 10 ** (raised - len(places)) - number) * 10**5 <= number
