@@ -6,6 +6,7 @@ import random
 import re
 import subprocess
 import sys
+import tracemalloc
 from collections.abc import Callable, Iterator
 from pathlib import Path
 
@@ -15,7 +16,7 @@ from model import PAIRS, random_case
 from rtdvs.cli import main
 from rtdvs.engine import Denied, Engine
 from rtdvs.explain import Walk, WrongTrace, check, explain, last_line
-from rtdvs.files import Demands, FileFault, Machine, TaskSet
+from rtdvs.files import Demands, FileFault, Machine, Point, Task, TaskSet
 from rtdvs.rules import GOVERNORS, Plan
 from rtdvs.simulate import simulate
 from rtdvs.trace import TaskEnergy, Trace
@@ -362,6 +363,27 @@ def test_altered_simulations(pair: tuple[str, str]) -> None:
         inputs.assert_right(trace.text())
         assert_altered(inputs, random.Random(seed), version_1(trace).splitlines(True))
         assert_altered(inputs, random.Random(seed), trace.text().splitlines(True))
+
+
+def long_lines(jobs: int) -> Iterator[str]:
+    """A trace of jobs that follow each other, of 2 units at speed 1 each."""
+    yield from ["trace 1\n", f"plan edf none {2 * jobs}\n"]
+    for job in range(jobs):
+        begin, end = 2 * job, 2 * job + 2
+        yield from [f"release {begin} t {job + 1}\n", f"speed {begin} 1 1/1\n",
+                    f"run {begin}:0 {end}:0 t {job + 1} 2 2000\n", f"done {end}:0 t {job + 1} 2\n"]
+    yield f"end {2 * jobs} {2000 * jobs} 0\n"
+
+
+def test_a_long_trace_in_little_memory() -> None:
+    tasks, machine = TaskSet((Task("t", 2, 2),)), Machine((Point(1, 1),))
+    check(tasks, machine, long_lines(10))
+    tracemalloc.start()
+    summary = check(tasks, machine, long_lines(5000))
+    peak = tracemalloc.get_traced_memory()[1]
+    tracemalloc.stop()
+    assert (summary.released, summary.complete, summary.run_energy) == (5000, 5000, 10**7)
+    assert peak < 200_000  # bytes; the lines have 400,000
 
 
 # The command line

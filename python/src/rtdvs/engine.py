@@ -361,7 +361,7 @@ def _tried(found: Answer, count: int) -> Iterator[Answer]:
 
 
 def _last_words(notes: Sequence[bytes]) -> str:
-    words = b"".join(notes[-1:]).decode(errors="replace").strip()
+    words = b"; ".join(line.strip() for line in notes[-3:]).decode(errors="replace")
     return f"rt try has no answer: {words}"
 
 

@@ -118,7 +118,8 @@ class Plan:
 class Latest:
     """The latest job of a task. Job 0 is complete without work, and due at the first release.
 
-    `worst` has the charge; `used` are the work units that the job has had; `due` is a tick.
+    `worst` has the charge. `used` are the work units that the job has had, and `left` those that it may still
+    need by its worst case; `due` is a tick.
     """
 
     task: Task
@@ -127,15 +128,16 @@ class Latest:
     due: int
     number: int = 0
     used: int = 0
+    left: int = 0
     complete: bool = True
 
     def __str__(self) -> str:
         return f"{self.task.name} job {self.number}"
 
-    @property
-    def left(self) -> int:
-        """The work units that the job may still need by its worst case."""
-        return 0 if self.complete else self.worst - self.used
+    def take(self, units: int) -> None:
+        """Gives the job some work units."""
+        self.used += units
+        self.left -= units
 
 
 @dataclass(slots=True)
@@ -196,7 +198,8 @@ class State:
 
     def release(self, job: Latest) -> None:
         """Releases the next job of a task, whose deadline is the first of all."""
-        job.number, job.due, job.used, job.complete = job.number + 1, job.due + job.task.period, 0, False
+        job.number, job.due = job.number + 1, job.due + job.task.period
+        job.used, job.left, job.complete = 0, job.worst, False
         self.charged[job.place] = job.worst
         self.deadlines.pop(0)
         insort(self.deadlines, (job.due, job.place))
@@ -220,7 +223,7 @@ class State:
     def complete(self, job: Latest) -> None:
         """Marks an open job as complete; a governor sees it at this tick, or at the next one."""
         self.open.remove(self.priority(job))
-        job.complete = True
+        job.left, job.complete = 0, True
         self.charged[job.place] = job.used
         self.seen = self.now + (self.behind > 0)
 
@@ -266,16 +269,14 @@ def edf_ahead(state: State) -> Demand:
     hyper, most = plan.hyperperiod, plan.machine.top_speed * plan.hyperperiod
     kept, before = plan.rate, 0
     for due, place in reversed(state.deadlines):
-        job, span = jobs[place], due - first
-        if span == 0:
-            before += job.left
-            continue
+        left = jobs[place].left
         kept -= rates[place]
-        if not job.complete:
-            left = job.worst - job.used
-            room = (most - kept) * span // hyper
+        if left and due == first:
+            before += left
+        elif left:
+            room = (most - kept) * (due - first) // hyper
             put_off = left if left < room else room
-            kept -= -put_off * hyper // span  # the rate, rounded up
+            kept -= -put_off * hyper // (due - first)  # the rate, rounded up
             before += left - put_off
     return before, first - state.now
 
@@ -506,7 +507,7 @@ class Checker:
         whole, governed = min(left, room), self.governor is not None
         if governed and need is not None and note.units != whole:
             raise Wrong(f"{job} gets {whole} units here")
-        job.used += note.units
+        job.take(note.units)
         self.account.run_energy += note.energy
         self.last = job
         if note.units == left:

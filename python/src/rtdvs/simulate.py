@@ -89,7 +89,7 @@ class _Run:
         if job is None:
             yield Idle(begin, _position(state), units, price * state.plan.machine.idle)
             return
-        job.used += units
+        job.take(units)
         yield Run(begin, _position(state), job.task.name, job.number, units, price * 1000)
         if self._left(job) == 0:
             yield _done(state, job)
