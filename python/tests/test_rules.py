@@ -3,10 +3,12 @@
 import re
 from fractions import Fraction
 from itertools import pairwise
+from pathlib import Path
 
 import pytest
 from model import PAIRS, Model, random_case
 
+from rtdvs.cli import main
 from rtdvs.explain import Walk, explain
 from rtdvs.files import Demands, FileFault, Machine, Point, Task, TaskSet
 from rtdvs.rules import GOVERNORS, Plan, State
@@ -179,6 +181,19 @@ def assert_speeds(model: Model, body: list[str], num: int, den: int) -> None:
     terms = body[:-len(wanted)]
     assert re.search(rf"(= |: |speed, ){num}(, over the .*\b{den}|/{den}|)$", terms[-1]), terms[-1]
     assert f"speed {enough[0] if enough else speeds[-1]}:" in body[-1] or not enough
+
+
+# The command, against a trace of the program
+
+def test_simulate_command(capsys: pytest.CaptureFixture[str], data: Path) -> None:
+    names = {"tasks": "tasks.toml", "machine": "machine.toml", "demands": "demands.csv"}
+    files = [word for kind, name in names.items()
+             for word in (f"--{kind}", str(data / "templates" / name))]
+    words = ["simulate", *files, "--ticks", "8", "--governor"]
+    assert main([*words, "cc", "--scheduler", "edf"]) == 0
+    assert capsys.readouterr().out == (data / "templates/edf_cc_with_demands.trace").read_text()
+    assert main([*words, "la", "--scheduler", "rm"]) == 2
+    assert capsys.readouterr().err == "rtdvs: rm has no governor la\n"
 
 
 # Governors of one's own
