@@ -119,8 +119,8 @@ def check_events(text: str) -> None:
               if event["name"] == "speed"]
     assert speeds == [(tick, speed) for tick, speed, _ in lines.decisions]
     demands = [Fraction(event["args"]["units per tick"]) for event in kinds["C"] if event["name"] == "demand"]
-    assert all(abs(found - demand) <= demand / 10**8 for found,
-               (_, _, demand) in zip(demands, lines.decisions, strict=True))
+    assert all(abs(found - demand) <= demand / 10**8
+               for found, (_, _, demand) in zip(demands, lines.decisions, strict=True))
 
 
 def read_waves(text: str) -> Waves:
@@ -165,8 +165,8 @@ def check_waves(text: str, vcd: str) -> None:
     wanted = sum(demand * (end - tick) for (tick, _, demand), end in spans)
     assert abs(area(waves["demand",]) - wanted) <= wanted / 10**8
     jobs = [(end - begin, int(job or 0)) for _, job, begin, end, _, _ in lines.segments]
-    assert abs(area(waves["job",]) - sum(time * job for time, job in jobs)) <= STEP * sum(job for _,
-                                                                                          job in jobs)
+    wanted = sum((time * job for time, job in jobs), Fraction(0))
+    assert abs(area(waves["job",]) - wanted) <= STEP * sum(job for _, job in jobs)
     for task, wire in [("", ("idle",)), *((task, ("tasks", task)) for task in tasks)]:
         assert abs(area(waves[wire]) - lines.ran[task]) <= STEP * len(lines.segments)
     for task in tasks:

@@ -234,8 +234,8 @@ def frame(trace: Trace, table: str = "segments", joule: Fraction | None = None,
 
     columns = _job_columns(trace, charge) if table == "jobs" else {
         "segments": _segment_columns, "decisions": _decision_columns}[table](trace)
-    made = pandas.DataFrame({name: pandas.Series(values, dtype=kind) for name,
-                             (kind, values) in columns.items()})
+    made = pandas.DataFrame({name: pandas.Series(values, dtype=kind)
+                             for name, (kind, values) in columns.items()})
     if joule is not None and "energy" in made:
         made["joules"] = [float(energy * joule) for energy in made["energy"]]
     return made

@@ -37,8 +37,8 @@ def plot_compare(rows: Sequence[Row], energy: "Axes", time: "Axes") -> None:
                      color=INK)
     time.set_title("time at speed", loc="left", fontsize=SMALL, color=INK)
     speeds = sorted({speed for row in rows if row.result for speed in row.result.residency})
-    shades = {speed: 0.7 if len(speeds) == 1 else 0.3 + 0.6 * place / (len(speeds) - 1) for place,
-              speed in enumerate(speeds)}
+    shades = {speed: 0.7 if len(speeds) == 1 else 0.3 + 0.6 * place / (len(speeds) - 1)
+              for place, speed in enumerate(speeds)}
     for place, row in enumerate(rows):
         _draw_energy(energy, place, row)
         _draw_times(time, place, row, shades)
@@ -92,8 +92,8 @@ def _draw_times(axes: "Axes", place: int, row: Row, shades: Mapping[int, float])
 def _draw_shades(axes: "Axes", shades: Mapping[int, float]) -> None:
     from matplotlib.patches import Patch
 
-    axes.legend(handles=[Patch(color=TIME, alpha=shade, linewidth=0, label=str(speed)) for speed,
-                         shade in shades.items()],
+    axes.legend(handles=[Patch(color=TIME, alpha=shade, linewidth=0, label=str(speed))
+                         for speed, shade in shades.items()],
                 loc="lower right", bbox_to_anchor=(1, 1), ncol=max(1, len(shades)), frameon=False,
                 fontsize=SMALL,
                 labelcolor=INK, handlelength=1, columnspacing=1, borderpad=0)
