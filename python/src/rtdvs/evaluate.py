@@ -6,7 +6,7 @@ figures. It leaves a file for each set in its folder, so a sweep that was stoppe
 
 import argparse
 from collections import Counter, defaultdict
-from collections.abc import Collection, Iterable, Iterator, Mapping
+from collections.abc import Collection, Generator, Iterable, Iterator, Mapping
 from concurrent.futures import Executor, Future, ProcessPoolExecutor, as_completed
 from dataclasses import dataclass
 from fractions import Fraction
@@ -174,7 +174,7 @@ def recount(board: Machine, text: str) -> None:
 
 
 def measure(engine: Engine, seed: int, named: tuple[SetName, TaskSet]) -> list[Record]:
-    """All runs of one set; those of a set with number 1 are recounted. Raises all refusals but those by RM."""
+    """All runs of one set; those of a set with number 1 are recounted. Raises refusals other than RM's."""
     name, tasks = named
     cases = ((kind, take, Case(tasks, MACHINES[kind], PUBLISHED_TICKS, demands_of(name, tasks, take, seed)))
              for kind, take in panels_of(name))
@@ -207,7 +207,8 @@ def units_of(trace: str) -> int:
     return sum(int(line.split(" ", 6)[5]) for line in trace.split("\n") if line.startswith("run "))
 
 
-def evaluate(engine: Engine, folder: Path, sweep: Sweep, executor: Executor) -> Iterator[SetName]:
+def evaluate(engine: Engine, folder: Path, sweep: Sweep,
+             executor: Executor) -> Generator[SetName, None, None]:
     """Runs the sets of a sweep that have no results in the folder; yields each name with results.
 
     The executor's workers have to reach the program; the caller's process writes the results. The first

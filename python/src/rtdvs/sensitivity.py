@@ -119,8 +119,9 @@ def least_speed(question: Question) -> int | None:
 
 def limits_of(question: Question, executor: Executor | None = None) -> Iterator[int | None]:
     """The thousandths, the lowest highest speed and each task's worst case, in this order."""
-    searches = [partial(most_thousandths, question), partial(least_speed, question),
-                *(partial(most_worst, question, place) for place in range(len(question.tasks)))]
+    searches: list[Callable[[], int | None]] = [
+        partial(most_thousandths, question), partial(least_speed, question),
+        *(partial(most_worst, question, place) for place in range(len(question.tasks)))]
     return map(call, searches) if executor is None else executor.map(call, searches)
 
 
