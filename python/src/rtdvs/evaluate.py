@@ -35,8 +35,8 @@ CURVES = (*(f"{scheduler} {governor}" for scheduler, governor in PAIRS), "bound"
 TENTHS = range(1, 11)
 ABOUT = """
 Runs random sets under each scheduler and governor, and writes a table for each figure of docs/EVALUATION.md
-into the folder. A sweep that was stopped goes on when the call is made again. The last line counts what is
-wrong: a run that is missing, an energy below the bound or above EDF with none.
+into the folder, of all results there. A sweep that was stopped goes on when the call is made again. The last
+line counts what is wrong: a run that is missing, an energy below the bound or above EDF with none.
 """
 
 
@@ -259,6 +259,11 @@ def read_records(folder: Path, names: Iterable[SetName]) -> list[Record]:
             for line in result_file(folder, name).read_text(encoding="utf-8").splitlines()]
 
 
+def finished(folder: Path) -> list[SetName]:
+    """The sets that have results in the folder, in order."""
+    return sorted(SetName.parse(file.stem) for file in (folder / "results").glob("*.tsv"))
+
+
 # Tables
 
 Place = tuple[int, str, str, str, int]
@@ -391,8 +396,9 @@ def run(args: argparse.Namespace) -> int:
     sweep = Sweep(args.draws, args.sets, counts=args.counts, tenths=args.utilisations)
     total = len(set(args.counts)) * len(set(args.utilisations)) * args.sets
     with ProcessPoolExecutor(args.jobs) as executor:
-        names = sorted(progress(evaluate(engine_of(args), args.folder, sweep, executor), total, "sets"))
-    records = read_records(args.folder, names)
+        for _ in progress(evaluate(engine_of(args), args.folder, sweep, executor), total, "sets"):
+            pass
+    records = read_records(args.folder, finished(args.folder))
     found = shares(records)
     for figure, panels in FIGURES.items():
         write_whole(args.folder / f"{figure}.tsv", figure_table(panels, found))

@@ -5,7 +5,6 @@ from collections.abc import Callable, Iterator
 from concurrent.futures import Executor
 from dataclasses import dataclass, replace
 from functools import partial
-from operator import call
 
 from rtdvs.commandline import (
     add_engine_options,
@@ -122,7 +121,11 @@ def limits_of(question: Question, executor: Executor | None = None) -> Iterator[
     searches: list[Callable[[], int | None]] = [
         partial(most_thousandths, question), partial(least_speed, question),
         *(partial(most_worst, question, place) for place in range(len(question.tasks)))]
-    return map(call, searches) if executor is None else executor.map(call, searches)
+    return map(found_by, searches) if executor is None else executor.map(found_by, searches)
+
+
+def found_by(search: Callable[[], int | None]) -> int | None:
+    return search()
 
 
 def sensitivity(engine: Engine, tasks: TaskSet, machine: Machine, test: str,
