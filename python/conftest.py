@@ -12,5 +12,6 @@ def pytest_collection_modifyitems(items: list[pytest.Item]) -> None:
     if "RTDVS" in os.environ or BUILT.is_file():
         return
     for item in items:
-        if isinstance(item, pytest.DoctestItem) and any("find_engine()" in part.source for part in item.dtest.examples):
+        examples = item.dtest.examples if isinstance(item, pytest.DoctestItem) and item.dtest else []
+        if any("find_engine()" in example.source for example in examples):
             item.add_marker(pytest.mark.skip(reason="no built program"))

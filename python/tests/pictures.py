@@ -12,10 +12,12 @@ from rtdvs.trace import Trace
 
 TOP = Path(__file__).resolve().parents[2]
 DATA = TOP / "crates" / "example_runs" / "data"
-PAIRS = (("edf", "none"), ("edf", "static"), ("edf", "cc"), ("edf", "la"), ("rm", "none"), ("rm", "static"), ("rm", "cc"))
+PAIRS = (("edf", "none"), ("edf", "static"), ("edf", "cc"), ("edf", "la"), ("rm", "none"), ("rm", "static"),
+         ("rm", "cc"))
 TRACES = {  # a picture's name: the folder, the pair, the ticks, the view and the width
     "edf_cc_with_demands": ("paper", ("edf", "cc"), 16, View(top=4), 1000),
-    **{f"{scheduler}_{governor}": ("paper", (scheduler, governor), 16, View(top=4), 500) for scheduler, governor in PAIRS},
+    **{f"{scheduler}_{governor}": ("paper", (scheduler, governor), 16, View(top=4), 500) for scheduler,
+       governor in PAIRS},
     "look_ahead": ("ahead", ("edf", "la"), 3, View(), 700),
     "controller": ("controller", ("edf", "cc"), 100, View(top=100, charge=2), 1000),
 }
@@ -24,9 +26,9 @@ FIGURES = {"demands": 2, "idle": 2, "machines": 3, "tasks": 3}     # the evaluat
 
 def files(folder: str) -> tuple[TaskSet, Machine, Demands | None]:
     """The files of an example."""
-    tasks = TaskSet.read(DATA / folder / "tasks.toml")
+    tasks, machine = TaskSet.read(DATA / folder / "tasks.toml"), Machine.read(DATA / folder / "machine.toml")
     demands = DATA / folder / "demands.csv"
-    return tasks, Machine.read(DATA / folder / "machine.toml"), Demands.read(demands, tasks) if demands.exists() else None
+    return tasks, machine, Demands.read(demands, tasks) if demands.exists() else None
 
 
 def draw_traces(engine: Engine, target: Path) -> Iterator[Path]:

@@ -6,7 +6,7 @@ from itertools import combinations
 from pathlib import Path
 
 import pytest
-from hypothesis import given
+from hypothesis import given, settings
 from hypothesis import strategies as st
 
 from rtdvs.cli import main
@@ -198,6 +198,7 @@ def cases(draw: st.DrawFn) -> tuple[TaskSet, Machine]:
     return TaskSet(tasks), Machine(tuple(map(Point, rising, volts)), idle, charge)
 
 
+@settings(max_examples=10)
 @given(cases(), st.integers(1, 60))
 def test_random_sets(engine: Engine, case: tuple[TaskSet, Machine], ticks: int) -> None:
     check(engine, *case, ticks, None)

@@ -1,4 +1,4 @@
-"""Tables, events and waves of a trace: each is read by another reader, and compared with the trace's own lines."""
+"""Tables, events and waves of a trace: each is read by another reader, and compared with the lines."""
 
 import csv
 import io
@@ -37,8 +37,9 @@ class Lines:
         self.period = {line[1]: int(line[2]) for line in self.lines if line[0] == "task"}
         self.releases = {(line[2], line[3]): int(line[1]) for line in self.lines if line[0] == "release"}
         self.used = {(line[2], line[3]): line[4] for line in self.lines if line[0] == "done"}
-        self.decisions = [(int(line[1]), int(line[2]), Fraction(line[3])) for line in self.lines if line[0] == "speed"]
-        self.ran: defaultdict[str, Fraction] = defaultdict(Fraction)    # ticks of each task, and of idle time as ""
+        self.decisions = [(int(line[1]), int(line[2]), Fraction(line[3])) for line in self.lines
+                          if line[0] == "speed"]
+        self.ran: defaultdict[str, Fraction] = defaultdict(Fraction)    # ticks; idle time is ""
         self.segments: list[tuple[str, str, Fraction, Fraction, int, int]] = []
         self.ends: dict[tuple[str, str], Fraction] = {}
         speed = 1
@@ -87,10 +88,14 @@ def check_tables(text: str) -> None:
         assert row["done"] == row["response"] == "" if done is None else near(row["done"], done)
         if done is not None:
             assert Fraction(row["response"]) == Fraction(row["done"]) - lines.releases[key]
-        assert row["laxity"] == "" if due is None or done is None else Fraction(row["laxity"]) == due - Fraction(row["done"])
+        is_known = due is not None and done is not None
+        assert row["laxity"] == ("" if not is_known else row["laxity"])
+        assert not is_known or Fraction(row["laxity"]) == (due or 0) - Fraction(row["done"])
     decisions = list(csv.DictReader(io.StringIO(csv_text(trace, "decisions"))))
-    assert [(int(row["tick"]), int(row["speed"]), Fraction(int(row["num"]), int(row["den"]))) for row in decisions] == lines.decisions
-    assert all(abs(Fraction(row["quotient"]) - demand) <= demand / 10**8 for row, (_, _, demand) in zip(decisions, lines.decisions))
+    assert [(int(row["tick"]), int(row["speed"]), Fraction(int(row["num"]), int(row["den"])))
+            for row in decisions] == lines.decisions
+    demands = [(Fraction(row["quotient"]), demand) for row, (_, _, demand) in zip(decisions, lines.decisions)]
+    assert all(abs(found - demand) <= demand / 10**8 for found, demand in demands)
 
 
 def check_events(text: str) -> None:
@@ -99,22 +104,27 @@ def check_events(text: str) -> None:
     kinds = {kind: [event for event in events if event["ph"] == kind] for kind in "MXiC"}
     tracks = {event["tid"]: event["args"]["name"] for event in kinds["M"] if event["name"] == "thread_name"}
     assert tracks.pop(65) == "idle"
-    slices = [(tracks.get(event["tid"], ""), event["name"], event["args"]["units"], int(event["args"]["energy"])) for event in kinds["X"]]
-    assert slices == [(task, f"{task} {job}" if task else "idle", units, energy) for task, job, _, _, units, energy in lines.segments]
+    slices = [(tracks.get(event["tid"], ""), event["name"], event["args"]["units"],
+               int(event["args"]["energy"])) for event in kinds["X"]]
+    assert slices == [(task, f"{task} {job}" if task else "idle", units, energy) for task, job, _, _, units,
+                      energy in lines.segments]
     for event, (_, _, begin, end, _, _) in zip(kinds["X"], lines.segments):
         assert near(event["ts"], begin) and near(event["dur"], end - begin)
     marks = {(tracks[event["tid"]], *event["name"].split()): Fraction(event["ts"]) for event in kinds["i"]}
-    assert {(task, job): int(at) for (task, kind, job), at in marks.items() if kind == "release"} == lines.releases
+    assert {(task, job): int(at) for (task, kind, job), at in marks.items()
+            if kind == "release"} == lines.releases
     ends = {(task, job): at for (task, kind, job), at in marks.items() if kind == "done"}
     assert ends.keys() == lines.ends.keys() and all(near(at, lines.ends[key]) for key, at in ends.items())
-    speeds = [(event["ts"], event["args"]["units per tick"]) for event in kinds["C"] if event["name"] == "speed"]
+    speeds = [(event["ts"], event["args"]["units per tick"]) for event in kinds["C"]
+              if event["name"] == "speed"]
     assert speeds == [(tick, speed) for tick, speed, _ in lines.decisions]
     demands = [Fraction(event["args"]["units per tick"]) for event in kinds["C"] if event["name"] == "demand"]
-    assert all(abs(found - demand) <= demand / 10**8 for found, (_, _, demand) in zip(demands, lines.decisions, strict=True))
+    assert all(abs(found - demand) <= demand / 10**8
+               for found, (_, _, demand) in zip(demands, lines.decisions, strict=True))
 
 
 def read_waves(text: str) -> Waves:
-    """Of each wire, by its scopes and its name, the pairs of a time and the value from then on, up to the last time."""
+    """Of each wire, by its scopes and its name, the pairs of a time and the value from then on."""
     scope: list[str] = []
     wires: dict[str, tuple[tuple[str, ...], list[tuple[int, Fraction]]]] = {}
     now = 0
@@ -138,7 +148,8 @@ def read_waves(text: str) -> Waves:
 
 def area(changes: list[tuple[int, Fraction]]) -> Fraction:
     """The sum of the values, each times the ticks that it lasts."""
-    return sum((value * Fraction(after - before, 10**6) for (before, value), (after, _) in zip(changes, changes[1:])), Fraction(0))
+    return sum((value * Fraction(after - before, 10**6) for (before, value),
+                (after, _) in zip(changes, changes[1:])), Fraction(0))
 
 
 def check_waves(text: str, vcd: str) -> None:
@@ -154,11 +165,13 @@ def check_waves(text: str, vcd: str) -> None:
     wanted = sum(demand * (end - tick) for (tick, _, demand), end in spans)
     assert abs(area(waves["demand",]) - wanted) <= wanted / 10**8
     jobs = [(end - begin, int(job or 0)) for _, job, begin, end, _, _ in lines.segments]
-    assert abs(area(waves["job",]) - sum(time * job for time, job in jobs)) <= STEP * sum(job for _, job in jobs)
+    wanted = sum((time * job for time, job in jobs), Fraction(0))
+    assert abs(area(waves["job",]) - wanted) <= STEP * sum(job for _, job in jobs)
     for task, wire in [("", ("idle",)), *((task, ("tasks", task)) for task in tasks)]:
         assert abs(area(waves[wire]) - lines.ran[task]) <= STEP * len(lines.segments)
     for task in tasks:
-        spent = [lines.ends.get(key, Fraction(lines.ticks)) - at for key, at in lines.releases.items() if key[0] == task]
+        spent = [lines.ends.get(key, Fraction(lines.ticks)) - at for key, at in lines.releases.items()
+                 if key[0] == task]
         assert abs(area(waves["tasks", f"{task}/open"]) - sum(spent)) <= STEP * len(spent)
 
 
@@ -190,7 +203,8 @@ def runs(draw: st.DrawFn) -> str:
     """The trace of a random run, in either version; the worst cases fill the processor to a half at most."""
     top = draw(st.sampled_from([4, 7, 60, 128, 999983]))
     periods = draw(st.lists(st.sampled_from([2, 3, 4, 6, 8, 12]), min_size=1, max_size=5))
-    tasks = TaskSet(tuple(Task(f"t{place}", period, max(1, draw(st.integers(1, max(1, top * period // (2 * len(periods)))))),
+    tasks = TaskSet(tuple(Task(f"t{place}", period,
+                               max(1, draw(st.integers(1, max(1, top * period // (2 * len(periods)))))),
                                draw(st.integers(0, 3))) for place, period in enumerate(periods)))
     machine = Machine((Point(max(1, top // 2), 1100), Point(top, 1900)), draw(st.sampled_from([0, 150])))
     pair = draw(st.sampled_from(sorted(pair for pair in GOVERNORS if pair[0] == "edf")))
@@ -210,8 +224,10 @@ def test_rows_of_the_page(data: Path) -> None:
 
 
 @pytest.mark.parametrize(("number", "by", "digits", "text"), [
-    (2, 3, 9, "0.666666667"), (10**9, 1, 9, "1e+09"), (999999999, 1, 9, "999999999"), (10**10 - 1, 10, 9, "1e+09"),
-    (1, 8192, 9, "0.000122070312"), (1, 10**5, 9, "1e-05"), (3 * 2**128, 1, 15, "1.02084710076282e+39"), (0, 5, 9, "0"),
+    (2, 3, 9, "0.666666667"), (10**9, 1, 9, "1e+09"), (999999999, 1, 9, "999999999"),
+    (10**10 - 1, 10, 9, "1e+09"),
+    (1, 8192, 9, "0.000122070312"), (1, 10**5, 9, "1e-05"), (3 * 2**128, 1, 15, "1.02084710076282e+39"),
+    (0, 5, 9, "0"),
 ])
 def test_numbers_in_the_form_of_c(number: int, by: int, digits: int, text: str) -> None:
     assert significant(number, by, digits) == text
@@ -224,19 +240,24 @@ def test_any_number_is_rounded_once(number: int, by: int, digits: int) -> None:
     assert len(significant(number, by, digits).split("e")[0].replace(".", "").lstrip("0")) <= digits
 
 
-@given(st.integers(0, 2**40), st.integers(1, 10**6).flatmap(lambda speed: st.tuples(st.integers(0, speed - 1), st.just(speed))))
+@given(st.integers(0, 2**40),
+       st.integers(1, 10**6).flatmap(lambda speed: st.tuples(st.integers(0, speed - 1), st.just(speed))))
 def test_any_time_is_rounded_once(tick: int, part: tuple[int, int]) -> None:
     offset, speed = part
-    assert abs(millionths(Position(tick, offset), speed) - (tick + Fraction(offset, speed)) * 10**6) <= Fraction(1, 2)
+    assert abs(millionths(Position(tick, offset),
+                          speed) - (tick + Fraction(offset, speed)) * 10**6) <= Fraction(1, 2)
 
 
-def test_charge_is_in_the_declared_units(data: Path, tmp_path: Path, capsys: pytest.CaptureFixture[str]) -> None:
-    (tmp_path / "a").write_text("trace 2\nplan edf mine 2\ntask a 2 0 4\nrelease 0 a 1\nspeed 0 4 1/1\nrun 0:0 2:0 a 1 8 8\n"
+def test_charge_is_in_the_declared_units(data: Path, tmp_path: Path,
+                                         capsys: pytest.CaptureFixture[str]) -> None:
+    (tmp_path / "a").write_text("trace 2\nplan edf mine 2\ntask a 2 0 4\nrelease 0 a 1\nspeed 0 4 1/1\n"
+                                "run 0:0 2:0 a 1 8 8\n"
                                 "done 2:0 a 1 8\nenergy a 8\nend 2 8 0\n")
     words = ["convert", "--to", "csv", "--table", "jobs", "--trace", str(tmp_path / "a")]
     assert main(words) == 0
     said = capsys.readouterr()
-    assert said.out.endswith(",8,4\n") and "a job 1 used 8 of 4 declared units: give the machine's charge" in said.err
+    assert said.out.endswith(",8,4\n")
+    assert "a job 1 used 8 of 4 declared units: give the machine's charge" in said.err
     assert main([*words, "--charge", "2"]) == 0
     said = capsys.readouterr()
     assert said.out.endswith(",8,8\n") and said.err == ""
@@ -256,11 +277,13 @@ def test_usage(words: list[str], line: str, data: Path, capsys: pytest.CaptureFi
 
 
 @pytest.mark.parametrize("change", ["cut", "no plan", "more"])
-def test_what_is_no_whole_trace_is_refused(change: str, data: Path, tmp_path: Path, capsys: pytest.CaptureFixture[str]) -> None:
+def test_what_is_no_whole_trace_is_refused(change: str, data: Path, tmp_path: Path,
+                                           capsys: pytest.CaptureFixture[str]) -> None:
     lines = (data / "offsets" / "edf_cc.trace").read_text().splitlines(keepends=True)
     broken = {"cut": lines[:-1], "no plan": lines[:1] + lines[2:], "more": [*lines, lines[0]]}[change]
     (tmp_path / "broken").write_text("".join(broken))
-    assert main(["convert", "--to", "vcd", "--trace", str(tmp_path / "broken"), "--output", str(tmp_path / "out")]) == 2
+    assert main(["convert", "--to", "vcd", "--trace", str(tmp_path / "broken"), "--output",
+                 str(tmp_path / "out")]) == 2
     said = capsys.readouterr()
     assert said.out == "" and said.err.count("\n") == 1 and not (tmp_path / "out").exists()
 
@@ -278,7 +301,8 @@ def test_frames(data: Path) -> None:
     assert len(jobs) == len(lines.releases) and jobs["laxity"].isna().sum() == sum(
         lines.due(*key) is None or key not in lines.ends for key in lines.releases)
     decisions = frame(trace, "decisions")
-    assert [*zip(decisions["tick"], decisions["speed"], map(Fraction, decisions["num"], decisions["den"]))] == lines.decisions
+    assert [*zip(decisions["tick"], decisions["speed"],
+                 map(Fraction, decisions["num"], decisions["den"]))] == lines.decisions
     assert isinstance(decisions, pandas.DataFrame)
 
 
@@ -295,7 +319,8 @@ def test_waves_through_another_reader(data: Path, tmp_path: Path) -> None:
     text = (data / "paper" / "edf_cc_with_demands.trace").read_text()
     (tmp_path / "a.vcd").write_text(vcd_text(Trace.parse(text)))
     subprocess.run(["vcd2fst", tmp_path / "a.vcd", tmp_path / "a.fst"], check=True, capture_output=True)
-    check_waves(text, subprocess.run(["fst2vcd", tmp_path / "a.fst"], check=True, capture_output=True, text=True).stdout)
+    check_waves(text, subprocess.run(["fst2vcd", tmp_path / "a.fst"], check=True, capture_output=True,
+                                     text=True).stdout)
 
 
 def test_decimal_comma(data: Path) -> None:
@@ -307,6 +332,7 @@ def test_decimal_comma(data: Path) -> None:
     except locale.Error:
         pytest.skip("no locale with a decimal comma")
     try:
-        assert plain == (csv_text(Trace.parse(text)), events_text(Trace.parse(text)), vcd_text(Trace.parse(text)))
+        assert plain == (csv_text(Trace.parse(text)), events_text(Trace.parse(text)),
+                         vcd_text(Trace.parse(text)))
     finally:
         locale.setlocale(locale.LC_NUMERIC, before)

@@ -8,7 +8,8 @@ from hypothesis import given
 from hypothesis import strategies as st
 
 from rtdvs.cli import main
-from rtdvs.design import (Board, BoardPoint, BoardTask, Scale, choose_scale, choose_tick, design, plain, rounded, settle,
+from rtdvs.design import (Board, BoardPoint, BoardTask, Scale, choose_scale, choose_tick, design, plain,
+                          rounded, settle,
                           usual_demands)
 from rtdvs.files import Demands, FileFault, Machine, Point, Task, TaskSet
 
@@ -26,7 +27,8 @@ period_ms = 40
 worst_cycles = 16_000_000
 usual_cycles = 8e6
 """
-VOLTS = TASKS + "".join(f"[[point]]\nmhz = {mhz}\nvolts = {volts}\n" for mhz, volts in XSCALE) + "milliwatts = 1600\n"
+VOLTS = TASKS + "".join(f"[[point]]\nmhz = {mhz}\nvolts = {volts}\n" for mhz,
+                        volts in XSCALE) + "milliwatts = 1600\n"
 POWER = TASKS + "".join(f"[[point]]\nmhz = {mhz}\nmilliwatts = {power}\n"
                         for mhz, power in ((400, 170), (600, 400), (800, 900), (1000, 1600)))
 MS = Scale(Fraction(1), Fraction(1000))
@@ -36,7 +38,8 @@ decimals = st.decimals("0.01", "1000", places=3).map(lambda number: Fraction(str
 def test_files_of_the_page() -> None:
     made = design(Board.parse("idle_share = 0.1\nswitch_us = 20\n" + VOLTS), MS)
     assert made.tasks.tasks == (Task("control", 5, 1200), Task("decode", 40, 16000))
-    assert made.machine == Machine(tuple(Point(mhz, int(1000 * float(volts))) for mhz, volts in XSCALE), 100, 20)
+    assert made.machine == Machine(tuple(Point(mhz, int(1000 * float(volts))) for mhz, volts in XSCALE), 100,
+                                   20)
     assert made.roundings == ()
 
 
@@ -59,10 +62,12 @@ def test_measured_power_comes_back() -> None:
 
 
 @pytest.mark.parametrize(("periods", "tick"), [
-    (("5", "40"), "0.5"), (("2.5", "33.3", "100"), "0.1"), (("3", "7"), "0.25"), (("5", "33.333"), "0.2"), (("1000",), "100"),
+    (("5", "40"), "0.5"), (("2.5", "33.3", "100"), "0.1"), (("3", "7"), "0.25"), (("5", "33.333"), "0.2"),
+    (("1000",), "100"),
 ])
 def test_tick(periods: tuple[str, ...], tick: str) -> None:
-    tasks = tuple(BoardTask(f"t{place}", Fraction(period), Fraction(1000)) for place, period in enumerate(periods))
+    tasks = tuple(BoardTask(f"t{place}", Fraction(period), Fraction(1000)) for place,
+                  period in enumerate(periods))
     assert choose_tick(Board(tasks, ())) == Fraction(tick)
 
 
@@ -71,16 +76,21 @@ def test_roundings_are_said() -> None:
                         + "[[point]]\nmhz = 747.5\nvolts = 1.18725")
     assert [rounding.text() for rounding in design(board, MS).roundings] == [
         "task decode: period 33.333 ms taken as 33 ms", "task decode: offset 0.25 ms taken as 0 ms",
-        "point 747.5 MHz: speed 747.5 MHz taken as 747 MHz", "point 747.5 MHz: volts 1.18725 V taken as 1.188 V"]
+        "point 747.5 MHz: speed 747.5 MHz taken as 747 MHz",
+        "point 747.5 MHz: volts 1.18725 V taken as 1.188 V"]
 
 
 @given(st.lists(st.tuples(decimals, st.integers(1, 10**9)), min_size=1, max_size=8),
-       st.lists(st.tuples(decimals, st.integers(1, 20000)), min_size=1, max_size=5, unique_by=lambda point: int(point[0] * 1000)),
+       st.lists(st.tuples(decimals, st.integers(1, 20000)), min_size=1, max_size=5,
+                unique_by=lambda point: int(point[0] * 1000)),
        st.booleans())
-def test_a_set_is_never_easier(tasks: list[tuple[Fraction, int]], points: list[tuple[Fraction, int]], is_coarse: bool) -> None:
+def test_a_set_is_never_easier(tasks: list[tuple[Fraction, int]], points: list[tuple[Fraction, int]],
+                               is_coarse: bool) -> None:
     volts = sorted(volts for _, volts in points)
-    board = Board(tuple(BoardTask(f"t{place}", period, Fraction(worst)) for place, (period, worst) in enumerate(tasks)),
-                  tuple(BoardPoint(mhz, Fraction(level, 1000)) for (mhz, _), level in zip(sorted(points), volts)))
+    board = Board(tuple(BoardTask(f"t{place}", period, Fraction(worst)) for place,
+                        (period, worst) in enumerate(tasks)),
+                  tuple(BoardPoint(mhz, Fraction(level, 1000)) for (mhz, _),
+                        level in zip(sorted(points), volts)))
     try:
         scale = choose_scale(board)
         made = design(board, Scale(scale.tick, scale.unit * 7 / 3) if is_coarse else scale)
@@ -90,7 +100,8 @@ def test_a_set_is_never_easier(tasks: list[tuple[Fraction, int]], points: list[t
     assert tick <= min(task.period for task in board.tasks) / 10
     assert all(task.period * tick <= task_in.period for task, task_in in zip(made.tasks, board.tasks))
     assert all(task.worst * unit >= task_in.worst for task, task_in in zip(made.tasks, board.tasks))
-    assert all(point.speed * unit <= given_point.megahertz * 1000 * tick and point.millivolts >= (given_point.volts or 0) * 1000
+    assert all(point.speed * unit <= given_point.megahertz * 1000 * tick
+               and point.millivolts >= (given_point.volts or 0) * 1000
                for point, given_point in zip(made.machine.points, board.points))
 
 
@@ -98,7 +109,8 @@ def test_tick_is_halved_until_the_energy_stands() -> None:
     # 337.7 is 1.1 % above 334, and 339.5 is 0.5 % above 337.7.
     energies = {"0.5": "296", "0.25": "334", "0.125": "337.7", "0.0625": "339.5"}
     board = Board.parse(VOLTS)
-    found = settle(board, choose_scale(board), lambda made: Fraction(energies[plain(made.scale.tick)]), Fraction(1, 100))
+    found = settle(board, choose_scale(board), lambda made: Fraction(energies[plain(made.scale.tick)]),
+                   Fraction(1, 100))
     assert [plain(made.scale.tick) for made, _ in found] == [*energies]
 
 
@@ -115,17 +127,22 @@ def test_usual_demands() -> None:
     (lambda text: text.replace("[[task]]", "[task]", 1), "board: not TOML"),
     (lambda text: "task = 3", "board: task is no array of tables"),
     (lambda text: "", "board: no tasks"),
-    (lambda text: text.replace("period_ms = 5", "period_ms = 0"), "board: task 1: period_ms has to be above 0"),
+    (lambda text: text.replace("period_ms = 5", "period_ms = 0"),
+     "board: task 1: period_ms has to be above 0"),
     (lambda text: text.replace("period_ms = 5", "period_ms = true"), "board: task 1: period_ms is no number"),
-    (lambda text: text.replace("period_ms = 5", "period_ms = 1e99999"), "board: not TOML: not a number in reach"),
+    (lambda text: text.replace("period_ms = 5", "period_ms = 1e99999"),
+     "board: not TOML: not a number in reach"),
     (lambda text: text.replace("period_ms = 5", "period_ms = nan"), "board: not TOML"),
     (lambda text: text.replace("period_ms = 5\n", ""), "board: task 1: missing period_ms"),
     (lambda text: text.replace("at_mhz = 1000\n", ""), "board: task 1: missing at_mhz"),
-    (lambda text: text.replace("usual_cycles = 8e6", "usual_cycles = 16e6\nworst_ms = 1"), "either worst_cycles, or worst_ms"),
+    (lambda text: text.replace("usual_cycles = 8e6", "usual_cycles = 16e6\nworst_ms = 1"),
+     "either worst_cycles, or worst_ms"),
     (lambda text: text.replace("8e6", "8e7"), "board: task 2: usual_cycles are over the worst case"),
     (lambda text: text.replace('"control"', '"a b"'), "tasks: task 1: bad name"),
-    (lambda text: text.replace("volts = 1.3", "volts = 0.9"), "board: point 600 MHz: the voltage is below that of 400 MHz"),
-    (lambda text: text.replace("volts = 1.3\n", ""), "board: point 600 MHz: give volts at each point, or milliwatts at each"),
+    (lambda text: text.replace("volts = 1.3", "volts = 0.9"),
+     "board: point 600 MHz: the voltage is below that of 400 MHz"),
+    (lambda text: text.replace("volts = 1.3\n", ""),
+     "board: point 600 MHz: give volts at each point, or milliwatts at each"),
     (lambda text: text.replace("mhz = 400", "mhz = 150"), "board: points 150 and 150 MHz: both are speed"),
     (lambda text: text.replace("milliwatts = 1600\n", "volt = 1\n"), "board: point 5: unknown key volt"),
     (lambda text: text.replace("volts = 1.8", "volts = 25"), "machine: point 5: millivolts out of range"),
@@ -141,14 +158,16 @@ def test_refusals(change: object, line: str, tmp_path: Path, capsys: pytest.Capt
     assert said.out == "" and line in said.err and said.err.count("\n") == 1
 
 
-def test_command_writes_files_and_gives_joules_back(tmp_path: Path, capsys: pytest.CaptureFixture[str]) -> None:
+def test_command_writes_files_and_gives_joules_back(tmp_path: Path,
+                                                    capsys: pytest.CaptureFixture[str]) -> None:
     (tmp_path / "board.toml").write_text("battery_mwh = 3700\n" + VOLTS)
     board = ["design", "--board", str(tmp_path / "board.toml"), "--tick-ms", "1", "--unit-cycles", "1000"]
     assert main([*board, "--folder", str(tmp_path / "made")]) == 0
     assert capsys.readouterr().out == "a tick is 1 ms, a unit 1000 cycles\n"
     assert TaskSet.read(tmp_path / "made" / "tasks.toml").tasks[1] == Task("decode", 40, 16000)
     assert Machine.read(tmp_path / "made" / "machine.toml").points[4] == Point(1000, 1800)
-    (tmp_path / "run.trace").write_text("trace 1\nplan edf static 40\nspeed 0 800 1/1\nend 40 65536000000000 1638400000000\n")
+    (tmp_path / "run.trace").write_text(
+        "trace 1\nplan edf static 40\nspeed 0 800 1/1\nend 40 65536000000000 1638400000000\n")
     assert main([*board, "--trace", str(tmp_path / "run.trace")]) == 0
     assert capsys.readouterr().out == ("0.0331725 joules in 40 ms\n829.314 milliwatts on average\n"
                                        "4.46152 hours from 3700 milliwatt hours\n")
@@ -157,14 +176,16 @@ def test_command_writes_files_and_gives_joules_back(tmp_path: Path, capsys: pyte
 @pytest.mark.parametrize(("words", "line"), [
     ([], "board: give --board or --device-tree"),
     (["--device-tree", "examples/board.dts"], "one table has to be chosen"),
-    (["--device-tree", "examples/board.dts", "--table", "little", "--unit-cycles", "1000000"], "points 500 and 747.5 MHz"),
+    (["--device-tree", "examples/board.dts", "--table", "little", "--unit-cycles", "1000000"],
+     "points 500 and 747.5 MHz"),
     (["--device-tree", "absent.dts"], "absent.dts: No such file or directory"),
     (["--device-tree", "examples"], "examples: Is a directory"),
     (["--device-tree", "examples/board.dts", "--supported-hw", "x"], "no numbers with commas"),
     (["--board", "examples/board.dts"], "board: not TOML"),
     (["--board", "examples/board.dts", "--tick-ms", "0"], "--tick-ms has to be above 0"),
 ])
-def test_usage(words: list[str], line: str, top: Path, monkeypatch: pytest.MonkeyPatch, capsys: pytest.CaptureFixture[str]) -> None:
+def test_usage(words: list[str], line: str, top: Path, monkeypatch: pytest.MonkeyPatch,
+               capsys: pytest.CaptureFixture[str]) -> None:
     monkeypatch.chdir(top)
     assert main(["design", *words]) == 2
     assert line in capsys.readouterr().err
@@ -174,17 +195,21 @@ def test_usage(words: list[str], line: str, top: Path, monkeypatch: pytest.Monke
     ([], [(500, 825), (747, 900), (1400, 1188)]),
     (["--tick-ms", "0.1", "--unit-cycles", "10000"], [(5, 825), (7, 900), (14, 1188)]),
 ])
-def test_machine_of_a_device_tree(words: list[str], points: list[tuple[int, int]], top: Path, tmp_path: Path) -> None:
+def test_machine_of_a_device_tree(words: list[str], points: list[tuple[int, int]], top: Path,
+                                  tmp_path: Path) -> None:
     tree = ["design", "--device-tree", str(top / "examples" / "board.dts"), "--table", "little"]
     assert main([*tree, *words, "--output", str(tmp_path / "machine.toml")]) == 0
     assert Machine.read(tmp_path / "machine.toml") == Machine(tuple(Point(*point) for point in points))
     (tmp_path / "board.toml").write_text(TASKS)
-    assert main([*tree[:3], *tree[3:], "--board", str(tmp_path / "board.toml"), "--folder", str(tmp_path)]) == 0
+    assert main([*tree[:3], *tree[3:], "--board", str(tmp_path / "board.toml"), "--folder",
+                 str(tmp_path)]) == 0
 
 
-def test_tick_is_settled_by_the_program(program: Path, tmp_path: Path, capsys: pytest.CaptureFixture[str]) -> None:
+def test_tick_is_settled_by_the_program(program: Path, tmp_path: Path,
+                                        capsys: pytest.CaptureFixture[str]) -> None:
     (tmp_path / "board.toml").write_text(VOLTS)
     words = ["--settle-ms", "80", "--governor", "la", "--program", str(program)]
     assert main(["design", "--board", str(tmp_path / "board.toml"), *words]) == 0
-    joules = [Fraction(line.split(": ")[1].split(" ")[0]) for line in capsys.readouterr().out.splitlines()[:-1]]
+    joules = [Fraction(line.split(": ")[1].split(" ")[0])
+              for line in capsys.readouterr().out.splitlines()[:-1]]
     assert len(joules) > 1 and abs(joules[-1] - joules[-2]) <= joules[-1] / 99

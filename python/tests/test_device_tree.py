@@ -16,9 +16,10 @@ CHIPS = """
 / {
     cpu_table: opp-table {
         compatible = "operating-points-v2";
-        slow { opp-hz = /bits/ 64 <300000000>; opp-microvolt = <950000 931000 969000>; opp-supported-hw = <0x06 0x10>; };
-        also { opp-hz = /bits/ 64 <0x11e1a300>; opp-microvolt = <1100000>; opp-supported-hw = <6 0x20>, <1 0xff>; };
-        fast { opp-hz = /bits/ 64 <MHZ(600)>; opp-microvolt = <1200000>; opp-supported-hw = <0x1 0xffff>; };
+        slow { opp-hz = /bits/ 64 <300000000>; opp-microvolt = <950000 931000 969000>; opp-supported-hw =
+        <0x06 0x10>; }; also { opp-hz = /bits/ 64 <0x11e1a300>; opp-microvolt = <1100000>; opp-supported-hw =
+        <6 0x20>, <1 0xff>; }; fast { opp-hz = /bits/ 64 <MHZ(600)>; opp-microvolt = <1200000>;
+        opp-supported-hw = <0x1 0xffff>; };
     };
 };
 """
@@ -57,7 +58,8 @@ def test_board(top: Path, choice: Choice, points: list[tuple[int, int]]) -> None
     ((4, 0x30), [(300000000, 950000), (300000000, 1100000)]),
 ])
 def test_hardware_is_chosen(hardware: tuple[int, ...], points: list[tuple[int, int]]) -> None:
-    assert pairs(CHIPS.replace("MHZ(600)", "600000000").replace("0x1 0xffff", "8 8"), Choice(supported_hw=hardware)) == points
+    assert pairs(CHIPS.replace("MHZ(600)", "600000000").replace("0x1 0xffff", "8 8"),
+                 Choice(supported_hw=hardware)) == points
 
 
 def test_old_points() -> None:
@@ -87,17 +89,21 @@ def test_points_are_added_and_deleted() -> None:
 @pytest.mark.parametrize(("text", "choice", "reason"), [
     ("", Choice(), "no table of operating points"),
     ("[[task]]\nname = 1", Choice(), "no table of operating points"),
-    (OLD + OLD.replace("cpu0", "cpu1").replace("cpus", "more"), Choice(), "one table has to be chosen of these: cpu0, cpu1"),
+    (OLD + OLD.replace("cpu0", "cpu1").replace("cpus", "more"), Choice(),
+     "one table has to be chosen of these: cpu0, cpu1"),
     (OLD, Choice("cpu2"), "no table cpu2; the tables are: cpu0"),
     (OLD.replace("0x60ae0", ""), Choice(), "operating-points has no pairs of kHz and microvolts"),
     (CHIPS, Choice(), "slow is for some hardware only; choose the hardware by --supported-hw"),
-    (CHIPS, Choice(supported_hw=(1, 1, 1)), "slow has 2 numbers in opp-supported-hw, which are no groups of 3"),
+    (CHIPS, Choice(supported_hw=(1, 1, 1)),
+     "slow has 2 numbers in opp-supported-hw, which are no groups of 3"),
     (CHIPS, Choice(supported_hw=(1, 1)), "not a number: MHZ"),
     (CHIPS, Choice(supported_hw=(8, 8)), "no point of cpu_table is for this hardware"),
     (table("opp-hz = <200000000>", "opp-microvolt = <1>"), Choice(), "second has an opp-hz that is neither"),
     (table("opp-hz = /bits/ 64 <08>", "opp-microvolt = <1>"), Choice(), "not a number: 08"),
-    (table("opp-hz = /bits/ 64 <(2 * (3 + 4))>", "opp-microvolt = <1>"), Choice(), r"not a number: \(2 \* \(3 \+ 4\)\)"),
-    (table("opp-hz = <1 4294967296>", "opp-microvolt = <1>"), Choice(), "not a number of 32 bits: 4294967296"),
+    (table("opp-hz = /bits/ 64 <(2 * (3 + 4))>", "opp-microvolt = <1>"), Choice(),
+     r"not a number: \(2 \* \(3 \+ 4\)\)"),
+    (table("opp-hz = <1 4294967296>", "opp-microvolt = <1>"), Choice(),
+     "not a number of 32 bits: 4294967296"),
     (table("opp-hz = /bits/ 64 <9>"), Choice(), "second has no opp-microvolt"),
     (table("opp-hz = /bits/ 64 <9>", "opp-microvolt = <1>"), Choice(supply=2), "no supply 2"),
     ("/ {\n /* no end", Choice(), "line 2: no end of a comment"),
@@ -111,7 +117,8 @@ def test_refusals(text: str, choice: Choice, reason: str) -> None:
         operating_points(text, choice)
 
 
-@given(st.dictionaries(st.integers(1, 2**40), st.integers(0, 2**31), min_size=1), st.sampled_from(["{}", "{:#x}", "0{:o}"]),
+@given(st.dictionaries(st.integers(1, 2**40), st.integers(0, 2**31), min_size=1),
+       st.sampled_from(["{}", "{:#x}", "0{:o}"]),
        st.sampled_from([" ", "\n", " /* ; } \n */ ", " // <\n"]))
 def test_any_table_is_read_back(points: dict[int, int], form: str, gap: str) -> None:
     nodes = gap.join(f"p{hertz}{gap}{{ opp-hz = /bits/ 64 <{form.format(hertz)}>;{gap}opp-microvolt ={gap}"

@@ -37,8 +37,8 @@ SMALL = Sweep("published", 1, counts=(5,), tenths=(1, 9))
 
 def records(name: SetName = NAME, **energies: Fraction | int | None) -> list[Record]:
     """A whole group of runs: EDF with `none` has 100, the bound 50 and the others 80."""
-    given = {curve: energies.get(curve.replace(" ", "_"), 100 if curve == "edf none" else 50 if curve == "bound" else 80)
-             for curve in CURVES}
+    usual = dict.fromkeys(CURVES, 80) | {"edf none": 100, "bound": 50}
+    given = {curve: energies.get(curve.replace(" ", "_"), energy) for curve, energy in usual.items()}
     return [Record(name, "table1_idle0", "1", curve, None if energy is None else Fraction(energy))
             for curve, energy in given.items()]
 
@@ -82,9 +82,10 @@ def test_ends_of_the_middle(values: list[Fraction]) -> None:
     tenth = len(values) // 10
     kept = rising[tenth:len(values) - tenth]
     wanted = [mean(values), kept[0], kept[-1]]
-    fields = point(rising).rstrip("\n").split("\t")
-    assert fields[0] == str(len(values))
-    assert all(abs(Fraction(field) - value) <= Fraction(1, 20000) for field, value in zip(fields[1:], wanted, strict=True))
+    number, *fields = point(rising).rstrip("\n").split("\t")
+    assert number == str(len(values))
+    differences = [abs(Fraction(field) - value) for field, value in zip(fields, wanted, strict=True)]
+    assert max(differences) <= Fraction(1, 20000)
 
 
 @pytest.mark.parametrize("figure", FIGURES)
@@ -127,9 +128,9 @@ def test_energies_of_a_set_are_those_of_its_units(engine: Engine, tmp_path: Path
     assert by_curve["edf static"] == by_curve["bound"] == units * 3000**2 * 1000
 
 
-def test_a_folder_has_one_sweep(program: Path, tmp_path: Path, capsys: pytest.CaptureFixture[str]) -> None:
+def test_a_folder_has_one_sweep(program: Path, tmp_path: Path) -> None:
     (tmp_path / "sweep").write_text("100 uunifast sets a point by seed 2001\n")
-    with ThreadPoolExecutor(1) as executor, pytest.raises(FileFault, match="it has results of 100 uunifast sets"):
+    with ThreadPoolExecutor(1) as executor, pytest.raises(FileFault, match="results of 100 uunifast sets"):
         next(evaluate(Engine(program), tmp_path, SMALL, executor))
 
 

@@ -24,23 +24,24 @@ def test_exercises_are_small_and_different(engine: Engine) -> None:
         assert 2 < sum(Fraction(task.worst, task.period) for task in one.tasks) <= 4
         jobs = {(task.name, job) for task in one.tasks for job in range(1, lcm(*periods) // task.period + 1)}
         assert set(one.demands.units) == jobs
-        assert all(1 <= units <= one.tasks.named(task).worst for (task, _), units in one.demands.units.items())
+        worsts = {task.name: task.worst for task in one.tasks}
+        assert all(1 <= units <= worsts[name] for (name, _), units in one.demands.units.items())
     assert len({(one.tasks, tuple(one.demands.units.values())) for one in drawn}) == len(drawn)
 
 
-@pytest.mark.parametrize(("scheduler", "governor"), [("edf", "cc"), ("edf", "la"), ("rm", "cc"), ("rm", "none")])
+@pytest.mark.parametrize(("scheduler", "governor"), [
+    ("edf", "cc"), ("edf", "la"), ("rm", "cc"), ("rm", "none")])
 def test_a_solution_is_right(engine: Engine, tmp_path: Path, scheduler: str, governor: str) -> None:
-    one = exercise(engine, 7, scheduler, governor)
-    one.write(tmp_path / "seven")
-    tasks, machine = TaskSet.read(tmp_path / "seven/tasks.toml"), Machine.read(tmp_path / "seven/machine.toml")
-    demands = Demands.read(tmp_path / "seven/demands.csv", tasks)
+    one, folder = exercise(engine, 7, scheduler, governor), tmp_path / "seven"
+    one.write(folder)
+    tasks, machine = TaskSet.read(folder / "tasks.toml"), Machine.read(folder / "machine.toml")
+    demands = Demands.read(folder / "demands.csv", tasks)
     assert (tasks, machine, demands) == (one.tasks, BOARD, one.demands)
-    with (tmp_path / "seven/solution.trace").open() as lines:
+    with (folder / "solution.trace").open() as lines:
         summary = check(tasks, machine, lines, demands)
     assert summary.complete == len(demands.units)
-    text = (tmp_path / "seven/explanation.txt").read_text()
-    assert text.count("\nline ") + 1 == summary.decisions and text.startswith("line 4") or "line" in text
-    question = (tmp_path / "seven/question.md").read_text()
+    assert ("\n" + (folder / "explanation.txt").read_text()).count("\nline ") == summary.decisions
+    question = (folder / "question.md").read_text()
     assert all(f"| `{task.name}` | {task.period} | {task.worst} |" in question for task in tasks)
     assert f"{tasks.hyperperiod} ticks" in question
 
@@ -63,7 +64,7 @@ def test_the_exercise_is_printed(program: Path, tmp_path: Path, capsys: Captured
 
 
 def test_uunifast_is_printed_and_written(tmp_path: Path, capsys: Captured) -> None:
-    call = ["generate", "uunifast", "--count", "5", "--utilisation", "0.35", "--seed", "5", "--periods", "20", "25", "40"]
+    call = "generate uunifast --count 5 --utilisation 0.35 --seed 5 --periods 20 25 40".split()
     assert main(call) == 0
     tasks = TaskSet.parse(capsys.readouterr().out)
     assert tasks == uunifast(5, Fraction(35, 100), 5, Listed((20, 25, 40)))
@@ -72,7 +73,7 @@ def test_uunifast_is_printed_and_written(tmp_path: Path, capsys: Captured) -> No
 
 
 def test_a_published_set(capsys: Captured) -> None:
-    assert main(["generate", "published", "--count", "5", "--tenths", "2", "--number", "3", "--sets", "4"]) == 0
+    assert main("generate published --count 5 --tenths 2 --number 3 --sets 4".split()) == 0
     assert TaskSet.parse(capsys.readouterr().out) == dict(published_sets(4))[SetName(5, 2, 3)]
 
 
@@ -85,16 +86,17 @@ def test_demands_of_a_run(tmp_path: Path, capsys: Captured) -> None:
     assert capsys.readouterr().out.count("\n") == 4
 
 
+ONE = "uunifast --count 1 --utilisation 1 --seed 1"
+
+
 @pytest.mark.parametrize("words", [
     "uunifast --count 0 --utilisation 1 --seed 1", "uunifast --count 1 --utilisation 2 --seed 1",
-    "uunifast --count 1 --utilisation 1", "uunifast --count 1 --utilisation 1 --seed 1 --low 11 --high 12 --multiple 7",
-    "uunifast --count 1 --utilisation 1 --seed 1 --high abc", "uunifast --count 1 --utilisation 1 --seed 1 --low -5",
-    "uunifast --count 1 --utilisation 1 --seed 1 --periods 0", "uunifast --count 1 --utilisation 1 --seed 1 --multiple 0",
-    "uunifast --count 1 --utilisation 1 --seed 1 --periods 10,20", "uunifast --count 1 --utilisation 1 --seed 1 --top 0",
-    "uunifast --count 1 --utilisation 1 --seed 1 --top 1.5", "uunifast --count 1 --utilisation 1 --seed 1 --top 2000000",
-    "uunifast --count 1 --utilisation 1 --seed 1 --periods 10 --low 5", "uunifast --count 1 --utilisation x --seed 1",
-    "published --count 5 --tenths 1 --number 5 --sets 4", "published --count 6 --tenths 1 --number 1",
-    "demands --tasks absent --ticks 10 --share 0.5", "demands --tasks absent --ticks 10", "other",
+    "uunifast --count 1 --utilisation 1", "uunifast --count 1 --utilisation x --seed 1",
+    f"{ONE} --low 11 --high 12 --multiple 7", f"{ONE} --high abc", f"{ONE} --low -5", f"{ONE} --periods 0",
+    f"{ONE} --multiple 0", f"{ONE} --periods 10,20", f"{ONE} --periods 10 --low 5", f"{ONE} --top 0",
+    f"{ONE} --top 1.5", f"{ONE} --top 2000000", "published --count 5 --tenths 1 --number 5 --sets 4",
+    "published --count 6 --tenths 1 --number 1", "demands --tasks absent --ticks 10 --share 0.5",
+    "demands --tasks absent --ticks 10", "other",
 ])
 def test_one_line_and_status_2(words: str, capsys: Captured) -> None:
     assert main(["generate", *words.split()]) == 2

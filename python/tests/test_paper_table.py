@@ -34,8 +34,8 @@ def rest(units: int, times: int) -> int:
 def test_by_hand(engine: Engine, times: int) -> None:
     rm_cc = 500 + Fraction(7 * rest(4, times), times)
     edf_la = 308 + Fraction(7 * rest(8, times), times)
-    energies = (700, 700, 448, 364, rm_cc, edf_la)
-    assert shares(engine, times) == tuple(Fraction(energy) / 700 for energy in energies)
+    energies = [*map(Fraction, (700, 700, 448, 364)), rm_cc, edf_la]
+    assert shares(engine, times) == tuple(energy / 700 for energy in energies)
 
 
 @pytest.mark.parametrize("pair", PAIRS)

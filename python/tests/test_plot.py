@@ -22,7 +22,8 @@ from rtdvs.trace import Trace
 pytest.importorskip("matplotlib")
 SVG = "{http://www.w3.org/2000/svg}"
 TOP = Path(__file__).resolve().parents[2]
-EXAMPLES = [path for path in sorted(TOP.glob("crates/example_runs/data/*/*.trace")) if path.parent.name != "long"]
+EXAMPLES = [path for path in sorted(TOP.glob("crates/example_runs/data/*/*.trace"))
+            if path.parent.name != "long"]
 
 
 def marks(path: Path) -> dict[str, int]:
@@ -46,18 +47,21 @@ def test_marks_are_those_of_the_trace(path: Path, tmp_path: Path) -> None:
     found, said = marks(tmp_path / "a.svg"), texts(tmp_path / "a.svg")
     for word, place in ("release", 2), ("done", 2):
         assert Counter(line[place] for line in lines if line[0] == word) == Counter(
-            {name.removeprefix(f"{word}-"): count for name, count in found.items() if name.startswith(f"{word}-") and count})
+            {name.removeprefix(f"{word}-"): count for name, count in found.items()
+             if name.startswith(f"{word}-") and count})
     assert found["decision"] + found["over"] == sum(line[0] == "speed" for line in lines)
-    assert {name.removeprefix("run-") for name in found if name.startswith("run-")} == {line[3] for line in lines if line[0] == "run"}
+    assert {name.removeprefix("run-") for name in found
+            if name.startswith("run-")} == {line[3] for line in lines if line[0] == "run"}
     assert ("idle" in found) == any(line[0] == "idle" for line in lines)
     assert {line[4] for line in lines if line[0] == "done"} <= {text.split("/")[0] for text in said}
     assert f"{lines[1][1]}, {lines[1][2]}: {lines[1][3]} ticks" in said
 
 
 def same_picture(made: Path, stored: Path) -> None:
-    """The same texts in the same order, and the same numbers of marks; other versions of matplotlib place them otherwise."""
+    """The same texts in the same order, and the same numbers of marks; a version may place them otherwise."""
     assert texts(made) == texts(stored)
-    named = {name: count for name, count in marks(made).items() if "-" in name or name in ("idle", "decision", "over")}
+    named = {name: count for name, count in marks(made).items() if "-" in name
+             or name in ("idle", "decision", "over")}
     assert named == {name: count for name, count in marks(stored).items() if name in named} and len(named) > 4
 
 
@@ -92,10 +96,13 @@ def head(ticks: int, tasks: str) -> str:
 
 def long_trace(jobs: int) -> Trace:
     """A task of period 2 that runs for a tick, at another speed each time."""
-    lines = [f"release {2 * job} a {job + 1}\nspeed {2 * job} {1 + job % 2} {1 + job % 2}/1\nrun {2 * job}:0 {2 * job + 1}:0 a "
-             f"{job + 1} {1 + job % 2} 5\ndone {2 * job + 1}:0 a {job + 1} {1 + job % 2}\nidle {2 * job + 1}:0 {2 * job + 2}:0 "
-             f"{1 + job % 2} 0\n" for job in range(jobs)]
-    return Trace.parse(head(2 * jobs, "task a 2 0 2\n") + "".join(lines) + f"energy a {5 * jobs}\nend {2 * jobs} {5 * jobs} 0\n")
+    lines = [head(2 * jobs, "task a 2 0 2\n")]
+    for job in range(jobs):
+        at, speed = 2 * job, 1 + job % 2
+        lines += [f"release {at} a {job + 1}\nspeed {at} {speed} {speed}/1\n",
+                  f"run {at}:0 {at + 1}:0 a {job + 1} {speed} 5\ndone {at + 1}:0 a {job + 1} {speed}\n",
+                  f"idle {at + 1}:0 {at + 2}:0 {speed} 0\n"]
+    return Trace.parse("".join([*lines, f"energy a {5 * jobs}\nend {2 * jobs} {5 * jobs} 0\n"]))
 
 
 def test_long_run_is_thinned(tmp_path: Path) -> None:
@@ -110,7 +117,8 @@ def test_long_run_is_thinned(tmp_path: Path) -> None:
 def test_window(tmp_path: Path) -> None:
     save_trace(long_trace(50), tmp_path / "a.svg", View(first=10, last=20))
     found = marks(tmp_path / "a.svg")
-    assert [found[name] for name in ("release-a", "deadline-a", "done-a", "run-a", "idle", "decision")] == [6, 6, 5, 5, 5, 5]
+    assert [found[name] for name in ("release-a", "deadline-a", "done-a", "run-a", "idle",
+                                     "decision")] == [6, 6, 5, 5, 5, 5]
     assert "edf, my_own: ticks 10 to 20 of 100" in texts(tmp_path / "a.svg")
 
 
@@ -118,7 +126,8 @@ def test_64_tasks_and_a_demand_above_the_picture(tmp_path: Path) -> None:
     names = [f"t{'x' * 29}{place:02}" for place in range(64)]
     lines = "".join(f"release 0 {name} 1\n" for name in names) + f"speed 0 1 {2**100}/1\nidle 0:0 9:0 9 0\n"
     energies = "".join(f"energy {name} 0\n" for name in names)
-    trace = Trace.parse(head(9, "".join(f"task {name} 9 0 1\n" for name in names)) + f"{lines}{energies}end 9 0 {2**127}\n")
+    trace = Trace.parse(head(9, "".join(f"task {name} 9 0 1\n"
+                                        for name in names)) + f"{lines}{energies}end 9 0 {2**127}\n")
     save_trace(trace, tmp_path / "a.svg", View(charge=3))
     said = texts(tmp_path / "a.svg")
     assert marks(tmp_path / "a.svg")["over"] == 1 and {*names} < {*said}
@@ -138,8 +147,10 @@ def test_into_the_axes_of_a_caller(data: Path) -> None:
 
 
 @pytest.mark.parametrize(("view", "line"), [
-    (View(last=17), "--to has to be at most 16, the ticks of the run"), (View(first=16), "--from has to be below 16"),
-    (View(first=3, last=3), "--from has to be below 3"), (View(top=2), "--top has to be at least 4, the fastest speed"),
+    (View(last=17), "--to has to be at most 16, the ticks of the run"),
+    (View(first=16), "--from has to be below 16"),
+    (View(first=3, last=3), "--from has to be below 3"),
+    (View(top=2), "--top has to be at least 4, the fastest speed"),
 ])
 def test_views(view: View, line: str, data: Path) -> None:
     with pytest.raises(FileFault, match=line):
@@ -147,26 +158,31 @@ def test_views(view: View, line: str, data: Path) -> None:
 
 
 @pytest.mark.parametrize(("words", "line"), [
-    (["--width", "200"], "--width has to be at least 320"), (["--output", "a.gif"], "a picture is a file .svg, .pdf or .png"),
+    (["--width", "200"], "--width has to be at least 320"),
+    (["--output", "a.gif"], "a picture is a file .svg, .pdf or .png"),
     (["--background", "no"], "no colour: no"), (["--trace", "absent"], "absent: No such file or directory"),
     (["--trace", "README.md"], "line 1: "), (["--from", "x"], "a whole number from 0 on"),
     (["--output", "/absent/a.svg"], "/absent/a.svg: No such file or directory"),
 ])
-def test_usage(words: list[str], line: str, monkeypatch: pytest.MonkeyPatch, tmp_path: Path, capsys: pytest.CaptureFixture[str]) -> None:
+def test_usage(words: list[str], line: str, monkeypatch: pytest.MonkeyPatch, tmp_path: Path,
+               capsys: pytest.CaptureFixture[str]) -> None:
     monkeypatch.chdir(TOP)
     trace = "crates/example_runs/data/paper/edf_none.trace"
     assert main(["plot", "trace", "--trace", trace, "--output", str(tmp_path / "a.svg"), *words]) == 2
     assert line in capsys.readouterr().err and not list(tmp_path.iterdir())
 
 
-@pytest.mark.parametrize("table", ["", "a\tb\n", "panel\tcurve\tutilisation\tsets\tmean\tlow\thigh\na\tb\tx\t1\t1\t1\t1\n"])
+@pytest.mark.parametrize("table", ["", "a\tb\n",
+                                   "panel\tcurve\tutilisation\tsets\tmean\tlow\thigh\na\tb\tx\t1\t1\t1\t1\n"])
 def test_tables_are_refused(table: str, tmp_path: Path, capsys: pytest.CaptureFixture[str]) -> None:
     (tmp_path / "t.tsv").write_text(table)
-    assert main(["plot", "evaluation", "--table", str(tmp_path / "t.tsv"), "--output", str(tmp_path / "a.svg")]) == 2
+    assert main(["plot", "evaluation", "--table", str(tmp_path / "t.tsv"), "--output",
+                 str(tmp_path / "a.svg")]) == 2
     assert "table: " in capsys.readouterr().err
 
 
-def test_without_matplotlib(data: Path, tmp_path: Path, monkeypatch: pytest.MonkeyPatch, capsys: pytest.CaptureFixture[str]) -> None:
+def test_without_matplotlib(data: Path, tmp_path: Path, monkeypatch: pytest.MonkeyPatch,
+                            capsys: pytest.CaptureFixture[str]) -> None:
     modules: dict[str, object] = sys.modules    # type: ignore[assignment]
     monkeypatch.setitem(modules, "matplotlib", None)
     words = ["--trace", str(data / "paper" / "edf_none.trace"), "--output", str(tmp_path / "a.svg")]
@@ -174,8 +190,9 @@ def test_without_matplotlib(data: Path, tmp_path: Path, monkeypatch: pytest.Monk
     assert "plot: matplotlib is not installed" in capsys.readouterr().err
 
 
-def test_charge_is_asked_for(data: Path) -> None:
-    trace = Trace.parse(head(2, "task a 2 0 4\n") + "release 0 a 1\nspeed 0 4 1/1\nrun 0:0 2:0 a 1 8 8\ndone 2:0 a 1 8\nenergy a 8\nend 2 8 0\n")
+def test_charge_is_asked_for() -> None:
+    run = "release 0 a 1\nspeed 0 4 1/1\nrun 0:0 2:0 a 1 8 8\ndone 2:0 a 1 8\nenergy a 8\nend 2 8 0\n"
+    trace = Trace.parse(head(2, "task a 2 0 4\n") + run)
     assert over_worst(trace, 1) == "a" and over_worst(trace, 2) is None
 
 
@@ -196,7 +213,8 @@ def test_joined_bars_cover_all(row: list[tuple[int, int, int]], narrow: int) -> 
         bars.append(Bar(now + gap, now + gap + length, speed))
         now += gap + length
     joined = list(join_narrow(bars, narrow, 1))
-    assert all(any(one.begin <= bar.begin and bar.end <= one.end and one.speed >= bar.speed for one in joined) for bar in bars)
+    assert all(any(one.begin <= bar.begin and bar.end <= one.end and one.speed >= bar.speed
+                   for one in joined) for bar in bars)
     assert all(before.end <= after.begin for before, after in zip(joined, joined[1:]))
     assert sum(bar.end - bar.begin for bar in joined) <= sum(bar.end - bar.begin + 2 for bar in bars)
 
@@ -205,7 +223,8 @@ def test_joined_bars_cover_all(row: list[tuple[int, int, int]], narrow: int) -> 
 def test_steps_show_each_extreme(values: list[tuple[int, int]], gap: int) -> None:
     ends = [sum(length for length, _ in values[:place + 1]) for place in range(len(values))]
     corners = steps(((end - length, end, float(value)) for end, (length, value) in zip(ends, values)), gap)
-    assert {max(y for _, y in corners), min(y for _, y in corners)} == {max(y for _, y in values), min(y for _, y in values)}
+    assert {max(y for _, y in corners), min(y for _, y in corners)} == {max(y for _, y in values),
+                                                                        min(y for _, y in values)}
     assert all(before[0] <= after[0] for before, after in zip(corners, corners[1:]))
 
 

@@ -6,7 +6,7 @@ from math import ceil
 from pathlib import Path
 
 import pytest
-from hypothesis import given
+from hypothesis import given, settings
 from hypothesis import strategies as st
 
 from rtdvs.cli import main
@@ -73,10 +73,11 @@ def with_worsts(tasks: TaskSet, worsts: list[int]) -> TaskSet:
     return TaskSet(tuple(replace(task, worst=worst) for task, worst in zip(tasks, worsts)))
 
 
-SETS = st.lists(st.tuples(st.integers(1, 12), st.integers(1, 30)), min_size=1, max_size=4).map(
+SETS = st.lists(st.tuples(st.integers(1, 12), st.integers(1, 30)), min_size=1, max_size=3).map(
     lambda pairs: TaskSet(tuple(Task(f"t{place}", *pair) for place, pair in enumerate(pairs))))
 
 
+@settings(max_examples=8)
 @given(SETS, st.integers(0, 2), st.integers(1, 9), st.sampled_from(["edf", "rm", "response"]))
 def test_each_limit_is_admitted_and_one_more_is_not(engine: Engine, tasks: TaskSet, charge: int, top: int,
                                                     test: str) -> None:

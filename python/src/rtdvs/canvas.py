@@ -1,4 +1,4 @@
-"""What all pictures share: lengths, colours that can be read on white and on dark, and files of the same bytes."""
+"""What all pictures share: lengths, a colour for white and for dark, and files of the same bytes."""
 
 from pathlib import Path
 from typing import TYPE_CHECKING, Any
@@ -15,12 +15,14 @@ INK = "#797979"
 
 
 def settings() -> Any:
-    """matplotlib's own settings, whatever the user's are: texts as texts, and the same bytes for the same picture."""
+    """matplotlib's own settings, whatever the user's are; texts stay texts, and the bytes the same."""
     import matplotlib
 
-    own = {"svg.hashsalt": "rtdvs", "svg.fonttype": "none", "pdf.fonttype": 42, "axes.formatter.use_locale": False,
+    own = {"svg.hashsalt": "rtdvs", "svg.fonttype": "none", "pdf.fonttype": 42,
+           "axes.formatter.use_locale": False,
            "font.sans-serif": ["DejaVu Sans"], "font.monospace": ["DejaVu Sans Mono"]}
-    kept = {key: value for key, value in matplotlib.rcParamsDefault.items() if key not in ("backend", "interactive", "toolbar")}
+    kept = {key: value for key, value in matplotlib.rcParamsDefault.items()
+            if key not in ("backend", "interactive", "toolbar")}
     return matplotlib.rc_context({**kept, **own})
 
 
@@ -36,4 +38,5 @@ def save(figure: "Figure", path: Path, background: str) -> None:
         "svg": {"Date": None, "Creator": None}, "pdf": {"CreationDate": None}, "png": {"Software": None}}
     if kind not in undated:
         raise FileFault(f"a picture is a file .svg, .pdf or .png, and not {path.name}")
-    figure.savefig(path, format=kind, facecolor=background, dpi=96 if kind == "svg" else 192, metadata=undated[kind])
+    figure.savefig(path, format=kind, facecolor=background, dpi=96 if kind == "svg" else 192,
+                   metadata=undated[kind])

@@ -1,7 +1,8 @@
-"""Traces for other tools: tables in CSV and in pandas, trace events for Chrome and Perfetto, waves for GTKWave.
+"""Traces for other tools: tables in CSV and in pandas, trace events for Chrome and Perfetto, waves for
+GTKWave.
 
-Times are exact decimals of ticks with six places, rounded half to even, and whole ticks without a point. Energies are
-whole numbers. In events and waves a tick is a microsecond.
+Times are exact decimals of ticks with six places, rounded half to even, and whole ticks without a point.
+Energies are whole numbers. In events and waves a tick is a microsecond.
 """
 
 import argparse
@@ -75,7 +76,7 @@ def _trimmed(text: str) -> str:
 
 @dataclass(frozen=True, slots=True)
 class Segment:
-    """A segment of a job, or of idle time without task and job; the speed in force, in work units per tick."""
+    """A segment of a job, or idle time without task and job; the speed is in work units per tick."""
 
     task: str
     job: int | None
@@ -100,7 +101,8 @@ class Segment:
 class JobEnd:
     """A job: release and deadline in ticks, completion in millionths of a tick, used and declared work units.
 
-    What isn't known is None: the completion within the run; in version 1 the last deadline and the declared units.
+    What isn't known is None: the completion within the run; in version 1 the last deadline and the declared
+    units.
     """
 
     task: str
@@ -149,7 +151,8 @@ def segments(trace: Trace) -> Iterator[Segment]:
 
 
 def job_ends(trace: Trace, charge: int = 0) -> tuple[JobEnd, ...]:
-    """The jobs of a trace in the order of their releases. The charge of the machine is in the declared units twice.
+    """The jobs of a trace in the order of their releases. The charge of the machine is in the declared units
+    twice.
 
     >>> from rtdvs.trace import SAMPLE
     >>> job_ends(Trace.parse(SAMPLE))[0].laxity
@@ -176,7 +179,8 @@ def job_ends(trace: Trace, charge: int = 0) -> tuple[JobEnd, ...]:
 
 def over_declared(trace: Trace, charge: int = 0) -> JobEnd | None:
     """A job that used more than its declared units: then the machine's charge is more than the one given."""
-    return next((job for job in job_ends(trace, charge) if (job.used or 0) > (job.declared or job.used or 0)), None)
+    return next((job for job in job_ends(trace, charge)
+                 if (job.used or 0) > (job.declared or job.used or 0)), None)
 
 
 def decision_cells(decision: Decision) -> tuple[str, ...]:
@@ -215,11 +219,12 @@ def _rows(trace: Trace, table: str, charge: int) -> Iterator[tuple[str, ...]]:
     return map(decision_cells, trace.decisions)
 
 
-def frame(trace: Trace, table: str = "segments", joule: Fraction | None = None, charge: int = 0) -> "pandas.DataFrame":
+def frame(trace: Trace, table: str = "segments", joule: Fraction | None = None,
+          charge: int = 0) -> "pandas.DataFrame":
     """A table of a trace as a pandas frame; ImportError without pandas.
 
-    Times are floats of ticks. Energies are Python's integers, so their sums are exact. With `joule`, the joules of an
-    energy of 1, there is a column `joules` of floats beside them.
+    Times are floats of ticks. Energies are Python's integers, so their sums are exact. With `joule`, the
+    joules of an energy of 1, there is a column `joules` of floats beside them.
 
     >>> from rtdvs.trace import SAMPLE
     >>> frame(Trace.parse(SAMPLE))["energy"].sum()
@@ -229,7 +234,8 @@ def frame(trace: Trace, table: str = "segments", joule: Fraction | None = None, 
 
     columns = _job_columns(trace, charge) if table == "jobs" else {
         "segments": _segment_columns, "decisions": _decision_columns}[table](trace)
-    made = pandas.DataFrame({name: pandas.Series(values, dtype=kind) for name, (kind, values) in columns.items()})
+    made = pandas.DataFrame({name: pandas.Series(values, dtype=kind)
+                             for name, (kind, values) in columns.items()})
     if joule is not None and "energy" in made:
         made["joules"] = [float(energy * joule) for energy in made["energy"]]
     return made
@@ -257,7 +263,8 @@ def _segment_columns(trace: Trace) -> Columns:
 def _job_columns(trace: Trace, charge: int) -> Columns:
     rows = job_ends(trace, charge)
     times: list[tuple[str, Callable[[JobEnd], int | None]]] = [
-        ("done", lambda row: row.done), ("response", lambda row: row.response), ("laxity", lambda row: row.laxity)]
+        ("done", lambda row: row.done), ("response", lambda row: row.response),
+        ("laxity", lambda row: row.laxity)]
     return {
         "task": ("object", [row.task for row in rows]),
         "job": ("int64", [row.job for row in rows]),
@@ -290,8 +297,8 @@ def _decision_columns(trace: Trace) -> Columns:
 def events_text(trace: Trace) -> str:
     """A trace as trace events in JSON, for Perfetto and Chrome.
 
-    A track for each task and one for idle time, with the release and the end of each job; counters for the speed and
-    the published demand. Energies are text, since a number in JSON may lose digits past 2^53.
+    A track for each task and one for idle time, with the release and the end of each job; counters for the
+    speed and the published demand. Energies are text, since a number in JSON may lose digits past 2^53.
 
     >>> from rtdvs.trace import SAMPLE
     >>> len(json.loads(events_text(Trace.parse(SAMPLE)))["traceEvents"])
@@ -301,7 +308,8 @@ def events_text(trace: Trace) -> str:
 
 
 def _events(trace: Trace) -> Iterator[str]:
-    yield _about("M", "process_name", 0) + f',"args":{{"name":{json.dumps(f"{trace.scheduler} {trace.governor}")}}}'
+    yield _about("M", "process_name",
+                 0) + f',"args":{{"name":{json.dumps(f"{trace.scheduler} {trace.governor}")}}}'
     yield from _track("idle", IDLE_TRACK)
     tracks: dict[str, int] = {}
     for task in trace.tasks:
@@ -335,7 +343,8 @@ def _event(note: Release | Run | Idle | Done, speed: int, track: int) -> str:
     if isinstance(note, Release):
         return _about("i", f"release {note.job}", track) + f',"s":"t","ts":{note.tick}'
     if isinstance(note, Done):
-        return _about("i", f"done {note.job}", track) + f',"s":"t","ts":{_time(note.at, speed)},"args":{{"used":{note.used}}}'
+        return _about("i", f"done {note.job}",
+                      track) + f',"s":"t","ts":{_time(note.at, speed)},"args":{{"used":{note.used}}}'
     name = "idle" if isinstance(note, Idle) else f"{note.task} {note.job}"
     span = f',"ts":{_time(note.begin, speed)},"dur":{_between(note.begin, note.end, speed)}'
     return _about("X", name, track) + span + f',"args":{{"units":{note.units},"energy":"{note.energy}"}}'
@@ -352,9 +361,10 @@ def _between(begin: Position, end: Position, speed: int) -> str:
 def vcd_text(trace: Trace) -> str:
     """A trace as a value change dump, for GTKWave, PulseView and sigrok, in picoseconds.
 
-    A task `t1` has the wires `t1`, which is 1 while it runs, and `t1/open`, from a job's release until its end. Beside
-    them are idle time, the number of the job that runs (0 if none), the speed, the published demand and the energy so
-    far, to 15 digits. These numbers are reals: libsigrok reads no further than a vector of several bits.
+    A task `t1` has the wires `t1`, which is 1 while it runs, and `t1/open`, from a job's release until its
+    end. Beside them are idle time, the number of the job that runs (0 if none), the speed, the published
+    demand and the energy so far, to 15 digits. These numbers are reals: libsigrok reads no further than a
+    vector of several bits.
 
     >>> from rtdvs.trace import SAMPLE
     >>> vcd_text(Trace.parse(SAMPLE)).splitlines()[-3:]
@@ -378,7 +388,8 @@ def _vcd_head(names: list[str]) -> Iterator[str]:
     for number, name in enumerate(names, 1):
         yield f"$var wire 1 r{number} {name} $end"
         yield f"$var wire 1 o{number} {name}/open $end"
-    yield from ("$upscope $end", "$enddefinitions $end", "#0", "$dumpvars", "1r0", "r0 j", "r0 s", "r0 d", "r0 e")
+    yield from ("$upscope $end", "$enddefinitions $end", "#0", "$dumpvars", "1r0", "r0 j", "r0 s", "r0 d",
+                "r0 e")
     for number in range(1, len(names) + 1):
         yield from (f"0r{number}", f"0o{number}")
     yield "$end"
@@ -425,7 +436,7 @@ def add_command(commands: "argparse._SubParsersAction[argparse.ArgumentParser]")
     parser = commands.add_parser("convert", help="a trace as CSV, trace events or waves", description=__doc__,
                                  epilog=EXAMPLE, formatter_class=argparse.RawDescriptionHelpFormatter)
     parser.add_argument("--to", choices=("csv", "chrome", "vcd"), required=True,
-                        help="a table, trace events in JSON (Chrome, Perfetto), or a value change dump (GTKWave, PulseView)")
+                        help="a table, trace events in JSON (Perfetto), or a value change dump (GTKWave)")
     parser.add_argument("--table", choices=tuple(COLUMNS), help="the table for csv; segments by default")
     parser.add_argument("--charge", type=whole_number(0), metavar="UNITS",
                         help="the machine's charge, which each declared worst case in jobs then has twice")

@@ -16,8 +16,8 @@ A board is described in a TOML file; its points may also come from the source of
     mhz = 400
     volts = 1.0               # or milliwatts = 170 at each point
 
-All numbers are exact. What doesn't fit is rounded so that the set is never easier: periods and speeds down, worst cases,
-voltages and the charge up.
+All numbers are exact. What doesn't fit is rounded so that the set is never easier: periods and speeds down,
+worst cases, voltages and the charge up.
 """
 
 import argparse
@@ -31,7 +31,8 @@ from fractions import Fraction
 from pathlib import Path
 from typing import Any
 
-from rtdvs.commandline import (add_engine_options, add_output, engine_of, exact_fraction, input_path, read_text,
+from rtdvs.commandline import (add_engine_options, add_output, engine_of, exact_fraction, input_path,
+                               read_text,
                                whole_number, write_output)
 from rtdvs.device_tree import Choice, OperatingPoint, operating_points
 from rtdvs.files import Demands, FileFault, Machine, Point, Task, TaskSet
@@ -55,7 +56,7 @@ class BoardTask:
 
 @dataclass(frozen=True, slots=True)
 class BoardPoint:
-    """An operating point: its frequency in MHz, its voltage in volts, and the power that was measured, in milliwatts."""
+    """An operating point: its frequency in MHz, its voltage in volts, and its measured milliwatts."""
 
     megahertz: Fraction
     volts: Fraction | None = None
@@ -92,7 +93,8 @@ class Board:
             raise _fault("the points are given twice: here and by a device tree")
         return cls(
             tuple(_task(f"task {place}: ", entry) for place, entry in enumerate(_tables(table, "task"), 1)),
-            tuple(_point(f"point {place}: ", entry) for place, entry in enumerate(given, 1)) or points_of(points),
+            tuple(_point(f"point {place}: ", entry) for place, entry in enumerate(given, 1))
+            or points_of(points),
             _quantity("", table, "idle_share", Fraction(0)) or Fraction(0),
             _quantity("", table, "switch_us", Fraction(0)) or Fraction(0),
             _quantity("", table, "battery_mwh"),
@@ -135,7 +137,7 @@ class Rounding:
 
 @dataclass(frozen=True, slots=True)
 class Design:
-    """The files for a board, their scale, what was rounded, and the joules of an energy of 1 if power was measured."""
+    """The files for a board, their scale and roundings; the joules of an energy of 1, if power was measured."""
 
     tasks: TaskSet
     machine: Machine
@@ -150,7 +152,7 @@ class Design:
         return energy * self.joule
 
     def mean_milliwatts(self, energy: int, ticks: int) -> Fraction:
-        """The mean power of an energy that was spent in these ticks, in milliwatts; raises FileFault as `joules`."""
+        """The mean milliwatts of an energy that was spent in these ticks; raises FileFault as `joules`."""
         return self.joules(energy) * 10**6 / (ticks * self.scale.tick)
 
     def ticks_of(self, milliseconds: Fraction) -> int:
@@ -191,22 +193,25 @@ def points_of(points: Iterable[OperatingPoint]) -> tuple[BoardPoint, ...]:
     >>> points_of([OperatingPoint("a", 600_000_000, 950_000)])[0].volts
     Fraction(19, 20)
     """
-    return tuple(BoardPoint(Fraction(point.hertz, 10**6), Fraction(point.microvolts, 10**6)) for point in points)
+    return tuple(BoardPoint(Fraction(point.hertz, 10**6), Fraction(point.microvolts, 10**6))
+                 for point in points)
 
 
 def choose_tick(board: Board) -> Fraction:
     """A tick in milliseconds: from a tenth to a thousandth of the shortest period.
 
-    It is 1, 2 or 5 times a power of ten, or a whole part of all periods. The longest is taken that adds at most a
-    thousandth to the utilisation by rounding periods, or the one that adds least. Raises FileFault if the periods have no
-    common multiple up to 2^48 ticks under any.
+    It is 1, 2 or 5 times a power of ten, or a whole part of all periods. The longest is taken that adds at
+    most a thousandth to the utilisation by rounding periods, or the one that adds least. Raises FileFault if
+    the periods have no common multiple up to 2^48 ticks under any.
 
-    >>> choose_tick(Board((BoardTask("a", Fraction(5), Fraction(1)), BoardTask("b", Fraction(8), Fraction(1))), ()))
+    >>> one, two = BoardTask("a", Fraction(5), Fraction(1)), BoardTask("b", Fraction(8), Fraction(1))
+    >>> choose_tick(Board((one, two), ()))
     Fraction(1, 2)
     """
     periods = [task.period for task in board.tasks]
     most = sum(task.worst / task.period for task in board.tasks) / 1000
-    fitting = [tick for tick in _ticks(periods) if math.lcm(*(period // tick for period in periods)) <= MOST_MULTIPLE]
+    fitting = [tick for tick in _ticks(periods)
+               if math.lcm(*(period // tick for period in periods)) <= MOST_MULTIPLE]
     if not fitting:
         raise _fault("the periods have no common multiple up to 2^48 ticks; give rounder periods, or a tick")
     return min(fitting, key=lambda tick: (max(most, _added_utilisation(board.tasks, tick)), -tick))
@@ -254,9 +259,10 @@ def design(board: Board, scale: Scale) -> Design:
     >>> made = design(board, Scale(Fraction(1), Fraction(10)))
     >>> made.tasks.tasks, made.machine.points
     ((Task(name='a', period=2, worst=101, offset=0),), (Point(speed=100, millivolts=1000),))
-    >>> print(*(rounding.text() for rounding in made.roundings), sep="; ")
-    task a: period 2.5 ms taken as 2 ms; task a: worst case 1001 cycles taken as 1010 cycles; point 1 MHz: volts \
-0.9995 V taken as 1 V
+    >>> print(*(rounding.text() for rounding in made.roundings), sep="\\n")
+    task a: period 2.5 ms taken as 2 ms
+    task a: worst case 1001 cycles taken as 1010 cycles
+    point 1 MHz: volts 0.9995 V taken as 1 V
     """
     tasks = TaskSet(tuple(_task_in(task, scale) for task in board.tasks))
     machine, changed = machine_of(board, scale)
@@ -283,7 +289,7 @@ def is_measured(points: Iterable[BoardPoint]) -> bool:
 
 
 def usual_demands(board: Board, made: Design, ticks: int) -> Demands:
-    """The demands of all jobs that are released in these ticks, from what jobs usually take, rounded up to units."""
+    """The demands of all jobs of these ticks: what jobs usually take, rounded up to units."""
     return Demands({
         (task.name, job): math.ceil(given.usual / made.scale.unit)
         for given, task in zip(board.tasks, made.tasks) if given.usual is not None
@@ -295,13 +301,15 @@ def settle(board: Board, scale: Scale, energy_of: Callable[[Design], Fraction],
            share: Fraction = Fraction(1, 100)) -> Iterator[tuple[Design, Fraction]]:
     """Halves the tick until the energy moves by at most a share of itself; gives each design with its energy.
 
-    `energy_of` runs a design over a fixed time. The last one given is settled. Raises FileFault if a tick is too short.
+    `energy_of` runs a design over a fixed time. The last one given is settled. Raises FileFault if a tick is
+    too short.
 
     >>> board = Board.parse('''
     ... task = [{name = "a", period_ms = 1, worst_cycles = 1000}]
     ... point = [{mhz = 1000, volts = 1}]''')
     >>> energies = iter([Fraction(90), Fraction(99), Fraction(100)])
-    >>> [plain(made.scale.tick) for made, _ in settle(board, choose_scale(board), lambda made: next(energies))]
+    >>> found = settle(board, choose_scale(board), lambda made: next(energies))
+    >>> [plain(made.scale.tick) for made, _ in found]
     ['0.1', '0.05', '0.025']
     """
     made = design(board, scale)
@@ -349,7 +357,8 @@ def _check_keys(where: str, table: Mapping[str, Any], known: set[str]) -> None:
         raise _fault(f"{where}unknown key {unknown}")
 
 
-def _quantity(where: str, table: Mapping[str, Any], key: str, least: Fraction | None = None) -> Fraction | None:
+def _quantity(where: str, table: Mapping[str, Any], key: str,
+              least: Fraction | None = None) -> Fraction | None:
     """The number at a key, from `least` on, or above 0; None if the key is absent."""
     value = table.get(key)
     if value is None:
@@ -369,7 +378,8 @@ def _needed(where: str, table: Mapping[str, Any], key: str) -> Fraction:
 
 
 def _task(where: str, table: Mapping[str, Any]) -> BoardTask:
-    _check_keys(where, table, {"name", "period_ms", "offset_ms", "worst_cycles", "worst_ms", "at_mhz", "usual_cycles"})
+    _check_keys(where, table,
+                {"name", "period_ms", "offset_ms", "worst_cycles", "worst_ms", "at_mhz", "usual_cycles"})
     name = table.get("name")
     if not isinstance(name, str):
         raise _fault(f"{where}missing name" if name is None else f"{where}name is no text")
@@ -404,11 +414,13 @@ def _common_part(numbers: Iterable[Fraction]) -> Fraction:
 
 
 def _added_utilisation(tasks: Iterable[BoardTask], tick: Fraction) -> Fraction:
-    return sum((task.worst / (task.period // tick * tick) - task.worst / task.period for task in tasks), Fraction(0))
+    return sum((task.worst / (task.period // tick * tick) - task.worst / task.period for task in tasks),
+               Fraction(0))
 
 
 def _task_in(task: BoardTask, scale: Scale) -> Task:
-    return Task(task.name, task.period // scale.tick, math.ceil(task.worst / scale.unit), task.offset // scale.tick)
+    return Task(task.name, task.period // scale.tick, math.ceil(task.worst / scale.unit),
+                task.offset // scale.tick)
 
 
 def _task_roundings(tasks: Iterable[BoardTask], scale: Scale) -> Iterator[Rounding]:
@@ -423,7 +435,8 @@ def _machine_roundings(board: Board, points: Sequence[BoardPoint], machine: Mach
                        scale: Scale) -> Iterator[Rounding]:
     for point, taken in zip(points, machine.points):
         where = f"point {plain(point.megahertz)} MHz:"
-        yield from _changed(f"{where} speed", point.megahertz, taken.speed * scale.unit / scale.tick / 1000, "MHz")
+        yield from _changed(f"{where} speed", point.megahertz, taken.speed * scale.unit / scale.tick / 1000,
+                            "MHz")
         if not is_measured(points) and point.volts is not None:
             yield from _changed(f"{where} volts", point.volts, Fraction(taken.millivolts, 1000), "V")
     yield from _changed("idle share", board.idle_share, Fraction(machine.idle, 1000), "of a running cycle")
@@ -443,7 +456,7 @@ def _millivolts(point: BoardPoint) -> int:
 
 
 def _effective_millivolts(points: Sequence[BoardPoint]) -> list[int]:
-    """The whole millivolts whose squares are nearest in proportion to the energies of a cycle; the dearest has 20000."""
+    """Whole millivolts, their squares nearly in proportion to the energies of a cycle; the dearest has 20000."""
     energies = [(point.milliwatts or Fraction(0)) / point.megahertz for point in points]
     squares = [energy / max(energies) * MOST_MILLIVOLTS**2 for energy in energies]
     return [_nearest_root(square) for square in squares]
@@ -459,7 +472,8 @@ def _check_rising(points: Sequence[BoardPoint], speeds: Sequence[int], volts: Se
         if speeds[at] == speeds[at - 1]:
             raise _fault(f"points {lower} and {higher} MHz: both are speed {speeds[at]}")
         if volts[at] < volts[at - 1] and is_measured(points):
-            raise _fault(f"point {lower} MHz: a cycle takes more energy than at {higher} MHz; leave the point out")
+            raise _fault(f"point {lower} MHz: a cycle takes more energy than at {higher} MHz; "
+                         "leave the point out")
         if volts[at] < volts[at - 1]:
             raise _fault(f"point {higher} MHz: the voltage is below that of {lower} MHz")
 
@@ -481,14 +495,18 @@ EXAMPLE = """examples:
 
 def add_command(commands: "argparse._SubParsersAction[argparse.ArgumentParser]") -> None:
     """Adds the command `design`."""
-    parser = commands.add_parser("design", help="files in ticks and work units from milliseconds, cycles and volts",
+    parser = commands.add_parser("design",
+                                 help="files in ticks and work units from milliseconds, cycles and volts",
                                  description=__doc__, epilog=EXAMPLE,
                                  formatter_class=argparse.RawDescriptionHelpFormatter)
     parser.add_argument("--board", type=input_path, metavar="FILE", help="the description of a board")
     parser.add_argument("--folder", type=Path, help="writes tasks.toml and machine.toml there")
-    parser.add_argument("--tick-ms", type=exact_fraction, metavar="MS", help="the tick, in place of a chosen one")
-    parser.add_argument("--unit-cycles", type=exact_fraction, metavar="CYCLES", help="the work unit, likewise")
-    parser.add_argument("--trace", type=input_path, metavar="FILE", help="prints joules, mean power and battery hours")
+    parser.add_argument("--tick-ms", type=exact_fraction, metavar="MS",
+                        help="the tick, in place of a chosen one")
+    parser.add_argument("--unit-cycles", type=exact_fraction, metavar="CYCLES",
+                        help="the work unit, likewise")
+    parser.add_argument("--trace", type=input_path, metavar="FILE",
+                        help="prints joules, mean power and battery hours")
     _add_tree_options(parser)
     _add_settle_options(parser)
     add_output(parser)
@@ -502,14 +520,17 @@ def _add_tree_options(parser: argparse.ArgumentParser) -> None:
     group.add_argument("--supported-hw", type=_hardware, default=(), metavar="N[,N..]",
                        help="the hardware's version, level by level, for opp-supported-hw")
     group.add_argument("--suffix", default="", help="takes opp-microvolt-SUFFIX")
-    group.add_argument("--supply", type=whole_number(1), default=1, metavar="N", help="which supply; 1 by default")
+    group.add_argument("--supply", type=whole_number(1), default=1, metavar="N",
+                       help="which supply; 1 by default")
 
 
 def _add_settle_options(parser: argparse.ArgumentParser) -> None:
-    group = parser.add_argument_group("the tick", "halves the tick until the energy of a run moves by at most 1 %%")
+    group = parser.add_argument_group("the tick",
+                                      "halves the tick until the energy of a run moves by at most 1 %%")
     group.add_argument("--settle-ms", type=exact_fraction, metavar="MS", help="the time of each run")
     group.add_argument("--scheduler", choices=("edf", "rm"), default="edf", help="edf by default")
-    group.add_argument("--governor", choices=("none", "static", "cc", "la"), default="cc", help="cc by default")
+    group.add_argument("--governor", choices=("none", "static", "cc", "la"), default="cc",
+                       help="cc by default")
     add_engine_options(parser)
 
 

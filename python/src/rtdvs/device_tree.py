@@ -1,7 +1,8 @@
 """Operating points from the source of a device tree, in the syntax of the device tree compiler.
 
-Both forms are read: tables of `operating-points-v2`, and a processor's older `operating-points`, pairs of kHz and
-microvolts. Files that are included and macros aren't followed: a value that needs one is refused when it is used.
+Both forms are read: tables of `operating-points-v2`, and a processor's older `operating-points`, pairs of kHz
+and microvolts. Files that are included and macros aren't followed: a value that needs one is refused when it
+is used.
 """
 
 import re
@@ -26,9 +27,9 @@ _NUMBER = re.compile(r"(0x[0-9a-f]+|0[0-7]*|[1-9][0-9]*)(?:u|l|ul|ll|ull)?", re.
 class Choice:
     """Which points of a tree are taken.
 
-    `table` is a label, or a path for a table without one; it may be empty if the file has one table. `supported_hw`
-    is the version of the hardware, level by level, as the platform has it. `suffix` takes `opp-microvolt-SUFFIX`,
-    `supply` is the place of the supply, from 1 on.
+    `table` is a label, or a path for a table without one; it may be empty if the file has one table.
+    `supported_hw` is the version of the hardware, level by level, as the platform has it. `suffix` takes
+    `opp-microvolt-SUFFIX`, `supply` is the place of the supply, from 1 on.
     """
 
     table: str = ""
@@ -75,8 +76,8 @@ class _Tree:
 def operating_points(text: str, choice: Choice = Choice()) -> tuple[str, tuple[OperatingPoint, ...]]:
     """The name of the chosen table, and its points by rising frequency.
 
-    A voltage is the first number of its supply, the target. With `supported_hw` a point is taken as the kernel does:
-    if every level of one of its groups has a bit in common. Raises FileFault.
+    A voltage is the first number of its supply, the target. With `supported_hw` a point is taken as the
+    kernel does: if every level of one of its groups has a bit in common. Raises FileFault.
 
     >>> board = "cpu0: cpu@0 { operating-points = <996000 1250000 396000 975000>; };"
     >>> operating_points("/ { " + board + " };")[1][0]
@@ -85,7 +86,8 @@ def operating_points(text: str, choice: Choice = Choice()) -> tuple[str, tuple[O
     tables = _tables(_parse(text))
     names = ", ".join(tables) or "none"
     if not choice.table and len(tables) != 1:
-        raise _fault(f"one table has to be chosen of these: {names}" if tables else "no table of operating points")
+        raise _fault(f"one table has to be chosen of these: {names}" if tables
+                     else "no table of operating points")
     table = choice.table or next(iter(tables))
     if table not in tables:
         raise _fault(f"no table {table}; the tables are: {names}")
@@ -219,13 +221,15 @@ def _old_points(groups: Sequence[_Cells]) -> Iterator[OperatingPoint]:
 
 
 def _is_supported(name: str, node: _Node, hardware: Sequence[int]) -> bool:
-    masks = [_number(word, cells.bits) for cells in node.properties.get("opp-supported-hw", ()) for word in cells.words]
+    masks = [_number(word, cells.bits) for cells in node.properties.get("opp-supported-hw", ())
+             for word in cells.words]
     if not hardware and masks:
         raise _fault(f"{name} is for some hardware only; choose the hardware by --supported-hw")
     if not hardware:
         return True
     if len(masks) % len(hardware):
-        raise _fault(f"{name} has {len(masks)} numbers in opp-supported-hw, which are no groups of {len(hardware)}")
+        raise _fault(f"{name} has {len(masks)} numbers in opp-supported-hw, "
+                     f"which are no groups of {len(hardware)}")
     groups = [masks[at:at + len(hardware)] for at in range(0, len(masks), len(hardware))]
     return any(all(mask & level for mask, level in zip(group, hardware)) for group in groups)
 

@@ -6,7 +6,7 @@ figures. It leaves a file for each set in its folder, so a sweep that was stoppe
 
 import argparse
 from collections import Counter, defaultdict
-from collections.abc import Collection, Iterable, Iterator, Mapping
+from collections.abc import Collection, Generator, Iterable, Iterator, Mapping
 from concurrent.futures import Executor, Future, ProcessPoolExecutor, as_completed
 from dataclasses import dataclass
 from fractions import Fraction
@@ -35,8 +35,8 @@ CURVES = (*(f"{scheduler} {governor}" for scheduler, governor in PAIRS), "bound"
 TENTHS = range(1, 11)
 ABOUT = """
 Runs random sets under each scheduler and governor, and writes a table for each figure of docs/EVALUATION.md
-into the folder. A sweep that was stopped goes on when the call is made again. The last line counts what is
-wrong: a run that is missing, an energy below the bound or above EDF with none.
+into the folder, of all results there. A sweep that was stopped goes on when the call is made again. The last
+line counts what is wrong: a run that is missing, an energy below the bound or above EDF with none.
 """
 
 
@@ -174,7 +174,7 @@ def recount(board: Machine, text: str) -> None:
 
 
 def measure(engine: Engine, seed: int, named: tuple[SetName, TaskSet]) -> list[Record]:
-    """All runs of one set; those of a set with number 1 are recounted. Raises all refusals but those by RM."""
+    """All runs of one set; those of a set with number 1 are recounted. Raises refusals other than RM's."""
     name, tasks = named
     cases = ((kind, take, Case(tasks, MACHINES[kind], PUBLISHED_TICKS, demands_of(name, tasks, take, seed)))
              for kind, take in panels_of(name))
@@ -207,7 +207,8 @@ def units_of(trace: str) -> int:
     return sum(int(line.split(" ", 6)[5]) for line in trace.split("\n") if line.startswith("run "))
 
 
-def evaluate(engine: Engine, folder: Path, sweep: Sweep, executor: Executor) -> Iterator[SetName]:
+def evaluate(engine: Engine, folder: Path, sweep: Sweep,
+             executor: Executor) -> Generator[SetName, None, None]:
     """Runs the sets of a sweep that have no results in the folder; yields each name with results.
 
     The executor's workers have to reach the program; the caller's process writes the results. The first
@@ -256,6 +257,11 @@ def read_records(folder: Path, names: Iterable[SetName]) -> list[Record]:
     """The results of these sets, in their order."""
     return [Record.parse(line) for name in names
             for line in result_file(folder, name).read_text(encoding="utf-8").splitlines()]
+
+
+def finished(folder: Path) -> list[SetName]:
+    """The sets that have results in the folder, in order."""
+    return sorted(SetName.parse(file.stem) for file in (folder / "results").glob("*.tsv"))
 
 
 # Tables
@@ -390,8 +396,9 @@ def run(args: argparse.Namespace) -> int:
     sweep = Sweep(args.draws, args.sets, counts=args.counts, tenths=args.utilisations)
     total = len(set(args.counts)) * len(set(args.utilisations)) * args.sets
     with ProcessPoolExecutor(args.jobs) as executor:
-        names = sorted(progress(evaluate(engine_of(args), args.folder, sweep, executor), total, "sets"))
-    records = read_records(args.folder, names)
+        for _ in progress(evaluate(engine_of(args), args.folder, sweep, executor), total, "sets"):
+            pass
+    records = read_records(args.folder, finished(args.folder))
     found = shares(records)
     for figure, panels in FIGURES.items():
         write_whole(args.folder / f"{figure}.tsv", figure_table(panels, found))

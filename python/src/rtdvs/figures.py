@@ -20,7 +20,8 @@ ENERGY, BOUND, TIME = "#d55e00", "#009e73", "#0072b2"
 
 
 def plot_compare(rows: Sequence[Row], energy: "Axes", time: "Axes") -> None:
-    """Draws a comparison into two axes: each energy as a share of EDF with `none`, and the time at each speed.
+    """Draws a comparison into two axes: each energy as a share of EDF with `none`, and the time at each
+    speed.
 
     A mark is at the bound for the row's units. A pair that is denied has its line in place of a bar.
     """
@@ -30,11 +31,14 @@ def plot_compare(rows: Sequence[Row], energy: "Axes", time: "Axes") -> None:
         _plain_axes(axes)
         axes.set_xticks([0, 0.25, 0.5, 0.75, 1], ["0.00", "0.25", "0.50", "0.75", "1.00"], fontsize=SMALL)
         axes.set_yticks([])
-    energy.set_yticks(range(len(rows)), [f"{row.scheduler.upper()} {row.governor}" for row in rows], fontsize=TEXT)
-    energy.set_title("energy, as a share of EDF none; the mark is the bound", loc="left", fontsize=SMALL, color=INK)
+    energy.set_yticks(range(len(rows)), [f"{row.scheduler.upper()} {row.governor}" for row in rows],
+                      fontsize=TEXT)
+    energy.set_title("energy, as a share of EDF none; the mark is the bound", loc="left", fontsize=SMALL,
+                     color=INK)
     time.set_title("time at speed", loc="left", fontsize=SMALL, color=INK)
     speeds = sorted({speed for row in rows if row.result for speed in row.result.residency})
-    shades = {speed: 0.7 if len(speeds) == 1 else 0.3 + 0.6 * place / (len(speeds) - 1) for place, speed in enumerate(speeds)}
+    shades = {speed: 0.7 if len(speeds) == 1 else 0.3 + 0.6 * place / (len(speeds) - 1)
+              for place, speed in enumerate(speeds)}
     for place, row in enumerate(rows):
         _draw_energy(energy, place, row)
         _draw_times(time, place, row, shades)
@@ -47,7 +51,8 @@ def save_compare(rows: Sequence[Row], path: Path, background: str = "none") -> N
         high = 24 * len(rows) + 70
         figure = new_figure(810, high)
         low, tall = 30 / high, 24 * len(rows) / high
-        plot_compare(rows, figure.add_axes((90 / 810, low, 300 / 810, tall)), figure.add_axes((480 / 810, low, 300 / 810, tall)))
+        plot_compare(rows, figure.add_axes((90 / 810, low, 300 / 810, tall)),
+                     figure.add_axes((480 / 810, low, 300 / 810, tall)))
         save(figure, path, background)
 
 
@@ -65,7 +70,8 @@ def _draw_energy(axes: "Axes", place: int, row: Row) -> None:
         axes.text(0.02, place, row.refusal or "no share", va="center", fontsize=SMALL, color=INK)
         return
     share = row.result.share
-    axes.barh(place, float(share), height=2 / 3, color=ENERGY, alpha=0.75, gid=f"energy-{row.scheduler}-{row.governor}")
+    axes.barh(place, float(share), height=2 / 3, color=ENERGY, alpha=0.75,
+              gid=f"energy-{row.scheduler}-{row.governor}")
     axes.text(float(share) + 0.013, place, decimal(share, 3), va="center", fontsize=SMALL, color=INK)
     if row.result.above_bound is not None:
         bound = float(share / (1 + row.result.above_bound))
@@ -78,21 +84,24 @@ def _draw_times(axes: "Axes", place: int, row: Row, shades: Mapping[int, float])
     for speed in shades:
         time = row.result.residency.get(speed, Fraction(0)) if row.result else Fraction(0)
         if time:
-            axes.barh(place, float(time), left=float(begin), height=2 / 3, color=TIME, alpha=shades[speed], linewidth=0)
+            axes.barh(place, float(time), left=float(begin), height=2 / 3, color=TIME, alpha=shades[speed],
+                      linewidth=0)
         begin += time
 
 
 def _draw_shades(axes: "Axes", shades: Mapping[int, float]) -> None:
     from matplotlib.patches import Patch
 
-    axes.legend(handles=[Patch(color=TIME, alpha=shade, linewidth=0, label=str(speed)) for speed, shade in shades.items()],
-                loc="lower right", bbox_to_anchor=(1, 1), ncol=max(1, len(shades)), frameon=False, fontsize=SMALL,
+    axes.legend(handles=[Patch(color=TIME, alpha=shade, linewidth=0, label=str(speed))
+                         for speed, shade in shades.items()],
+                loc="lower right", bbox_to_anchor=(1, 1), ncol=max(1, len(shades)), frameon=False,
+                fontsize=SMALL,
                 labelcolor=INK, handlelength=1, columnspacing=1, borderpad=0)
 
 
 @dataclass(frozen=True, slots=True)
 class Mean:
-    """A point of a figure: the number of sets; their mean energy and the bounds of the middle 80 %, () without sets."""
+    """A point of a figure: the number of sets; their mean energy and the middle 80 %, () without sets."""
 
     panel: str
     curve: str
@@ -104,14 +113,16 @@ class Mean:
 def parse_means(text: str) -> tuple[Mean, ...]:
     r"""The points of a table of the evaluation, with tabs between its columns; raises FileFault.
 
-    >>> parse_means("panel\tcurve\tutilisation\tsets\tmean\tlow\thigh\n5 tasks\tbound\t0.1\t100\t0.5\t0.4\t0.6\n")[0].sets
+    >>> head = "panel\tcurve\tutilisation\tsets\tmean\tlow\thigh\n"
+    >>> parse_means(head + "5 tasks\tbound\t0.1\t100\t0.5\t0.4\t0.6\n")[0].sets
     100
     """
     rows = list(csv.reader(text.splitlines(), delimiter="\t"))
     if rows[:1] != [["panel", "curve", "utilisation", "sets", "mean", "low", "high"]]:
         raise FileFault("table: wrong header")
     try:
-        return tuple(Mean(panel, curve, Fraction(utilisation), int(sets), tuple(map(Fraction, filter(None, energies))))
+        return tuple(Mean(panel, curve, Fraction(utilisation), int(sets),
+                          tuple(map(Fraction, filter(None, energies))))
                      for panel, curve, utilisation, sets, *energies in rows[1:])
     except (ValueError, ZeroDivisionError):
         raise FileFault("table: a row isn't a point") from None
@@ -129,7 +140,8 @@ CURVES = {
 
 
 def plot_means(means: Sequence[Mean], axes: "Axes") -> None:
-    """Draws a panel of the evaluation: mean energies over utilisation, the middle 80 % as bars, the sets that RM admits.
+    """Draws a panel of the evaluation: mean energies over utilisation, the middle 80 % as bars, the sets that
+    RM admits.
 
     A curve has no point if fewer than a tenth of the sets are admitted.
     """
@@ -143,7 +155,8 @@ def plot_means(means: Sequence[Mean], axes: "Axes") -> None:
     axes.set_xticks([float(tenth) for tenth in tenths],
                     [f"{decimal(tenth, 1)}\n{admitted.get(tenth, 0)}" for tenth in tenths], fontsize=SMALL)
     axes.set_yticks([0, 0.2, 0.4, 0.6, 0.8, 1], ["0.0", "0.2", "0.4", "0.6", "0.8", "1.0"], fontsize=SMALL)
-    axes.annotate("RM", (0, 0), xytext=(-6 * POINT, -24 * POINT), textcoords="offset points", ha="right", fontsize=SMALL,
+    axes.annotate("RM", (0, 0), xytext=(-6 * POINT, -24 * POINT), textcoords="offset points", ha="right",
+                  fontsize=SMALL,
                   color=INK, annotation_clip=False)
     axes.set_title(means[0].panel if means else "", fontsize=TEXT, color=INK)
     axes.hlines(1, 0.1, 1, color=INK, linewidth=1.5 * POINT, clip_on=False)
@@ -160,7 +173,8 @@ def _draw_curve(axes: "Axes", curve: str, means: Sequence[Mean]) -> None:
     spread = [(place, mean) for place, mean in zip(places, means)
               if curve != "bound" and mean.energies[2] - mean.energies[1] >= Fraction(1, 230)]
     axes.vlines([place for place, _ in spread], [float(mean.energies[1]) for _, mean in spread],
-                [float(mean.energies[2]) for _, mean in spread], color=colour, alpha=0.75, linewidth=1.2 * POINT, clip_on=False)
+                [float(mean.energies[2]) for _, mean in spread], color=colour, alpha=0.75,
+                linewidth=1.2 * POINT, clip_on=False)
     axes.plot(places, [float(mean.energies[0]) for mean in means], clip_on=False, gid=curve.replace(" ", "-"),
               **_style(curve), color=colour)
 
@@ -169,7 +183,8 @@ def _style(curve: str) -> dict[str, Any]:
     colour, marker, is_dashed, _ = CURVES[curve]
     dashes = (0, (1, 1.5)) if curve == "bound" else (0, (3, 2)) if is_dashed else "-"
     return {"linestyle": dashes, "linewidth": (2 if curve == "bound" else 1.6) * POINT, "marker": marker,
-            "markersize": 6 * POINT, "markerfacecolor": "none" if is_dashed else colour, "markeredgecolor": colour,
+            "markersize": 6 * POINT, "markerfacecolor": "none" if is_dashed else colour,
+            "markeredgecolor": colour,
             "markeredgewidth": 1.6 * POINT}
 
 
@@ -184,7 +199,8 @@ def save_means(means: Sequence[Mean], path: Path, columns: int = 3, background: 
             left, top = 44 + place % columns * 314, 52 + place // columns * 290
             axes = figure.add_axes((left / wide, 1 - (top + 230) / high, 270 / wide, 230 / high))
             plot_means([mean for mean in means if mean.panel == panel], axes)
-        figure.text(14 / wide, 1 - 16 / high, "energy, as a share of EDF with none, over worst-case utilisation; "
+        figure.text(14 / wide, 1 - 16 / high,
+                    "energy, as a share of EDF with none, over worst-case utilisation; "
                     "numbers at RM: sets that it admits", fontsize=SMALL, color=INK)
         _draw_curve_legend(figure, columns)
         save(figure, path, background)
@@ -194,7 +210,9 @@ def _draw_curve_legend(figure: "Figure", columns: int) -> None:
     from matplotlib.lines import Line2D
 
     shown = [Line2D([], [], color=INK, linewidth=1.5 * POINT, label="none")]
-    shown += [Line2D([], [], color=CURVES[curve][0], label=curve.replace("edf", "EDF").replace("rm", "RM"), **_style(curve))
+    shown += [Line2D([], [], color=CURVES[curve][0], label=curve.replace("edf", "EDF").replace("rm", "RM"),
+                     **_style(curve))
               for curve in CURVES]
-    figure.legend(handles=shown, loc="lower left", ncol=4 if columns < 3 else 7, frameon=False, fontsize=SMALL,
+    figure.legend(handles=shown, loc="lower left", ncol=4 if columns < 3 else 7, frameon=False,
+                  fontsize=SMALL,
                   labelcolor=INK, handlelength=3, borderaxespad=0.3)

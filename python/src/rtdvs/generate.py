@@ -167,7 +167,7 @@ def run_uunifast(args: argparse.Namespace) -> int:
     given = {name: getattr(args, name) for name in ("low", "high", "multiple")}
     bounds = {name: value for name, value in given.items() if value is not None}
     require(not (args.periods and bounds), "periods are a list, or from low to high, not both")
-    periods = Listed(tuple(args.periods)) if args.periods else LogUniform(**bounds)
+    periods: Listed | LogUniform = Listed(tuple(args.periods)) if args.periods else LogUniform(**bounds)
     write_output(args, uunifast(args.count, args.utilisation, args.seed, periods, args.top).text())
     return 0
 

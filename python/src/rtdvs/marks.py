@@ -20,7 +20,7 @@ class Bar:
 
 @dataclass(frozen=True, slots=True)
 class Completion:
-    """A job's completion at a tick: its release, the units that it used, the speed there and its greatest one."""
+    """A job's completion: its tick, the release, the units used, the speed there and the job's greatest."""
 
     at: float
     release: int
@@ -91,13 +91,13 @@ def completions(trace: Trace) -> dict[str, list[Completion]]:
             highest[note.task] = max(highest.get(note.task, 0), speed)
         elif isinstance(note, Done):
             at = float(note.at.time(speed))
-            found[note.task].append(Completion(at, latest.get(note.task, 0), note.used, speed if note.used else 0,
-                                               highest.get(note.task, 0)))
+            found[note.task].append(Completion(at, latest.get(note.task, 0), note.used,
+                                               speed if note.used else 0, highest.get(note.task, 0)))
     return dict(found)
 
 
 def over_worst(trace: Trace, charge: int) -> str | None:
-    """A task with a job above its declared units and twice the charge: then the machine's charge is another one."""
+    """A task with a job above its declared units and twice the charge: then the charge is another one."""
     most = {task.name: task.worst + 2 * charge for task in trace.tasks}
     return next((note.task for note in trace.notes
                  if isinstance(note, Done) and note.used > most.get(note.task, note.used)), None)

@@ -1,7 +1,7 @@
 """Pictures of traces, of comparisons and of the evaluation, by matplotlib.
 
-Each is drawn into the caller's axes or into a file: SVG, PDF or PNG, by its name. A picture has no background, and
-colours that can be read on white and on dark.
+Each is drawn into the caller's axes or into a file: SVG, PDF or PNG, by its name. A picture has no
+background, and colours that can be read on white and on dark.
 """
 
 import argparse
@@ -14,12 +14,14 @@ from pathlib import Path
 from typing import TYPE_CHECKING, Any
 
 from rtdvs.canvas import INK, PIXEL, POINT, SMALL, TEXT, TITLE, new_figure, save, settings
-from rtdvs.commandline import (add_engine_options, add_files, engine_of, input_path, read_demands, read_machine, read_tasks,
+from rtdvs.commandline import (add_engine_options, add_files, engine_of, input_path, read_demands,
+                               read_machine, read_tasks,
                                read_text, whole_number)
 from rtdvs.compare import compare
 from rtdvs.figures import parse_means, save_compare, save_means
 from rtdvs.files import FileFault
-from rtdvs.marks import (Bar, Completion, bars, completions, join_narrow, over_worst, periods, readable, releases, round_step,
+from rtdvs.marks import (Bar, Completion, bars, completions, join_narrow, over_worst, periods, readable,
+                         releases, round_step,
                          row_names, short, steps, thin)
 from rtdvs.trace import Decision, Trace
 
@@ -52,9 +54,9 @@ TIP_ABOVE, TIP_BELOW = 6, 7     # matplotlib's carets with their tip at the plac
 class View:
     """What of a trace is drawn.
 
-    The ticks from `first` to `last` (the end of the run by default); `top`, the speed of full height (by default the
-    fastest of the trace, and pictures to be compared need the same one); `charge`, the machine's, which each worst case
-    has twice.
+    The ticks from `first` to `last` (the end of the run by default); `top`, the speed of full height (by
+    default the fastest of the trace, and pictures to be compared need the same one); `charge`, the machine's,
+    which each worst case has twice.
     """
 
     first: int = 0
@@ -133,11 +135,12 @@ class _Frame:
 
 
 def plot_trace(trace: Trace, axes: "Axes", view: View = View()) -> None:
-    """Draws a trace into axes, which should be `trace_height` pixels high. Raises FileFault if the view doesn't fit.
+    """Draws a trace into axes, which should be `trace_height` pixels high. Raises FileFault if the view
+    doesn't fit.
 
-    A task's row has an arrow up at each release, an arrow down at each deadline, a bar for each run, as high as its
-    speed, and a circle at each completion, with the units used and the worst case. The speed row has the speed as a line,
-    idle time in grey, the demand as a dotted line, and a dot at each decision.
+    A task's row has an arrow up at each release, an arrow down at each deadline, a bar for each run, as high
+    as its speed, and a circle at each completion, with the units used and the worst case. The speed row has
+    the speed as a line, idle time in grey, the demand as a dotted line, and a dot at each decision.
 
     >>> from matplotlib.figure import Figure
     >>> from rtdvs.trace import SAMPLE
@@ -174,12 +177,14 @@ def trace_height(trace: Trace, view: View = View()) -> float:
     return _Frame(view, tuple(row_names(trace)), peak, 1.0).ceiling
 
 
-def save_trace(trace: Trace, path: Path, view: View = View(), width: int = 1000, background: str = "none") -> None:
+def save_trace(trace: Trace, path: Path, view: View = View(), width: int = 1000,
+               background: str = "none") -> None:
     """Draws a trace into a file, `width` pixels wide; raises FileFault, OSError."""
     with settings():
         names = row_names(trace)
         facts = [_facts(trace, name, view.charge) for name in names]
-        left = max(100, *(18 + NAME_LETTER * len(name) for name in names), *(18 + LETTER * len(fact) for fact in facts))
+        left = max(100, *(18 + NAME_LETTER * len(name) for name in names),
+                   *(18 + LETTER * len(fact) for fact in facts))
         if width < left + 220:
             raise FileFault(f"--width has to be at least {math.ceil(left + 220)}")
         high = trace_height(trace, view) + TICKS
@@ -189,7 +194,8 @@ def save_trace(trace: Trace, path: Path, view: View = View(), width: int = 1000,
         plot_trace(trace, axes, view)
         below = 26 + 15 * _legend_rows(axes)
         figure.set_size_inches(width * PIXEL, (above + high + below) * PIXEL)
-        axes.set_position((left / width, below / (above + high + below), 1 - (left + 20) / width, high / (above + high + below)))
+        axes.set_position((left / width, below / (above + high + below), 1 - (left + 20) / width,
+                           high / (above + high + below)))
         save(figure, path, background)
 
 
@@ -207,16 +213,19 @@ def _draw_frame(trace: Trace, axes: "Axes", frame: _Frame) -> None:
     axes.tick_params(axis="x", length=0, colors=INK)
     axes.grid(axis="x", color=INK, alpha=0.4, linewidth=0.5 * POINT)
     axes.set_axisbelow(True)
-    whole = f"{last} ticks" if (first, last) == (0, trace.ticks) else f"ticks {first} to {last} of {trace.ticks}"
+    is_whole = (first, last) == (0, trace.ticks)
+    whole = f"{last} ticks" if is_whole else f"ticks {first} to {last} of {trace.ticks}"
     lines = _energy_lines(trace, (last - first) * frame.scale)
     axes.set_title(f"{trace.scheduler}, {trace.governor}: {whole}", loc="left", fontsize=TITLE, color=INK,
                    pad=(8 + LINE * len(lines)) * POINT)
-    axes.annotate("\n".join(lines), (0, 1), xycoords="axes fraction", xytext=(0, 5 * POINT), textcoords="offset points",
+    axes.annotate("\n".join(lines), (0, 1), xycoords="axes fraction", xytext=(0, 5 * POINT),
+                  textcoords="offset points",
                   va="bottom", fontsize=TEXT, color=INK, annotation_clip=False)
 
 
 def _energy_lines(trace: Trace, width: float) -> list[str]:
-    parts = ["energy of the run:", f"{readable(trace.run_energy)} running,", f"{readable(trace.idle_energy)} idle,",
+    parts = ["energy of the run:", f"{readable(trace.run_energy)} running,",
+             f"{readable(trace.idle_energy)} idle,",
              "in units × mV² × 1000"]
     lines = [parts[0]]
     for part in parts[1:]:
@@ -254,12 +263,13 @@ def _draw_rows(trace: Trace, axes: "Axes", frame: _Frame) -> None:
         ticks = released.get(name, [])
         _draw_arrows(axes, frame, row, ticks, is_due=False)
         _draw_arrows(axes, frame, row, [tick + period[name] for tick in ticks if name in period], is_due=True)
-        _draw_completions(axes, frame, row, complete.get(name, []), _Said(worst.get(name, ""), period.get(name)))
+        _draw_completions(axes, frame, row, complete.get(name, []),
+                          _Said(worst.get(name, ""), period.get(name)))
 
 
 @dataclass(frozen=True, slots=True)
 class _Said:
-    """What is said of a task's completions: the worst case after the units; the period, for the room that there is."""
+    """What is said of a task's completions: the worst case; the period, for the room that there is."""
 
     worst: str
     period: int | None
@@ -305,28 +315,33 @@ def _corners(frame: _Frame, bar: Bar, floor: float, is_idle: bool) -> list[tuple
     return [(bar.begin, floor), (bar.begin, high), (end, high), (end, floor)]
 
 
-def _draw_completions(axes: "Axes", frame: _Frame, row: int, complete: Sequence[Completion], said: _Said) -> None:
+def _draw_completions(axes: "Axes", frame: _Frame, row: int, complete: Sequence[Completion],
+                      said: _Said) -> None:
     floor = frame.floor(row)
     shown = [done for done in complete if frame.is_shown(done.at)]
     places = set(thin((done.at for done in shown), NEAR / frame.scale))
     kept = [done for done in shown if done.at in places]
-    axes.plot([done.at for done in kept], [floor + frame.bar_height(done.speed) for done in kept], linestyle="none",
-              marker="o", markersize=5.2 * POINT, color="white", markeredgecolor=RIM, markeredgewidth=1.2 * POINT,
+    axes.plot([done.at for done in kept], [floor + frame.bar_height(done.speed) for done in kept],
+              linestyle="none",
+              marker="o", markersize=5.2 * POINT, color="white", markeredgecolor=RIM,
+              markeredgewidth=1.2 * POINT,
               zorder=2.6, clip_on=False, gid=f"done-{frame.names[row]}")
     for done in kept:
         _label_completion(axes, frame, done, floor, said)
 
 
 def _label_completion(axes: "Axes", frame: _Frame, done: Completion, floor: float, said: _Said) -> None:
-    """The units are said between release and deadline: above the bars before the completion, else after it, else not."""
+    """The units, between release and deadline: above the bars before the completion, or after it, or not."""
     text = f"{done.used}{said.worst}"
     room = LETTER * len(text) + 10
     due = done.release + said.period if said.period else frame.ticks[1]
     if frame.room(done.release, done.at) >= room:
-        axes.text(done.at - 4 / frame.scale, floor + frame.bar_height(done.highest) + 4, text, ha="right", fontsize=SMALL,
+        axes.text(done.at - 4 / frame.scale, floor + frame.bar_height(done.highest) + 4, text, ha="right",
+                  fontsize=SMALL,
                   color=INK)
     elif frame.room(done.at, due) >= room:
-        axes.text(done.at + 5 / frame.scale, floor + frame.bar_height(done.speed) + 4, text, fontsize=SMALL, color=INK)
+        axes.text(done.at + 5 / frame.scale, floor + frame.bar_height(done.speed) + 4, text, fontsize=SMALL,
+                  color=INK)
 
 
 def _spans(trace: Trace, frame: _Frame) -> Iterator[tuple[float, float, Decision]]:
@@ -338,7 +353,7 @@ def _spans(trace: Trace, frame: _Frame) -> Iterator[tuple[float, float, Decision
 
 
 def _draw_scale(trace: Trace, axes: "Axes", frame: _Frame) -> None:
-    """The scale of speeds: 0, the top, and each other speed of the trace that has room beside those before it."""
+    """The scale of speeds: 0, the top, and each speed of the trace that has room beside those before it."""
     axes.hlines(0, *frame.ticks, color=INK, linewidth=POINT)
     heights: list[float] = []
     for speed in dict.fromkeys([0, frame.top, *(decision.speed for decision in trace.decisions)]):
@@ -360,7 +375,8 @@ def _draw_speeds(trace: Trace, axes: "Axes", frame: _Frame) -> None:
         ("demand", lambda decision: decision.num / decision.den,
          {"color": DEMAND, "linewidth": 1.6 * POINT, "linestyle": DOTS}))
     for name, value_of, style in lines:
-        corners = steps(((begin, end, frame.speed_height(value_of(each))) for begin, end, each in _spans(trace, frame)),
+        corners = steps(((begin, end, frame.speed_height(value_of(each))) for begin, end,
+                         each in _spans(trace, frame)),
                         GAP / frame.scale)
         axes.plot(*zip(*corners), clip_on=False, zorder=2.5, gid=name, **style)
 
@@ -380,8 +396,10 @@ def _draw_decisions(trace: Trace, axes: "Axes", frame: _Frame) -> None:
         if (end - begin) * frame.scale >= LETTER * len(text) + 6:
             axes.text(begin + 2 / frame.scale, frame.demand_base, text, fontsize=SMALL, color=DEMAND)
     for name, marker, places in (("decision", "o", low), ("over", "^", high)):
-        axes.plot([x for x, _ in places], [y for _, y in places], linestyle="none", marker=marker, color=DEMAND,
-                  markersize=(4.4 if marker == "o" else 7) * POINT, markeredgewidth=0, zorder=2.7, clip_on=False, gid=name)
+        axes.plot([x for x, _ in places], [y for _, y in places], linestyle="none", marker=marker,
+                  color=DEMAND,
+                  markersize=(4.4 if marker == "o" else 7) * POINT, markeredgewidth=0, zorder=2.7,
+                  clip_on=False, gid=name)
 
 
 def _draw_legend(trace: Trace, axes: "Axes", frame: _Frame, has_idle: bool) -> None:
@@ -401,8 +419,10 @@ def _draw_legend(trace: Trace, axes: "Axes", frame: _Frame, has_idle: bool) -> N
         handles.append(_sign(f"near marks (less than {NEAR} pixels) once", "none", ""))
     longest = max(len(handle.get_label()) for handle in handles)
     columns = max(1, int((frame.ticks[1] - frame.view.first) * frame.scale / (longest * 5.5 + 38)))
-    axes.legend(handles=handles, loc="upper left", bbox_to_anchor=(0, -20 / (frame.ceiling + TICKS)), borderaxespad=0,
-                frameon=False, fontsize=SMALL, labelcolor=INK, ncol=columns, handlelength=1.5, columnspacing=1.5,
+    axes.legend(handles=handles, loc="upper left", bbox_to_anchor=(0, -20 / (frame.ceiling + TICKS)),
+                borderaxespad=0,
+                frameon=False, fontsize=SMALL, labelcolor=INK, ncol=columns, handlelength=1.5,
+                columnspacing=1.5,
                 handletextpad=0.5, borderpad=0)
 
 
@@ -414,8 +434,9 @@ def _legend_rows(axes: "Axes") -> int:
 def _sign(label: str, colour: str, marker: object, **style: Any) -> Any:
     from matplotlib.lines import Line2D
 
-    return Line2D([], [], color=colour, label=label, **{"linestyle": "none", "marker": marker, "markersize": 5 * POINT,
-                                                           "fillstyle": "full" if marker == "o" else "none", **style})
+    return Line2D([], [], color=colour, label=label,
+                  **{"linestyle": "none", "marker": marker, "markersize": 5 * POINT,
+                        "fillstyle": "full" if marker == "o" else "none", **style})
 
 
 # The command
@@ -444,17 +465,20 @@ def add_command(commands: "argparse._SubParsersAction[argparse.ArgumentParser]")
     _add_file(trace, _run_trace)
     pairs = kinds.add_parser("compare", help="the energy of each pair, and its time at each speed")
     add_files(pairs, ("tasks", "machine"), ("demands",))
-    pairs.add_argument("--ticks", type=whole_number(1), required=True, metavar="N", help="the ticks of the runs")
+    pairs.add_argument("--ticks", type=whole_number(1), required=True, metavar="N",
+                       help="the ticks of the runs")
     add_engine_options(pairs)
     _add_file(pairs, _run_compare)
     means = kinds.add_parser("evaluation", help="a table of the evaluation")
     means.add_argument("--table", type=input_path, required=True, metavar="FILE", help="the table")
-    means.add_argument("--columns", type=whole_number(1), default=3, metavar="N", help="panels in a row; 3 by default")
+    means.add_argument("--columns", type=whole_number(1), default=3, metavar="N",
+                       help="panels in a row; 3 by default")
     _add_file(means, _run_means)
 
 
 def _add_file(parser: argparse.ArgumentParser, draw: Callable[[argparse.Namespace], None]) -> None:
-    parser.add_argument("--output", type=Path, required=True, metavar="FILE", help="the picture: .svg, .pdf or .png")
+    parser.add_argument("--output", type=Path, required=True, metavar="FILE",
+                        help="the picture: .svg, .pdf or .png")
     parser.add_argument("--background", default="none", metavar="COLOUR", help="none by default")
     parser.set_defaults(handler=run, draw=draw)
 
@@ -465,7 +489,8 @@ def run(args: argparse.Namespace) -> int:
         _check_background(args.background)
         args.draw(args)
     except ModuleNotFoundError as error:
-        print(f"plot: {error.name} is not installed; it is python3-matplotlib of Debian, or matplotlib of PyPI", file=sys.stderr)
+        print(f"plot: {error.name} is not installed; it is python3-matplotlib of Debian, matplotlib of PyPI",
+              file=sys.stderr)
         return 2
     return 0
 
@@ -482,7 +507,8 @@ def _run_trace(args: argparse.Namespace) -> None:
     view = View(getattr(args, "from") or 0, args.to, args.top, args.charge or 0)
     task = over_worst(trace, view.charge)
     if task is not None:
-        print(f"note: {task} uses more than its worst case: give the machine's charge by --charge", file=sys.stderr)
+        print(f"note: {task} uses more than its worst case: give the machine's charge by --charge",
+              file=sys.stderr)
     save_trace(trace, args.output, view, args.width or 1000, args.background)
 
 

@@ -5,7 +5,6 @@ from collections.abc import Callable, Iterator
 from concurrent.futures import Executor
 from dataclasses import dataclass, replace
 from functools import partial
-from operator import call
 
 from rtdvs.commandline import (
     add_engine_options,
@@ -119,9 +118,14 @@ def least_speed(question: Question) -> int | None:
 
 def limits_of(question: Question, executor: Executor | None = None) -> Iterator[int | None]:
     """The thousandths, the lowest highest speed and each task's worst case, in this order."""
-    searches = [partial(most_thousandths, question), partial(least_speed, question),
-                *(partial(most_worst, question, place) for place in range(len(question.tasks)))]
-    return map(call, searches) if executor is None else executor.map(call, searches)
+    searches: list[Callable[[], int | None]] = [
+        partial(most_thousandths, question), partial(least_speed, question),
+        *(partial(most_worst, question, place) for place in range(len(question.tasks)))]
+    return map(found_by, searches) if executor is None else executor.map(found_by, searches)
+
+
+def found_by(search: Callable[[], int | None]) -> int | None:
+    return search()
 
 
 def sensitivity(engine: Engine, tasks: TaskSet, machine: Machine, test: str,
