@@ -50,7 +50,7 @@ use Rattle.statuses.specs.declared.status.Status.TheVariants as status
 use Rattle.statuses.specs.declared.status.TextFault.TheVariants as text_fault
 use Rattle.statuses.specs.Refused.{or_status, trace_status}
 use Rattle.command_files.proofs.FileLoads.{short_file}
-use Rattle.event_kernel.proofs.Wholes.{below-first}
+use Rattle.trace_writer.proofs.SumLines.{below-first}
 use Rattle.rtdvs_top.specs.Prepared.{MetIn, IsComparable}
 
 -- a replay that has totals is done
