@@ -45,7 +45,8 @@ impl Ready {
     pub fn insert(&mut self, e: Entry)
         requires task { e.task < self.old.limit }
         requires absent { IsAbsent e.task self.old.entries }
-        ensures { self.new ≡ record self.old { entries = with_entry (before_of self.old.scheduler) e self.old.entries } }
+        ensures { self.new
+            ≡ record self.old { entries = with_entry (before_of self.old.scheduler) e self.old.entries } }
     {
         match &mut self.ordered {
             Ordered::Edf(queue) => queue.insert(e),
