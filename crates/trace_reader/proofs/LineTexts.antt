@@ -12,7 +12,7 @@ use Rattle.dvs_base.specs.Parts.{name_of}
 use Rattle.dvs_base.proofs.Decimals.{length-decimal_u64, length-decimal_u128, length-position_text, length-fraction_text}
 use Rattle.dvs_base.specs.declared.note.Note.TheVariants.{Release, Speed, Run, Idle, Done, End}
 use Rattle.dvs_base.specs.declared.kind.Version.{Version}
-use Rattle.dvs_base.specs.declared.limits.TheConstants.{MOST_LINES, LONGEST_LINE}
+use Rattle.dvs_base.specs.declared.limits.TheConstants.{MOST_LINES, LONGEST_LINE, NAME_BYTES}
 use Rattle.dvs_base.proofs.Names.{length-name}
 use Rattle.trace_reader.specs.declared.line.Item.{Item}
 use Rattle.trace_reader.specs.declared.line.Item.TheVariants.{Told, Share}
@@ -105,8 +105,8 @@ length-spaced [] = omega arith
 length-spaced (field ∷ []) = omega arith
 length-spaced (field ∷ other ∷ fields) = omega (arith, length-append field (32 ∷ spaced (other ∷ fields)), length-spaced (other ∷ fields))
 
-pub length-name_of : (names : List (List ℕ)) (i : ℕ) → AreNames names → length (name_of names i) ≤ 32
-length-name_of names i named = name-of (λ name. length name ≤ 32) (omega arith) length-name names i named
+pub length-name_of : (names : List (List ℕ)) (i : ℕ) → AreNames names → length (name_of names i) ≤ NAME_BYTES
+length-name_of names i named = name-of (λ name. length name ≤ NAME_BYTES) (omega arith) length-name names i named
 
 -- an item's line, without its line feed, is no longer than a line may be
 pub lengths-item : (v : Version) (c : ℕ) (names : List (List ℕ)) (item : Item) → AreNames names → IsItemOf v c item

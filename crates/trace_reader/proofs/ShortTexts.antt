@@ -4,7 +4,7 @@ use Rattle.std.specs.List.{AllByRecursion}
 use Rattle.dvs_base.specs.Parts.{name_of}
 use Rattle.dvs_base.specs.declared.kind.Version.{Version}
 use Rattle.dvs_base.specs.declared.kind.Version.TheVariants.{One, Two}
-use Rattle.dvs_base.specs.declared.limits.TheConstants.{LONGEST_LINE, LONGEST_TRACE}
+use Rattle.dvs_base.specs.declared.limits.TheConstants.{LONGEST_LINE, LONGEST_TRACE, NAME_BYTES}
 use Rattle.dvs_base.specs.declared.note.Note.{Note}
 use Rattle.dvs_base.proofs.Decimals.{length-decimal_u128}
 use Rattle.trace_text.specs.TraceLines.{line, note_text, plan_fields, plan_text}
@@ -34,7 +34,7 @@ notes-short : (names : List (List ℕ)) → AreNames names → (notes : List Not
 notes-short names named [] each = tt
 notes-short names named (n ∷ notes) each = (note-short One names named n each.0, notes-short names named notes each.1)
 
-share-short : (name : List ℕ) (energy : ℕ) → length name ≤ 32 → energy < 2 ^ 128 → IsShort (share_text name energy)
+share-short : (name : List ℕ) (energy : ℕ) → length name ≤ NAME_BYTES → energy < 2 ^ 128 → IsShort (share_text name energy)
 share-short name energy named low = simp length-append (omega (arith, named, length-decimal_u128 energy low))
 
 version-short : (v : Version) → IsShort (version_line v)

@@ -5,6 +5,7 @@ use Rattle.std.specs.List.{AllByRecursion, list_all}
 use Rattle.std.proofs.lemmas.Bool.{and_parts}
 use Rattle.std.proofs.lemmas.Bool.Decides.{nat_tests}
 use Rattle.std.specs.Fmt.{digit_glyph, digits_onto, digits}
+use Rattle.dvs_base.specs.declared.limits.TheConstants.{NAME_BYTES}
 use Rattle.dvs_base.specs.Text.{is_name, is_name_byte}
 use Rattle.grid_fraction.proofs.Lists.{each-append}
 use Rattle.trace_text.specs.TraceLines.{line, lines_of, with_byte}
@@ -48,7 +49,7 @@ unspaced-name_bytes (b ∷ bytes) e =
 
 -- a name is unspaced
 pub unspaced-name : (name : List ℕ) → is_name name ≡ true → AreUnspaced name
-unspaced-name name e = unspaced-name_bytes name (and_parts (nat_le 1 (length name) && nat_le (length name) 32) (list_all is_name_byte name) e).1
+unspaced-name name e = unspaced-name_bytes name (and_parts (nat_le 1 (length name) && nat_le (length name) NAME_BYTES) (list_all is_name_byte name) e).1
 
 pub some-name : (name : List ℕ) → is_name name ≡ true → name ≢ []
 some-name name e q = true≢false (sym e ∙ ap is_name q)
