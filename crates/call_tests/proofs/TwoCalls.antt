@@ -4,7 +4,8 @@ use Rattle.std.proofs.lemmas.Bool.{cases_Bool}
 use Rattle.dvs_base.specs.Outside.{Files, ShelfView, SinkView, Rose}
 use Rattle.words.specs.Commands.{CommandView}
 use Rattle.words.specs.declared.command.WordFault.{WordFault}
-use Rattle.rtdvs_top.specs.Promises.{answer_of_command, Answers, IsAnswer, known_files, loads_asked, loads_wanted}
+use Rattle.rtdvs_top.specs.Asked.{Asked, asked_of, with_files, without_files, refused_words, loads_asked, loads_wanted}
+use Rattle.rtdvs_top.specs.Promises.{answer_of_command, Answers, IsAnswer}
 use Rattle.command_files.specs.Files.{MakesLoads, passes, loads_while, NamedFile, files_of}
 use Rattle.statuses.specs.Status.{CountsPuts}
 use Rattle.statuses.specs.declared.status.Status.{Status}
@@ -31,30 +32,29 @@ module _ {loads puts more_loads more_puts : Type 0} (of_loads : loads → more_l
   is-answer answer status.Write ends = (ends.0, of_puts ends.1)
   is-answer answer s ends = ends
 
-  answers-as : (files : Option Files) (c : Result CommandView WordFault) (s : Status) → Answers files c loads puts s
-      → Answers files c more_loads more_puts s
-  answers-as None c s answers = tt
-  answers-as (Some files) (Err why) s answers = answers
-  answers-as (Some files) (Ok c) s answers = is-answer (answer_of_command c files) s answers
+  answers-as : (a : Asked) (s : Status) → Answers a loads puts s → Answers a more_loads more_puts s
+  answers-as (without_files c) s answers = tt
+  answers-as (refused_words why) s answers = answers
+  answers-as (with_files files c) s answers = is-answer (answer_of_command c files) s answers
 
 -- two calls over one shelf and one sink: both are seen before, between and after the calls
 module _ (old mid new : ShelfView) (out_old out_mid out_new : SinkView) (c : Result CommandView WordFault) (s : Status) where
   -- the first call's answer, where the counts are taken after the second
   pub first-answers : mid.faults ≤ new.faults → out_mid.faults ≤ out_new.faults
-      → Answers (known_files old.held c) c (Rose old.faults mid.faults) (Rose out_old.faults out_mid.faults) s
-      → Answers (known_files old.held c) c (Rose old.faults new.faults) (Rose out_old.faults out_new.faults) s
+      → Answers (asked_of old.held c) (Rose old.faults mid.faults) (Rose out_old.faults out_mid.faults) s
+      → Answers (asked_of old.held c) (Rose old.faults new.faults) (Rose out_old.faults out_new.faults) s
   first-answers loads puts answers =
       answers-as (rose-until old.faults mid.faults new.faults loads)
-      (rose-until out_old.faults out_mid.faults out_new.faults puts) (known_files old.held c) c s answers
+      (rose-until out_old.faults out_mid.faults out_new.faults puts) (asked_of old.held c) s answers
 
   -- the second call's answer, over the files known before the first, where the counts are taken from before it
   pub second-answers : mid.held ≡ old.held → old.faults ≤ mid.faults → out_old.faults ≤ out_mid.faults
-      → Answers (known_files mid.held c) c (Rose mid.faults new.faults) (Rose out_mid.faults out_new.faults) s
-      → Answers (known_files old.held c) c (Rose old.faults new.faults) (Rose out_old.faults out_new.faults) s
+      → Answers (asked_of mid.held c) (Rose mid.faults new.faults) (Rose out_mid.faults out_new.faults) s
+      → Answers (asked_of old.held c) (Rose old.faults new.faults) (Rose out_old.faults out_new.faults) s
   second-answers held loads puts answers =
       answers-as (rose-since old.faults mid.faults new.faults loads)
-      (rose-since out_old.faults out_mid.faults out_new.faults puts) (known_files old.held c) c s
-      (subst (λ (files : Option Files). Answers (known_files files c) c (Rose mid.faults new.faults)
+      (rose-since out_old.faults out_mid.faults out_new.faults puts) (asked_of old.held c) s
+      (subst (λ (files : Option Files). Answers (asked_of files c) (Rose mid.faults new.faults)
       (Rose out_mid.faults out_new.faults) s) held answers)
 
 -- an answer needs no more loads than the words name files

@@ -1,7 +1,8 @@
 // Two calls over one shelf and one pair of sinks.
 ghost use Rattle.std.specs.Prelude.{◌≡◌, ◌≤◌, ◌+◌};
 ghost use Rattle.dvs_base.specs.Outside.{Rose};
-ghost use Rattle.rtdvs_top.specs.Promises.{asked, known_files, Answers, loads_asked};
+ghost use Rattle.rtdvs_top.specs.Asked.{asked, command_asked, loads_asked};
+ghost use Rattle.rtdvs_top.specs.Promises.{Answers};
 
 use dvs_base::{Shelf, Sink};
 use probes::Probe;
@@ -30,15 +31,15 @@ pub fn twice<S: Shelf, W: Sink, E: Sink>(
     ensures held { (S.shows shelf.new).held ≡ (S.shows shelf.old).held }
 
     // which status each call has, and when
-    ensures first { Answers (known_files (S.shows shelf.old).held (asked words.now.first.now))
-        (asked words.now.first.now) (Rose (S.shows shelf.old).faults (S.shows shelf.new).faults)
+    ensures first { Answers (asked words.now.first.now (S.shows shelf.old))
+        (Rose (S.shows shelf.old).faults (S.shows shelf.new).faults)
         (Rose (W.shows out.old).faults (W.shows out.new).faults) result.0 }
-    ensures second { Answers (known_files (S.shows shelf.old).held (asked words.now.second.now))
-        (asked words.now.second.now) (Rose (S.shows shelf.old).faults (S.shows shelf.new).faults)
+    ensures second { Answers (asked words.now.second.now (S.shows shelf.old))
+        (Rose (S.shows shelf.old).faults (S.shows shelf.new).faults)
         (Rose (W.shows out.old).faults (W.shows out.new).faults) result.1 }
 
     // the guaranteed loads don't fail
-    ensures sure { loads_asked (asked words.now.first.now) + loads_asked (asked words.now.second.now)
+    ensures sure { loads_asked (command_asked words.now.first.now) + loads_asked (command_asked words.now.second.now)
         ≤ (S.shows shelf.old).sure → (S.shows shelf.new).faults ≡ (S.shows shelf.old).faults }
 {
     let mut probes: Vec<Box<dyn Probe>> = Vec::new(alloc);

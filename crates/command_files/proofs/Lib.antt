@@ -3,3 +3,4 @@ pub mod FileLoads
 pub mod RefusedSteps
 pub mod Overloads
 pub mod Shows
+pub mod RmAnswers

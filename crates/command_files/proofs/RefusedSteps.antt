@@ -20,7 +20,7 @@ use Rattle.command_files.specs.Meanings.{bytes_at, tasks_at, machine_at, demands
 use Rattle.statuses.specs.Refused.{IsRefusedAs, task_status, machine_status, demand_status}
 use Rattle.statuses.specs.Status.{OfLoad, CountsLoads, IsShown}
 use Rattle.command_files.specs.Files.{FailsFrom, MakesLoads}
-use Rattle.command_files.specs.Loads.{LoadStep, one_file}
+use Rattle.command_files.specs.Loads.{IsLoadStep, one_file}
 use Rattle.statuses.specs.Steps.{Gives, Refuses, EndsWith, IsRefusal}
 
 -- a step that ended with a status
@@ -84,7 +84,7 @@ module _ {T A : Type 0} (kind : FileKind) (name : List ℕ) (means : Files → R
     (loads : MakesLoads 1 old new) (still : new.faults ≡ old.faults) where
   -- the step that loads one file, reads it and refuses it
   pub file-refused : (r : Result T Status) (own : Status) → IsErrAnd r (IsRefusedAs own) → Refuses old.held means own
-      → LoadStep (one_file kind name means) old new r see
+      → IsLoadStep (one_file kind name means) old new r see
   file-refused (Ok v) own h refuses = absurd h
   file-refused (Err (status.Text why)) own h refuses = record {
     read = tt;
@@ -106,7 +106,7 @@ module _ {T A : Type 0} (kind : FileKind) (name : List ℕ) (means : Files → R
 
   -- the step that loads the demands, reads them and refuses them
   pub demand-file-refused : (r : Result T Status) (e : DemandFault) → IsErrAnd r (λ s. s ≡ demand_status e)
-      → Refuses old.held means (demand_status e) → IsShown (demand_status e) → LoadStep (one_file kind name means) old new r see
+      → Refuses old.held means (demand_status e) → IsShown (demand_status e) → IsLoadStep (one_file kind name means) old new r see
   demand-file-refused (Ok v) e h refuses shown = absurd h
   demand-file-refused (Err s) e h refuses shown = record {
     read = tt;

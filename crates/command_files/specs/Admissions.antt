@@ -5,6 +5,8 @@ use Rattle.dvs_base.specs.declared.kind.Scheduler.TheVariants.{Rm, Edf}
 use Rattle.sched_model.specs.Plan.{Plan, count, period, top_speed, hyper}
 use Rattle.sched_model.specs.Priority.{in_order}
 use Rattle.sched_model.specs.Tests.{level_work, total_rate}
+use Rattle.rm_admit.specs.declared.RmFault.{RmFault}
+use Rattle.rm_admit.specs.declared.RmFault.TheVariants as rm_fault
 use Rattle.statuses.specs.declared.status.Denied.TheVariants as denied
 use Rattle.statuses.specs.declared.status.Status.{Status}
 use Rattle.statuses.specs.declared.status.Status.TheVariants as status
@@ -12,6 +14,11 @@ use Rattle.statuses.specs.declared.status.Status.TheVariants as status
 -- the first task in RM order whose level asks for more in its period than the highest speed does in it
 abbrev pub first_overloaded : Plan → Option ℕ
 first_overloaded p = find (λ i. nat_lt (top_speed p * period p i) (level_work p i)) (in_order (period p) (count p))
+
+-- a refusal of the test under RM as a status
+abbrev pub rm_status : RmFault → Status
+rm_status (rm_fault.Denied i num cap) = status.NotAdmitted (denied.Rm i num cap)
+rm_status rm_fault.NoMemory = status.NoMemory
 
 -- an admission under RM: the plan, where no task is overloaded
 abbrev pub admission_from : Plan → Option ℕ → Result Plan Status

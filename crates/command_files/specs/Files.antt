@@ -2,7 +2,7 @@
 use Rattle.std.specs.Prelude.{◌≡◌, ℕ, ◌≤◌, ◌⊎◌, ◌<◌, List, ◌+◌, Bool, true, is_ok, Option, Some, None, [], ◌∷◌, if◌then◌else◌, length, IsTrue, Result, Ok, Err}
 use Rattle.dvs_base.specs.Outside.{Rose, ShelfView, Lacks, Files}
 use Rattle.dvs_base.specs.Checks.{◌>>=◌}
-use Rattle.words.specs.Commands.{CommandView, poll, run, admit, traced, workload, response, constrain, least}
+use Rattle.words.specs.Commands.{CommandView, poll, run, admit, traced, workload, response, constrain, least, tasks_name}
 use Rattle.statuses.specs.declared.status.FileKind.{FileKind}
 use Rattle.statuses.specs.declared.status.FileKind.TheVariants as file
 use Rattle.statuses.specs.declared.status.Status.{Status}
@@ -86,20 +86,6 @@ FailsFrom passed old new place (f ∷ fs) kind =
     ((kind ≡ f.kind)
     × ((Lacks old.held f.name × (new.faults ≡ old.faults)) ⊎ (Rose old.faults new.faults × (old.sure < place))))
     ⊎ (IsTrue (passed f) × FailsFrom passed old new (place + 1) fs kind)
-
--- the name of a file, where it is one of tasks
-abbrev pub name_if_tasks : FileKind → List ℕ → Option (List ℕ)
-name_if_tasks file.Tasks name = Some name
-name_if_tasks kind name = None
-
--- the name of the file of tasks, which comes first where there is one
-abbrev pub tasks_first : List NamedFile → Option (List ℕ)
-tasks_first [] = None
-tasks_first (f ∷ fs) = name_if_tasks f.kind f.name
-
--- the file of tasks that a command names, if it names one
-abbrev pub tasks_name : CommandView → Option (List ℕ)
-tasks_name c = tasks_first (files_of c)
 
 -- the names of the tasks that a file gives
 abbrev pub names_from : Result (List Task) Status → List (List ℕ)

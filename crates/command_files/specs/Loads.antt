@@ -1,8 +1,9 @@
 -- What a step that loads files gives; for proofs alone.
-use Rattle.std.specs.Prelude.{Result, Bool, true, List, [], ◌∷◌, Option, ℕ, IfOk, IfErr}
+use Rattle.std.specs.Prelude.{Result, Bool, true, List, [], ◌∷◌, Option, Some, None, ℕ, IfOk, IfErr, IsTrue, if◌then◌else◌}
 use Rattle.dvs_base.specs.Outside.{Files, ShelfView}
-use Rattle.words.specs.Commands.{CommandView}
+use Rattle.words.specs.Commands.{CommandView, tasks_name}
 use Rattle.statuses.specs.declared.status.FileKind.{FileKind}
+use Rattle.statuses.specs.declared.status.FileKind.TheVariants as file
 use Rattle.statuses.specs.declared.status.Status.{Status}
 use Rattle.statuses.specs.Status.{OfLoad, IsShown}
 use Rattle.statuses.specs.Steps.{Gives, Refuses, CountsStep}
@@ -27,12 +28,41 @@ abbrev pub but_first : List NamedFile → List NamedFile
 but_first [] = []
 but_first (f ∷ fs) = fs
 
--- the loads of a command after its first file, where these files may be known
+-- these files without the tasks, which come first where there are tasks
+abbrev pub but_tasks : Option (List ℕ) → List NamedFile → List NamedFile
+but_tasks None fs = fs
+but_tasks (Some name) fs = but_first fs
+
+-- the files of a command that are loaded after its tasks
+abbrev pub files_after : CommandView → List NamedFile
+files_after c = but_tasks (tasks_name c) (files_of c)
+
+-- the loads of a command after its tasks, where its files may be known
 abbrev pub later_files : {A : Type 0} → Option Files → CommandView → (Files → Result A Status) → LoadOf A
-later_files held c means = record { files = but_first (files_of c); passed = passes held c; means = means }
+later_files held c means = record { files = files_after c; passed = passes held c; means = means }
+
+-- the number of loads of the tasks, where a file of them is named
+abbrev pub tasks_loads : Option (List ℕ) → ℕ
+tasks_loads None = 0
+tasks_loads (Some name) = 1
+
+-- whether the loads of a command go on after these tasks
+abbrev pub passes_tasks : Option Files → CommandView → Option (List ℕ) → Bool
+passes_tasks held c None = true
+passes_tasks held c (Some name) = passes held c (named_file file.Tasks name)
+
+-- the most loads that a command's answer needs after its tasks
+abbrev pub loads_after : Option Files → CommandView → ℕ
+loads_after held c =
+    if passes_tasks held c (tasks_name c) then loads_while (passes held c) (files_after c) else 0
+
+-- a load that failed after the tasks of a command is of one of its later files, and those before it are passed
+abbrev pub LaterLoadFails : ShelfView → ShelfView → CommandView → Status → Type 0
+LaterLoadFails old new c s =
+    OfLoad (λ kind. IsTrue (passes_tasks old.held c (tasks_name c)) × FailsFrom (passes old.held c) old new 1 (files_after c) kind) s
 
 -- What a step that loads files gives: the value that they mean, or a refusal. The value is seen through `see`.
-pub record LoadStep {T A : Type 0} (l : LoadOf A) (old new : ShelfView) (r : Result T Status) (see : T → A) : Type 0 where
+pub record IsLoadStep {T A : Type 0} (l : LoadOf A) (old new : ShelfView) (r : Result T Status) (see : T → A) : Type 0 where
   -- a value is the one that the known files mean
   pub read : IfOk r (λ v. Gives old.held l.means (see v))
   -- a status is the refusal of the known files, unless the outside or memory explains it

@@ -1,8 +1,8 @@
 // Admission of a plan.
 ghost use Rattle.std.specs.Prelude.{◌≡◌, IfOk};
 ghost use Rattle.sched_model.specs.Plan.{plan_of};
-ghost use Rattle.statuses.specs.Steps.{TestStep};
-ghost use Rattle.command_files.specs.Admissions.{admission};
+ghost use Rattle.statuses.specs.Steps.{IsTestStep};
+ghost use Rattle.command_files.specs.Admissions.{admission, rm_status};
 
 use dvs_base::Scheduler;
 use edf_admit::{EdfFault, edf_admit};
@@ -15,28 +15,29 @@ use task_model::TaskSet;
 
 // The plan under EDF, where its test passes.
 fn admit_edf(alloc: Global, tasks: &TaskSet, machine: &Machine) -> Result<Admitted, Status>
-    ensures { TestStep (admission (plan_of tasks.now machine.now Scheduler.Edf)) result (λ p. p) }
+    ensures { IsTestStep (admission (plan_of tasks.now machine.now Scheduler.Edf)) result (λ p. p) }
 {
-    match edf_admit(alloc, tasks, machine) {
-        Ok(plan) => Ok(plan),
-        Err(EdfFault::Denied { num, cap }) => Err(Status::NotAdmitted(Denied::Edf { num, cap })),
-        Err(EdfFault::NoMemory) => Err(Status::NoMemory),
+    edf_admit(alloc, tasks, machine).map_err(|why| match why {
+        EdfFault::Denied { num, cap } => Status::NotAdmitted(Denied::Edf { num, cap }),
+        EdfFault::NoMemory => Status::NoMemory,
+    })
+}
+
+// A refusal of the test under RM as a status.
+fn rm_status(why: RmFault) -> Status
+    ensures { result ≡ rm_status why }
+{
+    match why {
+        RmFault::Denied { task, num, cap } => Status::NotAdmitted(Denied::Rm { task, num, cap }),
+        RmFault::NoMemory => Status::NoMemory,
     }
 }
 
 // The plan under RM, where its test passes.
 fn admit_rm(alloc: Global, tasks: &TaskSet, machine: &Machine) -> Result<Admitted, Status>
-    ensures { TestStep (admission (plan_of tasks.now machine.now Scheduler.Rm)) result (λ p. p) }
+    ensures { IsTestStep (admission (plan_of tasks.now machine.now Scheduler.Rm)) result (λ p. p) }
 {
-    match rm_admit(alloc, tasks, machine) {
-        Ok(plan) => Ok(plan),
-        Err(RmFault::Denied { task, num, cap }) => Err(Status::NotAdmitted(Denied::Rm {
-            task,
-            num,
-            cap,
-        })),
-        Err(RmFault::NoMemory) => Err(Status::NoMemory),
-    }
+    rm_admit(alloc, tasks, machine).map_err(rm_status)
 }
 
 /// The plan of these tasks and this machine under a scheduler. `NotAdmitted` exactly where the scheduler's test fails,
@@ -47,7 +48,7 @@ pub fn admit(
     tasks: &TaskSet,
     machine: &Machine,
 ) -> Result<Admitted, Status>
-    ensures step { TestStep (admission (plan_of tasks.now machine.now scheduler)) result (λ p. p) }
+    ensures step { IsTestStep (admission (plan_of tasks.now machine.now scheduler)) result (λ p. p) }
     ensures same { IfOk result (λ p. p ≡ plan_of tasks.now machine.now scheduler) }
 {
     match scheduler {

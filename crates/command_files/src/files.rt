@@ -2,7 +2,7 @@
 ghost use Rattle.std.specs.Prelude.{◌≡◌, ◌<◌, ◌^◌, Some, map, option_map, IfOk, IfErr};
 ghost use Rattle.command_files.specs.Meanings.{longest, bytes_at, tasks_at, machine_at, demands_at};
 ghost use Rattle.command_files.specs.Files.{if_named};
-ghost use Rattle.command_files.specs.Loads.{LoadStep, one_file, each_of};
+ghost use Rattle.command_files.specs.Loads.{IsLoadStep, one_file, each_of};
 ghost use Rattle.statuses.specs.Status.{IsOfFile};
 
 use demand_list::{Demands, worst_list};
@@ -35,7 +35,7 @@ pub fn load_file<S: Shelf>(
     name: &str,
     shelf: &mut S,
 ) -> Result<Vec<u8>, Status>
-    ensures step { LoadStep (one_file file name.now (bytes_at file name.now)) (S.shows shelf.old) (S.shows shelf.new)
+    ensures step { IsLoadStep (one_file file name.now (bytes_at file name.now)) (S.shows shelf.old) (S.shows shelf.new)
         result (λ v. v.items) }
     ensures of_file { IfErr result IsOfFile }
 {
@@ -43,8 +43,7 @@ pub fn load_file<S: Shelf>(
     let bytes = match shelf.load(alloc, name, most) {
         Ok(bytes) => bytes,
         Err(LoadFault::NoMemory) => return Err(Status::NoMemory),
-        Err(LoadFault::Failed) => return Err(Status::Load { file }),
-        Err(LoadFault::Absent) => return Err(Status::Load { file }),
+        Err(LoadFault::Failed | LoadFault::Absent) => return Err(Status::Load { file }),
     };
     if bytes.len() as u64 > most {
         return Err(Status::Text(TextFault::TooLong { file }));
@@ -54,8 +53,9 @@ pub fn load_file<S: Shelf>(
 
 /// The tasks of a file. `Load` and `Text` as for its bytes; `Text` where it isn't a task file, with its first fault.
 pub fn load_tasks<S: Shelf>(alloc: Global, name: &str, shelf: &mut S) -> Result<TaskSet, Status>
-    ensures { LoadStep (one_file FileKind.Tasks name.now (tasks_at name.now)) (S.shows shelf.old) (S.shows shelf.new)
-        result (λ v. v) }
+    ensures step { IsLoadStep (one_file FileKind.Tasks name.now (tasks_at name.now)) (S.shows shelf.old)
+        (S.shows shelf.new) result (λ v. v) }
+    ensures of_file { IfErr result IsOfFile }
 {
     let bytes = load_file(alloc, FileKind::Tasks, name, shelf)?;
     Ok(TaskSet::read(alloc, &bytes)?)
@@ -63,7 +63,7 @@ pub fn load_tasks<S: Shelf>(alloc: Global, name: &str, shelf: &mut S) -> Result<
 
 /// The machine of a file. `Load` and `Text` as for its bytes; `Text` where it isn't a machine file, with its first fault.
 pub fn load_machine<S: Shelf>(alloc: Global, name: &str, shelf: &mut S) -> Result<Machine, Status>
-    ensures step { LoadStep (one_file FileKind.Machine name.now (machine_at name.now)) (S.shows shelf.old)
+    ensures step { IsLoadStep (one_file FileKind.Machine name.now (machine_at name.now)) (S.shows shelf.old)
         (S.shows shelf.new) result (λ v. v) }
     ensures of_file { IfErr result IsOfFile }
 {
@@ -78,7 +78,7 @@ fn load_named_demands<S: Shelf>(
     tasks: &TaskSet,
     shelf: &mut S,
 ) -> Result<Demands, Status>
-    ensures step { LoadStep (one_file FileKind.Demands name.now (demands_at tasks.now (Some name.now)))
+    ensures step { IsLoadStep (one_file FileKind.Demands name.now (demands_at tasks.now (Some name.now)))
         (S.shows shelf.old) (S.shows shelf.new) result (λ v. v) }
     ensures worsts { IfOk result (λ d. d.worsts ≡ map (λ t. t.worst) tasks.now) }
 {
@@ -94,7 +94,7 @@ pub fn load_demands<S: Shelf>(
     tasks: &TaskSet,
     shelf: &mut S,
 ) -> Result<Demands, Status>
-    ensures step { LoadStep (each_of (if_named FileKind.Demands (option_map (λ s. s.now) name.entry))
+    ensures step { IsLoadStep (each_of (if_named FileKind.Demands (option_map (λ s. s.now) name.entry))
         (demands_at tasks.now (option_map (λ s. s.now) name.entry)))
         (S.shows shelf.old) (S.shows shelf.new) result (λ v. v) }
     ensures worsts { IfOk result (λ d. d.worsts ≡ map (λ t. t.worst) tasks.now) }

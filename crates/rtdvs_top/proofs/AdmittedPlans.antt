@@ -8,12 +8,13 @@ use Rattle.trace_writer.specs.RunText.{run_text_in}
 use Rattle.poll_server.specs.ServerJobs.{server_of}
 use Rattle.words.specs.Commands.{RunView, AdmitView, TracedView, PollView, CommandView, run, admit, traced, poll}
 use Rattle.command_files.specs.Meanings.{tasks_at, machine_at, demands_at, server_at}
+use Rattle.rtdvs_top.specs.Asked.{asked_with}
 use Rattle.rtdvs_top.specs.Admit.{admitted_text, admit_answer}
 use Rattle.command_files.specs.Admissions.{admission}
 use Rattle.rtdvs_top.specs.Run.{answer_of_prepared, run_answer}
 use Rattle.rtdvs_top.specs.Trace.{trace_at, answer_of_traced, trace_answer}
 use Rattle.rtdvs_top.specs.Poll.{requests_at, polling_served, polled_text, answer_of_polling, poll_answer}
-use Rattle.rtdvs_top.specs.Promises.{answer_of_command, run_plan, admit_plan, traced_plan, poll_plan, Passes, Denies, AdmitsOrDenies, OfAdmission}
+use Rattle.rtdvs_top.specs.Promises.{answer_of_command, run_plan, admit_plan, traced_plan, poll_plan, Passes, Denies, AdmitsOrDenies, AdmitsByTest}
 use Rattle.rtdvs_top.specs.Prepared.{EndsAs}
 use Rattle.statuses.specs.declared.status.Denied.{Denied}
 use Rattle.statuses.specs.declared.status.Status.{Status}
@@ -97,10 +98,10 @@ shows-test files c plan old new status.Write tests ends = tests.given ends.0 end
 shows-test files c plan old new (status.NotAdmitted why) tests ends = tests.denied why ends
 shows-test files c plan old new s tests ends = tt
 
-pub of-admission : (files : Option Files) (c : CommandView) (old new : SinkView) (s : Status)
-    → EndsAs old new files (answer_of_command c) s → OfAdmission files (Ok c) s
-of-admission (Some files) (run r) old new s ends = shows-test files (run r) (run_plan r files) old new s (run-tests r files) ends
-of-admission (Some files) (admit a) old new s ends = shows-test files (admit a) (admit_plan a files) old new s (admit-tests a files) ends
-of-admission (Some files) (traced r) old new s ends = shows-test files (traced r) (traced_plan r files) old new s (traced-tests r files) ends
-of-admission (Some files) (poll q) old new s ends = shows-test files (poll q) (poll_plan q files) old new s (poll-tests q files) ends
-of-admission files c old new s ends = tt
+pub admits-by-test : (files : Option Files) (c : CommandView) (old new : SinkView) (s : Status)
+    → EndsAs old new files (answer_of_command c) s → AdmitsByTest (asked_with files c) s
+admits-by-test (Some files) (run r) old new s ends = shows-test files (run r) (run_plan r files) old new s (run-tests r files) ends
+admits-by-test (Some files) (admit a) old new s ends = shows-test files (admit a) (admit_plan a files) old new s (admit-tests a files) ends
+admits-by-test (Some files) (traced r) old new s ends = shows-test files (traced r) (traced_plan r files) old new s (traced-tests r files) ends
+admits-by-test (Some files) (poll q) old new s ends = shows-test files (poll q) (poll_plan q files) old new s (poll-tests q files) ends
+admits-by-test files c old new s ends = tt

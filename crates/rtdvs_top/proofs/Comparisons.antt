@@ -1,5 +1,7 @@
 -- A trace that was read of a file, and its comparison under a governor's own demand.
-use Rattle.std.proofs.Common.{◌≡◌, ◌≢◌, ℕ, List, Option, Some, None, Result, Err, refl, ap, ◌∙◌, sym}
+use Rattle.std.proofs.Common.{◌≡◌, ◌≢◌, ℕ, List, Option, Some, None, Result, Ok, Err, refl, ap, ◌∙◌, sym}
+use Rattle.std.specs.Prelude.{IfErr}
+use Rattle.dvs_base.specs.Checks.{IsUnlessMemory}
 use Rattle.dvs_base.specs.declared.kind.GovernorKind.{GovernorKind}
 use Rattle.dvs_base.specs.declared.note.Note.{Note}
 use Rattle.dvs_base.specs.declared.note.Totals.{Totals}
@@ -17,16 +19,17 @@ use Rattle.replay_laws.specs.FixedDemands.{fixed_of}
 use Rattle.replay_laws.specs.OwnList.{ticks_by, notes_by}
 use Rattle.replay_laws.proofs.OwnDemands.{fixed-within}
 use Rattle.replay.specs.Comparison.{comparison}
-use Rattle.replay.specs.Replays.{first_over, too_many, unless, own_notes, replay_of}
+use Rattle.replay.specs.Replays.{first_over, too_many, unless, own_notes, replay_of, IsCause}
 use Rattle.replay.specs.declared.fault.ReplayFault.{ReplayFault}
 use Rattle.replay.specs.declared.fault.ReplayFault.TheVariants as replay_fault
 use Rattle.replay.proofs.FixedByNotes.{over-fit}
 use Rattle.rtdvs_top.specs.Trace.{replay_status, totals_at}
-use Rattle.statuses.specs.Steps.{EndsWith}
+use Rattle.statuses.specs.Status.{OfLoad, IsShown}
+use Rattle.statuses.specs.Steps.{EndsWith, IsTestStep}
 use Rattle.statuses.specs.Refused.{or_status}
 
 -- a refusal of a replay ends the comparison
-pub replay-ends : (p : Plan) (t : TraceView) (e : ReplayFault)
+replay-ends : (p : Plan) (t : TraceView) (e : ReplayFault)
     → (e ≢ replay_fault.NoMemory → totals_at (p, t) ≡ Err (replay_status e)) → EndsWith (totals_at (p, t)) (replay_status e)
 replay-ends p t (replay_fault.OverWorst task job used worst) h = h (λ q. cc)
 replay-ends p t (replay_fault.TooManyJobs jobs) h = h (λ q. cc)
@@ -62,9 +65,35 @@ module _ (demand : OwnDemand) (kind : GovernorKind) (p : Plan) (publishes : Publ
   same-answer t = same-by t (first_over p t.notes) refl
 
 -- the answer of a replay under a governor's own demand is that of the comparison
-pub governed-totals : (demand : OwnDemand) (kind : GovernorKind) (p : Plan) → Publishes demand kind p
+governed-totals : (demand : OwnDemand) (kind : GovernorKind) (p : Plan) → Publishes demand kind p
     → (t : TraceView) → t.plan.governor ≡ kind → (r : Result Totals ReplayFault)
     → replay_of p (ask_of demand p) t ≡ r → totals_at (p, t) ≡ or_status replay_status r
 governed-totals demand kind p publishes t is r h =
     ap (λ (g : GovernorKind). or_status replay_status (replay_of p (published p g) t)) is
     ∙ ap (or_status replay_status) (sym (same-answer demand kind p publishes t) ∙ h)
+
+-- what a replay shows, with its refusal as a status
+replay-unloaded : (e : ReplayFault) → OfLoad (λ kind. ⊥) (replay_status e)
+replay-unloaded (replay_fault.OverWorst task job used worst) = tt
+replay-unloaded (replay_fault.TooManyJobs jobs) = tt
+replay-unloaded (replay_fault.Differs line wanted found) = tt
+replay-unloaded replay_fault.NoMemory = tt
+
+replay-shown : (e : ReplayFault) → IsCause e → IsShown (replay_status e)
+replay-shown (replay_fault.OverWorst task job used worst) h = h
+replay-shown (replay_fault.TooManyJobs jobs) h = h
+replay-shown (replay_fault.Differs line wanted found) h = h
+replay-shown replay_fault.NoMemory h = tt
+
+pub compared-as-status : (demand : OwnDemand) (kind : GovernorKind) (p : Plan) → Publishes demand kind p
+    → (t : TraceView) → t.plan.governor ≡ kind → (r : Result Totals ReplayFault)
+    → IsUnlessMemory replay_fault.NoMemory (λ (totals : Totals). totals) r (replay_of p (ask_of demand p) t) → IfErr r IsCause
+    → IsTestStep (totals_at (p, t)) (or_status replay_status r) (λ totals. totals)
+compared-as-status demand kind p publishes t is (Ok totals) answer cause =
+    record { gives = governed-totals demand kind p publishes t is (Ok totals) answer; refused = tt; loads = tt; shown = tt }
+compared-as-status demand kind p publishes t is (Err why) answer cause = record {
+  gives = tt;
+  refused = replay-ends p t why (λ other. governed-totals demand kind p publishes t is (Err why) (answer other));
+  loads = replay-unloaded why;
+  shown = replay-shown why cause;
+}

@@ -1,5 +1,5 @@
 -- Which steps of an answer can deny a plan, and when.
-use Rattle.std.proofs.Common.{◌≡◌, ◌⊎◌, inl, inr, ℕ, ◌*◌, ◌≤◌, Bool, true, false, List, length, Option, Some, None, Result, Ok, Err, refl, sym, ◌∙◌, ap, subst, arith, true≢false, nat_lt, if◌then◌else◌}
+use Rattle.std.proofs.Common.{◌≡◌, ◌⊎◌, inl, inr, ℕ, ◌*◌, ◌≤◌, ◌<◌, Bool, true, false, List, length, Option, Some, None, Result, Ok, Err, refl, sym, ◌∙◌, ap, subst, arith, true≢false, nat_lt, if◌then◌else◌}
 use Rattle.std.proofs.lemmas.Bool.{ltb-true, ltb-false}
 use Rattle.std.proofs.lemmas.Bool.Decides.{nat_tests}
 use Rattle.dvs_base.specs.Outside.{Files, file_of}
@@ -34,7 +34,7 @@ use Rattle.command_files.specs.Admissions.{admission, admission_by, admission_fr
 use Rattle.rtdvs_top.specs.Run.{within_jobs}
 use Rattle.rtdvs_top.specs.Trace.{replay_status, trace_of, trace_at, totals_at, printed, answer_of_traced}
 use Rattle.rtdvs_top.specs.Poll.{requests_at}
-use Rattle.rtdvs_top.specs.Promises.{IsDenial, DeniedPlan}
+use Rattle.rtdvs_top.specs.Promises.{IsDenial, IsDeniedBy}
 use Rattle.statuses.specs.declared.status.Denied.{Denied}
 use Rattle.statuses.specs.declared.status.Denied.TheVariants as denied
 use Rattle.statuses.specs.declared.status.FileKind.{FileKind}
@@ -181,6 +181,10 @@ within-denies-not jobs bytes = go (nat_lt MOST_JOBS jobs)
 pub within-few : (jobs : ℕ) (bytes : List ℕ) → jobs ≤ MOST_JOBS → within_jobs jobs bytes ≡ Ok bytes
 within-few jobs bytes few = grind (arith, nat_tests)
 
+-- more are
+pub within-many : (jobs : ℕ) (bytes : List ℕ) → MOST_JOBS < jobs → within_jobs jobs bytes ≡ Err (status.Limit jobs)
+within-many jobs bytes many = grind (arith, nat_tests)
+
 -- a plan that passes its scheduler's test is admitted
 pub passes-admission : (sch : Scheduler) (p : Plan) → PassesTest sch p → admission_by sch p ≡ Ok p
 passes-admission Edf p h =
@@ -217,7 +221,7 @@ admission-gives p q e = go (decides p)
     go (inr denial) = absurd (true≢false (ap is_given (sym e ∙ denial.1)))
 
 -- a plan that is denied fails its test, by the test's two numbers
-pub denied-plan : (p : Plan) (why : Denied) → admission p ≡ Err (status.NotAdmitted why) → DeniedPlan p why
+pub denied-plan : (p : Plan) (why : Denied) → admission p ≡ Err (status.NotAdmitted why) → IsDeniedBy p why
 denied-plan p why e = record {
   numbers = e;
   by = go (decides p);

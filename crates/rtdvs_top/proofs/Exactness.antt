@@ -18,7 +18,8 @@ use Rattle.replay.specs.Replays.{too_many, replay_of}
 use Rattle.replay.specs.declared.fault.ReplayFault.{ReplayFault}
 use Rattle.replay.specs.declared.fault.ReplayFault.TheVariants as replay_fault
 use Rattle.replay.proofs.Exact.{Passes, replayed-passes, some-replayed, is-replayed}
-use Rattle.rtdvs_top.specs.Trace.{replay_status, totals_at, task_line, lines_of_tasks, trace_of, trace_at, traced_of, printed, answer_of_traced, trace_answer, IsScheduleText, AreFilesOf, TellsOwn, IsMigratable, IsDoneUnless, OfTrace}
+use Rattle.rtdvs_top.specs.Asked.{asked_with}
+use Rattle.rtdvs_top.specs.Trace.{replay_status, totals_at, task_line, lines_of_tasks, trace_of, trace_at, traced_of, printed, answer_of_traced, trace_answer, IsScheduleText, AreFilesOf, TellsOwn, IsMigratable, IsDoneUnless, AcceptsScheduleTexts}
 use Rattle.rtdvs_top.proofs.DeniedPlans.{is_given, given-once, given-both, passes-admission, admission-gives}
 use Rattle.dvs_base.specs.Outside.{Files, file_of}
 use Rattle.dvs_base.specs.Checks.{and_then}
@@ -51,7 +52,7 @@ use Rattle.statuses.specs.declared.status.TextFault.TheVariants as text_fault
 use Rattle.statuses.specs.Refused.{or_status, trace_status}
 use Rattle.command_files.proofs.FileLoads.{short_file}
 use Rattle.trace_writer.proofs.SumLines.{below-first}
-use Rattle.rtdvs_top.specs.Prepared.{MetIn, IsComparable}
+use Rattle.rtdvs_top.specs.Prepared.{ProvesDone, IsComparable}
 
 -- a replay that has totals is done
 pub replayed-some : (r : Result Totals ReplayFault) → IsOk (or_status replay_status r) → (totals : Totals) × (r ≡ Ok totals)
@@ -266,15 +267,15 @@ done-unless loads_rose puts_rose answer status.Write h ok = h.1
 done-unless loads_rose puts_rose answer s h ok = absurd (true≢false (sym (subst IsOk h ok)))
 
 -- the exactness of a command's ending, from what it met and whose answer its status is
-pub of-trace : (files : Option Files) (c : CommandView) (loads_rose puts_rose : Type 0) (s : Status) → MetIn files c s
-    → Answers files (Ok c) loads_rose puts_rose s → OfTrace files (Ok c) loads_rose puts_rose s
-of-trace (Some files) (traced r) loads_rose puts_rose s met answers = (
+pub accepts-texts : (files : Option Files) (c : CommandView) (loads_rose puts_rose : Type 0) (s : Status) → ProvesDone files c s
+    → Answers (asked_with files c) loads_rose puts_rose s → AcceptsScheduleTexts (asked_with files c) loads_rose puts_rose s
+accepts-texts (Some files) (traced r) loads_rose puts_rose s met answers = (
   λ e.
-      let m = subst (MetIn (Some files) (traced r)) e met in
+      let m = subst (ProvesDone (Some files) (traced r)) e met in
       let ok = subst (IsAnswer loads_rose puts_rose (trace_answer r files)) e answers in
       done-own r files m.0 m.2 m.3 m.1 m.4 m.5 ok,
   λ v p g ticks rows bytes of tells.
       let ok = subst IsOk (sym (printed-done r files v p g ticks rows bytes of tells)) refl in
       done-unless loads_rose puts_rose (trace_answer r files) s answers ok,
 )
-of-trace files c loads_rose puts_rose s met answers = tt
+accepts-texts files c loads_rose puts_rose s met answers = tt

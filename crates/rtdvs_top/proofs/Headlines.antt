@@ -16,8 +16,9 @@ use Rattle.command_files.specs.Meanings.{tasks_at, machine_at, demands_at}
 use Rattle.command_files.specs.Admissions.{admission}
 use Rattle.rtdvs_top.specs.Run.{within_jobs, answer_of_prepared, run_after_tasks}
 use Rattle.command_files.specs.PlannedRuns.{prepared_of, run_with, IsReadyRun}
-use Rattle.rtdvs_top.specs.Promises.{answer_of_command, MeansRun, DoneRun, DeniedPlan, OfRun, OfTests, RunsOrIsDenied, Answers, Headline}
-use Rattle.rtdvs_top.specs.Prepared.{EndsAs, MetIn}
+use Rattle.rtdvs_top.specs.Promises.{answer_of_command, MeansRun, IsDoneRun, IsDeniedBy, ProvesRun, ProvesTests, RunsOrIsDenied, Answers, IsDoneOrDenied}
+use Rattle.rtdvs_top.specs.Asked.{Asked, asked_with, with_files}
+use Rattle.rtdvs_top.specs.Prepared.{EndsAs, ProvesDone}
 use Rattle.statuses.specs.declared.status.Denied.{Denied}
 use Rattle.statuses.specs.declared.status.Status.{Status}
 use Rattle.statuses.specs.declared.status.Status.TheVariants as status
@@ -49,7 +50,7 @@ prepared-means r files tasks p d t e =
 denied-means : (r : RunView) (files : Files) (why : Denied)
     → answer_of_command (run r) files ≡ Err (status.NotAdmitted why)
     → (tasks : List Task) × (machine : Table) × (demands : DemandsView) × MeansRun r files tasks machine demands
-    × DeniedPlan (plan_of tasks machine r.scheduler) why
+    × IsDeniedBy (plan_of tasks machine r.scheduler) why
 denied-means r files why e =
     let t = denied-later (tasks_at r.tasks files) (λ tasks. run_after_tasks r tasks files) why (tasks_at-denies-not r.tasks files) e in
     let tasks : List Task = t.0 in
@@ -84,23 +85,23 @@ done-run : (r : RunView) (files : Files) (old new : SinkView) (tasks : List Task
     → tasks_at r.tasks files ≡ Ok tasks → prepared_of r tasks files ≡ Ok (p, d)
     → answer_of_command (run r) files ≡ Ok bytes
     → Appends old.written new.written bytes → IsReadyRun r.governor (run_with r p d)
-    → OfRun (Some files) (Ok (run r)) old new status.Done
+    → ProvesRun (with_files files (run r)) old new status.Done
 done-run r files old new tasks p d bytes t q e wrote ready =
     let m = prepared-means r files tasks p d t q in
     let whole = done-text r files tasks p d bytes t q e in
     let met = has-met r.version p d r.ticks r.governor ready in
-    let done : DoneRun r.version r.governor (run_with r p d) old new = record { text = subst (Appends old.written new.written) whole wrote; run = met } in
-    let P : Plan → DemandsView → Type 0 = λ x y. (prepared_of r tasks files ≡ Ok (x, y)) × DoneRun r.version r.governor (run_with r x y) old new in
+    let done : IsDoneRun r.version r.governor (run_with r p d) old new = record { text = subst (Appends old.written new.written) whole wrote; run = met } in
+    let P : Plan → DemandsView → Type 0 = λ x y. (prepared_of r tasks files ≡ Ok (x, y)) × IsDoneRun r.version r.governor (run_with r x y) old new in
     let whole_run = subst (λ (x : Plan). P x m.1) m.3 (subst (λ (y : DemandsView). P p y) m.4 (q, done)) in
     (tasks, m.0, m.1, m.2, whole_run.0, whole_run.1)
 
 -- the run whose files are known, from how its answer ends and what it met
-pub of-run : (files : Option Files) (c : CommandView) (s : Status) (old new : SinkView)
-    → EndsAs old new files (answer_of_command c) s → MetIn files c s → OfRun files (Ok c) old new s
-of-run (Some files) (run r) status.Done old new ends met =
+pub proves-run : (files : Option Files) (c : CommandView) (s : Status) (old new : SinkView)
+    → EndsAs old new files (answer_of_command c) s → ProvesDone files c s → ProvesRun (asked_with files c) old new s
+proves-run (Some files) (run r) status.Done old new ends met =
     done-run r files old new met.0 met.2 met.3 ends.0 met.1 met.4 ends.1 ends.2.bytes met.5
-of-run (Some files) (run r) (status.NotAdmitted why) old new ends met = denied-means r files why ends
-of-run files c s old new ends met = tt
+proves-run (Some files) (run r) (status.NotAdmitted why) old new ends met = denied-means r files why ends
+proves-run files c s old new ends met = tt
 
 -- the answer of a run whose files mean these tasks, machine and demands, and which releases no more jobs than the limit
 module _ (r : RunView) (files : Files) (tasks : List Task) (machine : Table) (demands : DemandsView) (means : MeansRun r files tasks machine demands)
@@ -119,26 +120,26 @@ module _ (r : RunView) (files : Files) (tasks : List Task) (machine : Table) (de
 
   -- a status that the answer refuses with is a denial
   denied-only : (s : Status) → answer_of_command (run r) files ≡ Err s
-      → (why : Denied) × (s ≡ status.NotAdmitted why) × DeniedPlan plan why
+      → (why : Denied) × (s ≡ status.NotAdmitted why) × IsDeniedBy plan why
   denied-only s e = go (decides plan)
     where
-      go : Decides plan plan.scheduler (admission plan) → (why : Denied) × (s ≡ status.NotAdmitted why) × DeniedPlan plan why
+      go : Decides plan plan.scheduler (admission plan) → (why : Denied) × (s ≡ status.NotAdmitted why) × IsDeniedBy plan why
       go (inl ok) = absurd (true≢false (ap is_given (sym (within-few (released_jobs plan r.ticks) whole few) ∙ (sym (ap after ok.0) ∙ (sym answer-is ∙ e)))))
       go (inr denial) = (denial.0, ap status_of (sym e ∙ (answer-is ∙ ap after denial.1)), denied-plan plan denial.0 denial.1)
 
   -- a run that is done is of what its files mean
-  done-only : (old new : SinkView) → OfRun (Some files) (Ok (run r)) old new status.Done
-      → DoneRun r.version r.governor (run_with r plan demands) old new
+  done-only : (old new : SinkView) → ProvesRun (with_files files (run r)) old new status.Done
+      → IsDoneRun r.version r.governor (run_with r plan demands) old new
   done-only old new x =
       let ts = given-once x.3.tasks_are means.tasks_are in
       let ms = given-once x.3.machine_is means.machine_is in
       let ds = given-once (subst (λ (ts : List Task). demands_at ts r.demands files ≡ Ok x.2) ts x.3.demands_are) means.demands_are in
-      let P : List Task → Table → DemandsView → Type 0 = λ a b c. DoneRun r.version r.governor (run_with r (plan_of a b r.scheduler) c) old new in
+      let P : List Task → Table → DemandsView → Type 0 = λ a b c. IsDoneRun r.version r.governor (run_with r (plan_of a b r.scheduler) c) old new in
       subst (λ (c : DemandsView). P tasks machine c) ds (subst (λ (b : Table). P tasks b x.2) ms (subst (λ (a : List Task). P a x.1 x.2) ts x.5))
 
   pub runs-or-is-denied : (loads_rose : Type 0) (old new : SinkView) (s : Status)
-      → OfRun (Some files) (Ok (run r)) old new s
-      → Answers (Some files) (Ok (run r)) loads_rose (Rose old.faults new.faults) s → (loads_rose → ⊥)
+      → ProvesRun (with_files files (run r)) old new s
+      → Answers (with_files files (run r)) loads_rose (Rose old.faults new.faults) s → (loads_rose → ⊥)
       → (Rose old.faults new.faults → ⊥) → s ≢ status.NoMemory
       → RunsOrIsDenied r.version r.governor (run_with r plan demands) old new s
   runs-or-is-denied loads_rose old new status.Done of answers still whole_out memory = inl (refl, done-only old new of)
@@ -149,13 +150,13 @@ module _ (r : RunView) (files : Files) (tasks : List Task) (machine : Table) (de
   runs-or-is-denied loads_rose old new s of answers still whole_out memory = inr (denied-only s answers)
 
 -- the headline, from what holds of each run and from whose answer the status is
-pub headline-of : (files : Option Files) (c : Result CommandView WordFault) (loads_rose : Type 0) (old new : SinkView) (s : Status)
-    → OfRun files c old new s → OfTests files c s
-    → Answers files c loads_rose (Rose old.faults new.faults) s → Headline files c loads_rose old new s
-headline-of (Some files) (Ok (response r)) loads_rose old new s of tests answers =
+pub done-or-denied : (a : Asked) (loads_rose : Type 0) (old new : SinkView) (s : Status)
+    → ProvesRun a old new s → ProvesTests a s
+    → Answers a loads_rose (Rose old.faults new.faults) s → IsDoneOrDenied a loads_rose old new s
+done-or-denied (with_files files (response r)) loads_rose old new s of tests answers =
     λ tasks machine means still whole_out memory. responds-or-is-denied r files tasks machine means loads_rose
     (Rose old.faults new.faults) s tests answers still whole_out memory
-headline-of (Some files) (Ok (run r)) loads_rose old new s of tests answers =
+done-or-denied (with_files files (run r)) loads_rose old new s of tests answers =
     λ tasks machine demands means few still whole_out memory. runs-or-is-denied r files tasks machine demands means few loads_rose
     old new s of answers still whole_out memory
-headline-of files c loads_rose old new s of tests answers = tt
+done-or-denied a loads_rose old new s of tests answers = tt

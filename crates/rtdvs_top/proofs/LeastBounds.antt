@@ -5,14 +5,18 @@ use Rattle.std.specs.Io.KnownBytes.{Appends}
 use Rattle.dvs_base.specs.Outside.{Files, SinkView}
 use Rattle.dvs_base.specs.Checks.{and_then}
 use Rattle.freq_table.specs.Tables.{Table, highest_speed}
+use Rattle.std.specs.Prelude.{IfOk}
 use Rattle.energy_bound.specs.declared.least.Least.{Least}
-use Rattle.energy_bound.specs.Certificates.{least_of}
+use Rattle.energy_bound.specs.declared.least.Over.{Over}
+use Rattle.energy_bound.specs.Certificates.{IsCertificate, least_of}
+use Rattle.energy_bound.specs.Schedules.{IsLeast}
 use Rattle.energy_bound.specs.FirstPairs.{low_corner, high_corner, least_energy_of}
 use Rattle.words.specs.Commands.{LeastView, CommandView, least}
 use Rattle.command_files.specs.Meanings.{machine_at}
-use Rattle.rtdvs_top.specs.Least.{least_text, least_from, least_on, AreTooMany}
-use Rattle.rtdvs_top.specs.Promises.{answer_of_command, OfLeast}
-use Rattle.rtdvs_top.specs.Prepared.{EndsAs, MetIn}
+use Rattle.rtdvs_top.specs.Asked.{asked_with}
+use Rattle.rtdvs_top.specs.Least.{least_text, least_from, least_on, IsLeastOn, AreTooMany}
+use Rattle.rtdvs_top.specs.Promises.{answer_of_command, ProvesLeast}
+use Rattle.rtdvs_top.specs.Prepared.{EndsAs, ProvesDone}
 use Rattle.statuses.specs.declared.status.Denied.{Denied}
 use Rattle.statuses.specs.declared.status.Status.{Status}
 use Rattle.statuses.specs.declared.status.Status.TheVariants as status
@@ -41,12 +45,18 @@ too-many l m why h = go (nat_lt (l.ticks * highest_speed m) l.units) refl h
     go false e h = absurd (true≢false (ap is_given h))
 
 -- a `least` whose file is known, from how its answer ends and what it met
-pub of-least : (files : Option Files) (c : CommandView) (s : Status) (old new : SinkView)
-    → EndsAs old new files (answer_of_command c) s → MetIn files c s → OfLeast files (Ok c) old new s
-of-least (Some files) (least l) status.Done old new ends met =
+pub proves-least : (files : Option Files) (c : CommandView) (s : Status) (old new : SinkView)
+    → EndsAs old new files (answer_of_command c) s → ProvesDone files c s → ProvesLeast (asked_with files c) old new s
+proves-least (Some files) (least l) status.Done old new ends met =
     let whole : ends.0 ≡ least_text met.1 = text-is l files met.0 met.1 ends.0 met.2 met.3.answer ends.1 in
     (met.0, met.1, met.2, met.3, subst (Appends old.written new.written) whole ends.2.bytes)
-of-least (Some files) (least l) (status.NotAdmitted why) old new ends met =
+proves-least (Some files) (least l) (status.NotAdmitted why) old new ends met =
     let d = denied-later (machine_at l.machine files) (least_on l) why (machine_at-denies-not l.machine files) ends in
     (d.0, d.1, too-many l d.0 why d.2)
-of-least files c s old new ends met = tt
+proves-least files c s old new ends met = tt
+
+-- the answer of `least_energy` is the machine's, and passes its check
+pub is-least : (m : Table) (l : LeastView) (r : Result Least Over) → r ≡ least_energy_of m l.units l.ticks
+    → IfOk r (IsCertificate m l.units l.ticks) → IfOk r (IsLeast m l.units l.ticks) → IfOk r (IsLeastOn m l)
+is-least m l (Ok a) answer certificate low = record { answer = sym answer; certificate = certificate; least = low }
+is-least m l (Err over) answer certificate low = tt

@@ -17,4 +17,8 @@ pub mod ServedAnswers
 pub mod LeastBounds
 pub mod AdmittedPlans
 pub mod Examples
+pub mod WorkloadLines
+pub mod KeptDeadlines
+pub mod TestEnds
+pub mod TasksFirst
 pub mod MetByPair

@@ -1,14 +1,17 @@
 -- What was prepared and then put answers its command, and so does what was refused before.
-use Rattle.std.proofs.Common.{ℕ, Bool, true, false, List, Option, Some, None, Result, Ok, Err, refl, sym, subst}
+use Rattle.std.proofs.Common.{◌≡◌, ◌≤◌, ◌∙◌, arith, ℕ, Bool, true, false, List, Option, Some, None, Result, Ok, Err, refl, sym, subst}
 use Rattle.dvs_base.specs.Outside.{Files, ShelfView, SinkView}
 use Rattle.task_model.specs.declared.task.Task.{Task}
 use Rattle.probes.specs.Tallies.{ProbeView}
-use Rattle.words.specs.Commands.{CommandView, run, traced, poll, least}
-use Rattle.rtdvs_top.specs.Promises.{LoadFailed, Tells, answer_of_command}
+use Rattle.words.specs.Commands.{CommandView, tasks_name, run, traced, poll, least}
+use Rattle.rtdvs_top.specs.Asked.{asked_with, asked_of}
+use Rattle.rtdvs_top.specs.Promises.{LoadFailed, TellsProbes, answer_of_command}
 use Rattle.statuses.specs.Steps.{IsRefusal, Refuses}
-use Rattle.command_files.specs.Files.{files_for}
+use Rattle.command_files.specs.Files.{files_for, MakesLoads, loads_needed}
+use Rattle.command_files.specs.Loads.{tasks_loads, loads_after}
 use Rattle.statuses.specs.Status.{CountsLoads, LeavesProbes}
-use Rattle.rtdvs_top.specs.Prepared.{Ends, EndsAs, PutEnds, Named, HasAnswer, PutStep, PrepareStep, Seen, seen, IsAnswered, MetIn, answer_of}
+use Rattle.rtdvs_top.specs.Prepared.{Ends, EndsAs, PutEnds, HasTaskNames, HasAnswer, IsPutStep, IsPrepareStep, IsTasksStep, IsRefused, IsPrepared, Seen, seen, IsAnswered, ProvesDone, answer_of}
+use Rattle.rtdvs_top.proofs.TasksFirst.{needed-loads, both-made, more-made, later-failed}
 use Rattle.rtdvs_top.specs.declared.prepared.Prepared.{Prepared}
 use Rattle.statuses.specs.declared.status.Status.{Status}
 use Rattle.statuses.specs.declared.status.Status.TheVariants as status
@@ -40,10 +43,10 @@ put-cases answer s P put done write memory limit = absurd put
 
 -- none of them names a task
 put-named : (files : Option Files) (c : CommandView) (tasks : Option (List Task)) (answer : Result (List ℕ) Status) (s : Status)
-    → PutEnds answer s → Named files c tasks status.Done → Named files c tasks s
+    → PutEnds answer s → HasTaskNames files c tasks status.Done → HasTaskNames files c tasks s
 put-named None c tasks answer s put named = tt
 put-named (Some files) c tasks answer s put named =
-    put-cases answer s (Named (Some files) c tasks) put named refl refl (λ jobs. refl)
+    put-cases answer s (HasTaskNames (Some files) c tasks) put named refl refl (λ jobs. refl)
 
 -- a command that was refused ends so
 refusal-of : (files : Option Files) (step : Files → Result (List ℕ) Status) (s : Status) → Refuses files step s → IsRefusal s
@@ -59,7 +62,7 @@ refused-ends (Some files) old new step status.Done refuses = absurd refuses
 refused-ends (Some files) old new step status.Write refuses = absurd refuses
 refused-ends (Some files) old new step s refuses = refuses
 
-refused-met : (files : Option Files) (c : CommandView) (s : Status) → IsRefusal s → MetIn files c s
+refused-met : (files : Option Files) (c : CommandView) (s : Status) → IsRefusal s → ProvesDone files c s
 refused-met files (run r) status.Done refusal = absurd refusal
 refused-met files (traced r) status.Done refusal = absurd refusal
 refused-met files (poll q) status.Done refusal = absurd refusal
@@ -67,51 +70,83 @@ refused-met files (least l) status.Done refusal = absurd refusal
 refused-met files c s refusal = tt
 
 refused-told : (files : Option Files) (c : CommandView) (old new : SinkView) (before after : List ProbeView) (s : Status)
-    → IsRefusal s → Tells files (Ok c) old new before after s
-refused-told files (run r) old new before after status.Done refusal = absurd refusal
-refused-told files (run r) old new before after status.Write refusal = absurd refusal
-refused-told files c old new before after s refusal = tt
+    → IsRefusal s → TellsProbes (asked_with files c) old new before after s
+refused-told None (run r) old new before after status.Done refusal = absurd refusal
+refused-told None (run r) old new before after status.Write refusal = absurd refusal
+refused-told None c old new before after s refusal = tt
+refused-told (Some files) (run r) old new before after status.Done refusal = absurd refusal
+refused-told (Some files) (run r) old new before after status.Write refusal = absurd refusal
+refused-told (Some files) c old new before after s refusal = tt
 
 -- what was refused before anything was put answers the command
-pub refused-answered : (old new : Seen) (c : CommandView) (tasks : Option (List Task)) (s : Status)
-    → PrepareStep old.shelf new.shelf c tasks (Err s) → IsAnswered c old new s tasks
-refused-answered old new c tasks s step =
+refused-answered : (old new : Seen) (c : CommandView) (tasks : Option (List Task)) (s : Status)
+    → IsRefused (files_for old.shelf.held c) c tasks s → LoadFailed old.shelf new.shelf (Ok c) s
+    → MakesLoads (loads_needed old.shelf.held c) old.shelf new.shelf → CountsLoads old.shelf.faults new.shelf.faults s
+    → IsAnswered c old new s tasks
+refused-answered old new c tasks s refused failed loads counts =
     let files = files_for old.shelf.held c in
-    let refused = step.refused in
     let refusal = refusal-of files (answer_of_command c) s refused.ended in
     record {
       ended = refused-ends files old.out new.out (answer_of_command c) s refused.ended;
       met = refused-met files c s refusal;
       tested = refused.tested;
       named = refused.named;
-      failed = refused.failed;
-      loads = step.loads;
-      counts = step.counts;
+      failed = failed;
+      loads = loads;
+      counts = counts;
       told = refused-told files c old.out new.out old.probes new.probes s refusal;
       shown = refused.shown;
     }
 
--- what was prepared and then put answers the command
-pub put-answered : {W V : Type 0} (out : W × W) (probes : V × V) (shows : W → SinkView) (counts : V → List ProbeView)
-    (old new : ShelfView) (c : CommandView) (tasks : Option (List Task)) (p : Prepared) (s : Status)
-    → PrepareStep old new c tasks (Ok p) → PutStep out probes shows counts p s
-    → IsAnswered c (seen old (shows out.0) (counts probes.0)) (seen new (shows out.1) (counts probes.1)) s tasks
-put-answered out probes shows counts old new c tasks p s step put =
-    let files = files_for old.held c in
-    let prepared = step.prepared in
-    let steady = step.counts in
-    let ends = put.ends in
-    record {
-      ended = put-ends files c (shows out.0) (shows out.1) (answer_of p) s prepared.answer put.ended;
-      met = prepared.met s ends;
-      tested = prepared.tested s ends;
-      named = put-named files c tasks (answer_of p) s ends prepared.named;
-      failed = put-cases (answer_of p) s (LoadFailed old new (Ok c)) ends tt tt tt (λ jobs. tt);
-      loads = step.loads;
-      counts = put-cases (answer_of p) s (CountsLoads old.faults new.faults) ends steady steady steady (λ jobs. steady);
-      told = prepared.told (shows out.0) (shows out.1) (counts probes.0) (counts probes.1) s put.told;
-      shown = put.shown;
-    }
+-- so does a refusal of its tasks
+pub tasks-answered : (old new : Seen) (c : CommandView) (s : Status) → IsTasksStep old.shelf new.shelf c (Err s)
+    → IsAnswered c old new s None
+tasks-answered old new c s step =
+    let held = old.shelf.held in
+    let few : tasks_loads (tasks_name c) ≤ loads_needed held c = omega (arith, needed-loads held c) in
+    refused-answered old new c None s step.refused step.failed (more-made old.shelf new.shelf few step.loads) step.counts
+
+-- what is prepared for a command whose tasks were read
+module _ (c : CommandView) (old mid new : ShelfView) (tasks : Option (List Task)) (first : IsTasksStep old mid c (Ok tasks)) where
+  abbrev held-is : mid.held ≡ old.held
+  held-is = first.loads.held
+
+  all-loads : MakesLoads (loads_after mid.held c) mid new → MakesLoads (loads_needed old.held c) old new
+  all-loads made =
+      let later = subst (λ (held : Option Files). MakesLoads (loads_after held c) mid new) held-is made in
+      more-made old new (omega (arith, needed-loads old.held c)) (both-made old mid new first.loads later)
+
+  -- it is refused
+  pub prepare-answered : (out_old out_new : SinkView) (before after : List ProbeView) (s : Status)
+      → IsPrepareStep mid new c tasks (Err s)
+      → IsAnswered c (seen old out_old before) (seen new out_new after) s tasks
+  prepare-answered out_old out_new before after s step =
+      refused-answered (seen old out_old before) (seen new out_new after) c tasks s
+      (subst (λ (held : Option Files). IsRefused (files_for held c) c tasks s) held-is step.refused)
+      (later-failed c old mid new s first.loads first.counts step.failed) (all-loads step.loads)
+      (subst (λ (n : ℕ). CountsLoads n new.faults s) first.counts step.counts)
+
+  -- it was put
+  pub put-answered : {W V : Type 0} (out : W × W) (probes : V × V) (shows : W → SinkView) (counts : V → List ProbeView)
+      (p : Prepared) (s : Status) → IsPrepareStep mid new c tasks (Ok p) → IsPutStep out probes shows counts p s
+      → IsAnswered c (seen old (shows out.0) (counts probes.0)) (seen new (shows out.1) (counts probes.1)) s tasks
+  put-answered out probes shows counts p s step put =
+      let files = files_for old.held c in
+      let prepared : IsPrepared files c tasks p =
+      subst (λ (held : Option Files). IsPrepared (files_for held c) c tasks p) held-is step.prepared in
+      let steady : new.faults ≡ old.faults = step.counts ∙ first.counts in
+      let ends = put.ends in
+      record {
+        ended = put-ends files c (shows out.0) (shows out.1) (answer_of p) s prepared.answer put.ended;
+        met = prepared.met s ends;
+        tested = prepared.tested s ends;
+        named = put-named files c tasks (answer_of p) s ends prepared.named;
+        failed = put-cases (answer_of p) s (LoadFailed old new (Ok c)) ends tt tt tt (λ jobs. tt);
+        loads = all-loads step.loads;
+        counts = put-cases (answer_of p) s (CountsLoads old.faults new.faults) ends steady steady steady (λ jobs. steady);
+        told = prepared.told (shows out.0) (shows out.1) (counts probes.0) (counts probes.1) s put.told;
+        shown = put.shown;
+      }
 
 -- what is as it was is left so
 pub left : {V : Type 0} (asks : Bool) (s : Status) (v : V) → LeavesProbes asks s v v

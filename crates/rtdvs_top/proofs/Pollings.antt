@@ -12,12 +12,13 @@ use Rattle.poll_server.specs.Bound.{HaveJobs, KeepsBound}
 use Rattle.poll_server.specs.Polled.{IsPolled, polled_notes}
 use Rattle.poll_server.specs.EachOutcome.{served_by, served_of}
 use Rattle.words.specs.Commands.{CommandView, poll}
+use Rattle.rtdvs_top.specs.Asked.{asked_with}
 use Rattle.rtdvs_top.specs.Poll.{polling_notes, polling_served, HasServed}
-use Rattle.rtdvs_top.specs.Promises.{OfPoll}
+use Rattle.rtdvs_top.specs.Promises.{ProvesPoll}
 use Rattle.statuses.specs.declared.status.Status.{Status}
 use Rattle.statuses.specs.declared.status.Status.TheVariants as status
 use Rattle.rtdvs_top.proofs.Comparisons.{same-run}
-use Rattle.rtdvs_top.specs.Prepared.{MetIn}
+use Rattle.rtdvs_top.specs.Prepared.{ProvesDone}
 
 module _ (demand : OwnDemand) (kind : GovernorKind) (s : ServerView) (publishes : Publishes demand kind s.plan)
     (within : IsWithin s.plan (polled_demand s)) (ticks : ℕ) where
@@ -41,6 +42,6 @@ module _ (demand : OwnDemand) (kind : GovernorKind) (s : ServerView) (publishes 
       }
 
 -- what a `poll` run that is done has kept, from what it met
-pub of-poll : (files : Option Files) (c : CommandView) (s : Status) → MetIn files c s → OfPoll files (Ok c) s
-of-poll (Some files) (poll q) status.Done met = (met.0, met.2, met.1, met.3, met.4)
-of-poll files c s met = tt
+pub proves-poll : (files : Option Files) (c : CommandView) (s : Status) → ProvesDone files c s → ProvesPoll (asked_with files c) s
+proves-poll (Some files) (poll q) status.Done met = (met.0, met.2, met.1, met.3, met.4)
+proves-poll files c s met = tt

@@ -10,8 +10,9 @@ use Rattle.task_model.specs.Tasks.{first_offset}
 use Rattle.rm_response_laws.specs.Responses.{response as response_of}
 use Rattle.rm_response.specs.Denials.{first_late, exact_answer_from}
 use Rattle.words.specs.Commands.{ResponseView, response}
+use Rattle.rtdvs_top.specs.Asked.{with_files}
 use Rattle.rtdvs_top.specs.Promises.{answer_of_command, Answers}
-use Rattle.rtdvs_top.specs.Response.{response_status, responses_on, responses_text, Responds, FailsToRespond, MeansPlan, OfTest, RespondsOrIsDenied}
+use Rattle.rtdvs_top.specs.Response.{response_status, responses_on, responses_text, Responds, FailsToRespond, MeansPlan, ProvesResponses, RespondsOrIsDenied}
 use Rattle.statuses.specs.declared.status.Denied.{Denied}
 use Rattle.statuses.specs.declared.status.Status.{Status}
 use Rattle.statuses.specs.declared.status.Status.TheVariants as status
@@ -47,24 +48,24 @@ module _ (r : ResponseView) (files : Files) (tasks : List Task) (machine : Table
       (subst (λ (a : List Task). P a m) (given-once same.tasks_are means.tasks_are) h)
 
   -- a test that is done or denies is of what its files mean
-  done-only : OfTest (Some files) r status.Done → Responds plan
+  done-only : ProvesResponses files r status.Done → Responds plan
   done-only x =
       let P : List Task → Table → Type 0 = λ a b. Responds (plan_of a b Rm) in
       of-plan P x.0 x.1 x.2 x.3
 
-  denied-only : (why : Denied) → OfTest (Some files) r (status.NotAdmitted why) → FailsToRespond plan why
+  denied-only : (why : Denied) → ProvesResponses files r (status.NotAdmitted why) → FailsToRespond plan why
   denied-only why x =
       let P : List Task → Table → Type 0 = λ a b. FailsToRespond (plan_of a b Rm) why in
       of-plan P x.0 x.1 x.2 x.3
 
   -- a test whose answer is a refusal denies the tasks and gives the cause
-  other : (s : Status) → OfTest (Some files) r s → answer_of_command (response r) files ≡ Err s → RespondsOrIsDenied plan s
+  other : (s : Status) → ProvesResponses files r s → answer_of_command (response r) files ≡ Err s → RespondsOrIsDenied plan s
   other s of e =
       let d = refusal-denies s (sym answer-is ∙ e) in
-      inr (d.0, d.1, denied-only d.0 (subst (OfTest (Some files) r) d.1 of))
+      inr (d.0, d.1, denied-only d.0 (subst (ProvesResponses files r) d.1 of))
 
-  pub responds-or-is-denied : (loads_rose puts_rose : Type 0) (s : Status) → OfTest (Some files) r s
-      → Answers (Some files) (Ok (response r)) loads_rose puts_rose s → (loads_rose → ⊥) → (puts_rose → ⊥)
+  pub responds-or-is-denied : (loads_rose puts_rose : Type 0) (s : Status) → ProvesResponses files r s
+      → Answers (with_files files (response r)) loads_rose puts_rose s → (loads_rose → ⊥) → (puts_rose → ⊥)
       → s ≢ status.NoMemory → RespondsOrIsDenied plan s
   responds-or-is-denied loads_rose puts_rose status.Done of answers still whole_out memory = inl (refl, done-only of)
   responds-or-is-denied loads_rose puts_rose (status.NotAdmitted why) of answers still whole_out memory =

@@ -3,6 +3,7 @@ use Rattle.std.proofs.Common.{◌≡◌, ◌⊎◌, inl, inr, ℕ, ◌+◌, Bool
 use Rattle.dvs_base.specs.Outside.{Files, ShelfView, SinkView, Rose, Lacks, file_of}
 use Rattle.words.specs.declared.command.WordFault.{WordFault}
 use Rattle.words.specs.Commands.{CommandView, run, admit, traced, workload, response, constrain, poll, least}
+use Rattle.rtdvs_top.specs.Asked.{asked_with}
 use Rattle.rtdvs_top.specs.Promises.{answer_of_command, Answers, Writes, WritesPart, IsSureOf, LoadFailed}
 use Rattle.command_files.specs.Files.{NamedFile, files_of, files_needed, files_for, is_passed, passes, FailsFrom}
 use Rattle.statuses.specs.Status.{CountsPuts, Leaves}
@@ -58,7 +59,7 @@ fails-in-answer files c old new kind known fails =
 pub answers-of : (files : Option Files) (c : CommandView) (old new : ShelfView) (out_old out_new : SinkView) (s : Status)
     → files_for old.held c ≡ files
     → EndsAs out_old out_new files (answer_of_command c) s → LoadFailed old new (Ok c) s
-    → Answers files (Ok c) (Rose old.faults new.faults) (Rose out_old.faults out_new.faults) s
+    → Answers (asked_with files c) (Rose old.faults new.faults) (Rose out_old.faults out_new.faults) s
 answers-of None c old new out_old out_new s known ends failed = tt
 answers-of (Some files) c old new out_old out_new status.Done known ends failed = rw ends.1 refl
 answers-of (Some files) c old new out_old out_new status.Write known ends failed = (rw ends.1 refl, ends.2.rose)
@@ -71,7 +72,7 @@ answers-of (Some files) c old new out_old out_new s known ends failed = ends
 -- a sink that is sure of the whole answer counts no further fault
 pub sure-of : {W : Type 0} (shows : W → SinkView) (files : Option Files) (c : CommandView) (s : Status) (old new : W)
     → EndsAs (shows old) (shows new) files (answer_of_command c) s → Leaves s old new
-    → IsSureOf files (Ok c) (shows old)
+    → IsSureOf (asked_with files c) (shows old)
     → (shows new).faults ≡ (shows old).faults
 sure-of shows None c s old new ends leaves sure = absurd sure
 sure-of shows (Some files) c status.Done old new ends leaves sure = ends.2.steady
@@ -87,12 +88,12 @@ not-words (Some files) c s old new why ends refused = subst (EndsAs old new (Som
 
 -- what was written where the answer is done, and where a put failed
 pub writes-of : (files : Option Files) (c : CommandView) (s : Status) (old new : SinkView)
-    → EndsAs old new files (answer_of_command c) s → s ≡ status.Done → Writes files (Ok c) old new
+    → EndsAs old new files (answer_of_command c) s → s ≡ status.Done → Writes (asked_with files c) old new
 writes-of None c s old new ends done = let e = subst (EndsAs old new None (answer_of_command c)) done ends in (e.0, e.2)
 writes-of (Some files) c s old new ends done = subst (EndsAs old new (Some files) (answer_of_command c)) done ends
 
 pub parts-of : (files : Option Files) (c : CommandView) (s : Status) (old new : SinkView)
-    → EndsAs old new files (answer_of_command c) s → s ≡ status.Write → WritesPart files (Ok c) old new
+    → EndsAs old new files (answer_of_command c) s → s ≡ status.Write → WritesPart (asked_with files c) old new
 parts-of None c s old new ends failed = let e = subst (EndsAs old new None (answer_of_command c)) failed ends in (e.0, e.2)
 parts-of (Some files) c s old new ends failed = subst (EndsAs old new (Some files) (answer_of_command c)) failed ends
 

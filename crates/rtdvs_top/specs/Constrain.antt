@@ -90,26 +90,19 @@ pub record MeansDeadlines (r : ConstrainView) (files : Files) (tasks : List Task
   pub deadlines_are : deadlines_at tasks r.deadlines files ≡ Ok deadlines
 
 -- Holds is true of the plan and the relative deadlines that the files mean
-abbrev pub OfMeant : Files → ConstrainView → List Task → (Plan → (ℕ → ℕ) → Type 0) → Type 0
-OfMeant files r tasks Holds =
+abbrev pub HoldsOfMeant : Files → ConstrainView → List Task → (Plan → (ℕ → ℕ) → Type 0) → Type 0
+HoldsOfMeant files r tasks Holds =
     (machine : Table) × (deadlines : List ℕ) × MeansDeadlines r files tasks machine deadlines
     × Holds (plan_of tasks machine Edf) (slice_index deadlines)
 
--- what the status says of these tasks, where the files are known
-abbrev pub IsKept : Option Files → ConstrainView → List Task → Status → Type 0
-IsKept (Some files) r tasks status.Done = OfMeant files r tasks KeepsDeadlines
-IsKept (Some files) r tasks (status.NotAdmitted why) =
-    OfMeant files r tasks (λ p relative. FailsToKeep p relative why)
-IsKept (Some files) r tasks (status.Limit jobs) = OfMeant files r tasks (λ p relative. IsTooLong p jobs)
-IsKept files r tasks s = ⊤
-
 -- The test of `constrain`, where the files are known, without a premise. A test that is done, that denies the tasks or
 -- that has too many jobs is of the tasks, the machine and the relative deadlines that its files mean.
-abbrev pub OfConstrain : Option Files → ConstrainView → Status → Type 0
-OfConstrain (Some files) r status.Done =
-    (tasks : List Task) × (tasks_at r.tasks files ≡ Ok tasks) × IsKept (Some files) r tasks status.Done
-OfConstrain (Some files) r (status.NotAdmitted why) =
-    (tasks : List Task) × (tasks_at r.tasks files ≡ Ok tasks) × IsKept (Some files) r tasks (status.NotAdmitted why)
-OfConstrain (Some files) r (status.Limit jobs) =
-    (tasks : List Task) × (tasks_at r.tasks files ≡ Ok tasks) × IsKept (Some files) r tasks (status.Limit jobs)
-OfConstrain files r s = ⊤
+abbrev pub ProvesDeadlines : Files → ConstrainView → Status → Type 0
+ProvesDeadlines files r status.Done =
+    (tasks : List Task) × (tasks_at r.tasks files ≡ Ok tasks) × HoldsOfMeant files r tasks KeepsDeadlines
+ProvesDeadlines files r (status.NotAdmitted why) =
+    (tasks : List Task) × (tasks_at r.tasks files ≡ Ok tasks)
+    × HoldsOfMeant files r tasks (λ p relative. FailsToKeep p relative why)
+ProvesDeadlines files r (status.Limit jobs) =
+    (tasks : List Task) × (tasks_at r.tasks files ≡ Ok tasks) × HoldsOfMeant files r tasks (λ p relative. IsTooLong p jobs)
+ProvesDeadlines files r s = ⊤

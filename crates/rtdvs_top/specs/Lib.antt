@@ -1,3 +1,4 @@
+pub mod Asked
 pub mod Admit
 pub mod Generated
 pub mod ToldRuns

@@ -21,7 +21,10 @@ use Rattle.poll_server.specs.declared.served.Outcome.{Outcome}
 use Rattle.poll_server.specs.declared.served.Outcome.TheVariants.{Served, Pending}
 use Rattle.words.specs.Commands.{PollView}
 use Rattle.statuses.specs.declared.status.FileKind.TheVariants as file
+use Rattle.poll_server.specs.declared.fault.PollFault.{PollFault}
+use Rattle.poll_server.specs.declared.fault.PollFault.TheVariants as poll_fault
 use Rattle.statuses.specs.declared.status.Status.{Status}
+use Rattle.statuses.specs.declared.status.Status.TheVariants as status
 use Rattle.poll_server.specs.Bound.{HaveJobs, KeepsBound}
 use Rattle.poll_server.specs.Polled.{IsPolled}
 use Rattle.command_files.specs.Meanings.{bytes_at, machine_at, tasks_at, server_at}
@@ -92,6 +95,11 @@ polled_line served totals =
 abbrev pub polled_text : ServerView → ServedView → List ℕ
 polled_text s r =
     let n = request_count s in request_lines s r.outcomes n ++ polled_line (served_among r.outcomes n) r.totals
+
+-- a refusal of a `poll` run as a status
+abbrev pub poll_status : PollFault → Status
+poll_status (poll_fault.TooManyJobs jobs) = status.Limit jobs
+poll_status poll_fault.NoMemory = status.NoMemory
 
 -- the answer of `poll` for a server in its admitted plan
 abbrev pub answer_of_polling : GovernorKind → ℕ → ServerView → Result (List ℕ) Status

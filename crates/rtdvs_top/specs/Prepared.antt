@@ -7,7 +7,7 @@ use Rattle.task_model.specs.declared.task.Task.{Task}
 use Rattle.sched_model.specs.Plan.{Plan, count, plan_of}
 use Rattle.event_kernel.specs.Runs.{Run}
 use Rattle.dvs_base.specs.declared.limits.TheConstants.{MOST_TICKS}
-use Rattle.words.specs.Commands.{CommandView, asks_probes, run, traced, poll, least, ResponseView}
+use Rattle.words.specs.Commands.{CommandView, asks_probes, tasks_name, run, traced, poll, least, ResponseView}
 use Rattle.words.specs.declared.command.TraceUse.{TraceUse}
 use Rattle.statuses.specs.declared.status.Status.{Status}
 use Rattle.statuses.specs.declared.status.Status.TheVariants as status
@@ -24,17 +24,17 @@ use Rattle.rtdvs_top.specs.declared.prepared.Prepared.{Prepared}
 use Rattle.rtdvs_top.specs.declared.prepared.Prepared.TheVariants as prepared
 use Rattle.std.specs.List.{AllByRecursion}
 use Rattle.replay.specs.Replays.{NamesTask}
-use Rattle.rtdvs_top.specs.declared.generated.PlannedRun.{PlannedRun}
 use Rattle.rtdvs_top.specs.declared.prepared.ReadyRun.{ReadyRun}
 use Rattle.statuses.specs.Steps.{EndsWith, Gives, Refuses, CountsStep}
 use Rattle.command_files.specs.Files.{files_for, names_by, loads_needed, MakesLoads}
-use Rattle.command_files.specs.Loads.{LoadOf, LoadStep}
+use Rattle.command_files.specs.Loads.{LoadOf, IsLoadStep, LaterLoadFails, loads_after, tasks_loads}
 use Rattle.statuses.specs.Status.{OfLoad, CountsLoads, Leaves, LeavesProbes, IsShown}
 use Rattle.statuses.specs.StatusLines.{status_text}
-use Rattle.rtdvs_top.specs.ToldRuns.{IfAsked, RunTold}
+use Rattle.rtdvs_top.specs.Asked.{asked_of, asked_with}
+use Rattle.rtdvs_top.specs.ToldRuns.{IfAsked, TellsRun}
 use Rattle.rtdvs_top.specs.Run.{answer_of_plan}
 use Rattle.command_files.specs.PlannedRuns.{run_with, prepared_of, IsRunnable, IsReadyRun}
-use Rattle.rtdvs_top.specs.Promises.{OfTests, Tells, LoadFailed, answer_of_command}
+use Rattle.rtdvs_top.specs.Promises.{ProvesTests, TellsProbes, LoadFailed, answer_of_command}
 use Rattle.rtdvs_top.specs.Constrain.{FailsToKeep}
 use Rattle.rtdvs_top.specs.Generated.{workload_tasks, workload_ticks, workload_totals, workload_text}
 use Rattle.rtdvs_top.specs.Trace.{traced_of, migrated_text, IsMigratable, answer_of_traced}
@@ -76,44 +76,36 @@ EndsAs old new files answer s = Refuses files answer s
 -- What is known of a command that is done, with the tasks of its file. A run is of the plan and the demands that were
 -- prepared; a replay or a migration has compared a trace with the schedule of an admitted plan; a `poll` run has kept the
 -- outcomes, their order and the bound, for the server of its files; `least` has its bound, for the machine of its file.
-abbrev pub MetIn : Option Files → CommandView → Status → Type 0
-MetIn files (run r) status.Done =
+abbrev pub ProvesDone : Option Files → CommandView → Status → Type 0
+ProvesDone files (run r) status.Done =
     (tasks : List Task) × Gives files (tasks_at r.tasks) tasks
     × (p : Plan) × (d : DemandsView) × Gives files (prepared_of r tasks) (p, d) × IsReadyRun r.governor (run_with r p d)
-MetIn files (traced r) status.Done =
+ProvesDone files (traced r) status.Done =
     (tasks : List Task) × Gives files (tasks_at r.tasks) tasks
     × (p : Plan) × (t : TraceView) × Gives files (traced_of r tasks) (p, t) × IsAdmitted p
-MetIn files (poll q) status.Done =
+ProvesDone files (poll q) status.Done =
     (tasks : List Task) × Gives files (tasks_at q.tasks) tasks
     × (s : ServerView) × Gives files (polling_of q tasks) s × HasServed s q.governor q.ticks
-MetIn files (least l) status.Done = (m : Table) × (a : Least) × Gives files (machine_at l.machine) m × IsLeastOn m l a
-MetIn files c s = ⊤
-
--- a test that is done or denies the tasks is of the machine that its file means, where the files are known
-abbrev pub IsTested : Option Files → ResponseView → List Task → Status → Type 0
-IsTested (Some files) r tasks status.Done =
-    (machine : Table) × (machine_at r.machine files ≡ Ok machine) × Responds (plan_of tasks machine Rm)
-IsTested (Some files) r tasks (status.NotAdmitted why) =
-    (machine : Table) × (machine_at r.machine files ≡ Ok machine) × FailsToRespond (plan_of tasks machine Rm) why
-IsTested files r tasks s = ⊤
+ProvesDone files (least l) status.Done = (m : Table) × (a : Least) × Gives files (machine_at l.machine) m × IsLeastOn m l a
+ProvesDone files c s = ⊤
 
 -- Where the files are known, the lines of a status have the names of the command's tasks. Where a command that asks for
 -- probes is done, these are the names that the probes' lines have.
-abbrev pub Named : Option Files → CommandView → Option (List Task) → Status → Type 0
-Named None c tasks s = ⊤
-Named (Some files) c tasks status.Done = IfAsked (asks_probes c) (names_of tasks ≡ names_by c files)
-Named (Some files) c tasks s = status_text (names_of tasks) s ≡ status_text (names_by c files) s
+abbrev pub HasTaskNames : Option Files → CommandView → Option (List Task) → Status → Type 0
+HasTaskNames None c tasks s = ⊤
+HasTaskNames (Some files) c tasks status.Done = IfAsked (asks_probes c) (names_of tasks ≡ names_by c files)
+HasTaskNames (Some files) c tasks s = status_text (names_of tasks) s ≡ status_text (names_by c files) s
 
 -- a command was answered with this status, and its tasks where they were read
 pub record IsAnswered (c : CommandView) (old new : Seen) (s : Status) (tasks : Option (List Task)) : Type 0 where
   -- the answer's text was written, or a first part of it, or the status is the answer's refusal
   pub ended : EndsAs old.out new.out (files_for old.shelf.held c) (answer_of_command c) s
   -- what is known of a run, a replay, a `poll` run or a `least` that is done
-  pub met : MetIn (files_for old.shelf.held c) c s
+  pub met : ProvesDone (files_for old.shelf.held c) c s
   -- what an exact test proves
-  pub tested : OfTests (files_for old.shelf.held c) (Ok c) s
+  pub tested : ProvesTests (asked_of old.shelf.held (Ok c)) s
   -- the names in the lines are those of the command's tasks
-  pub named : Named (files_for old.shelf.held c) c tasks s
+  pub named : HasTaskNames (files_for old.shelf.held c) c tasks s
   -- which load failed, and that the files before it were read
   pub failed : LoadFailed old.shelf new.shelf (Ok c) s
   -- no more loads were made than the answer needs
@@ -121,7 +113,7 @@ pub record IsAnswered (c : CommandView) (old new : Seen) (s : Status) (tasks : O
   -- the shelf's count of failed loads shows in the status
   pub counts : CountsLoads old.shelf.faults new.shelf.faults s
   -- what the probes were told
-  pub told : Tells (files_for old.shelf.held c) (Ok c) old.out new.out old.probes new.probes s
+  pub told : TellsProbes (asked_of old.shelf.held (Ok c)) old.out new.out old.probes new.probes s
   -- what the status shows by itself
   pub shown : IsShown s
 
@@ -138,10 +130,15 @@ pub record IsSmall (made : Workload) : Type 0 where
   pub some_ticks : 1 ≤ made.ticks
   pub few_ticks : made.ticks ≤ workload_ticks
 
--- the status of a put: `Done`, or `Write` where it failed
-abbrev pub status_of_put : {T E : Type 0} → Result T E → Status
+-- the status of a put: `Done`, or that with which it failed
+abbrev pub status_of_put : {T : Type 0} → Result T Status → Status
 status_of_put (Ok v) = status.Done
-status_of_put (Err e) = status.Write
+status_of_put (Err s) = s
+
+-- the status of the writing of a run: `Done`, or `Write` where it failed
+abbrev pub status_of_writing : {T E : Type 0} → Result T E → Status
+status_of_writing (Ok v) = status.Done
+status_of_writing (Err e) = status.Write
 
 -- a status that the put of an answer can end with; `Limit` only where the answer is that refusal
 abbrev pub PutEnds : Result (List ℕ) Status → Status → Type 0
@@ -158,9 +155,9 @@ pub record IsPollable (s : ServerView) (governor : GovernorKind) (ticks : ℕ) :
   pub some_ticks : 1 ≤ ticks
   pub few_ticks : ticks ≤ MOST_TICKS
 
--- the run under a governor of this kind, which tells its probes
-abbrev pub told_run : GovernorKind → ReadyRun → ReadyRun
-told_run kind w = record w { governor = kind; probes = true }
+-- the run under a governor of this kind
+abbrev pub governed_run : GovernorKind → ReadyRun → ReadyRun
+governed_run kind w = record w { governor = kind }
 
 -- the run that is ready to be written
 abbrev pub ready_run : ReadyRun → Run
@@ -171,7 +168,7 @@ abbrev pub answer_of : Prepared → Result (List ℕ) Status
 answer_of (prepared.Trace w) = answer_of_run w.version w.governor (ready_run w)
 answer_of (prepared.Migrated p t) = Ok (migrated_text p t)
 answer_of (prepared.Line text) = Ok text
-answer_of (prepared.Responses tasks ticks) = Ok (responses_text tasks ticks)
+answer_of (prepared.Responses tasks ticks) = Ok (responses_text tasks.now ticks)
 answer_of (prepared.Polled s r) = Ok (polled_text s r)
 answer_of (prepared.Least a) = Ok (least_text a)
 answer_of (prepared.Made made totals) = Ok (workload_text made.seed made.tasks made.ticks)
@@ -181,7 +178,7 @@ abbrev pub IsPuttable : Prepared → Type 0
 IsPuttable (prepared.Trace w) = IsRunnable (ready_run w) × IsPair w.plan.scheduler w.governor
 IsPuttable (prepared.Migrated p t) = IsMigratable p t
 IsPuttable (prepared.Line text) = 0 < length text
-IsPuttable (prepared.Responses tasks ticks) = length ticks ≡ length tasks
+IsPuttable (prepared.Responses tasks ticks) = length ticks ≡ length tasks.now
 IsPuttable (prepared.Polled s r) = length r.outcomes ≡ request_count s
 IsPuttable (prepared.Least a) = ⊤
 IsPuttable (prepared.Made made totals) = totals ≡ workload_totals made.seed made.tasks made.ticks
@@ -192,14 +189,14 @@ tells_probes (prepared.Trace w) = w.probes
 tells_probes p = false
 
 -- the put of a run that asks for probes told them its notes
-abbrev pub ToldOf : Prepared → SinkView → SinkView → List ProbeView → List ProbeView → Status → Type 0
-ToldOf (prepared.Trace w) old new before after s =
-    IfAsked w.probes (RunTold w.version w.governor (ready_run w) old new before after s)
-ToldOf p old new before after s = ⊤
+abbrev pub PutTells : Prepared → SinkView → SinkView → List ProbeView → List ProbeView → Status → Type 0
+PutTells (prepared.Trace w) old new before after s =
+    IfAsked w.probes (TellsRun w.version w.governor (ready_run w) old new before after s)
+PutTells p old new before after s = ⊤
 
 -- What a put of what was prepared does to the sink and to the probes, each before and after it. They are seen through
 -- `shows` and `counts`.
-pub record PutStep {W V : Type 0} (out : W × W) (probes : V × V) (shows : W → SinkView) (counts : V → List ProbeView) (p : Prepared)
+pub record IsPutStep {W V : Type 0} (out : W × W) (probes : V × V) (shows : W → SinkView) (counts : V → List ProbeView) (p : Prepared)
     (s : Status) : Type 0 where
   -- the answer's text was written, or a first part of it, or the answer is refused
   pub ended : Ends (shows out.0) (shows out.1) (answer_of p) s
@@ -210,7 +207,7 @@ pub record PutStep {W V : Type 0} (out : W × W) (probes : V × V) (shows : W �
   -- probes that are not told are as before
   pub kept : LeavesProbes (tells_probes p) s probes.0 probes.1
   -- the others were told the notes
-  pub told : ToldOf p (shows out.0) (shows out.1) (counts probes.0) (counts probes.1) s
+  pub told : PutTells p (shows out.0) (shows out.1) (counts probes.0) (counts probes.1) s
   -- what the status shows by itself
   pub shown : IsShown s
 
@@ -225,35 +222,46 @@ pub record IsPrepared (files : Option Files) (c : CommandView) (tasks : Option (
   pub answer : HasAnswer files c (answer_of p)
   pub puttable : IsPuttable p
   pub tells : tells_probes p ≡ asks_probes c
-  pub named : Named files c tasks status.Done
-  pub met : (s : Status) → PutEnds (answer_of p) s → MetIn files c s
-  pub tested : (s : Status) → PutEnds (answer_of p) s → OfTests files (Ok c) s
-  pub told : (old new : SinkView) (before after : List ProbeView) (s : Status) → ToldOf p old new before after s
-      → Tells files (Ok c) old new before after s
+  pub named : HasTaskNames files c tasks status.Done
+  pub met : (s : Status) → PutEnds (answer_of p) s → ProvesDone files c s
+  pub tested : (s : Status) → PutEnds (answer_of p) s → ProvesTests (asked_with files c) s
+  pub told : (old new : SinkView) (before after : List ProbeView) (s : Status) → PutTells p old new before after s
+      → TellsProbes (asked_with files c) old new before after s
+
+-- these are the tasks of a named file, where a file is named; known files hold them
+abbrev pub AreTasksAt : Option Files → Option (List ℕ) → Option (List Task) → Type 0
+AreTasksAt files None None = ⊤
+AreTasksAt files (Some name) (Some tasks) = Gives files (tasks_at name) tasks
+AreTasksAt files name tasks = ⊥
 
 -- a command ended with this status before anything was put
-pub record IsRefused (old new : ShelfView) (c : CommandView) (tasks : Option (List Task)) (s : Status) : Type 0 where
-  pub ended : Refuses (files_for old.held c) (answer_of_command c) s
-  pub tested : OfTests (files_for old.held c) (Ok c) s
-  pub named : Named (files_for old.held c) c tasks s
-  pub failed : LoadFailed old new (Ok c) s
+pub record IsRefused (files : Option Files) (c : CommandView) (tasks : Option (List Task)) (s : Status) : Type 0 where
+  pub ended : Refuses files (answer_of_command c) s
+  pub tested : ProvesTests (asked_with files c) s
+  pub named : HasTaskNames files c tasks s
   pub shown : IsShown s
 
--- What a step that loads files gives, with what holds of its value, and what its status shows.
-pub record LoadStepWith {T A : Type 0} (l : LoadOf A) (old new : ShelfView) (r : Result T Status) (see : T → A)
-    (Holds : T → Type 0) (Shows : Status → Type 0) : Type 0 where
-  pub step : LoadStep l old new r see
-  pub value : IfOk r Holds
-  pub status : IfErr r Shows
+-- What the load of a command's tasks gives: the tasks, where the command names a file of them, or its refusal.
+pub record IsTasksStep (old new : ShelfView) (c : CommandView) (r : Result (Option (List Task)) Status) : Type 0 where
+  pub read : IfOk r (AreTasksAt old.held (tasks_name c))
+  pub refused : IfErr r (IsRefused (files_for old.held c) c None)
+  -- a load that failed is of the command's first file
+  pub failed : IfErr r (LoadFailed old new (Ok c))
+  -- no other load was made
+  pub loads : MakesLoads (tasks_loads (tasks_name c)) old new
+  -- the count of failed loads changes only with the status `Load`
+  pub counts : CountsStep old.faults new.faults r
 
--- What a command prepares before anything is put, and its tasks where they were read.
-pub record PrepareStep (old new : ShelfView) (c : CommandView) (tasks : Option (List Task)) (r : Result Prepared Status) : Type 0 where
+-- What a command prepares before anything is put, after its tasks were read.
+pub record IsPrepareStep (old new : ShelfView) (c : CommandView) (tasks : Option (List Task)) (r : Result Prepared Status) : Type 0 where
   -- its put gives the command's answer
   pub prepared : IfOk r (IsPrepared (files_for old.held c) c tasks)
   -- or the answer is refused
-  pub refused : IfErr r (IsRefused old new c tasks)
+  pub refused : IfErr r (IsRefused (files_for old.held c) c tasks)
+  -- a load that failed is of a later file, and those before it are passed
+  pub failed : IfErr r (LaterLoadFails old new c)
   -- no more loads were made than the answer needs
-  pub loads : MakesLoads (loads_needed old.held c) old new
+  pub loads : MakesLoads (loads_after old.held c) old new
   -- the count of failed loads changes only with the status `Load`
   pub counts : CountsStep old.faults new.faults r
 
@@ -267,19 +275,6 @@ pub record IsComparable (p : Plan) (t : TraceView) : Type 0 where
   pub tasks : AllByRecursion (NamesTask (count p)) t.notes
   pub ended : IsEnded t.notes
 
--- what is put for a trace of a plan, as `asked`, which is compared with its schedule first
-pub record CompareStep (asked : TraceUse) (x : Plan × TraceView) (r : Result Prepared Status) : Type 0 where
-  -- its put gives the answer, and tells no probes
-  pub answer : IfOk r (λ p. answer_of_traced asked x ≡ answer_of p)
-  pub puttable : IfOk r IsPuttable
-  pub silent : IfOk r (λ p. tells_probes p ≡ false)
-  -- or the answer is refused, or memory ran out
-  pub refused : IfErr r (EndsWith (answer_of_traced asked x))
-  -- no load failed
-  pub loads : IfErr r (OfLoad (λ kind. ⊥))
-  -- what the status shows by itself
-  pub shown : IfErr r IsShown
-
--- the run that was planned
-abbrev pub planned : PlannedRun → Run
-planned r = record { plan = r.plan.now; demands = r.demands.now; ticks = r.ticks }
+-- the run of a plan with these demands
+abbrev pub run_for : Plan → DemandsView → ℕ → Run
+run_for p d ticks = record { plan = p; demands = d; ticks = ticks }

@@ -31,13 +31,14 @@ use Rattle.statuses.specs.declared.status.Denied.TheVariants as denied
 use Rattle.command_files.specs.Meanings.{tasks_at, machine_at, demands_at, server_at}
 use Rattle.rtdvs_top.specs.Trace.{trace_at, trace_answer}
 use Rattle.rtdvs_top.specs.Poll.{requests_at, poll_answer, polling_of, HasServed}
-use Rattle.rtdvs_top.specs.Run.{run_answer, HasMet, FileTold, text_under}
+use Rattle.rtdvs_top.specs.Asked.{Asked, with_files, without_files, refused_words}
+use Rattle.rtdvs_top.specs.Run.{run_answer, HasMet, TellsFileRun, text_under}
 use Rattle.command_files.specs.PlannedRuns.{prepared_of, run_with}
 use Rattle.rtdvs_top.specs.Admit.{admit_answer}
 use Rattle.command_files.specs.Admissions.{admission}
 use Rattle.rtdvs_top.specs.Generated.{workload_answer}
-use Rattle.rtdvs_top.specs.Response.{response_answer, MeansPlan, RespondsOrIsDenied, OfTest}
-use Rattle.rtdvs_top.specs.Constrain.{constrain_answer, OfConstrain}
+use Rattle.rtdvs_top.specs.Response.{response_answer, MeansPlan, RespondsOrIsDenied, ProvesResponses}
+use Rattle.rtdvs_top.specs.Constrain.{constrain_answer, ProvesDeadlines}
 use Rattle.rtdvs_top.specs.Least.{least_answer, least_text, IsLeastOn, AreTooMany}
 use Rattle.command_files.specs.Files.{files_for, files_of, passes, FailsFrom, loads_of, loads_needed, names_by}
 use Rattle.statuses.specs.Status.{OfLoad}
@@ -91,14 +92,14 @@ IsDenial p (denied.Rm i num cap) =
 IsDenial p why = ⊥
 
 -- what holds of a plan that is denied: its scheduler's test fails by these two numbers
-pub record DeniedPlan (p : Plan) (why : Denied) : Type 0 where
+pub record IsDeniedBy (p : Plan) (why : Denied) : Type 0 where
   pub numbers : admission p ≡ Err (status.NotAdmitted why)
   pub by : IsDenial p why
   pub fails : PassesTest p.scheduler p → ⊥
 
 -- there is a plan, and it is denied
 abbrev pub Denies : Result Plan Status → Denied → Type 0
-Denies plan why = (p : Plan) × (plan ≡ Ok p) × DeniedPlan p why
+Denies plan why = (p : Plan) × (plan ≡ Ok p) × IsDeniedBy p why
 
 -- an answer is written, whole or in part, only where its plan passes the test, and denied only where its plan fails it
 abbrev pub AdmitsOrDenies : Result Plan Status → Status → Type 0
@@ -109,12 +110,12 @@ AdmitsOrDenies plan s = ⊤
 
 -- What the answer of `run`, `admit`, `replay`, `migrate` or `poll` shows of its scheduler's test, where its files are
 -- known.
-abbrev pub OfAdmission : Option Files → Result CommandView WordFault → Status → Type 0
-OfAdmission (Some files) (Ok (run r)) s = AdmitsOrDenies (run_plan r files) s
-OfAdmission (Some files) (Ok (admit a)) s = AdmitsOrDenies (admit_plan a files) s
-OfAdmission (Some files) (Ok (traced r)) s = AdmitsOrDenies (traced_plan r files) s
-OfAdmission (Some files) (Ok (poll q)) s = AdmitsOrDenies (poll_plan q files) s
-OfAdmission files c s = ⊤
+abbrev pub AdmitsByTest : Asked → Status → Type 0
+AdmitsByTest (with_files files (run r)) s = AdmitsOrDenies (run_plan r files) s
+AdmitsByTest (with_files files (admit a)) s = AdmitsOrDenies (admit_plan a files) s
+AdmitsByTest (with_files files (traced r)) s = AdmitsOrDenies (traced_plan r files) s
+AdmitsByTest (with_files files (poll q)) s = AdmitsOrDenies (poll_plan q files) s
+AdmitsByTest a s = ⊤
 
 -- the answer of a command
 abbrev pub answer_of_command : CommandView → Files → Result (List ℕ) Status
@@ -127,15 +128,6 @@ answer_of_command (constrain r) files = constrain_answer r files
 answer_of_command (poll q) files = poll_answer q files
 answer_of_command (least l) files = least_answer l files
 
--- the command that the words are, or why they are refused
-abbrev pub asked : List (String Global) → Result CommandView WordFault
-asked words = command_of (map string_bytes words)
-
--- the known files that the answer to the words depends on: those of the command; refused words need none
-abbrev pub known_files : Option Files → Result CommandView WordFault → Option Files
-known_files held (Ok c) = files_for held c
-known_files held (Err why) = Some []
-
 -- The status is the answer's; or a load failed, and the shelf's count of faults rose; or a put failed, where the answer
 -- has a text, and the sink's count rose; or memory ran out.
 abbrev pub IsAnswer : Type 0 → Type 0 → Result (List ℕ) Status → Status → Type 0
@@ -146,44 +138,34 @@ IsAnswer loads_rose puts_rose answer status.Write = IsOk answer × puts_rose
 IsAnswer loads_rose puts_rose answer s = answer ≡ Err s
 
 -- where the files are known, the status is that of the command's answer, unless the outside or memory explains it
-abbrev pub Answers : Option Files → Result CommandView WordFault → Type 0 → Type 0 → Status → Type 0
-Answers None c loads_rose puts_rose s = ⊤
-Answers (Some files) (Err why) loads_rose puts_rose s = s ≡ status.Words why
-Answers (Some files) (Ok c) loads_rose puts_rose s = IsAnswer loads_rose puts_rose (answer_of_command c files) s
+abbrev pub Answers : Asked → Type 0 → Type 0 → Status → Type 0
+Answers (without_files c) loads_rose puts_rose s = ⊤
+Answers (refused_words why) loads_rose puts_rose s = s ≡ status.Words why
+Answers (with_files files c) loads_rose puts_rose s = IsAnswer loads_rose puts_rose (answer_of_command c files) s
 
 -- where the files are known, the answer's text was written whole; where they are not known, some text was
-abbrev pub Writes : Option Files → Result CommandView WordFault → SinkView → SinkView → Type 0
-Writes (Some files) (Ok c) old new = (text : List ℕ) × (answer_of_command c files ≡ Ok text) × Wrote old new text
-Writes None (Ok c) old new = (text : List ℕ) × Wrote old new text
-Writes files (Err why) old new = ⊤
+abbrev pub Writes : Asked → SinkView → SinkView → Type 0
+Writes (with_files files c) old new = (text : List ℕ) × (answer_of_command c files ≡ Ok text) × Wrote old new text
+Writes (without_files c) old new = (text : List ℕ) × Wrote old new text
+Writes (refused_words why) old new = ⊤
 
 -- where the files are known, a first part of the answer's text was written; where they are not known, one of some text
-abbrev pub WritesPart : Option Files → Result CommandView WordFault → SinkView → SinkView → Type 0
-WritesPart (Some files) (Ok c) old new =
+abbrev pub WritesPart : Asked → SinkView → SinkView → Type 0
+WritesPart (with_files files c) old new =
     (text : List ℕ) × (answer_of_command c files ≡ Ok text) × WroteSome old new text
-WritesPart None (Ok c) old new = (text : List ℕ) × WroteSome old new text
-WritesPart files (Err why) old new = ⊤
+WritesPart (without_files c) old new = (text : List ℕ) × WroteSome old new text
+WritesPart (refused_words why) old new = ⊤
 
 -- the files are known, and the sink is sure of the whole answer
-abbrev pub IsSureOf : Option Files → Result CommandView WordFault → SinkView → Type 0
-IsSureOf (Some files) (Ok c) sink = (text : List ℕ) → answer_of_command c files ≡ Ok text → length text ≤ sink.sure
-IsSureOf _ _ sink = ⊥
+abbrev pub IsSureOf : Asked → SinkView → Type 0
+IsSureOf (with_files files c) sink = (text : List ℕ) → answer_of_command c files ≡ Ok text → length text ≤ sink.sure
+IsSureOf a sink = ⊥
 
 -- A load that failed is of one of the command's files, by its place among them. Where the files are known, those before
 -- it were read; the machine of `poll` is loaded only after its server was found.
 abbrev pub LoadFailed : ShelfView → ShelfView → Result CommandView WordFault → Status → Type 0
 LoadFailed old new (Ok c) s = OfLoad (FailsFrom (passes (files_for old.held c) c) old new 1 (files_of c)) s
 LoadFailed old new (Err why) s = ⊤
-
--- the number of files that the words name
-abbrev pub loads_asked : Result CommandView WordFault → ℕ
-loads_asked (Ok c) = loads_of c
-loads_asked (Err why) = 0
-
--- the most loads that the answer to the words needs: those of the command; refused words need none
-abbrev pub loads_wanted : Option Files → Result CommandView WordFault → ℕ
-loads_wanted held (Ok c) = loads_needed held c
-loads_wanted held (Err why) = 0
 
 -- the files of a run mean these tasks, this machine and these demands
 pub record MeansRun (r : RunView) (files : Files) (tasks : List Task) (machine : Table) (demands : DemandsView) : Type 0 where
@@ -192,86 +174,87 @@ pub record MeansRun (r : RunView) (files : Files) (tasks : List Task) (machine :
   pub demands_are : demands_at tasks r.demands files ≡ Ok demands
 
 -- what holds of a run that is done: its text was written, and it has met all that an admitted plan meets
-pub record DoneRun (v : Version) (kind : GovernorKind) (r : Run) (old new : SinkView) : Type 0 where
+pub record IsDoneRun (v : Version) (kind : GovernorKind) (r : Run) (old new : SinkView) : Type 0 where
   pub text : Appends old.written new.written (text_under v kind r)
   pub run : HasMet v kind r
 
 -- The run, where its files are known, without a premise. A run that is done, or that is denied, is of the tasks, the
 -- machine and the demands that its files mean.
-abbrev pub OfRun : Option Files → Result CommandView WordFault → SinkView → SinkView → Status → Type 0
-OfRun (Some files) (Ok (run r)) old new status.Done =
+abbrev pub ProvesRun : Asked → SinkView → SinkView → Status → Type 0
+ProvesRun (with_files files (run r)) old new status.Done =
     (tasks : List Task) × (machine : Table) × (demands : DemandsView) × MeansRun r files tasks machine demands
     × (prepared_of r tasks files ≡ Ok (plan_of tasks machine r.scheduler, demands))
-    × DoneRun r.version r.governor (run_with r (plan_of tasks machine r.scheduler) demands) old new
-OfRun (Some files) (Ok (run r)) old new (status.NotAdmitted why) =
+    × IsDoneRun r.version r.governor (run_with r (plan_of tasks machine r.scheduler) demands) old new
+ProvesRun (with_files files (run r)) old new (status.NotAdmitted why) =
     (tasks : List Task) × (machine : Table) × (demands : DemandsView) × MeansRun r files tasks machine demands
-    × DeniedPlan (plan_of tasks machine r.scheduler) why
-OfRun files c old new s = ⊤
+    × IsDeniedBy (plan_of tasks machine r.scheduler) why
+ProvesRun a old new s = ⊤
 
 -- what an exact test proves, where the command is one
-abbrev pub OfTests : Option Files → Result CommandView WordFault → Status → Type 0
-OfTests files (Ok (response r)) s = OfTest files r s
-OfTests files (Ok (constrain r)) s = OfConstrain files r s
-OfTests files c s = ⊤
+abbrev pub ProvesTests : Asked → Status → Type 0
+ProvesTests (with_files files (response r)) s = ProvesResponses files r s
+ProvesTests (with_files files (constrain r)) s = ProvesDeadlines files r s
+ProvesTests a s = ⊤
 
 -- A `poll` run that is done, where its files are known, has served its requests in the one schedule of its server's
 -- plan: each exactly where its job is done, a later one never by an earlier job, and each by the deadline that its
 -- backlog bounds, if that lies within the run.
-abbrev pub OfPoll : Option Files → Result CommandView WordFault → Status → Type 0
-OfPoll (Some files) (Ok (poll q)) status.Done =
+abbrev pub ProvesPoll : Asked → Status → Type 0
+ProvesPoll (with_files files (poll q)) status.Done =
     (tasks : List Task) × (s : ServerView) × (tasks_at q.tasks files ≡ Ok tasks) × (polling_of q tasks files ≡ Ok s)
     × HasServed s q.governor q.ticks
-OfPoll files c s = ⊤
+ProvesPoll a s = ⊤
 
 -- a run of a plan is done and has met all that an admitted plan meets; or the plan is denied, and fails its test
 abbrev pub RunsOrIsDenied : Version → GovernorKind → Run → SinkView → SinkView → Status → Type 0
 RunsOrIsDenied v kind r old new s =
-    ((s ≡ status.Done) × DoneRun v kind r old new)
-    ⊎ ((why : Denied) × (s ≡ status.NotAdmitted why) × DeniedPlan r.plan why)
+    ((s ≡ status.Done) × IsDoneRun v kind r old new)
+    ⊎ ((why : Denied) × (s ≡ status.NotAdmitted why) × IsDeniedBy r.plan why)
 
 -- The headline. The files of a run are known and describe these tasks, this machine and these demands; the run releases
 -- no more jobs than the limit; no load and no put failed, and memory didn't run out. Then the plan of these tasks, this
 -- machine and the words' scheduler runs with these demands, or it is denied. Under the same premises the exact test
 -- under RM is done where all tasks of its files have responses, and else it denies them.
-abbrev pub Headline : Option Files → Result CommandView WordFault → Type 0 → SinkView → SinkView → Status → Type 0
-Headline (Some files) (Ok (run r)) loads_rose old new s =
+abbrev pub IsDoneOrDenied : Asked → Type 0 → SinkView → SinkView → Status → Type 0
+IsDoneOrDenied (with_files files (run r)) loads_rose old new s =
     (tasks : List Task) (machine : Table) (demands : DemandsView) → MeansRun r files tasks machine demands
     → released_jobs (plan_of tasks machine r.scheduler) r.ticks ≤ MOST_JOBS
     → (loads_rose → ⊥) → (Rose old.faults new.faults → ⊥) → s ≢ status.NoMemory
     → RunsOrIsDenied r.version r.governor (run_with r (plan_of tasks machine r.scheduler) demands) old new s
-Headline (Some files) (Ok (response r)) loads_rose old new s =
+IsDoneOrDenied (with_files files (response r)) loads_rose old new s =
     (tasks : List Task) (machine : Table) → MeansPlan r files tasks machine
     → (loads_rose → ⊥) → (Rose old.faults new.faults → ⊥) → s ≢ status.NoMemory
     → RespondsOrIsDenied (plan_of tasks machine Rm) s
-Headline files c loads_rose old new s = ⊤
+IsDoneOrDenied a loads_rose old new s = ⊤
 
 -- The answer of `least`, where its file is known, without a premise. One that is done has written the lines of the
 -- answer for the machine that its file means, which passes the check and is the minimum; one that is denied asks for
 -- more units than that machine does in the ticks.
-abbrev pub OfLeast : Option Files → Result CommandView WordFault → SinkView → SinkView → Status → Type 0
-OfLeast (Some files) (Ok (least l)) old new status.Done =
+abbrev pub ProvesLeast : Asked → SinkView → SinkView → Status → Type 0
+ProvesLeast (with_files files (least l)) old new status.Done =
     (m : Table) × (a : Least) × (machine_at l.machine files ≡ Ok m) × IsLeastOn m l a
     × Appends old.written new.written (least_text a)
-OfLeast (Some files) (Ok (least l)) old new (status.NotAdmitted why) =
+ProvesLeast (with_files files (least l)) old new (status.NotAdmitted why) =
     (m : Table) × (machine_at l.machine files ≡ Ok m) × AreTooMany m l why
-OfLeast files c old new s = ⊤
+ProvesLeast a old new s = ⊤
 
 -- the lines of a status are put to `notes`, or after a run that asked for probes and is done the lines of those that
 -- are left; whole or in part, with the names of the command's tasks
-abbrev pub Notes : Option Files → Result CommandView WordFault → List ProbeView → Status → SinkView → SinkView → Type 0
-Notes (Some files) (Ok c) ps s old new = NotedAs old new (noted_text (asks_probes c) (names_by c files) ps s)
-Notes files (Err why) ps s old new = NotedAs old new (status_text [] s)
-Notes None (Ok c) ps s old new =
+abbrev pub PutsNotes : Asked → List ProbeView → Status → SinkView → SinkView → Type 0
+PutsNotes (with_files files c) ps s old new = NotedAs old new (noted_text (asks_probes c) (names_by c files) ps s)
+PutsNotes (refused_words why) ps s old new = NotedAs old new (status_text [] s)
+PutsNotes (without_files c) ps s old new =
     (names : List (List ℕ)) × NotedAs old new (noted_text (asks_probes c) names ps s)
-
--- whether the words ask for probes
-abbrev pub probes_asked : Result CommandView WordFault → Bool
-probes_asked (Ok c) = asks_probes c
-probes_asked (Err why) = false
 
 -- The probes that the words ask for were told the notes of a run that is done. Of a run whose write failed they were told
 -- the notes of the lines before that write.
-abbrev pub Tells : Option Files → Result CommandView WordFault → SinkView → SinkView → List ProbeView → List ProbeView → Status → Type 0
-Tells files (Ok (run r)) old new before after status.Done = FileTold files r old new before after status.Done
-Tells files (Ok (run r)) old new before after status.Write = FileTold files r old new before after status.Write
-Tells files c old new before after s = ⊤
+abbrev pub TellsProbes : Asked → SinkView → SinkView → List ProbeView → List ProbeView → Status → Type 0
+TellsProbes (with_files files (run r)) old new before after status.Done =
+    TellsFileRun (Some files) r old new before after status.Done
+TellsProbes (with_files files (run r)) old new before after status.Write =
+    TellsFileRun (Some files) r old new before after status.Write
+TellsProbes (without_files (run r)) old new before after status.Done =
+    TellsFileRun None r old new before after status.Done
+TellsProbes (without_files (run r)) old new before after status.Write =
+    TellsFileRun None r old new before after status.Write
+TellsProbes a old new before after s = ⊤

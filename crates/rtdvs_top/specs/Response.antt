@@ -46,13 +46,13 @@ pub record MeansPlan (r : ResponseView) (files : Files) (tasks : List Task) (mac
 
 -- The exact test under RM, where its files are known, without a premise. A test that is done, or that denies the tasks,
 -- is of the tasks and the machine that its files mean.
-abbrev pub OfTest : Option Files → ResponseView → Status → Type 0
-OfTest (Some files) r status.Done =
+abbrev pub ProvesResponses : Files → ResponseView → Status → Type 0
+ProvesResponses files r status.Done =
     (tasks : List Task) × (machine : Table) × MeansPlan r files tasks machine × Responds (plan_of tasks machine Rm)
-OfTest (Some files) r (status.NotAdmitted why) =
+ProvesResponses files r (status.NotAdmitted why) =
     (tasks : List Task) × (machine : Table) × MeansPlan r files tasks machine
     × FailsToRespond (plan_of tasks machine Rm) why
-OfTest files r s = ⊤
+ProvesResponses files r s = ⊤
 
 -- all tasks of a plan have responses, and the test is done; or it denies the plan and gives the cause
 abbrev pub RespondsOrIsDenied : Plan → Status → Type 0

@@ -22,7 +22,7 @@ use Rattle.sched_model.specs.Schedule.{schedule, AlwaysMeets, HasSchedule, HasNo
 use Rattle.trace_laws.specs.DoneLines.{TellsDeadlines}
 use Rattle.statuses.specs.Steps.{Gives}
 use Rattle.command_files.specs.Meanings.{tasks_at}
-use Rattle.rtdvs_top.specs.ToldRuns.{IfAsked, RunTold}
+use Rattle.rtdvs_top.specs.ToldRuns.{IfAsked, TellsRun}
 use Rattle.command_files.specs.PlannedRuns.{prepared_of, run_with}
 
 -- the text, where the run doesn't release too many jobs
@@ -81,8 +81,8 @@ pub record HasMet (v : Version) (kind : GovernorKind) (r : Run) : Type 0 where
 
 -- a run of its file's tasks told probes the notes of the plan and the demands that were prepared, if the words ask for
 -- probes
-abbrev pub FileTold : Option Files → RunView → SinkView → SinkView → List ProbeView → List ProbeView → Status → Type 0
-FileTold files r old new before after s =
+abbrev pub TellsFileRun : Option Files → RunView → SinkView → SinkView → List ProbeView → List ProbeView → Status → Type 0
+TellsFileRun files r old new before after s =
     (tasks : List Task) × Gives files (tasks_at r.tasks) tasks
     × IfAsked r.probes ((p : Plan) × (d : DemandsView) × Gives files (prepared_of r tasks) (p, d)
-    × RunTold r.version r.governor (run_with r p d) old new before after s)
+    × TellsRun r.version r.governor (run_with r p d) old new before after s)

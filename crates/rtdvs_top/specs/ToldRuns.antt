@@ -18,11 +18,11 @@ notes_under kind r = run_notes r.plan kind (demands_of r.plan r.demands) r.ticks
 
 -- A run told probes the notes of its schedule. Where it is done they were told the notes, one by one. Where a write
 -- failed they were told those of the lines before the one that was put.
-abbrev pub RunTold : Version → GovernorKind → Run → SinkView → SinkView → List ProbeView → List ProbeView → Status → Type 0
-RunTold v kind r old new before after status.Done = after ≡ told_notes (notes_under kind r) before
-RunTold v kind r old new before after status.Write =
+abbrev pub TellsRun : Version → GovernorKind → Run → SinkView → SinkView → List ProbeView → List ProbeView → Status → Type 0
+TellsRun v kind r old new before after status.Done = after ≡ told_notes (notes_under kind r) before
+TellsRun v kind r old new before after status.Write =
     StoppedIn old new before after (run_lines v r.plan kind r.ticks (notes_under kind r))
-RunTold v kind r old new before after s = ⊤
+TellsRun v kind r old new before after s = ⊤
 
 -- X holds, where it is asked for
 abbrev pub IfAsked : Bool → Type 0 → Type 0

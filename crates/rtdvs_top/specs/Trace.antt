@@ -33,6 +33,7 @@ use Rattle.replay.specs.declared.fault.ReplayFault.TheVariants as replay_fault
 use Rattle.words.specs.declared.command.TraceUse.{TraceUse}
 use Rattle.words.specs.declared.command.TraceUse.TheVariants.{Replay, Migrate}
 use Rattle.statuses.specs.declared.status.FileKind.TheVariants as file
+use Rattle.rtdvs_top.specs.Asked.{Asked, with_files}
 use Rattle.command_files.specs.Meanings.{tasks_at, machine_at, bytes_at}
 use Rattle.command_files.specs.Admissions.{admission}
 use Rattle.statuses.specs.Refused.{or_status, trace_status}
@@ -77,12 +78,12 @@ IsDoneUnless loads_rose puts_rose s = ⊥
 -- A replay or a migration is done, where the files are known, exactly where the trace file is the text, in either
 -- version, of a schedule for some demand list: one that is done shows the list, which the text fixes, and each such
 -- file is done, unless a load, a put or memory failed.
-abbrev pub OfTrace : Option Files → Result CommandView WordFault → Type 0 → Type 0 → Status → Type 0
-OfTrace (Some files) (Ok (traced r)) loads_rose puts_rose s =
+abbrev pub AcceptsScheduleTexts : Asked → Type 0 → Type 0 → Status → Type 0
+AcceptsScheduleTexts (with_files files (traced r)) loads_rose puts_rose s =
     (s ≡ status.Done → (p : Plan) × (t : TraceView) × TellsOwn r files p t)
     × ((v : Version) (p : Plan) (g : GovernorKind) (ticks : ℕ) (rows : List DemandRow) (bytes : List ℕ)
     → AreFilesOf r files p bytes → IsScheduleText v p g ticks rows bytes → IsDoneUnless loads_rose puts_rose s)
-OfTrace files c loads_rose puts_rose s = ⊤
+AcceptsScheduleTexts a loads_rose puts_rose s = ⊤
 
 -- the names of tasks
 abbrev pub task_names : List Task → List (List ℕ)

@@ -1,21 +1,46 @@
-// The answer to a command: what it prepares, and its put.
-ghost use Rattle.std.specs.Prelude.{map};
+// The answer to a command: its tasks are read, it prepares the rest, and that is put.
+ghost use Rattle.std.specs.Prelude.{◌≡◌, map};
 ghost use Rattle.words.specs.Commands.{IsReadyCommand, asks_probes};
 ghost use Rattle.words.specs.Shown.{shown_command};
 ghost use Rattle.statuses.specs.Status.{Leaves, LeavesProbes};
-ghost use Rattle.rtdvs_top.specs.Prepared.{IsAnswered, seen};
+ghost use Rattle.rtdvs_top.specs.Prepared.{IsAnswered, IsTasksStep, seen, status_of_put};
 
 use crate::Status;
 use crate::prepare::prepare;
 use crate::put::put;
+use command_files::load_tasks;
 use dvs_base::{Shelf, Sink};
 use probes::Probe;
 use std::alloc::Global;
 use task_model::TaskSet;
 use words::command::Command;
 
+// The tasks of a command, where it names a file of them.
+fn load_its_tasks<S: Shelf>(
+    alloc: Global,
+    command: &Command<'_>,
+    shelf: &mut S,
+) -> Result<Option<TaskSet>, Status>
+    ensures { IsTasksStep (S.shows shelf.old) (S.shows shelf.new) (shown_command command.now) result }
+{
+    match command.tasks() {
+        Some(name) => Ok(Some(load_tasks(alloc, name, shelf)?)),
+        None => Ok(None),
+    }
+}
+
+// The status of a put.
+fn status_of_put(wrote: Result<(), Status>) -> Status
+    ensures { result ≡ status_of_put wrote }
+{
+    match wrote {
+        Ok(()) => Status::Done,
+        Err(status) => status,
+    }
+}
+
 /// Answers a command: its status, and its tasks where they were read. Where the command is refused nothing is put.
-pub(crate) fn answer<S: Shelf, W: Sink, P: Probe>(
+pub(crate) fn answer_command<S: Shelf, W: Sink, P: Probe>(
     alloc: Global,
     command: &Command<'_>,
     shelf: &mut S,
@@ -29,9 +54,12 @@ pub(crate) fn answer<S: Shelf, W: Sink, P: Probe>(
     ensures leaves { Leaves result.0 out.old out.new }
     ensures kept { LeavesProbes (asks_probes (shown_command command.now)) result.0 probes.old probes.new }
 {
-    let (step, tasks) = prepare(alloc, command, shelf);
-    match step {
-        Ok(prepared) => (put(alloc, prepared, out, probes), tasks),
+    let tasks = match load_its_tasks(alloc, command, shelf) {
+        Ok(tasks) => tasks,
+        Err(status) => return (status, None),
+    };
+    match prepare(alloc, command, tasks.as_ref(), shelf) {
+        Ok(prepared) => (status_of_put(put(alloc, prepared, out, probes)), tasks),
         Err(status) => (status, tasks),
     }
 }

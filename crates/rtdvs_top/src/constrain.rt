@@ -1,4 +1,8 @@
 // The answer of `constrain`, the test of deadlines below the periods.
+ghost use Rattle.statuses.specs.Steps.{Gives};
+ghost use Rattle.command_files.specs.Meanings.{tasks_at};
+ghost use Rattle.std.specs.Prelude.{Some};
+ghost use Rattle.command_files.specs.Loads.{IsLoadStep};
 ghost use Rattle.std.specs.Prelude.{◌≡◌, ◌<◌, length, slice_index, IfOk, OnOk, IfErr};
 ghost use Rattle.dvs_base.specs.declared.kind.Scheduler.TheVariants.{Edf};
 ghost use Rattle.sched_model.specs.Plan.{plan_of};
@@ -6,14 +10,14 @@ ghost use Rattle.deadline_list.specs.Deadlines.{AreFor};
 ghost use Rattle.words.specs.Commands.{constrain as constrain_of};
 ghost use Rattle.words.specs.Shown.{shown_constrain};
 ghost use Rattle.statuses.specs.Status.{IsOfFile};
-ghost use Rattle.statuses.specs.Steps.{TestStep};
-ghost use Rattle.rtdvs_top.specs.Constrain.{deadlines_at, constrained_text, constrain_with, constrain_after_tasks, KeepsDeadlines, IsKept};
-ghost use Rattle.command_files.specs.Loads.{one_file, later_files};
-ghost use Rattle.rtdvs_top.specs.Prepared.{RefusesBy, LoadStepWith, PrepareStep};
+ghost use Rattle.statuses.specs.Steps.{IsTestStep};
+ghost use Rattle.rtdvs_top.specs.Constrain.{deadlines_at, constrained_text, constrain_with, KeepsDeadlines};
+ghost use Rattle.command_files.specs.Loads.{one_file};
+ghost use Rattle.rtdvs_top.specs.Prepared.{RefusesBy, IsPrepareStep};
 
 use crate::prepared::Prepared;
 use crate::{Denied, FileKind, Status};
-use command_files::{load_file, load_machine, load_tasks};
+use command_files::{load_file, load_machine};
 use dvs_base::{Line, Part, Shelf, line_of};
 use edf_demand::{ConstrainFault, Constrained, Deadlines, constrain};
 use freq_table::Machine;
@@ -28,8 +32,10 @@ fn load_deadlines<S: Shelf>(
     tasks: &TaskSet,
     shelf: &mut S,
 ) -> Result<Deadlines, Status>
-    ensures { LoadStepWith (one_file FileKind.Deadlines name.now (deadlines_at tasks.now name.now))
-        (S.shows shelf.old) (S.shows shelf.new) result (λ v. v) (AreFor tasks.now) IsOfFile }
+    ensures step { IsLoadStep (one_file FileKind.Deadlines name.now (deadlines_at tasks.now name.now))
+        (S.shows shelf.old) (S.shows shelf.new) result (λ v. v) }
+    ensures each { IfOk result (AreFor tasks.now) }
+    ensures of_file { IfErr result IsOfFile }
 {
     let bytes = load_file(alloc, FileKind::Deadlines, name, shelf)?;
     Ok(Deadlines::read(alloc, &bytes, tasks)?)
@@ -59,7 +65,7 @@ fn lowest_line(
     machine: &Machine,
 ) -> Result<Line, Status>
     requires { AreFor tasks.now deadlines.now }
-    ensures step { TestStep (constrain_with tasks.now machine.now deadlines.now) result (λ l. l) }
+    ensures step { IsTestStep (constrain_with tasks.now machine.now deadlines.now) result (λ l. l) }
     ensures some { IfOk result (λ l. 0 < length l) }
     ensures proves { OnOk result (KeepsDeadlines (plan_of tasks.now machine.now Edf) (slice_index deadlines.now)) }
     ensures fails { IfErr result (RefusesBy (plan_of tasks.now machine.now Edf) (slice_index deadlines.now)) }
@@ -78,39 +84,18 @@ fn lowest_line(
     }
 }
 
-// The line of the answer of `constrain`, after its tasks were read.
-fn load_constrained<S: Shelf>(
+/// What `constrain` prepares, after its tasks were read.
+pub(crate) fn prepare_constrain<'a, S: Shelf>(
     alloc: Global,
     words: &ConstrainWords<'_>,
-    tasks: &TaskSet,
+    tasks: &'a TaskSet,
     shelf: &mut S,
-) -> Result<Line, Status>
-    ensures { LoadStepWith (later_files (S.shows shelf.old).held (constrain_of (shown_constrain words.now))
-        (constrain_after_tasks (shown_constrain words.now) tasks.now))
-        (S.shows shelf.old) (S.shows shelf.new) result (λ l. l)
-        (λ l. (0 < length l) × IsKept (S.shows shelf.old).held (shown_constrain words.now) tasks.now Status.Done)
-        (IsKept (S.shows shelf.old).held (shown_constrain words.now) tasks.now) }
+) -> Result<Prepared<'a>, Status>
+    requires { Gives (S.shows shelf.old).held (tasks_at words.now.tasks.now) tasks.now }
+    ensures { IsPrepareStep (S.shows shelf.old) (S.shows shelf.new) (constrain_of (shown_constrain words.now)) (Some tasks.now)
+        result }
 {
     let machine = load_machine(alloc, words.machine, shelf)?;
     let deadlines = load_deadlines(alloc, words.deadlines, tasks, shelf)?;
-    lowest_line(alloc, tasks, &deadlines, &machine)
-}
-
-/// What `constrain` prepares, and the tasks where they were read.
-pub(crate) fn prepare_constrain<S: Shelf>(
-    alloc: Global,
-    words: &ConstrainWords<'_>,
-    shelf: &mut S,
-) -> (Result<Prepared, Status>, Option<TaskSet>)
-    ensures { PrepareStep (S.shows shelf.old) (S.shows shelf.new) (constrain_of (shown_constrain words.now))
-        result.1 result.0 }
-{
-    let tasks = match load_tasks(alloc, words.tasks, shelf) {
-        Ok(tasks) => tasks,
-        Err(status) => return (Err(status), None),
-    };
-    match load_constrained(alloc, words, &tasks, shelf) {
-        Ok(line) => (Ok(Prepared::Line(line)), Some(tasks)),
-        Err(status) => (Err(status), Some(tasks)),
-    }
+    Ok(Prepared::Line(lowest_line(alloc, tasks, &deadlines, &machine)?))
 }

@@ -5,7 +5,7 @@ ghost use Rattle.sched_model.specs.Totals.{totals_of};
 ghost use Rattle.sched_model.specs.Jobs.{released_jobs};
 ghost use Rattle.dvs_base.specs.declared.limits.TheConstants.{MOST_JOBS};
 ghost use Rattle.event_kernel.specs.Runs.{IsListOf, notes_of_run};
-ghost use Rattle.rtdvs_top.specs.Prepared.{planned, IsSmall, IsPrepared};
+ghost use Rattle.rtdvs_top.specs.Prepared.{run_for, IsSmall, IsPrepared};
 ghost use Rattle.command_files.specs.PlannedRuns.{IsRunnable};
 ghost use Rattle.rtdvs_top.specs.Generated.{workload_plan, workload_demands, run_totals, edf_totals, workload_totals, head_text, totals_text, edf_text, workload_text};
 ghost use Rattle.words.specs.Commands.{workload as workload_of};
@@ -17,7 +17,7 @@ use crate::prepared::{EdfTotals, Prepared, Workload};
 use demand_list::Demands;
 use dvs_base::{
     Failed, GovernorKind, Line, Name, NoMemory, Note, Part, Scheduler, Sink, Totals, VoidSink,
-    line_of, put_line, put_two,
+    line_of, put_line,
 };
 use edf_admit::{EdfFault, edf_admit};
 use event_kernel::{Kernel, KernelFault, Listener, Stopped};
@@ -80,76 +80,60 @@ fn drive_away<G: Governor>(kernel: Kernel<'_, G>, names: &[Name]) -> Totals
     told.unwrap()
 }
 
-// What is run: an admitted plan, the demands of its jobs, and a number of ticks.
-#[derive(Clone, Copy)]
-struct PlannedRun<'a> {
-    plan: &'a Admitted,
-    demands: &'a Demands,
-    ticks: u64,
-}
-
-// The totals of a run under a governor that stands for the opening of its plan.
+// The totals of a run of `ticks` ticks under a governor that stands for the opening of its plan.
 fn totals_from_opening<G: Governor>(
     alloc: Global,
-    run: &PlannedRun<'_>,
+    plan: &Admitted,
+    demands: &Demands,
     governor: G,
+    ticks: u64,
 ) -> Result<Totals, NoMemory>
-    requires run { IsRunnable (planned run.now) }
-    requires stands { G.stands governor run.now.plan.now (opening run.now.plan.now) }
-    requires few { released_jobs run.now.plan.now run.now.ticks ≤ MOST_JOBS }
-    ensures { IfOk result (λ t. t ≡ totals_of (notes_of_run G.demand (planned run.now))) }
+    requires run { IsRunnable (run_for plan.now demands.now ticks) }
+    requires stands { G.stands governor plan.now (opening plan.now) }
+    requires few { released_jobs plan.now ticks ≤ MOST_JOBS }
+    ensures { IfOk result (λ t. t ≡ totals_of (notes_of_run G.demand (run_for plan.now demands.now ticks))) }
 {
-    match Kernel::new(alloc, run.plan, run.demands, governor, run.ticks) {
-        Ok(kernel) => Ok(drive_away(kernel, run.plan.names())),
+    match Kernel::new(alloc, plan, demands, governor, ticks) {
+        Ok(kernel) => Ok(drive_away(kernel, plan.names())),
         Err(KernelFault::TooManyJobs { .. }) => unreachable!(),
         Err(KernelFault::NoMemory) => Err(NoMemory),
     }
 }
 
-// The totals of a run under governor `G`.
-fn governed_totals<G: Publishing>(alloc: Global, run: &PlannedRun<'_>) -> Result<Totals, NoMemory>
-    requires run { IsRunnable (planned run.now) }
-    requires serves { G.serves run.now.plan.now.scheduler }
-    requires few { released_jobs run.now.plan.now run.now.ticks ≤ MOST_JOBS }
-    ensures { IfOk result (λ t. t ≡ run_totals run.now.plan.now run.now.demands.now run.now.ticks G.the_kind) }
+// The totals of a run of `ticks` ticks under governor `G`.
+fn governed_totals<G: Publishing>(
+    alloc: Global,
+    plan: &Admitted,
+    demands: &Demands,
+    ticks: u64,
+) -> Result<Totals, NoMemory>
+    requires run { IsRunnable (run_for plan.now demands.now ticks) }
+    requires serves { G.serves plan.now.scheduler }
+    requires few { released_jobs plan.now ticks ≤ MOST_JOBS }
+    ensures { IfOk result (λ t. t ≡ run_totals plan.now demands.now ticks G.the_kind) }
 {
-    let _worsts = run.demands.worsts();
-    let _admitted = run.plan.scheduler();
-    let governor = G::made(alloc, run.plan)?;
-    totals_from_opening(alloc, run, governor)
+    let _worsts = demands.worsts();
+    let _admitted = plan.scheduler();
+    let governor = G::made(alloc, plan)?;
+    totals_from_opening(alloc, plan, demands, governor, ticks)
 }
 
-// The totals of a plan's runs under EDF. It fails only where memory runs out.
-fn edf_totals(alloc: Global, run: &PlannedRun<'_>) -> Result<EdfTotals, NoMemory>
-    requires run { IsRunnable (planned run.now) }
-    requires edf { run.now.plan.now.scheduler ≡ Scheduler.Edf }
-    requires few { released_jobs run.now.plan.now run.now.ticks ≤ MOST_JOBS }
-    ensures { IfOk result (λ t. t ≡ edf_totals run.now.plan.now run.now.demands.now run.now.ticks) }
+/// The totals of the runs of a workload under each governor that serves EDF. It fails only where memory runs out.
+pub(crate) fn made_totals(alloc: Global, made: Workload) -> Result<EdfTotals, NoMemory>
+    requires { IsSmall made }
+    ensures { IfOk result (λ t. t ≡ workload_totals made.seed made.tasks made.ticks) }
 {
-    let full = governed_totals::<Full>(alloc, run)?;
-    let fixed = governed_totals::<Static>(alloc, run)?;
-    let cycle = governed_totals::<CcEdf>(alloc, run)?;
-    let ahead = governed_totals::<LookAhead>(alloc, run)?;
+    let (plan, demands) = made_plan(alloc, made)?;
+    let full = governed_totals::<Full>(alloc, &plan, &demands, made.ticks)?;
+    let fixed = governed_totals::<Static>(alloc, &plan, &demands, made.ticks)?;
+    let cycle = governed_totals::<CcEdf>(alloc, &plan, &demands, made.ticks)?;
+    let ahead = governed_totals::<LookAhead>(alloc, &plan, &demands, made.ticks)?;
     Ok(EdfTotals {
         full,
         fixed,
         cycle,
         ahead,
     })
-}
-
-/// The totals of the runs of a workload. It fails only where memory runs out.
-pub(crate) fn made_totals(alloc: Global, made: Workload) -> Result<EdfTotals, NoMemory>
-    requires { IsSmall made }
-    ensures { IfOk result (λ t. t ≡ workload_totals made.seed made.tasks made.ticks) }
-{
-    let (plan, demands) = made_plan(alloc, made)?;
-    let run = PlannedRun {
-        plan: &plan,
-        demands: &demands,
-        ticks: made.ticks,
-    };
-    edf_totals(alloc, &run)
 }
 
 // The number of tasks of a generated workload.
@@ -195,42 +179,7 @@ fn totals_line(governor: GovernorKind, totals: Totals) -> Line
     ])
 }
 
-// Puts the lines of two governors.
-fn put_governors<W: Sink>(
-    first: (GovernorKind, Totals),
-    second: (GovernorKind, Totals),
-    out: &mut W,
-) -> Result<(), Failed>
-    ensures { WritesText (W.shows out.old) (W.shows out.new)
-        (totals_text first.0 first.1 ++ totals_text second.0 second.1) result }
-{
-    let first = totals_line(first.0, first.1);
-    let second = totals_line(second.0, second.1);
-    put_two(&first, &second, out)
-}
-
-// Puts the lines of all governors.
-fn put_totals<W: Sink>(totals: &EdfTotals, out: &mut W) -> Result<(), Failed>
-    ensures { WritesText (W.shows out.old) (W.shows out.new) (edf_text totals.now) result }
-{
-    let plain = (GovernorKind::Plain, totals.full);
-    let fixed = (GovernorKind::Fixed, totals.fixed);
-    put_governors(plain, fixed, out)?;
-    let cycle = (GovernorKind::Cycle, totals.cycle);
-    let ahead = (GovernorKind::Ahead, totals.ahead);
-    put_governors(cycle, ahead, out)
-}
-
-// Puts the first line, and then the lines of all governors.
-fn put_all<W: Sink>(head: &Line, totals: &EdfTotals, out: &mut W) -> Result<(), Failed>
-    requires { 0 < length head.now }
-    ensures { WritesText (W.shows out.old) (W.shows out.new) (head.now ++ edf_text totals.now) result }
-{
-    put_line(head, out)?;
-    put_totals(totals, out)
-}
-
-/// Puts the lines of a workload whose runs have these totals.
+/// Puts the lines of a workload whose runs have these totals: the first line, and one for each governor.
 pub(crate) fn put_made<W: Sink>(
     made: Workload,
     totals: &EdfTotals,
@@ -239,12 +188,15 @@ pub(crate) fn put_made<W: Sink>(
     requires { totals.now ≡ workload_totals made.seed made.tasks made.ticks }
     ensures { WritesText (W.shows out.old) (W.shows out.new) (workload_text made.seed made.tasks made.ticks) result }
 {
-    let head = head_line(made);
-    put_all(&head, totals, out)
+    put_line(&head_line(made), out)?;
+    put_line(&totals_line(GovernorKind::Plain, totals.full), out)?;
+    put_line(&totals_line(GovernorKind::Fixed, totals.fixed), out)?;
+    put_line(&totals_line(GovernorKind::Cycle, totals.cycle), out)?;
+    put_line(&totals_line(GovernorKind::Ahead, totals.ahead), out)
 }
 
 /// What `workload` prepares: a generated workload, and the totals of its runs under each governor that serves EDF.
-pub(crate) fn prepare_workload(alloc: Global, seed: u64) -> Result<Prepared, Status>
+pub(crate) fn prepare_workload<'a>(alloc: Global, seed: u64) -> Result<Prepared<'a>, Status>
     ensures prepared { IfOk result (IsPrepared (Some []) (workload_of seed) None) }
     ensures refused { IfErr result (λ s. s ≡ Status.NoMemory) }
 {

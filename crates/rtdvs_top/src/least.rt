@@ -3,9 +3,9 @@ ghost use Rattle.std.specs.Prelude.{◌≡◌, ◌<◌, ◌≤◌, length, IfOk,
 ghost use Rattle.dvs_base.specs.WritesText.{WritesText};
 ghost use Rattle.words.specs.Commands.{HasReadyTicks, least as least_of};
 ghost use Rattle.words.specs.Shown.{shown_least};
-ghost use Rattle.statuses.specs.Steps.{TestStep};
+ghost use Rattle.statuses.specs.Steps.{IsTestStep};
 ghost use Rattle.rtdvs_top.specs.Least.{corners_text, sign_word, prices_text, least_text, least_on, IsLeastOn};
-ghost use Rattle.rtdvs_top.specs.Prepared.{PrepareStep};
+ghost use Rattle.rtdvs_top.specs.Prepared.{IsPrepareStep};
 
 use crate::prepared::Prepared;
 use crate::{Denied, Status};
@@ -74,23 +74,21 @@ pub(crate) fn put_least<W: Sink>(least: &Least, out: &mut W) -> Result<(), Faile
 // The answer of `least` on a machine.
 fn bound_energy(words: &LeastWords<'_>, machine: &Machine) -> Result<Least, Status>
     requires { HasReadyTicks (shown_least words.now) }
-    ensures step { TestStep (least_on (shown_least words.now) machine.now) result (λ a. least_text a) }
+    ensures step { IsTestStep (least_on (shown_least words.now) machine.now) result (λ a. least_text a) }
     ensures least { IfOk result (IsLeastOn machine.now (shown_least words.now)) }
 {
-    match least_energy(machine, words.units, words.ticks) {
-        Ok(least) => Ok(least),
-        Err(Over { num, cap }) => Err(Status::NotAdmitted(Denied::Units { num, cap })),
-    }
+    least_energy(machine, words.units, words.ticks)
+        .map_err(|Over { num, cap }| Status::NotAdmitted(Denied::Units { num, cap }))
 }
 
 /// What `least` prepares; its one file is the machine's.
-pub(crate) fn prepare_least<S: Shelf>(
+pub(crate) fn prepare_least<'a, S: Shelf>(
     alloc: Global,
     words: &LeastWords<'_>,
     shelf: &mut S,
-) -> Result<Prepared, Status>
+) -> Result<Prepared<'a>, Status>
     requires { HasReadyTicks (shown_least words.now) }
-    ensures { PrepareStep (S.shows shelf.old) (S.shows shelf.new) (least_of (shown_least words.now)) None result }
+    ensures { IsPrepareStep (S.shows shelf.old) (S.shows shelf.new) (least_of (shown_least words.now)) None result }
 {
     let machine = load_machine(alloc, words.machine, shelf)?;
     let least = bound_energy(words, &machine)?;

@@ -1,20 +1,23 @@
 // The server of a `poll` run: its files loaded, its run, and its lines.
-ghost use Rattle.std.specs.Prelude.{◌≡◌, ◌<◌, ⊤, Ok, IfOk, length, if◌then◌else◌};
+ghost use Rattle.statuses.specs.Steps.{Gives};
+ghost use Rattle.command_files.specs.Meanings.{tasks_at};
+ghost use Rattle.std.specs.Prelude.{Some};
+ghost use Rattle.std.specs.Prelude.{◌≡◌, ◌<◌, Ok, IfOk, length, if◌then◌else◌};
 ghost use Rattle.dvs_base.specs.WritesText.{WritesText};
 ghost use Rattle.sched_model.specs.Plan.{count};
 ghost use Rattle.poll_server.specs.ServerJobs.{request_count};
 ghost use Rattle.words.specs.Commands.{poll as poll_of, IsReadyCommand};
 ghost use Rattle.words.specs.Shown.{shown_poll};
-ghost use Rattle.statuses.specs.Steps.{TestStep};
-ghost use Rattle.command_files.specs.Loads.{LoadStep, one_file, later_files};
-ghost use Rattle.rtdvs_top.specs.Poll.{requests_at, polling_at, polling_served, answer_of_polling, HasServed, outcome_text, request_lines, is_served, served_among, polled_line, polled_text};
+ghost use Rattle.statuses.specs.Steps.{IsTestStep};
+ghost use Rattle.command_files.specs.Loads.{IsLoadStep, one_file, later_files};
+ghost use Rattle.rtdvs_top.specs.Poll.{requests_at, polling_at, poll_status, polling_served, answer_of_polling, HasServed, outcome_text, request_lines, is_served, served_among, polled_line, polled_text};
 ghost use Rattle.command_files.specs.Meanings.{server_at};
-ghost use Rattle.rtdvs_top.specs.Prepared.{IsPollable, LoadStepWith, PrepareStep};
+ghost use Rattle.rtdvs_top.specs.Prepared.{IsPollable, IsPrepareStep};
 
 use crate::at_pair::at_pair;
 use crate::prepared::{Polling, Prepared};
 use crate::{FileKind, Status, TextFault};
-use command_files::{admit, load_file, load_machine, load_tasks};
+use command_files::{admit, load_file, load_machine};
 use dvs_base::{Failed, GovernorKind, Line, Part, Shelf, Short, Sink, Totals, line_of, put_line};
 use governor::Publishing;
 use poll_server::{Outcome, PollFault, Served, poll};
@@ -26,7 +29,7 @@ use words::command::PollWords;
 
 // The place of the task of this name in the file, from 0.
 fn find_server(name: &str, tasks: &TaskSet) -> Result<u32, Status>
-    ensures { TestStep (server_at name.now tasks.now) result (λ i. i) }
+    ensures { IsTestStep (server_at name.now tasks.now) result (λ i. i) }
 {
     match tasks.find(name.as_bytes()) {
         Some(server) => Ok(server),
@@ -38,7 +41,7 @@ fn find_server(name: &str, tasks: &TaskSet) -> Result<u32, Status>
 
 // The requests of a file.
 fn load_requests<S: Shelf>(alloc: Global, name: &str, shelf: &mut S) -> Result<Requests, Status>
-    ensures { LoadStep (one_file FileKind.Requests name.now (requests_at name.now))
+    ensures { IsLoadStep (one_file FileKind.Requests name.now (requests_at name.now))
         (S.shows shelf.old) (S.shows shelf.new) result (λ v. v) }
 {
     let bytes = load_file(alloc, FileKind::Requests, name, shelf)?;
@@ -54,9 +57,10 @@ fn load_polling<S: Shelf>(
     shelf: &mut S,
 ) -> Result<Polling, Status>
     requires { server_at words.now.server.now tasks.now ≡ Ok server }
-    ensures { LoadStepWith (later_files (S.shows shelf.old).held (poll_of (shown_poll words.now))
-        (polling_at (shown_poll words.now) server tasks.now)) (S.shows shelf.old) (S.shows shelf.new) result (λ s. s)
-        (λ s. (s.task < count s.plan) × (s.plan.scheduler ≡ words.now.scheduler)) (λ s. ⊤) }
+    ensures step { IsLoadStep (later_files (S.shows shelf.old).held (poll_of (shown_poll words.now))
+        (polling_at (shown_poll words.now) server tasks.now)) (S.shows shelf.old) (S.shows shelf.new) result (λ s. s) }
+    ensures server { IfOk result (λ s. s.task < count s.plan) }
+    ensures scheduler { IfOk result (λ s. s.plan.scheduler ≡ words.now.scheduler) }
 {
     let machine = load_machine(alloc, words.machine, shelf)?;
     let requests = load_requests(alloc, words.requests, shelf)?;
@@ -68,6 +72,16 @@ fn load_polling<S: Shelf>(
     })
 }
 
+// A refusal of a `poll` run as a status.
+fn poll_status(why: PollFault) -> Status
+    ensures { result ≡ poll_status why }
+{
+    match why {
+        PollFault::TooManyJobs { count } => Status::Limit { jobs: count },
+        PollFault::NoMemory => Status::NoMemory,
+    }
+}
+
 // The outcomes of the requests and the totals of a `poll` run under governor `G`.
 fn serve_governed<G: Publishing>(
     alloc: Global,
@@ -76,24 +90,21 @@ fn serve_governed<G: Publishing>(
 ) -> Result<Served, Status>
     requires polling { IsPollable polling.now G.the_kind ticks }
     requires serves { G.serves polling.now.plan.scheduler }
-    ensures step { TestStep (answer_of_polling G.the_kind ticks polling.now) result (polled_text polling.now) }
+    ensures step { IsTestStep (answer_of_polling G.the_kind ticks polling.now) result (polled_text polling.now) }
     ensures served { IfOk result (λ r. r ≡ polling_served G.the_kind polling.now ticks) }
     ensures kept { IfOk result (λ r. HasServed polling.now G.the_kind ticks) }
 {
     let _admitted = polling.plan.scheduler();
     let governor = G::made(alloc, &polling.plan)?;
-    match poll(
+    poll(
         alloc,
         &polling.plan,
         polling.server,
         &polling.requests,
         governor,
         ticks,
-    ) {
-        Ok(served) => Ok(served),
-        Err(PollFault::TooManyJobs { count }) => Err(Status::Limit { jobs: count }),
-        Err(PollFault::NoMemory) => Err(Status::NoMemory),
-    }
+    )
+    .map_err(poll_status)
 }
 
 /// The outcomes of the requests and the totals of a `poll` run under the governor of its pair.
@@ -104,7 +115,7 @@ pub(crate) fn serve_pair(
     ticks: u64,
 ) -> Result<Served, Status>
     requires { IsPollable polling.now governor ticks }
-    ensures step { TestStep (answer_of_polling governor ticks polling.now) result (polled_text polling.now) }
+    ensures step { IsTestStep (answer_of_polling governor ticks polling.now) result (polled_text polling.now) }
     ensures served { IfOk result (λ r. r ≡ polling_served governor polling.now ticks) }
     ensures kept { IfOk result (λ r. HasServed polling.now governor ticks) }
 {
@@ -211,29 +222,20 @@ pub(crate) fn put_polled<W: Sink>(
     put_line(&last_line(count, served.totals()), out)
 }
 
-/// What `poll` prepares, and the tasks where they were read.
-pub(crate) fn prepare_poll<S: Shelf>(
+/// What `poll` prepares, after its tasks were read.
+pub(crate) fn prepare_poll<'a, S: Shelf>(
     alloc: Global,
     words: &PollWords<'_>,
+    tasks: &'a TaskSet,
     shelf: &mut S,
-) -> (Result<Prepared, Status>, Option<TaskSet>)
-    requires { IsReadyCommand (poll_of (shown_poll words.now)) }
-    ensures { PrepareStep (S.shows shelf.old) (S.shows shelf.new) (poll_of (shown_poll words.now)) result.1 result.0 }
+) -> Result<Prepared<'a>, Status>
+    requires ready { IsReadyCommand (poll_of (shown_poll words.now)) }
+    requires tasks { Gives (S.shows shelf.old).held (tasks_at words.now.tasks.now) tasks.now }
+    ensures { IsPrepareStep (S.shows shelf.old) (S.shows shelf.new) (poll_of (shown_poll words.now)) (Some tasks.now)
+        result }
 {
-    let tasks = match load_tasks(alloc, words.tasks, shelf) {
-        Ok(tasks) => tasks,
-        Err(status) => return (Err(status), None),
-    };
-    let server = match find_server(words.server, &tasks) {
-        Ok(server) => server,
-        Err(status) => return (Err(status), Some(tasks)),
-    };
-    let polling = match load_polling(alloc, words, server, &tasks, shelf) {
-        Ok(polling) => polling,
-        Err(status) => return (Err(status), Some(tasks)),
-    };
-    match serve_pair(alloc, &polling, words.governor, words.ticks) {
-        Ok(served) => (Ok(Prepared::Polled(polling, served)), Some(tasks)),
-        Err(status) => (Err(status), Some(tasks)),
-    }
+    let server = find_server(words.server, tasks)?;
+    let polling = load_polling(alloc, words, server, tasks, shelf)?;
+    let served = serve_pair(alloc, &polling, words.governor, words.ticks)?;
+    Ok(Prepared::Polled(polling, served))
 }

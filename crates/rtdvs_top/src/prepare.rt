@@ -1,7 +1,8 @@
 // What a command prepares: its files loaded and read, its tests made.
-ghost use Rattle.words.specs.Commands.{IsReadyCommand};
+ghost use Rattle.std.specs.Option.{option_copied};
+ghost use Rattle.words.specs.Commands.{IsReadyCommand, tasks_name};
 ghost use Rattle.words.specs.Shown.{shown_command};
-ghost use Rattle.rtdvs_top.specs.Prepared.{PrepareStep};
+ghost use Rattle.rtdvs_top.specs.Prepared.{AreTasksAt, IsPrepareStep};
 
 use crate::Status;
 use crate::admit::prepare_admit;
@@ -18,23 +19,32 @@ use std::alloc::Global;
 use task_model::TaskSet;
 use words::command::{Command, CommandWords};
 
-/// What a command prepares before anything is put, and the tasks where they were read and are not part of it.
-pub(crate) fn prepare<S: Shelf>(
+/// What a command prepares before anything is put, after its tasks were read.
+pub(crate) fn prepare<'a, S: Shelf>(
     alloc: Global,
     command: &Command<'_>,
+    tasks: Option<&'a TaskSet>,
     shelf: &mut S,
-) -> (Result<Prepared, Status>, Option<TaskSet>)
-    requires { IsReadyCommand (shown_command command.now) }
-    ensures { PrepareStep (S.shows shelf.old) (S.shows shelf.new) (shown_command command.now) result.1 result.0 }
+) -> Result<Prepared<'a>, Status>
+    requires ready { IsReadyCommand (shown_command command.now) }
+    requires tasks { AreTasksAt (S.shows shelf.old).held (tasks_name (shown_command command.now))
+        (option_copied tasks) }
+    ensures { IsPrepareStep (S.shows shelf.old) (S.shows shelf.new) (shown_command command.now)
+        (option_copied tasks.entry) result }
 {
-    match command.words() {
-        CommandWords::Run(words) => prepare_run(alloc, &words, shelf),
-        CommandWords::Admit(words) => prepare_admit(alloc, &words, shelf),
-        CommandWords::Traced(words) => prepare_trace(alloc, &words, shelf),
-        CommandWords::Workload { seed } => (prepare_workload(alloc, seed), None),
-        CommandWords::Response(words) => prepare_response(alloc, &words, shelf),
-        CommandWords::Constrain(words) => prepare_constrain(alloc, &words, shelf),
-        CommandWords::Poll(words) => prepare_poll(alloc, &words, shelf),
-        CommandWords::Least(words) => (prepare_least(alloc, &words, shelf), None),
+    match (command.words(), tasks) {
+        (CommandWords::Run(words), Some(tasks)) => prepare_run(alloc, &words, tasks, shelf),
+        (CommandWords::Admit(words), Some(tasks)) => prepare_admit(alloc, &words, tasks, shelf),
+        (CommandWords::Traced(words), Some(tasks)) => prepare_trace(alloc, &words, tasks, shelf),
+        (CommandWords::Response(words), Some(tasks)) => {
+            prepare_response(alloc, &words, tasks, shelf)
+        }
+        (CommandWords::Constrain(words), Some(tasks)) => {
+            prepare_constrain(alloc, &words, tasks, shelf)
+        }
+        (CommandWords::Poll(words), Some(tasks)) => prepare_poll(alloc, &words, tasks, shelf),
+        (CommandWords::Workload { seed }, None) => prepare_workload(alloc, seed),
+        (CommandWords::Least(words), None) => prepare_least(alloc, &words, shelf),
+        _ => unreachable!(),
     }
 }

@@ -58,16 +58,17 @@ pub(crate) struct EdfTotals {
     pub(crate) ahead: Totals,
 }
 
-/// What a command prepares before anything is put.
+/// What a command prepares before anything is put; `'a` is that of its tasks.
 #[derive(Drop)]
-pub(crate) enum Prepared {
+pub(crate) enum Prepared<'a> {
     /// The run whose trace `run` writes.
     Trace(ReadyRun),
     /// The plan and the trace that `migrate` writes in version 2.
     Migrated(Admitted, Trace),
     /// The line of `admit`, `replay` or `constrain`.
     Line(Line),
-    Responses(TaskSet, Response),
+    /// The responses of the tasks.
+    Responses(&'a TaskSet, Response),
     Polled(Polling, Served),
     Least(Least),
     /// A generated workload, and the totals of its runs.

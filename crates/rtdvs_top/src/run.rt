@@ -1,94 +1,98 @@
 // The run of an admitted plan, and what `run` prepares.
-ghost use Rattle.std.specs.Prelude.{map};
+ghost use Rattle.std.specs.Prelude.{◌≡◌, map, Some};
+ghost use Rattle.statuses.specs.Steps.{Gives};
+ghost use Rattle.command_files.specs.Meanings.{tasks_at};
 ghost use Rattle.dvs_base.specs.PlanWords.{IsPair};
 ghost use Rattle.words.specs.Commands.{IsReady, run as run_of};
 ghost use Rattle.words.specs.Shown.{shown_run};
-ghost use Rattle.rtdvs_top.specs.Prepared.{PrepareStep, PutStep, ready_run, told_run};
+ghost use Rattle.rtdvs_top.specs.Prepared.{IsPrepareStep, IsPutStep, ready_run, governed_run, status_of_put, status_of_writing};
 ghost use Rattle.command_files.specs.PlannedRuns.{IsRunnable};
 ghost use Rattle.rtdvs_top.specs.declared.prepared.Prepared.TheVariants as prepared;
 
 use crate::Status;
 use crate::at_pair::at_pair;
 use crate::prepared::{Prepared, ReadyRun};
-use command_files::{load_planned, load_tasks};
-use dvs_base::{NoMemory, Shelf, Sink};
+use command_files::load_planned;
+use dvs_base::{Shelf, Sink, Totals};
 use event_kernel::{Kernel, KernelFault, WriteFault};
 use governor::Publishing;
 use probes::Probe;
-use sched_model::Admitted;
 use std::alloc::Global;
 use task_model::TaskSet;
 use words::command::RunWords;
 
-/// What `run` prepares, and the tasks where they were read.
-pub(crate) fn prepare_run<S: Shelf>(
+/// What `run` prepares, after its tasks were read.
+pub(crate) fn prepare_run<'a, S: Shelf>(
     alloc: Global,
     words: &RunWords<'_>,
+    tasks: &'a TaskSet,
     shelf: &mut S,
-) -> (Result<Prepared, Status>, Option<TaskSet>)
-    requires { IsReady (shown_run words.now) }
-    ensures { PrepareStep (S.shows shelf.old) (S.shows shelf.new) (run_of (shown_run words.now)) result.1 result.0 }
+) -> Result<Prepared<'a>, Status>
+    requires ready { IsReady (shown_run words.now) }
+    requires tasks { Gives (S.shows shelf.old).held (tasks_at words.now.tasks.now) tasks.now }
+    ensures { IsPrepareStep (S.shows shelf.old) (S.shows shelf.new) (run_of (shown_run words.now)) (Some tasks.now)
+        result }
 {
-    let tasks = match load_tasks(alloc, words.tasks, shelf) {
-        Ok(tasks) => tasks,
-        Err(status) => return (Err(status), None),
-    };
-    match load_planned(alloc, words, &tasks, shelf) {
-        Ok((plan, demands)) => {
-            let run = ReadyRun {
-                plan,
-                demands,
-                ticks: words.ticks,
-                governor: words.governor,
-                version: words.version,
-                probes: words.probes,
-            };
-            (Ok(Prepared::Trace(run)), Some(tasks))
-        }
-        Err(status) => (Err(status), Some(tasks)),
+    let (plan, demands) = load_planned(alloc, words, tasks, shelf)?;
+    Ok(Prepared::Trace(ReadyRun {
+        plan,
+        demands,
+        ticks: words.ticks,
+        governor: words.governor,
+        version: words.version,
+        probes: words.probes,
+    }))
+}
+
+// How the put of a run ends.
+fn written(wrote: Result<Totals, WriteFault>) -> Result<(), Status>
+    ensures { status_of_put result ≡ status_of_writing wrote }
+{
+    match wrote {
+        Ok(_) => Ok(()),
+        Err(WriteFault) => Err(Status::Write),
     }
 }
 
-// Writes the trace of a run under governor `G`.
+// Writes the trace of a run under governor `G`, and tells it to the probes where they are asked for.
 fn run_governed<G: Publishing, W: Sink, P: Probe>(
     alloc: Global,
     run: &ReadyRun,
     out: &mut W,
     probes: &mut Vec<P>,
-) -> Status
+) -> Result<(), Status>
     requires run { IsRunnable (ready_run run.now) }
     requires serves { G.serves run.now.plan.scheduler }
-    ensures { PutStep (out.old, out.new) (probes.old, probes.new) W.shows (λ v. map P.seen v.items)
-        (prepared.Trace (told_run G.the_kind run.now)) result }
+    ensures { IsPutStep (out.old, out.new) (probes.old, probes.new) W.shows (λ v. map P.seen v.items)
+        (prepared.Trace (governed_run G.the_kind run.now)) (status_of_put result) }
 {
     let _worsts = run.demands.worsts();
     let _admitted = run.plan.scheduler();
-    let governor = match G::made(alloc, &run.plan) {
-        Ok(governor) => governor,
-        Err(NoMemory) => return Status::NoMemory,
-    };
+    let governor = G::made(alloc, &run.plan)?;
     let kernel = match Kernel::new(alloc, &run.plan, &run.demands, governor, run.ticks) {
         Ok(kernel) => kernel,
-        Err(KernelFault::TooManyJobs { count }) => return Status::Limit { jobs: count },
-        Err(KernelFault::NoMemory) => return Status::NoMemory,
+        Err(KernelFault::TooManyJobs { count }) => return Err(Status::Limit { jobs: count }),
+        Err(KernelFault::NoMemory) => return Err(Status::NoMemory),
     };
-    match kernel.run(out, probes, run.version) {
-        Ok(_) => Status::Done,
-        Err(WriteFault) => Status::Write,
+    if run.probes {
+        return written(kernel.run(out, probes, run.version));
     }
+    let mut none: Vec<P> = Vec::new(alloc);
+    written(kernel.run(out, &mut none, run.version))
 }
 
-// Writes the trace of a run under the governor of its pair.
-fn run_pair<W: Sink, P: Probe>(
+/// Writes the trace of a run of an admitted plan, under the governor of its pair. The probes are told its notes where
+/// they are asked for, and else left as they are.
+pub(crate) fn put_run<W: Sink, P: Probe>(
     alloc: Global,
     run: &ReadyRun,
     out: &mut W,
     probes: &mut Vec<P>,
-) -> Status
+) -> Result<(), Status>
     requires run { IsRunnable (ready_run run.now) }
     requires pair { IsPair run.now.plan.scheduler run.now.governor }
-    ensures { PutStep (out.old, out.new) (probes.old, probes.new) W.shows (λ v. map P.seen v.items)
-        (prepared.Trace (told_run run.now.governor run.now)) result }
+    ensures { IsPutStep (out.old, out.new) (probes.old, probes.new) W.shows (λ v. map P.seen v.items)
+        (prepared.Trace run.now) (status_of_put result) }
 {
     at_pair!(
         run.plan.scheduler(),
@@ -100,24 +104,4 @@ fn run_pair<W: Sink, P: Probe>(
         out,
         probes
     )
-}
-
-/// Writes the trace of a run of an admitted plan. The probes are told its notes where they are asked for, and else left
-/// as they are.
-pub(crate) fn put_run<W: Sink, P: Probe>(
-    alloc: Global,
-    run: &ReadyRun,
-    out: &mut W,
-    probes: &mut Vec<P>,
-) -> Status
-    requires run { IsRunnable (ready_run run.now) }
-    requires pair { IsPair run.now.plan.scheduler run.now.governor }
-    ensures { PutStep (out.old, out.new) (probes.old, probes.new) W.shows (λ v. map P.seen v.items)
-        (prepared.Trace run.now) result }
-{
-    if run.probes {
-        return run_pair(alloc, run, out, probes);
-    }
-    let mut none: Vec<P> = Vec::new(alloc);
-    run_pair(alloc, run, out, &mut none)
 }

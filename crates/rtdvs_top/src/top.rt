@@ -1,14 +1,15 @@
 // The top call.
 ghost use Rattle.std.specs.Prelude.{◌≡◌, ◌≤◌, ◌↔◌, map};
 ghost use Rattle.dvs_base.specs.Outside.{Rose};
-ghost use Rattle.rtdvs_top.specs.Promises.{asked, known_files, Answers, Writes, WritesPart, IsSureOf, LoadFailed, loads_asked, loads_wanted, OfRun, OfTests, OfPoll, Headline, OfLeast, Notes, Tells, probes_asked, OfAdmission};
+ghost use Rattle.rtdvs_top.specs.Asked.{asked, command_asked, loads_asked, loads_wanted, probes_asked};
+ghost use Rattle.rtdvs_top.specs.Promises.{Answers, Writes, WritesPart, IsSureOf, LoadFailed, ProvesRun, ProvesTests, ProvesPoll, IsDoneOrDenied, ProvesLeast, PutsNotes, TellsProbes, AdmitsByTest};
 ghost use Rattle.command_files.specs.Files.{MakesLoads};
 ghost use Rattle.statuses.specs.Status.{CountsLoads, CountsPuts, IsShown, Leaves, LeavesProbes};
-ghost use Rattle.rtdvs_top.specs.Trace.{OfTrace};
+ghost use Rattle.rtdvs_top.specs.Trace.{AcceptsScheduleTexts};
 ghost use Rattle.words.specs.declared.command.WordFault.{WordFault};
 
 use crate::Status;
-use crate::answer::answer;
+use crate::answer::answer_command;
 use dvs_base::{Shelf, Sink};
 use probes::Probe;
 use statuses::{note_end, note_status};
@@ -34,74 +35,50 @@ pub fn rtdvs<S: Shelf, W: Sink, E: Sink>(
     notes: &mut E,
     probes: &mut Vec<Box<dyn Probe>>,
 ) -> Status
-    // which status, and when
-    ensures answers { Answers (known_files (S.shows shelf.old).held (asked words.now)) (asked words.now)
+    // Which status: the answer's, unless a load or a put failed or memory ran out; and what it shows by itself.
+    ensures answers { Answers (asked words.now (S.shows shelf.old))
         (Rose (S.shows shelf.old).faults (S.shows shelf.new).faults)
         (Rose (W.shows out.old).faults (W.shows out.new).faults) result }
-    ensures words { (why : WordFault) → (result ≡ Status.Words why) ↔ (asked words.now ≡ Err why) }
-    ensures load { LoadFailed (S.shows shelf.old) (S.shows shelf.new) (asked words.now) result }
+    ensures words { (why : WordFault) → (result ≡ Status.Words why) ↔ (command_asked words.now ≡ Err why) }
+    ensures load { LoadFailed (S.shows shelf.old) (S.shows shelf.new) (command_asked words.now) result }
     ensures write { result ≡ Status.Write → Rose (W.shows out.old).faults (W.shows out.new).faults }
-
-    // what the status shows by itself
     ensures shown { IsShown result }
 
-    // what is on `out`
+    // What is on `out`: the whole answer, where a put failed a first part of it, else nothing.
     ensures done { result ≡ Status.Done
-        → Writes (known_files (S.shows shelf.old).held (asked words.now)) (asked words.now)
-        (W.shows out.old) (W.shows out.new) }
+        → Writes (asked words.now (S.shows shelf.old)) (W.shows out.old) (W.shows out.new) }
     ensures part { result ≡ Status.Write
-        → WritesPart (known_files (S.shows shelf.old).held (asked words.now)) (asked words.now)
-        (W.shows out.old) (W.shows out.new) }
+        → WritesPart (asked words.now (S.shows shelf.old)) (W.shows out.old) (W.shows out.new) }
     ensures leaves { Leaves result out.old out.new }
 
-    // admission, text, deadlines, speeds and energies of a run: where nothing failed, and where it is done or denied
-    ensures headline { Headline (known_files (S.shows shelf.old).held (asked words.now)) (asked words.now)
+    // What a run, a test, a trace, a server and a minimum prove: admission, deadlines, speeds, responses, energies.
+    ensures headline { IsDoneOrDenied (asked words.now (S.shows shelf.old))
         (Rose (S.shows shelf.old).faults (S.shows shelf.new).faults) (W.shows out.old) (W.shows out.new) result }
-    ensures run { OfRun (known_files (S.shows shelf.old).held (asked words.now)) (asked words.now)
-        (W.shows out.old) (W.shows out.new) result }
-
-    // the scheduler's test of `run`, `admit`, `replay`, `migrate` and `poll`, as sums and products
-    ensures admitted { OfAdmission (known_files (S.shows shelf.old).held (asked words.now)) (asked words.now) result }
-
-    // which trace files are replayed and migrated: those of a schedule, and for which demands
-    ensures exact { OfTrace (known_files (S.shows shelf.old).held (asked words.now)) (asked words.now)
+    ensures run { ProvesRun (asked words.now (S.shows shelf.old)) (W.shows out.old) (W.shows out.new) result }
+    ensures admitted { AdmitsByTest (asked words.now (S.shows shelf.old)) result }
+    ensures exact { AcceptsScheduleTexts (asked words.now (S.shows shelf.old))
         (Rose (S.shows shelf.old).faults (S.shows shelf.new).faults)
         (Rose (W.shows out.old).faults (W.shows out.new).faults) result }
+    ensures tested { ProvesTests (asked words.now (S.shows shelf.old)) result }
+    ensures polled { ProvesPoll (asked words.now (S.shows shelf.old)) result }
+    ensures least { ProvesLeast (asked words.now (S.shows shelf.old)) (W.shows out.old) (W.shows out.new) result }
 
-    // the exact tests: what one that is done proves of every schedule, and what one that denies proves of the worst
-    // cases
-    ensures tested { OfTests (known_files (S.shows shelf.old).held (asked words.now)) (asked words.now) result }
+    // What is on `notes`, and what the probes were told: the notes of a run where the words ask for it, else nothing.
+    ensures notes { PutsNotes (asked words.now (S.shows shelf.old)) (map (λ b. seen b) probes.new.items) result
+        (E.shows notes.old) (E.shows notes.new) }
+    ensures kept { LeavesProbes (probes_asked (command_asked words.now)) result probes.old probes.new }
+    ensures told { TellsProbes (asked words.now (S.shows shelf.old)) (W.shows out.old) (W.shows out.new)
+        (map (λ b. seen b) probes.old.items) (map (λ b. seen b) probes.new.items) result }
 
-    // what a `poll` run that is done has kept
-    ensures polled { OfPoll (known_files (S.shows shelf.old).held (asked words.now)) (asked words.now) result }
-
-    // `least`: a certificate that passes its check, and a bound on every choice and every schedule
-    ensures least { OfLeast (known_files (S.shows shelf.old).held (asked words.now)) (asked words.now)
-        (W.shows out.old) (W.shows out.new) result }
-
-    // what is left of the shelf: its files, and all its guaranteed loads but those that the answer needs
-    ensures shelf { MakesLoads (loads_wanted (S.shows shelf.old).held (asked words.now))
+    // What is left of the shelf, how the counts of faults go with the status, and that what is sure doesn't fail.
+    ensures shelf { MakesLoads (loads_wanted (S.shows shelf.old).held (command_asked words.now))
         (S.shows shelf.old) (S.shows shelf.new) }
-
-    // the counts of failed loads and of failed puts show in the status
     ensures counts { CountsLoads (S.shows shelf.old).faults (S.shows shelf.new).faults result }
     ensures puts { CountsPuts (W.shows out.old).faults (W.shows out.new).faults result }
-
-    // what the shelf and the sink are sure of doesn't fail
-    ensures sure { IsSureOf (known_files (S.shows shelf.old).held (asked words.now)) (asked words.now) (W.shows out.old)
+    ensures sure { IsSureOf (asked words.now (S.shows shelf.old)) (W.shows out.old)
         → (W.shows out.new).faults ≡ (W.shows out.old).faults }
-    ensures loads { loads_asked (asked words.now) ≤ (S.shows shelf.old).sure
+    ensures loads { loads_asked (command_asked words.now) ≤ (S.shows shelf.old).sure
         → (S.shows shelf.new).faults ≡ (S.shows shelf.old).faults }
-
-    // what is on `notes`
-    ensures notes { Notes (known_files (S.shows shelf.old).held (asked words.now)) (asked words.now)
-        (map (λ b. seen b) probes.new.items) result (E.shows notes.old) (E.shows notes.new) }
-
-    // the probes: told the run's notes where the words ask for them, and else left as they are
-    ensures kept { LeavesProbes (probes_asked (asked words.now)) result probes.old probes.new }
-    ensures told { Tells (known_files (S.shows shelf.old).held (asked words.now)) (asked words.now)
-        (W.shows out.old) (W.shows out.new)
-        (map (λ b. seen b) probes.old.items) (map (λ b. seen b) probes.new.items) result }
 {
     let command = match read_words(words) {
         Ok(command) => command,
@@ -111,7 +88,7 @@ pub fn rtdvs<S: Shelf, W: Sink, E: Sink>(
             return status;
         }
     };
-    let (status, tasks) = answer(alloc, &command, shelf, out, probes);
+    let (status, tasks) = answer_command(alloc, &command, shelf, out, probes);
     note_end(
         command.asks_probes(),
         &status,

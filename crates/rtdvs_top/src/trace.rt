@@ -1,18 +1,21 @@
 // A trace compared with the schedule for the demands that it fixes, and what `replay` and `migrate` prepare.
+ghost use Rattle.statuses.specs.Steps.{Gives};
+ghost use Rattle.command_files.specs.Meanings.{tasks_at};
+ghost use Rattle.std.specs.Prelude.{Some};
 ghost use Rattle.std.specs.Prelude.{◌≡◌, map, IfOk, ◌<◌, length};
 ghost use Rattle.dvs_base.specs.Checks.{IsUnlessMemory};
 ghost use Rattle.trace_reader.specs.Traces.{IsTrace};
-ghost use Rattle.words.specs.Commands.{traced as traced_command, traced};
+ghost use Rattle.words.specs.Commands.{traced};
 ghost use Rattle.words.specs.Shown.{shown_trace};
-ghost use Rattle.statuses.specs.Steps.{TestStep};
-ghost use Rattle.command_files.specs.Loads.{LoadStep, one_file, later_files};
+ghost use Rattle.statuses.specs.Steps.{IsTestStep};
+ghost use Rattle.command_files.specs.Loads.{IsLoadStep, one_file, later_files};
 ghost use Rattle.rtdvs_top.specs.Trace.{task_names, task_line, lines_of_tasks, trace_of, trace_at, traced_of, replay_status, totals_at, replayed_text};
-ghost use Rattle.rtdvs_top.specs.Prepared.{IsComparable, CompareStep, PrepareStep};
+ghost use Rattle.rtdvs_top.specs.Prepared.{IsComparable, IsPrepareStep};
 
 use crate::at_pair::at_pair;
 use crate::prepared::Prepared;
 use crate::{FileKind, Status};
-use command_files::{admit, load_file, load_machine, load_tasks};
+use command_files::{admit, load_file, load_machine};
 use dvs_base::{Line, Name, NoMemory, Part, Shelf, Totals, line_of};
 use governor::Publishing;
 use replay::{ReplayFault, replay};
@@ -79,7 +82,7 @@ fn load_trace<S: Shelf>(
     tasks: &TaskSet,
     shelf: &mut S,
 ) -> Result<Trace, Status>
-    ensures step { LoadStep (one_file FileKind.Trace name.now (trace_at tasks.now name.now))
+    ensures step { IsLoadStep (one_file FileKind.Trace name.now (trace_at tasks.now name.now))
         (S.shows shelf.old) (S.shows shelf.new) result (λ t. t) }
     ensures trace { IfOk result (IsTrace (task_names tasks.now) (lines_of_tasks tasks.now)) }
 {
@@ -87,14 +90,14 @@ fn load_trace<S: Shelf>(
     Ok(read_trace(alloc, &bytes, tasks)?)
 }
 
-/// The admitted plan and the trace of `replay` or `migrate`, after its tasks were read.
-pub(crate) fn load_traced<S: Shelf>(
+// The admitted plan and the trace of `replay` or `migrate`, after its tasks were read.
+fn load_traced<S: Shelf>(
     alloc: Global,
     words: &TraceWords<'_>,
     tasks: &TaskSet,
     shelf: &mut S,
 ) -> Result<(Admitted, Trace), Status>
-    ensures step { LoadStep (later_files (S.shows shelf.old).held (traced_command (shown_trace words.now))
+    ensures step { IsLoadStep (later_files (S.shows shelf.old).held (traced (shown_trace words.now))
         (traced_of (shown_trace words.now) tasks.now)) (S.shows shelf.old) (S.shows shelf.new) result (λ x. (x.0, x.1)) }
     ensures compared { IfOk result (λ x. IsComparable x.0 x.1) }
 {
@@ -143,22 +146,17 @@ fn compare_governed<G: Publishing>(
     requires trace { IsComparable plan.now trace.now }
     requires kind { trace.now.plan.governor ≡ G.the_kind }
     requires serves { G.serves plan.now.scheduler }
-    ensures { TestStep (totals_at (plan.now, trace.now)) result (λ totals. totals) }
+    ensures { IsTestStep (totals_at (plan.now, trace.now)) result (λ totals. totals) }
 {
     let _admitted = plan.scheduler();
-    match G::made(alloc, plan) {
-        Ok(governor) => match replay(alloc, plan, trace, governor) {
-            Ok(totals) => Ok(totals),
-            Err(why) => Err(replay_status(why)),
-        },
-        Err(NoMemory) => Err(Status::NoMemory),
-    }
+    let governor = G::made(alloc, plan)?;
+    replay(alloc, plan, trace, governor).map_err(replay_status)
 }
 
 /// The totals of a trace, compared with the schedule under the governor of its pair.
 pub(crate) fn compare_pair(alloc: Global, plan: &Admitted, trace: &Trace) -> Result<Totals, Status>
     requires trace { IsComparable plan.now trace.now }
-    ensures { TestStep (totals_at (plan.now, trace.now)) result (λ totals. totals) }
+    ensures { IsTestStep (totals_at (plan.now, trace.now)) result (λ totals. totals) }
 {
     at_pair!(
         plan.scheduler(),
@@ -189,43 +187,22 @@ fn replayed_line(totals: Totals) -> Line
     ])
 }
 
-// What is put for a trace, which is compared with its schedule first: its totals or its text in version 2, as `asked`.
-fn prepare_compared(
-    alloc: Global,
-    asked: TraceUse,
-    plan: Admitted,
-    trace: Trace,
-) -> Result<Prepared, Status>
-    requires { IsComparable plan trace }
-    ensures { CompareStep asked (plan, trace) result }
-{
-    let _admitted = plan.scheduler();
-    let totals = compare_pair(alloc, &plan, &trace)?;
-    match asked {
-        TraceUse::Replay => Ok(Prepared::Line(replayed_line(totals))),
-        TraceUse::Migrate => Ok(Prepared::Migrated(plan, trace)),
-    }
-}
-
-/// What `replay` or `migrate` prepares, and the tasks where they were read. The whole trace is compared.
-pub(crate) fn prepare_trace<S: Shelf>(
+/// What `replay` or `migrate` prepares, after its tasks were read. The whole trace is compared before anything is put.
+pub(crate) fn prepare_trace<'a, S: Shelf>(
     alloc: Global,
     words: &TraceWords<'_>,
+    tasks: &'a TaskSet,
     shelf: &mut S,
-) -> (Result<Prepared, Status>, Option<TaskSet>)
-    ensures { PrepareStep (S.shows shelf.old) (S.shows shelf.new) (traced (shown_trace words.now)) result.1 result.0 }
+) -> Result<Prepared<'a>, Status>
+    requires { Gives (S.shows shelf.old).held (tasks_at words.now.tasks.now) tasks.now }
+    ensures { IsPrepareStep (S.shows shelf.old) (S.shows shelf.new) (traced (shown_trace words.now)) (Some tasks.now)
+        result }
 {
-    let tasks = match load_tasks(alloc, words.tasks, shelf) {
-        Ok(tasks) => tasks,
-        Err(status) => return (Err(status), None),
-    };
-    let (plan, trace) = match load_traced(alloc, words, &tasks, shelf) {
-        Ok(loaded) => loaded,
-        Err(status) => return (Err(status), Some(tasks)),
-    };
+    let (plan, trace) = load_traced(alloc, words, tasks, shelf)?;
     let _admitted = plan.scheduler();
-    match prepare_compared(alloc, words.asked, plan, trace) {
-        Ok(prepared) => (Ok(prepared), Some(tasks)),
-        Err(status) => (Err(status), Some(tasks)),
+    let totals = compare_pair(alloc, &plan, &trace)?;
+    match words.asked {
+        TraceUse::Replay => Ok(Prepared::Line(replayed_line(totals))),
+        TraceUse::Migrate => Ok(Prepared::Migrated(plan, trace)),
     }
 }

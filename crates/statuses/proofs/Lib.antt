@@ -1,3 +1,4 @@
 pub mod NumberedPuts
 pub mod ProbePuts
 pub mod Texts
+pub mod MappedResults

@@ -37,7 +37,7 @@ CountsStep before now (Ok a) = now ≡ before
 CountsStep before now (Err s) = CountsLoads before now s
 
 -- What a step that loads nothing gives: its value, or its refusal. The value is seen through `see`.
-pub record TestStep {T A : Type 0} (step : Result A Status) (r : Result T Status) (see : T → A) : Type 0 where
+pub record IsTestStep {T A : Type 0} (step : Result A Status) (r : Result T Status) (see : T → A) : Type 0 where
   -- a value is that of the step
   pub gives : IfOk r (λ v. step ≡ Ok (see v))
   -- a status is the refusal of the step, or memory ran out

@@ -1,4 +1,4 @@
-// A refusal of a file as a status.
+// Faults as statuses.
 ghost use Rattle.std.specs.Prelude.{◌≡◌};
 ghost use Rattle.statuses.specs.Refused.{IsRefusedAs, task_status, machine_status, demand_status, trace_status, deadline_status, request_status};
 ghost use Rattle.statuses.specs.declared.status.Status.TheVariants as status;
@@ -6,7 +6,7 @@ ghost use Rattle.statuses.specs.declared.status.Status.TheVariants as status;
 use crate::{Status, TextFault};
 use deadline_list::DeadlineFault;
 use demand_list::DemandFault;
-use dvs_base::NoMemory;
+use dvs_base::{Failed, NoMemory};
 use freq_table::MachineFault;
 use request_list::RequestFault;
 use task_model::TaskFault;
@@ -17,6 +17,14 @@ impl From<NoMemory> for Status {
 
     fn from(_why: NoMemory) -> Status {
         Status::NoMemory
+    }
+}
+
+impl From<Failed> for Status {
+    ghost from_gives = { λ _ s. s ≡ status.Write };
+
+    fn from(_why: Failed) -> Status {
+        Status::Write
     }
 }
 

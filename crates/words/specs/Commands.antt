@@ -1,5 +1,5 @@
 -- The row of each command: its required options in order, and the value of an optional one that was not given.
-use Rattle.std.specs.Prelude.{ℕ, Bool, false, List, Option, ◌≤◌, ⊤, Result, Ok, Err, if◌then◌else◌, is_some, unwrap_or}
+use Rattle.std.specs.Prelude.{ℕ, Bool, false, List, Option, Some, None, ◌≤◌, ⊤, Result, Ok, Err, if◌then◌else◌, is_some, unwrap_or}
 use Rattle.std.specs.Option.{ok_or}
 use Rattle.dvs_base.specs.Checks.{◌>>=◌}
 use Rattle.dvs_base.specs.PlanWords.{IsPair, is_pair}
@@ -107,6 +107,17 @@ IsReadyCommand c = ⊤
 abbrev pub asks_probes : CommandView → Bool
 asks_probes (run r) = r.probes
 asks_probes c = false
+
+-- the file of tasks that a command names, if it names one
+abbrev pub tasks_name : CommandView → Option (List ℕ)
+tasks_name (run r) = Some r.tasks
+tasks_name (admit a) = Some a.tasks
+tasks_name (traced r) = Some r.tasks
+tasks_name (workload seed) = None
+tasks_name (response r) = Some r.tasks
+tasks_name (constrain r) = Some r.tasks
+tasks_name (poll q) = Some q.tasks
+tasks_name (least l) = None
 
 -- the value of a required option; `Missing` where none was given
 abbrev pub need : {A : Type 0} → Opt → Option A → Result A WordFault

@@ -1,6 +1,6 @@
 // Commands and what their words name, and why words are refused.
-ghost use Rattle.std.specs.Prelude.{◌≡◌};
-ghost use Rattle.words.specs.Commands.{asks_probes};
+ghost use Rattle.std.specs.Prelude.{◌≡◌, option_map};
+ghost use Rattle.words.specs.Commands.{asks_probes, tasks_name};
 ghost use Rattle.words.specs.Shown.{shown_command, shown_words};
 
 use dvs_base::{GovernorKind, Scheduler, Short, Version};
@@ -212,6 +212,22 @@ impl<'a> Command<'a> {
             Poll [tasks machine requests server scheduler governor ticks] => Poll(PollWords {});
             Least [machine units ticks] => Least(LeastWords {});
         )
+    }
+
+    /// The name of the file of tasks, where this command has one.
+    pub fn tasks(&self) -> Option<&'a str>
+        ensures { option_map (λ s. s.now) result ≡ tasks_name (shown_command self.now) }
+    {
+        match *self {
+            Command::Run { tasks, .. }
+            | Command::Admit { tasks, .. }
+            | Command::Replay { tasks, .. }
+            | Command::Migrate { tasks, .. }
+            | Command::Response { tasks, .. }
+            | Command::Constrain { tasks, .. }
+            | Command::Poll { tasks, .. } => Some(tasks),
+            Command::Workload { .. } | Command::Least { .. } => None,
+        }
     }
 
     /// Whether this command asks for probes.

@@ -4,8 +4,8 @@ use Rattle.command_files.specs.Meanings.{tasks_at}
 use Rattle.command_files.proofs.RefusedSteps.{tasks-refused, file-refused}
 use Rattle.command_files.proofs.files.load_tasks.Goals as goal
 
-pub returns-in_err-read : goal.returns-in_err-read
-returns-in_err-read g c =
+pub returns-in_err-read-clause-step : goal.returns-in_err-read-clause-step
+returns-in_err-read-clause-step g c =
     let loaded = c.in_ok-bytes.ensures.step in
     let why = c.in_err-read.field-0.0 in
     file-refused file.Tasks c.args.name.now (tasks_at c.args.name.now) _ _ (λ v. v) loaded.loads loaded.counts

@@ -1,9 +1,13 @@
-use Rattle.std.proofs.Common.{sym}
+use Rattle.words.specs.Shown.{shown_least}
+use Rattle.statuses.proofs.MappedResults.{mapped-value}
+use Rattle.rtdvs_top.specs.Least.{IsLeastOn}
+use Rattle.rtdvs_top.proofs.LeastBounds.{is-least}
 use Rattle.rtdvs_top.proofs.least.bound_energy.Goals as goal
 
-pub returns-in-Ok-clause-least : goal.returns-in-Ok-clause-least
-returns-in-Ok-clause-least c = record {
-  answer = sym c.in-Ok.ensures.answer;
-  certificate = c.in-Ok.ensures.certificate;
-  least = c.in-Ok.ensures.least;
-}
+pub returns-clause-least : goal.returns-clause-least
+returns-clause-least c =
+    let m = c.args.machine.now in
+    let l = shown_least c.args.words.now in
+    let e = c.least_energy.ensures in
+    mapped-value _ (IsLeastOn m l) c.least_energy.result c.map_err.result c.map_err.ensures.cases
+    (is-least m l c.least_energy.result e.answer e.certificate e.least)

@@ -1,4 +1,6 @@
-use Rattle.std.proofs.Common.{◌≡◌, ◌≤◌, ◌∙◌, subst}
+use Rattle.std.proofs.Common.{◌≡◌, ◌≤◌, ◌<◌, ℕ, subst}
+use Rattle.std.specs.Prelude.{IfOk, OnOk}
+use Rattle.std.specs.Result.{IsErrOf}
 use Rattle.dvs_base.specs.declared.limits.TheConstants.{MOST_JOBS}
 use Rattle.sched_model.specs.Jobs.{released_jobs}
 use Rattle.sched_model.specs.Admission.{IsAdmitted}
@@ -6,41 +8,39 @@ use Rattle.poll_server.specs.ServerJobs.{ServerView}
 use Rattle.poll_server.specs.Bound.{HaveJobs, KeepsBound}
 use Rattle.poll_server.specs.Polled.{IsPolled, polled_notes}
 use Rattle.poll_server.specs.EachOutcome.{served_of}
-use Rattle.poll_server.proofs.ServerRuns.{polled-within}
-use Rattle.rtdvs_top.proofs.ServedAnswers.{served-answer}
-use Rattle.rtdvs_top.proofs.Pollings.{same-served, has-served}
+use Rattle.poll_server.specs.declared.fault.PollFault.TheVariants as poll_fault
+use Rattle.statuses.proofs.MappedResults.{mapped}
+use Rattle.rtdvs_top.specs.Poll.{poll_status}
+use Rattle.rtdvs_top.proofs.ServedAnswers.{IsServed, served-as-status}
 use Rattle.rtdvs_top.proofs.poll.serve_governed.Goals as goal
+use Rattle.rtdvs_top.proofs.poll.serve_governed.Given.{Over}
 
-pub returns-in-Ok-clause-served : goal.returns-in-Ok-clause-served
-returns-in-Ok-clause-served g c =
-    let s = c.args.polling.now in
-    let admitted = subst (λ (x : ServerView). IsAdmitted x.plan) c.polling.view_is c.scheduler-admitted.ensures.admitted in
-    let publishes = g.met.G.Publishing.publishing.publishes s.plan admitted c.requires.serves in
-    let served =
-    subst (λ (x : ServerView). c.in-Ok.served ≡ served_of g.G.Governor.demand x c.args.ticks) c.polling.view_is
-    c.in-Ok.ensures.served in
-    served ∙ same-served g.G.Governor.demand g.G.Governor.the_kind s publishes (polled-within s) c.args.ticks
+-- the calls of `poll` and of `map_err`, for the server that contracts see
+module _ (g : Over) (c : goal.After-map_err g) where
+  is-served : IsServed g.G.Governor.the_kind c.args.ticks c.args.polling.now c.map_err.result
+  is-served =
+      let s = c.args.polling.now in
+      let d = g.G.Governor.demand in
+      let t = c.args.ticks in
+      let r = c.poll.result in
+      let e = c.poll.ensures in
+      let view = c.polling.view_is in
+      let admitted = subst (λ (x : ServerView). IsAdmitted x.plan) view c.scheduler-admitted.ensures.admitted in
+      let publishes = g.met.G.Publishing.publishing.publishes s.plan admitted c.requires.serves in
+      rw (mapped poll_status r c.map_err.result c.map_err.ensures.cases)
+      (served-as-status d g.G.Governor.the_kind s publishes t (subst HaveJobs view e.in_order) r
+      (subst (λ (x : ServerView). IfOk r (λ v. v ≡ served_of d x t)) view e.served)
+      (subst (λ (x : ServerView). IfOk r (IsPolled x (polled_notes d x t))) view e.outcomes)
+      (subst (λ (x : ServerView). IfOk r (KeepsBound x t)) view e.bound)
+      (subst (λ (x : ServerView). OnOk r (released_jobs x.plan t ≤ MOST_JOBS)) view e.few)
+      (subst (λ (x : ServerView). (n : ℕ) → IsErrOf r (poll_fault.TooManyJobs n) → (n ≡ released_jobs x.plan t) × (MOST_JOBS < n))
+      view e.many))
 
-pub returns-in-Ok-clause-kept : goal.returns-in-Ok-clause-kept
-returns-in-Ok-clause-kept g c =
-    let s = c.args.polling.now in
-    let d = g.G.Governor.demand in
-    let admitted = subst (λ (x : ServerView). IsAdmitted x.plan) c.polling.view_is c.scheduler-admitted.ensures.admitted in
-    let publishes = g.met.G.Publishing.publishing.publishes s.plan admitted c.requires.serves in
-    let r = c.in-Ok.served in
-    let served = subst (λ (x : ServerView). r ≡ served_of d x c.args.ticks) c.polling.view_is c.in-Ok.ensures.served in
-    let polled =
-    subst (λ (x : ServerView). IsPolled x (polled_notes d x c.args.ticks) r) c.polling.view_is c.in-Ok.ensures.outcomes in
-    let jobs = subst HaveJobs c.polling.view_is c.poll.ensures.in_order in
-    let bound = subst (λ (x : ServerView). KeepsBound x c.args.ticks r) c.polling.view_is c.in-Ok.ensures.bound in
-    has-served d g.G.Governor.the_kind s publishes (polled-within s) c.args.ticks r served polled jobs bound
+pub returns-clause-step : goal.returns-clause-step
+returns-clause-step g c = (is-served g c).step
 
-pub returns-in-Ok-clause-step : goal.returns-in-Ok-clause-step
-returns-in-Ok-clause-step g c =
-    let few = subst (λ (x : ServerView). released_jobs x.plan c.args.ticks ≤ MOST_JOBS) c.polling.view_is c.in-Ok.ensures.few in
-    record {
-      gives = served-answer g.G.Governor.the_kind c.args.ticks c.args.polling.now c.in-Ok.served few (returns-in-Ok-clause-served g c);
-      refused = tt;
-      loads = tt;
-      shown = tt;
-    }
+pub returns-clause-served : goal.returns-clause-served
+returns-clause-served g c = (is-served g c).served
+
+pub returns-clause-kept : goal.returns-clause-kept
+returns-clause-kept g c = (is-served g c).kept

@@ -1,32 +1,31 @@
-use Rattle.rtdvs_top.proofs.Published.{done-told, done-ends, stopped-told, stopped-ends}
+use Rattle.std.proofs.Common.{refl}
+use Rattle.rtdvs_top.proofs.Published.{writing-ends, writing-told}
+use Rattle.rtdvs_top.proofs.ToldRuns.{put-told, put-untold}
 use Rattle.rtdvs_top.proofs.run.run_governed.Goals as goal
 
-pub returns-in-Ok-run : goal.returns-in-Ok-run
-returns-in-Ok-run g c =
+pub returns-then-run : goal.returns-then-run
+returns-then-run g c =
     let r = c.args.run.now in
+    let d = g.G.Governor.demand in
+    let k = g.G.Governor.the_kind in
     let publishes = g.met.G.Publishing.publishing.publishes r.plan c.scheduler-admitted.ensures.admitted c.requires.serves in
-    record {
-      ended = done-ends g.G.Governor.demand g.G.Governor.the_kind r.plan r.demands c.requires.run.list c.worsts-worsts.ensures.within publishes
-          r.version r.ticks _ c.in-Ok-new.ensures.kernel _ _ _ _ c.in-Ok-new.ensures.few c.in-Ok-run.ensures.wrote;
-      ends = tt;
-      leaves = tt;
-      kept = tt;
-      told = done-told g.G.Governor.demand g.G.Governor.the_kind r.plan r.demands c.requires.run.list c.worsts-worsts.ensures.within publishes
-          r.version r.ticks _ c.in-Ok-new.ensures.kernel _ _ _ _ c.in-Ok-run.ensures.wrote;
-      shown = tt;
-    }
+    let within = c.worsts-worsts.ensures.within in
+    rw c.written.ensures
+    (put-told _ _ g.W.Sink.shows _ k r c.run.result
+    (writing-ends d k r.plan r.demands c.requires.run.list within publishes r.version r.ticks _ c.in-Ok.ensures.kernel
+    _ _ _ _ c.run.result c.in-Ok.ensures.few c.run.ensures.wrote)
+    c.if-run.true
+    (writing-told d k r.plan r.demands c.requires.run.list within publishes r.version r.ticks _ c.in-Ok.ensures.kernel
+    _ _ _ _ c.run.result c.run.ensures.wrote))
 
-pub returns-in-Err-run : goal.returns-in-Err-run
-returns-in-Err-run g c =
+pub returns : goal.returns
+returns g c =
     let r = c.args.run.now in
+    let d = g.G.Governor.demand in
+    let k = g.G.Governor.the_kind in
     let publishes = g.met.G.Publishing.publishing.publishes r.plan c.scheduler-admitted.ensures.admitted c.requires.serves in
-    record {
-      ended = stopped-ends g.G.Governor.demand g.G.Governor.the_kind r.plan r.demands c.requires.run.list c.worsts-worsts.ensures.within publishes
-          r.version r.ticks _ c.in-Ok-new.ensures.kernel _ _ _ _ c.in-Ok-new.ensures.few c.in-Err-run.ensures.wrote;
-      ends = tt;
-      leaves = tt;
-      kept = tt;
-      told = stopped-told g.G.Governor.demand g.G.Governor.the_kind r.plan r.demands c.requires.run.list c.worsts-worsts.ensures.within publishes
-          r.version r.ticks _ c.in-Ok-new.ensures.kernel _ _ _ _ c.in-Err-run.ensures.wrote;
-      shown = tt;
-    }
+    rw c.written-2.ensures
+    (put-untold _ _ g.W.Sink.shows _ k r c.run-2.result
+    (writing-ends d k r.plan r.demands c.requires.run.list c.worsts-worsts.ensures.within publishes r.version r.ticks _
+    c.in-Ok.ensures.kernel _ _ _ _ c.run-2.result c.in-Ok.ensures.few c.run-2.ensures.wrote)
+    c.if-run.false refl)

@@ -1,0 +1,217 @@
+-- The tasks of a command are loaded first: what that load gives, and how the loads after it add to it.
+use Rattle.std.proofs.Common.{◌≡◌, ◌≤◌, ◌<◌, inl, inr, ℕ, ◌+◌, Bool, true, List, [], ◌∷◌, Option, Some, None, Result, Ok, Err, IsTrue, refl, sym, ◌∙◌, ap, subst, arith}
+use Rattle.std.proofs.lemmas.Option.{same_Some}
+use Rattle.dvs_base.specs.Outside.{Files, ShelfView, Rose, Lacks}
+use Rattle.dvs_base.specs.Checks.{and_then}
+use Rattle.task_model.specs.declared.task.Task.{Task}
+use Rattle.task_model.specs.Tasks.{names_of}
+use Rattle.words.specs.Commands.{CommandView, run, admit, traced, workload, response, constrain, poll, least, tasks_name}
+use Rattle.statuses.specs.declared.status.FileKind.{FileKind}
+use Rattle.statuses.specs.declared.status.FileKind.TheVariants as file
+use Rattle.statuses.specs.declared.status.Status.{Status}
+use Rattle.statuses.specs.declared.status.Status.TheVariants as status
+use Rattle.statuses.specs.Status.{IsOfFile, OfLoad}
+use Rattle.statuses.specs.Steps.{EndsWith, Refuses}
+use Rattle.statuses.specs.StatusLines.{status_text}
+use Rattle.command_files.specs.Meanings.{tasks_at}
+use Rattle.command_files.specs.Files.{NamedFile, named_file, files_of, files_needed, files_for, passes, FailsFrom, MakesLoads, loads_needed, names_at, names_from, names_by}
+use Rattle.command_files.specs.Loads.{one_file, files_after, tasks_loads, loads_after, IsLoadStep, LaterLoadFails}
+use Rattle.rtdvs_top.specs.Admit.{admit_after_tasks}
+use Rattle.rtdvs_top.specs.Run.{run_after_tasks}
+use Rattle.rtdvs_top.specs.Trace.{trace_after_tasks}
+use Rattle.rtdvs_top.specs.Response.{response_after_tasks}
+use Rattle.rtdvs_top.specs.Constrain.{constrain_after_tasks}
+use Rattle.rtdvs_top.specs.Poll.{poll_after_tasks}
+use Rattle.rtdvs_top.specs.Asked.{Asked, asked_with, with_files}
+use Rattle.rtdvs_top.specs.Promises.{answer_of_command, LoadFailed, ProvesTests}
+use Rattle.rtdvs_top.specs.Prepared.{AreTasksAt, HasTaskNames, IsRefused, IsTasksStep}
+
+-- a command that names a file of tasks loads it first, and its answer goes on with the tasks
+record LoadsTasks (c : CommandView) (name : List ℕ) : Type 0 where
+  later : List Task → Files → Result (List ℕ) Status
+  first : files_of c ≡ named_file file.Tasks name ∷ files_after c
+  answer : (files : Files) → answer_of_command c files ≡ and_then (tasks_at name files) (λ tasks. later tasks files)
+
+loads-tasks : (c : CommandView) (name : List ℕ) → Some name ≡ tasks_name c → LoadsTasks c name
+loads-tasks (run r) name e =
+    subst (LoadsTasks (run r)) (sym (same_Some _ _ e)) (record { later = run_after_tasks r; first = refl; answer = λ files. refl })
+loads-tasks (admit a) name e =
+    subst (LoadsTasks (admit a)) (sym (same_Some _ _ e)) (record { later = admit_after_tasks a; first = refl; answer = λ files. refl })
+loads-tasks (traced r) name e =
+    subst (LoadsTasks (traced r)) (sym (same_Some _ _ e)) (record { later = trace_after_tasks r; first = refl; answer = λ files. refl })
+loads-tasks (workload seed) name e = absurd (cc)
+loads-tasks (response r) name e =
+    subst (LoadsTasks (response r)) (sym (same_Some _ _ e)) (record { later = response_after_tasks r; first = refl; answer = λ files. refl })
+loads-tasks (constrain r) name e =
+    subst (LoadsTasks (constrain r)) (sym (same_Some _ _ e)) (record { later = constrain_after_tasks r; first = refl; answer = λ files. refl })
+loads-tasks (poll q) name e =
+    subst (LoadsTasks (poll q)) (sym (same_Some _ _ e)) (record { later = poll_after_tasks q; first = refl; answer = λ files. refl })
+loads-tasks (least l) name e = absurd (cc)
+
+-- a chain whose first step is refused is refused so
+ends-then : {A B : Type 0} (step : Result A Status) (next : A → Result B Status) (s : Status) → EndsWith step s
+    → EndsWith (and_then step next) s
+ends-then step next status.Done h = absurd h
+ends-then step next (status.Words why) h = absurd h
+ends-then step next status.Write h = absurd h
+ends-then step next status.NoMemory h = tt
+ends-then step next (status.Load kind) h = tt
+ends-then step next s h = ap (λ r. and_then r next) h
+
+-- a status that is of a file says nothing of an exact test
+of-file-tested : (a : Asked) (s : Status) → IsOfFile s → ProvesTests a s
+of-file-tested (with_files files (response r)) status.Done h = absurd h
+of-file-tested (with_files files (response r)) (status.NotAdmitted why) h = absurd h
+of-file-tested (with_files files (response r)) s h = tt
+of-file-tested (with_files files (constrain r)) status.Done h = absurd h
+of-file-tested (with_files files (constrain r)) (status.NotAdmitted why) h = absurd h
+of-file-tested (with_files files (constrain r)) (status.Limit jobs) h = absurd h
+of-file-tested (with_files files (constrain r)) s h = tt
+of-file-tested a s h = tt
+
+-- the load of the tasks that a command names
+module _ (c : CommandView) (name : List ℕ) (named : Some name ≡ tasks_name c) (old new : ShelfView) where
+  abbrev own : LoadsTasks c name
+  own = loads-tasks c name named
+
+  held-are : files_for old.held c ≡ old.held
+  held-are = ap (files_needed old.held) own.first
+
+  refuses : (held : Option Files) (s : Status) → Refuses held (tasks_at name) s → Refuses held (answer_of_command c) s
+  refuses None s h = h
+  refuses (Some files) s h =
+      subst (λ (answer : Result (List ℕ) Status). EndsWith answer s) (sym (own.answer files))
+      (ends-then (tasks_at name files) (λ tasks. own.later tasks files) s h)
+
+  -- the lines of such a status name no task, or the file gives no names
+  unnamed : (held : Option Files) (s : Status) → IsOfFile s → Refuses held (tasks_at name) s → HasTaskNames held c None s
+  unnamed None s h refused = tt
+  unnamed (Some files) (status.Load kind) h refused = refl
+  unnamed (Some files) status.NoMemory h refused = refl
+  unnamed (Some files) (status.Text why) h refused =
+      ap (λ (names : List (List ℕ)). status_text names (status.Text why))
+      (sym (ap (λ (o : Option (List ℕ)). names_at o files) (sym named) ∙ ap names_from refused))
+  unnamed (Some files) s h refused = absurd h
+
+  -- a load that failed is of the command's first file
+  first-failed : (s : Status) → OfLoad (FailsFrom (λ f. true) old new 1 (named_file file.Tasks name ∷ [])) s
+      → LoadFailed old new (Ok c) s
+  first-failed (status.Load kind) h =
+      subst (λ (fs : List NamedFile). FailsFrom (passes (files_for old.held c) c) old new 1 fs kind) (sym own.first) (alone h)
+    where
+      alone : FailsFrom (λ f. true) old new 1 (named_file file.Tasks name ∷ []) kind
+          → FailsFrom (passes (files_for old.held c) c) old new 1 (named_file file.Tasks name ∷ files_after c) kind
+      alone (inl x) = inl x
+      alone (inr x) = absurd x.1
+  first-failed s h = tt
+
+  own-loads : MakesLoads 1 old new → MakesLoads (tasks_loads (tasks_name c)) old new
+  own-loads made = subst (λ (o : Option (List ℕ)). MakesLoads (tasks_loads o) old new) named made
+
+  -- the tasks were read
+  pub tasks-read : (tasks : List Task) → IsLoadStep {A = List Task} (one_file file.Tasks name (tasks_at name)) old new (Ok tasks) (λ v. v)
+      → IsTasksStep old new c (Ok (Some tasks))
+  tasks-read tasks step = record {
+    read = subst (λ (o : Option (List ℕ)). AreTasksAt old.held o (Some tasks)) named step.read;
+    refused = tt;
+    failed = tt;
+    loads = own-loads step.loads;
+    counts = step.counts;
+  }
+
+  -- they were refused
+  pub tasks-refused : (s : Status) → IsLoadStep {A = List Task} (one_file file.Tasks name (tasks_at name)) old new (Err s) (λ (v : List Task). v)
+      → IsOfFile s → IsTasksStep old new c (Err s)
+  tasks-refused s step of_file =
+      let of_known = λ (held : Option Files). IsRefused held c None s in
+      record {
+        read = tt;
+        refused = subst of_known (sym held-are) (record {
+          ended = refuses old.held s step.refused;
+          tested = of-file-tested (asked_with old.held c) s of_file;
+          named = unnamed old.held s of_file step.refused;
+          shown = step.shown;
+        });
+        failed = first-failed s step.failed;
+        loads = own-loads step.loads;
+        counts = step.counts;
+      }
+
+-- a command without a file of tasks loads none
+pub no-tasks : (c : CommandView) (shelf : ShelfView) → None ≡ tasks_name c → IsTasksStep shelf shelf c (Ok None)
+no-tasks c shelf none = record {
+  read = subst (λ (o : Option (List ℕ)). AreTasksAt shelf.held o None) none tt;
+  refused = tt;
+  failed = tt;
+  loads = subst (λ (o : Option (List ℕ)). MakesLoads (tasks_loads o) shelf shelf) none
+      (record { held = refl; later = omega arith; steady = λ sure. refl; surety = omega arith });
+  counts = refl;
+}
+
+-- the loads of a command's tasks, and those after them, are the loads that its answer needs
+pub needed-loads : (held : Option Files) (c : CommandView) → loads_needed held c ≡ tasks_loads (tasks_name c) + loads_after held c
+needed-loads held (run r) = omega arith
+needed-loads held (admit a) = omega arith
+needed-loads held (traced r) = omega arith
+needed-loads held (workload seed) = omega arith
+needed-loads held (response r) = omega arith
+needed-loads held (constrain r) = omega arith
+needed-loads held (poll q) = omega arith
+needed-loads held (least l) = omega arith
+
+pub both-made : {m n : ℕ} (old mid new : ShelfView) → MakesLoads m old mid → MakesLoads n mid new → MakesLoads (m + n) old new
+both-made old mid new first later = record {
+  held = later.held ∙ first.held;
+  later = omega (arith, first.later, later.later);
+  steady = λ sure. later.steady (omega (arith, sure, first.surety)) ∙ first.steady (omega (arith, sure));
+  surety = omega (arith, first.surety, later.surety);
+}
+
+pub more-made : {m n : ℕ} (old new : ShelfView) → m ≤ n → MakesLoads m old new → MakesLoads n old new
+more-made old new more made = record {
+  held = made.held;
+  later = made.later;
+  steady = λ sure. made.steady (omega (arith, sure, more));
+  surety = omega (arith, made.surety, more);
+}
+
+-- A load that failed, where `few` loads were made before it, failed in a later place.
+module _ (passed : NamedFile → Bool) (old mid new : ShelfView) (kind : FileKind) (few : ℕ) (made : MakesLoads few old mid)
+    (still : mid.faults ≡ old.faults) where
+  fails-later : (near far : ℕ) (fs : List NamedFile) → near + few ≤ far → FailsFrom passed mid new near fs kind
+      → FailsFrom passed old new far fs kind
+  fails-later near far [] room fails = absurd fails
+  fails-later near far (f ∷ fs) room (inl (is, inl lacks)) =
+      inl (is, inl (subst (λ (held : Option Files). Lacks held f.name) made.held lacks.0, lacks.1 ∙ still))
+  fails-later near far (f ∷ fs) room (inl (is, inr rose)) =
+      inl (is, inr (subst (λ (n : ℕ). Rose n new.faults) still rose.0, omega (arith, rose.1, made.surety, room)))
+  fails-later near far (f ∷ fs) room (inr (read, later)) =
+      inr (read, fails-later (near + 1) (far + 1) fs (omega (arith, room)) later)
+
+-- a load that failed after the tasks of a command were read
+module _ (old mid new : ShelfView) (kind : FileKind) (still : mid.faults ≡ old.faults) where
+  after-first : (c : CommandView) (f : NamedFile) (fs : List NamedFile) → MakesLoads 1 old mid
+      → IsTrue (passes mid.held c f) × FailsFrom (passes mid.held c) mid new 1 fs kind
+      → FailsFrom (passes old.held c) old new 1 (f ∷ fs) kind
+  after-first c f fs made fails =
+      let P : Option Files → Type 0 = λ held. IsTrue (passes held c f) × FailsFrom (passes held c) mid new 1 fs kind in
+      let own : P old.held = subst P made.held fails in
+      inr (own.0, fails-later (passes old.held c) old mid new kind 1 made still 1 (1 + 1) fs (omega arith) own.1)
+
+  load-failed : (c : CommandView) → MakesLoads (tasks_loads (tasks_name c)) old mid → LaterLoadFails mid new c (status.Load kind)
+      → LoadFailed old new (Ok c) (status.Load kind)
+  load-failed (run r) made fails = after-first (run r) (named_file file.Tasks r.tasks) (files_after (run r)) made fails
+  load-failed (admit a) made fails = after-first (admit a) (named_file file.Tasks a.tasks) (files_after (admit a)) made fails
+  load-failed (traced r) made fails = after-first (traced r) (named_file file.Tasks r.tasks) (files_after (traced r)) made fails
+  load-failed (workload seed) made fails = absurd fails.1
+  load-failed (response r) made fails = after-first (response r) (named_file file.Tasks r.tasks) (files_after (response r)) made fails
+  load-failed (constrain r) made fails = after-first (constrain r) (named_file file.Tasks r.tasks) (files_after (constrain r)) made fails
+  load-failed (poll q) made fails = after-first (poll q) (named_file file.Tasks q.tasks) (files_after (poll q)) made fails
+  load-failed (least l) made fails =
+      fails-later (passes old.held (least l)) old mid new kind 0 made still 1 1 (files_of (least l)) (omega arith)
+      (subst (λ (held : Option Files). FailsFrom (passes held (least l)) mid new 1 (files_of (least l)) kind) made.held fails.1)
+
+pub later-failed : (c : CommandView) (old mid new : ShelfView) (s : Status) → MakesLoads (tasks_loads (tasks_name c)) old mid
+    → mid.faults ≡ old.faults → LaterLoadFails mid new c s → LoadFailed old new (Ok c) s
+later-failed c old mid new (status.Load kind) made still fails = load-failed old mid new kind still c made fails
+later-failed c old mid new s made still fails = tt

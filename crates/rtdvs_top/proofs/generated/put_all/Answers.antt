@@ -1,9 +1,0 @@
-use Rattle.dvs_base.proofs.TextPuts.{wrote-some-more, writes-then, writes-part}
-use Rattle.rtdvs_top.proofs.generated.put_all.Goals as goal
-
-pub returns-in_err-put_line : goal.returns-in_err-put_line
-returns-in_err-put_line g c =
-    writes-part _ _ _ c.from_residual.result c.from_residual.ensures.0 (wrote-some-more _ _ _ _ c.in_err-put_line.ensures)
-
-pub returns : goal.returns
-returns g c = writes-then _ _ _ _ _ c.put_totals.result c.in_ok-put_line.ensures c.put_totals.ensures
