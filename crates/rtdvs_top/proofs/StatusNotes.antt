@@ -25,8 +25,8 @@ module _ (files : Files) (c : CommandView) (tasks : Option (List Task)) (ps : Li
   same-noted asks s is named = named
 
 -- what was put to `notes` is what the call promises
-pub puts-notes : (files : Option Files) (c : CommandView) (tasks read : Option (List Task)) (ps qs : List ProbeView) (s : Status) (old new : SinkView) (asks : Bool)
-    → asks ≡ asks_probes c → read ≡ tasks → qs ≡ ps → HasTaskNames files c tasks s
+pub puts-notes : (files : Option Files) (c : CommandView) (tasks read : Option (List Task)) (ps qs : List ProbeView) (s : Status)
+    (old new : SinkView) (asks : Bool) → asks ≡ asks_probes c → read ≡ tasks → qs ≡ ps → HasTaskNames files c tasks s
     → NotedAs old new (noted_text asks (names_of read) qs s) → PutsNotes (asked_with files c) ps s old new
 puts-notes None c tasks read ps qs s old new asks a r q named h = (
   names_of read,

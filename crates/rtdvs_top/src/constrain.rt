@@ -92,8 +92,8 @@ pub(crate) fn prepare_constrain<'a, S: Shelf>(
     shelf: &mut S,
 ) -> Result<Prepared<'a>, Status>
     requires { Gives (S.shows shelf.old).held (tasks_at words.now.tasks.now) tasks.now }
-    ensures { IsPrepareStep (S.shows shelf.old) (S.shows shelf.new) (constrain_of (shown_constrain words.now)) (Some tasks.now)
-        result }
+    ensures { IsPrepareStep (S.shows shelf.old) (S.shows shelf.new) (constrain_of (shown_constrain words.now))
+        (Some tasks.now) result }
 {
     let machine = load_machine(alloc, words.machine, shelf)?;
     let deadlines = load_deadlines(alloc, words.deadlines, tasks, shelf)?;

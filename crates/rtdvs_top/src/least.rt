@@ -77,8 +77,9 @@ fn bound_energy(words: &LeastWords<'_>, machine: &Machine) -> Result<Least, Stat
     ensures step { IsTestStep (least_on (shown_least words.now) machine.now) result (λ a. least_text a) }
     ensures least { IfOk result (IsLeastOn machine.now (shown_least words.now)) }
 {
-    least_energy(machine, words.units, words.ticks)
-        .map_err(|Over { num, cap }| Status::NotAdmitted(Denied::Units { num, cap }))
+    least_energy(machine, words.units, words.ticks).map_err(|Over { num, cap }| Status::NotAdmitted(
+        Denied::Units { num, cap },
+    ))
 }
 
 /// What `least` prepares; its one file is the machine's.

@@ -15,7 +15,7 @@ ghost use Rattle.rtdvs_top.specs.Response.{responses_on, response_text, response
 
 use crate::prepared::Prepared;
 use crate::{Denied, Status};
-use command_files::{load_machine};
+use command_files::load_machine;
 use dvs_base::{Failed, Line, Part, Scheduler, Shelf, Sink, line_of, put_line};
 use freq_table::Machine;
 use rm_response::{Response, ResponseFault, rm_response};
@@ -80,8 +80,8 @@ pub(crate) fn prepare_response<'a, S: Shelf>(
     shelf: &mut S,
 ) -> Result<Prepared<'a>, Status>
     requires { Gives (S.shows shelf.old).held (tasks_at words.now.tasks.now) tasks.now }
-    ensures { IsPrepareStep (S.shows shelf.old) (S.shows shelf.new) (response_of (shown_response words.now)) (Some tasks.now)
-        result }
+    ensures { IsPrepareStep (S.shows shelf.old) (S.shows shelf.new) (response_of (shown_response words.now))
+        (Some tasks.now) result }
 {
     let machine = load_machine(alloc, words.machine, shelf)?;
     let response = respond(alloc, tasks, &machine)?;

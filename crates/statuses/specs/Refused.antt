@@ -9,11 +9,11 @@ use Rattle.request_list.specs.declared.fault.RequestFault.{RequestFault}
 use Rattle.statuses.specs.declared.status.TextFault.TheVariants as text
 use Rattle.statuses.specs.declared.status.Status.{Status}
 use Rattle.statuses.specs.declared.status.Status.TheVariants as status
-use Rattle.statuses.specs.Status.{text_status, IsShownText}
+use Rattle.statuses.specs.Status.{text_status, IsText}
 
 -- the status refuses a file and shows its cause, or memory ran out
 abbrev pub RefusesFile : Status → Type 0
-RefusesFile (status.Text why) = IsShownText why
+RefusesFile (status.Text why) = IsText (text_status why)
 RefusesFile status.NoMemory = ⊤
 RefusesFile s = ⊥
 

@@ -76,17 +76,13 @@ abbrev pub IsText : Status → Type 0
 IsText (status.Text why) = ⊤
 IsText s = ⊥
 
--- a refusal of a file is none of those that are statuses of their own
-abbrev pub IsShownText : TextFault → Type 0
-IsShownText why = IsText (text_status why)
-
--- the numbers and the notes of a status show its cause
+-- the numbers and the notes of a status show its cause; a refusal of a file is none that is a status of its own
 abbrev pub IsShown : Status → Type 0
 IsShown (status.NotAdmitted why) = IsShownDenial why
 IsShown (status.Limit jobs) = MOST_JOBS < jobs
 IsShown (status.OverWorst task job units worst) = worst < units
 IsShown (status.Differs line wanted found) = wanted ≢ found
-IsShown (status.Text why) = IsShownText why
+IsShown (status.Text why) = IsText (text_status why)
 IsShown s = ⊤
 
 -- every status but `Done` and `Write` leaves a thing as it was

@@ -59,7 +59,8 @@ returns-clause-part g c = λ failed. rw (sym c.in-Ok.ensures.read) (parts-of _ _
 
 pub returns-clause-puts : goal.returns-clause-puts
 returns-clause-puts g c =
-    counts-puts g.W.Sink.shows _ _ c.answer_command-status.result.0 c.args.out.now _ c.answer_command-status.ensures.answered.ended c.answer_command-status.ensures.leaves
+    counts-puts g.W.Sink.shows _ _ c.answer_command-status.result.0 c.args.out.now _ c.answer_command-status.ensures.answered.ended
+    c.answer_command-status.ensures.leaves
 
 pub returns-clause-sure : goal.returns-clause-sure
 returns-clause-sure g c =
