@@ -10,7 +10,6 @@ use Rattle.sched_model.specs.Plan.{Plan, plan_of}
 use Rattle.sched_model.specs.Jobs.{demand_of, released_jobs}
 use Rattle.trace_writer.specs.RunText.{run_text_in}
 use Rattle.dvs_base.specs.declared.limits.TheConstants.{MOST_JOBS}
-use Rattle.words.specs.declared.command.WordFault.{WordFault}
 use Rattle.words.specs.Commands.{RunView, CommandView, run, response}
 use Rattle.command_files.specs.Meanings.{tasks_at, machine_at, demands_at}
 use Rattle.command_files.specs.Admissions.{admission}

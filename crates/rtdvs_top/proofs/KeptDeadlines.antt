@@ -1,5 +1,5 @@
 -- What a refusal of `constrain` proves, from what its files mean.
-use Rattle.std.proofs.Common.{◌≡◌, ℕ, List, Option, Some, None, Result}
+use Rattle.std.proofs.Common.{ℕ, List, Option, Some, None, Result}
 use Rattle.std.specs.Prelude.{slice_index}
 use Rattle.dvs_base.specs.Outside.{Files}
 use Rattle.dvs_base.specs.declared.kind.Scheduler.TheVariants.{Edf}

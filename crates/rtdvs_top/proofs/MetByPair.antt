@@ -4,7 +4,7 @@ use Rattle.dvs_base.specs.Outside.{Files, ShelfView, SinkView}
 use Rattle.task_model.specs.declared.task.Task.{Task}
 use Rattle.probes.specs.Tallies.{ProbeView}
 use Rattle.words.specs.Commands.{CommandView, tasks_name, run, traced, poll, least}
-use Rattle.rtdvs_top.specs.Asked.{asked_with, asked_of}
+use Rattle.rtdvs_top.specs.Asked.{asked_with}
 use Rattle.rtdvs_top.specs.Promises.{LoadFailed, TellsProbes, answer_of_command}
 use Rattle.statuses.specs.Steps.{IsRefusal, Refuses}
 use Rattle.command_files.specs.Files.{files_for, MakesLoads, loads_needed}

@@ -1,10 +1,9 @@
 -- The tasks of a command are loaded first: what that load gives, and how the loads after it add to it.
-use Rattle.std.proofs.Common.{◌≡◌, ◌≤◌, ◌<◌, inl, inr, ℕ, ◌+◌, Bool, true, List, [], ◌∷◌, Option, Some, None, Result, Ok, Err, IsTrue, refl, sym, ◌∙◌, ap, subst, arith}
+use Rattle.std.proofs.Common.{◌≡◌, ◌≤◌, inl, inr, ℕ, ◌+◌, Bool, true, List, [], ◌∷◌, Option, Some, None, Result, Ok, Err, IsTrue, refl, sym, ◌∙◌, ap, subst, arith}
 use Rattle.std.proofs.lemmas.Option.{same_Some}
 use Rattle.dvs_base.specs.Outside.{Files, ShelfView, Rose, Lacks}
 use Rattle.dvs_base.specs.Checks.{and_then}
 use Rattle.task_model.specs.declared.task.Task.{Task}
-use Rattle.task_model.specs.Tasks.{names_of}
 use Rattle.words.specs.Commands.{CommandView, run, admit, traced, workload, response, constrain, poll, least, tasks_name}
 use Rattle.statuses.specs.declared.status.FileKind.{FileKind}
 use Rattle.statuses.specs.declared.status.FileKind.TheVariants as file
@@ -14,7 +13,7 @@ use Rattle.statuses.specs.Status.{IsOfFile, OfLoad}
 use Rattle.statuses.specs.Steps.{EndsWith, Refuses}
 use Rattle.statuses.specs.StatusLines.{status_text}
 use Rattle.command_files.specs.Meanings.{tasks_at}
-use Rattle.command_files.specs.Files.{NamedFile, named_file, files_of, files_needed, files_for, passes, FailsFrom, MakesLoads, loads_needed, names_at, names_from, names_by}
+use Rattle.command_files.specs.Files.{NamedFile, named_file, files_of, files_needed, files_for, passes, FailsFrom, MakesLoads, loads_needed, names_at, names_from}
 use Rattle.command_files.specs.Loads.{one_file, files_after, tasks_loads, loads_after, IsLoadStep, LaterLoadFails}
 use Rattle.rtdvs_top.specs.Admit.{admit_after_tasks}
 use Rattle.rtdvs_top.specs.Run.{run_after_tasks}

@@ -1,11 +1,10 @@
 -- What a test gives after the files of its command were loaded: its answer, or its refusal.
-use Rattle.std.proofs.Common.{◌≡◌, ℕ, Bool, false, List, Option, Some, None, Result, Ok, Err, refl, sym, ap, subst}
+use Rattle.std.proofs.Common.{◌≡◌, ℕ, false, List, Option, Some, None, Result, Ok, Err, refl, sym, ap, subst}
 use Rattle.std.specs.Prelude.{IsErrAnd}
 use Rattle.dvs_base.specs.Outside.{Files, ShelfView, SinkView}
 use Rattle.dvs_base.specs.Checks.{and_then}
 use Rattle.probes.specs.Tallies.{ProbeView}
 use Rattle.task_model.specs.declared.task.Task.{Task}
-use Rattle.task_model.specs.Tasks.{names_of}
 use Rattle.sched_model.specs.Plan.{Plan}
 use Rattle.sched_model.specs.Admission.{IsAdmitted}
 use Rattle.trace_reader.specs.Traces.{TraceView}
@@ -23,9 +22,9 @@ use Rattle.command_files.proofs.RefusedSteps.{ends-refusal}
 use Rattle.rtdvs_top.specs.Trace.{traced_of, answer_of_traced, trace_after_tasks}
 use Rattle.rtdvs_top.specs.Least.{least_on}
 use Rattle.rtdvs_top.specs.Asked.{asked_with}
-use Rattle.rtdvs_top.specs.Promises.{answer_of_command, ProvesTests, TellsProbes}
+use Rattle.rtdvs_top.specs.Promises.{ProvesTests, TellsProbes}
 use Rattle.rtdvs_top.specs.declared.prepared.Prepared.{Prepared}
-use Rattle.rtdvs_top.specs.Prepared.{HasTaskNames, HasAnswer, IsPuttable, IsPrepared, IsRefused, PutEnds, PutTells, ProvesDone, tells_probes, answer_of}
+use Rattle.rtdvs_top.specs.Prepared.{HasTaskNames, HasAnswer, IsPuttable, IsPrepared, IsRefused, PutEnds, ProvesDone, tells_probes, answer_of}
 
 -- what holds of an error that is handed on
 pub at-error : {T : Type 0} (P : Result T Status → Type 0) (r : Result T Status) (s : Status) → IsErrAnd r (λ x. x ≡ s) → P (Err s)

@@ -1,5 +1,5 @@
 -- The put of a run, from how its lines were written; and that it is alike under an equal kind of governor.
-use Rattle.std.proofs.Common.{◌≡◌, Bool, true, false, List, Result, Ok, Err, refl, sym, subst}
+use Rattle.std.proofs.Common.{◌≡◌, true, false, List, Result, Ok, Err, sym, subst}
 use Rattle.dvs_base.specs.Outside.{SinkView}
 use Rattle.dvs_base.specs.declared.kind.GovernorKind.{GovernorKind}
 use Rattle.probes.specs.Tallies.{ProbeView}
@@ -7,7 +7,7 @@ use Rattle.statuses.specs.declared.status.Status.{Status}
 use Rattle.rtdvs_top.specs.declared.prepared.ReadyRun.{ReadyRun}
 use Rattle.rtdvs_top.specs.declared.prepared.Prepared.TheVariants as prepared
 use Rattle.rtdvs_top.specs.ToldRuns.{TellsRun}
-use Rattle.rtdvs_top.specs.Prepared.{Ends, IsPutStep, answer_of, answer_of_run, governed_run, ready_run, status_of_writing}
+use Rattle.rtdvs_top.specs.Prepared.{Ends, IsPutStep, answer_of_run, governed_run, ready_run, status_of_writing}
 
 module _ {W V : Type 0} (out : W × W) (probes : V × V) (shows : W → SinkView) (counts : V → List ProbeView) where
   pub put-as : {g k : GovernorKind} (w : ReadyRun) (s : Status) → g ≡ k

@@ -1,5 +1,5 @@
 -- The answer of `constrain`, and what it proves (Baruah, Rosier and Howell 1990).
-use Rattle.std.specs.Prelude.{ℕ, List, Result, Ok, [], ◌∷◌, codes, decimal, slice_index, ◌≡◌, ⊤, Option, Some}
+use Rattle.std.specs.Prelude.{ℕ, List, Result, Ok, [], ◌∷◌, codes, decimal, slice_index, ◌≡◌, ⊤}
 use Rattle.dvs_base.specs.Checks.{◌>>=◌}
 use Rattle.dvs_base.specs.Outside.{Files}
 use Rattle.dvs_base.specs.Parts.{fraction_text}

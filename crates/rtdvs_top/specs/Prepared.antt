@@ -1,14 +1,13 @@
 -- What a command prepares, how its put ends, and what is then known; for proofs alone.
-use Rattle.std.specs.Prelude.{ℕ, List, Result, Option, ⊤, ◌≤◌, ◌≡◌, Ok, Some, None, Err, ◌<◌, length, Bool, false, true, IfOk, IfErr}
+use Rattle.std.specs.Prelude.{ℕ, List, Result, Option, ⊤, ◌≤◌, ◌≡◌, Ok, Some, None, Err, ◌<◌, length, Bool, false, IfOk, IfErr}
 use Rattle.dvs_base.specs.Outside.{ShelfView, SinkView, Files}
 use Rattle.dvs_base.specs.declared.kind.GovernorKind.{GovernorKind}
 use Rattle.dvs_base.specs.declared.kind.Version.{Version}
 use Rattle.task_model.specs.declared.task.Task.{Task}
-use Rattle.sched_model.specs.Plan.{Plan, count, plan_of}
+use Rattle.sched_model.specs.Plan.{Plan, count}
 use Rattle.event_kernel.specs.Runs.{Run}
 use Rattle.dvs_base.specs.declared.limits.TheConstants.{MOST_TICKS}
-use Rattle.words.specs.Commands.{CommandView, asks_probes, tasks_name, run, traced, poll, least, ResponseView}
-use Rattle.words.specs.declared.command.TraceUse.{TraceUse}
+use Rattle.words.specs.Commands.{CommandView, asks_probes, tasks_name, run, traced, poll, least}
 use Rattle.statuses.specs.declared.status.Status.{Status}
 use Rattle.statuses.specs.declared.status.Status.TheVariants as status
 use Rattle.task_model.specs.Tasks.{names_of}
@@ -27,8 +26,8 @@ use Rattle.replay.specs.Replays.{NamesTask}
 use Rattle.rtdvs_top.specs.declared.prepared.ReadyRun.{ReadyRun}
 use Rattle.statuses.specs.Steps.{EndsWith, Gives, Refuses, CountsStep}
 use Rattle.command_files.specs.Files.{files_for, names_by, loads_needed, MakesLoads}
-use Rattle.command_files.specs.Loads.{LoadOf, IsLoadStep, LaterLoadFails, loads_after, tasks_loads}
-use Rattle.statuses.specs.Status.{OfLoad, CountsLoads, Leaves, LeavesProbes, IsShown}
+use Rattle.command_files.specs.Loads.{LaterLoadFails, loads_after, tasks_loads}
+use Rattle.statuses.specs.Status.{CountsLoads, Leaves, LeavesProbes, IsShown}
 use Rattle.statuses.specs.StatusLines.{status_text}
 use Rattle.rtdvs_top.specs.Asked.{asked_of, asked_with}
 use Rattle.rtdvs_top.specs.ToldRuns.{IfAsked, TellsRun}
@@ -37,15 +36,14 @@ use Rattle.command_files.specs.PlannedRuns.{run_with, prepared_of, IsRunnable, I
 use Rattle.rtdvs_top.specs.Promises.{ProvesTests, TellsProbes, LoadFailed, answer_of_command}
 use Rattle.rtdvs_top.specs.Constrain.{FailsToKeep}
 use Rattle.rtdvs_top.specs.Generated.{workload_tasks, workload_ticks, workload_totals, workload_text}
-use Rattle.rtdvs_top.specs.Trace.{traced_of, migrated_text, IsMigratable, answer_of_traced}
+use Rattle.rtdvs_top.specs.Trace.{traced_of, migrated_text, IsMigratable}
 use Rattle.rtdvs_top.specs.Least.{least_text, IsLeastOn}
 use Rattle.rtdvs_top.specs.Poll.{polled_text, polling_of, HasServed}
-use Rattle.rtdvs_top.specs.Response.{responses_text, FailsToRespond, Responds}
+use Rattle.rtdvs_top.specs.Response.{responses_text}
 use Rattle.demand_list.specs.Demands.{DemandsView}
 use Rattle.sched_model.specs.Admission.{IsAdmitted}
 use Rattle.command_files.specs.Meanings.{machine_at, tasks_at}
 use Rattle.freq_table.specs.Tables.{Table}
-use Rattle.dvs_base.specs.declared.kind.Scheduler.TheVariants.{Rm}
 
 -- the answer of a run: its text in this version
 abbrev pub answer_of_run : Version → GovernorKind → Run → Result (List ℕ) Status

@@ -1,5 +1,5 @@
 -- What the top call promises, clause by clause.
-use Rattle.std.specs.Prelude.{Result, Ok, ◌≡◌, ⊤, Option, Some, ℕ, List, map, string_bytes, String, [], Err, ◌⊎◌, IsOk, None, ◌≤◌, length, ◌*◌, ◌<◌, ◌≢◌, Bool, false}
+use Rattle.std.specs.Prelude.{Result, Ok, ◌≡◌, ⊤, Some, ℕ, List, [], Err, ◌⊎◌, IsOk, None, ◌≤◌, length, ◌*◌, ◌<◌, ◌≢◌}
 use Rattle.dvs_base.specs.Checks.{◌>>=◌}
 use Rattle.dvs_base.specs.Outside.{Files, SinkView, ShelfView, Rose}
 use Rattle.sched_model.specs.Plan.{Plan, plan_of, period, hyper, top_speed}
@@ -10,7 +10,6 @@ use Rattle.statuses.specs.declared.status.Denied.{Denied}
 use Rattle.statuses.specs.declared.status.Status.{Status}
 use Rattle.statuses.specs.declared.status.Status.TheVariants as status
 use Rattle.std.specs.Io.KnownBytes.{Appends}
-use Rattle.std.specs.declared.alloc.Global.{Global}
 use Rattle.dvs_base.specs.WritesText.{Wrote, WroteSome}
 use Rattle.dvs_base.specs.declared.kind.GovernorKind.{GovernorKind}
 use Rattle.dvs_base.specs.declared.kind.Version.{Version}
@@ -23,7 +22,6 @@ use Rattle.sched_model.specs.Jobs.{released_jobs}
 use Rattle.rm_admit.specs.Denials.{IsFirstOverloaded}
 use Rattle.event_kernel.specs.Runs.{Run}
 use Rattle.dvs_base.specs.declared.limits.TheConstants.{MOST_JOBS}
-use Rattle.words.specs.Reading.{command_of}
 use Rattle.energy_bound.specs.declared.least.Least.{Least}
 use Rattle.probes.specs.Tallies.{ProbeView}
 use Rattle.poll_server.specs.ServerJobs.{ServerView}
@@ -40,7 +38,7 @@ use Rattle.rtdvs_top.specs.Generated.{workload_answer}
 use Rattle.rtdvs_top.specs.Response.{response_answer, MeansPlan, RespondsOrIsDenied, ProvesResponses}
 use Rattle.rtdvs_top.specs.Constrain.{constrain_answer, ProvesDeadlines}
 use Rattle.rtdvs_top.specs.Least.{least_answer, least_text, IsLeastOn, AreTooMany}
-use Rattle.command_files.specs.Files.{files_for, files_of, passes, FailsFrom, loads_of, loads_needed, names_by}
+use Rattle.command_files.specs.Files.{files_for, files_of, passes, FailsFrom, names_by}
 use Rattle.statuses.specs.Status.{OfLoad}
 use Rattle.statuses.specs.StatusLines.{status_text}
 use Rattle.statuses.specs.Noted.{NotedAs, noted_text}

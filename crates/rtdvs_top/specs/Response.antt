@@ -1,5 +1,5 @@
 -- The answer of `response`, and what it proves (Joseph and Pandya 1986).
-use Rattle.std.specs.Prelude.{◌≡◌, false, List, Ok, ⊤, Option, Some, ◌⊎◌, ℕ, Result, [], ◌∷◌, slice_index, codes, decimal, length}
+use Rattle.std.specs.Prelude.{◌≡◌, false, List, Ok, ⊤, ◌⊎◌, ℕ, Result, [], ◌∷◌, slice_index, codes, decimal, length}
 use Rattle.dvs_base.specs.Outside.{Files}
 use Rattle.dvs_base.specs.declared.kind.Scheduler.TheVariants.{Rm}
 use Rattle.task_model.specs.declared.task.Task.{Task}

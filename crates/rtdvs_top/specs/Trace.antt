@@ -1,5 +1,5 @@
 -- The answer of `replay` and `migrate`, and which trace files they take.
-use Rattle.std.specs.Prelude.{◌≡◌, ℕ, ◌≤◌, true, List, Some, Ok, ⊤, Option, Result, map, [], ◌∷◌, codes, decimal}
+use Rattle.std.specs.Prelude.{◌≡◌, ℕ, ◌≤◌, true, List, Some, Ok, ⊤, Result, map, [], ◌∷◌, codes, decimal}
 use Rattle.dvs_base.specs.Outside.{Files, file_of}
 use Rattle.dvs_base.specs.declared.kind.GovernorKind.{GovernorKind}
 use Rattle.dvs_base.specs.declared.kind.Version.{Version}
@@ -14,8 +14,7 @@ use Rattle.trace_writer.specs.RunText.{run_text_in, task_texts}
 use Rattle.trace_reader.specs.Traces.{TraceView, IsTrace, text_of}
 use Rattle.trace_text.specs.TraceText.{task_lines}
 use Rattle.replay_laws.specs.FixedDemands.{fixed_of, fixed_list}
-use Rattle.words.specs.declared.command.WordFault.{WordFault}
-use Rattle.words.specs.Commands.{TracedView, CommandView, traced}
+use Rattle.words.specs.Commands.{TracedView, traced}
 use Rattle.statuses.specs.declared.status.Status.{Status}
 use Rattle.statuses.specs.declared.status.Status.TheVariants as status
 use Rattle.dvs_base.specs.Checks.{◌>>=◌}

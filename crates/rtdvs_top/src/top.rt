@@ -51,7 +51,7 @@ pub fn rtdvs<S: Shelf, W: Sink, E: Sink>(
         → WritesPart (asked words.now (S.shows shelf.old)) (W.shows out.old) (W.shows out.new) }
     ensures leaves { Leaves result out.old out.new }
 
-    // What a run, a test, a trace, a server and a minimum prove: admission, deadlines, speeds, responses, energies.
+    // What the answer proves: of a run, of the scheduler's test, of a trace, of exact tests, of a server, of energy.
     ensures headline { IsDoneOrDenied (asked words.now (S.shows shelf.old))
         (Rose (S.shows shelf.old).faults (S.shows shelf.new).faults) (W.shows out.old) (W.shows out.new) result }
     ensures run { ProvesRun (asked words.now (S.shows shelf.old)) (W.shows out.old) (W.shows out.new) result }
@@ -63,14 +63,14 @@ pub fn rtdvs<S: Shelf, W: Sink, E: Sink>(
     ensures polled { ProvesPoll (asked words.now (S.shows shelf.old)) result }
     ensures least { ProvesLeast (asked words.now (S.shows shelf.old)) (W.shows out.old) (W.shows out.new) result }
 
-    // What is on `notes`, and what the probes were told: the notes of a run where the words ask for it, else nothing.
+    // What is on `notes`, and what the probes were told: a run's notes where the words ask for probes, else nothing.
     ensures notes { PutsNotes (asked words.now (S.shows shelf.old)) (map (λ b. seen b) probes.new.items) result
         (E.shows notes.old) (E.shows notes.new) }
     ensures kept { LeavesProbes (probes_asked (command_asked words.now)) result probes.old probes.new }
     ensures told { TellsProbes (asked words.now (S.shows shelf.old)) (W.shows out.old) (W.shows out.new)
         (map (λ b. seen b) probes.old.items) (map (λ b. seen b) probes.new.items) result }
 
-    // What is left of the shelf, how the counts of faults go with the status, and that what is sure doesn't fail.
+    // What is left of the shelf, how counts of faults go with the status, and that what is guaranteed doesn't fail.
     ensures shelf { MakesLoads (loads_wanted (S.shows shelf.old).held (command_asked words.now))
         (S.shows shelf.old) (S.shows shelf.new) }
     ensures counts { CountsLoads (S.shows shelf.old).faults (S.shows shelf.new).faults result }

@@ -1,4 +1,4 @@
-use Rattle.std.proofs.Common.{List, Option, Result, Ok}
+use Rattle.std.proofs.Common.{List, Option, Result}
 use Rattle.task_model.specs.declared.task.Task.{Task}
 use Rattle.words.specs.Shown.{shown_command}
 use Rattle.statuses.specs.declared.status.Status.{Status}

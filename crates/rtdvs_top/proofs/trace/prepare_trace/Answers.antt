@@ -4,7 +4,6 @@ use Rattle.words.specs.Commands.{traced}
 use Rattle.words.specs.Shown.{shown_trace}
 use Rattle.statuses.specs.declared.status.Status.{Status}
 use Rattle.rtdvs_top.specs.declared.prepared.Prepared.{Prepared}
-use Rattle.rtdvs_top.specs.declared.prepared.Prepared.TheVariants as prepared
 use Rattle.rtdvs_top.specs.Prepared.{IsPrepareStep}
 use Rattle.rtdvs_top.proofs.Exactness.{migratable}
 use Rattle.rtdvs_top.proofs.TestEnds.{at-error, trace-refused, trace-prepared, trace-loads}
