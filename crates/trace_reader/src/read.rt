@@ -39,7 +39,7 @@ fn wanted_of(version: Version, names: &[Name]) -> u32
 
 // Whether the item may come next: the energies of the tasks are in file order, between the other notes and the last.
 fn is_in_order(energies_read: u32, wanted: u32, item: &Item) -> bool
-    ensures { result ≡ is_in_order energies_read energy_line_count item.now }
+    ensures { result ≡ is_in_order energies_read wanted item.now }
 {
     match *item {
         Item::Share { task, .. } => task == energies_read,
