@@ -3,8 +3,8 @@
 
     python3 tools/form.py [WORD]
 
-It ends with 1 where a count is above its limit: 90 for relations, 0 for the others. WORD is one of the counts, and then
-its places are printed too:
+It ends with 1 where a count is above its limit: 90 for relations, 1 for idle (`known_names`, by docs/DECISIONS.md), 0 for
+the others. WORD is one of the counts, and then its places are printed too:
 relations   definitions of the top call's specs (rtdvs_top, statuses, command_files) that are relations: their type ends
             in `Type 0`, or a record has parameters
 positions   citations of an invariant's part by its place (`invariant.0`), and invariants of three or more parts
@@ -154,7 +154,7 @@ def edges():
 def main():
     asked = sys.argv[1] if len(sys.argv) > 1 else None
     above = 0
-    for count, most in ((relations, 90), (positions, 0), (mutual, 0), (idle, 0), (limits, 0), (edges, 0)):
+    for count, most in ((relations, 90), (positions, 0), (mutual, 0), (idle, 1), (limits, 0), (edges, 0)):
         rows = count()
         above += len(rows) > most
         print(f"{count.__name__}: {len(rows)}, at most {most}")
