@@ -43,7 +43,7 @@ chmod 755 "$root/usr/bin/rtdvs"
 # Where Python is installed, it compiles the module, and takes what it compiled away again.
 for step in 'postinst compile' 'prerm clean'; do
     script=$root/DEBIAN/${step% *} command=py3${step#* }
-    printf '#!/bin/sh\nset -e\n! command -v %s > /dev/null || %s -p rtdvs\n' $command $command > "$script"
+    printf '#!/%s\nset -e\n! command -v %s >/dev/null || %s -p rtdvs\n' bin/sh $command $command > "$script"
     chmod 755 "$script"
 done
 
