@@ -9,7 +9,7 @@ program=$(cd "$(dirname "$1")" && pwd)/$(basename "$1")
 folder=$(cd "${2:-.}" && pwd)
 cd "$(dirname "$0")/.."
 
-# The heading `## 1.0 (2026-11-29)`.
+# The heading `## 1.1 (2026-11-30)`.
 version=$(sed -n 's/^## \([0-9.]*\) (.*/\1/p' CHANGELOG.md | head -n 1)
 date=$(sed -n 's/^## [0-9.]* (\([0-9-]*\))$/\1/p' CHANGELOG.md | head -n 1)
 SOURCE_DATE_EPOCH=$(date -u -d "$date" +%s)
