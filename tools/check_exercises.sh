@@ -1,13 +1,13 @@
 # sh tools/check_exercises.sh PROGRAM: makes each call of examples/exercises/solutions.txt, and compares what it prints
 # and its status with what is stored there. It needs Python 3.11, for the package in python/; PYTHON is the interpreter,
-# /usr/bin/python3 without it.
+# that of the system without it.
 case ${1:?no program} in
 /*) program=$1 ;;
 *) program=$PWD/$1 ;;
 esac
 [ -x "$program" ] || { echo "no program: $program"; exit 2; }
 python=${PYTHON:-/usr/bin/python3}
-"$python" -c 'import tomllib' 2> /dev/null || { echo 'exercises: skipped, no Python 3.11'; exit 0; }
+"$python" -c 'import tomllib' 2>/dev/null || { echo 'exercises: skipped, no Python 3.11'; exit 0; }
 top=$(cd "$(dirname "$0")/.." && pwd)
 work=$(mktemp -d) || exit 2
 trap 'rm -r "$work"' EXIT

@@ -1,6 +1,6 @@
 # check_links.sh: checks the pages, those at the top and in docs and examples.
 # Checked are: the file and the heading of each relative link; each path in backticks; each name of code in backticks,
-# which has to occur as a word in a crate; and that MESSAGES.md has each refusal's line of FORMATS.md.
+# which has to occur as a word in a crate or in python; and that MESSAGES.md has each refusal's line of FORMATS.md.
 # A path may be shortened from the left (`specs/Laws.antt`), and may have `*`. Folders that builds make aren't looked for.
 cd "$(dirname "$0")/.." || exit 2
 exec awk '
@@ -41,7 +41,7 @@ function check_link(target,    at, anchor) {
 
 # a path, whole or shortened from the left
 function check_path(path,    name, pattern) {
-    if (path ~ /(^|\/)out(\/|$)/ || path ~ /NAME|FILE/) return
+    if (path ~ /(^|\/)out(\/|$)/ || path ~ /NAME|FILE/ || path in others) return
     sub(/\/$/, "", path)
     if (path in tree || path in ends) return
     if (path ~ /\*/) {
@@ -56,7 +56,7 @@ function check_path(path,    name, pattern) {
 function check_names(name,    parts, n, i) {
     if (name ~ /NAME|FILE/) return
     n = split(name, parts, /::|\./)
-    for (i = 1; i <= n; i++) if (!(parts[i] in words)) fault("no name " name " in the crates")
+    for (i = 1; i <= n; i++) if (!(parts[i] in words)) fault("no name " name " in the code")
 }
 
 # whether a text looks like a path: by its ending, or by its first folder
@@ -70,7 +70,7 @@ function is_path(text,    parts) {
 function check_code(text) {
     if (is_path(text)) check_path(text)
     else if (text ~ /^[A-Za-z_][A-Za-z0-9_]*((::|\.)[A-Za-z_][A-Za-z0-9_]*)*$/ && text ~ /[A-Z_]|::/ && !(text in others)) check_names(text)
-    else if (text ~ /^[a-z][a-z0-9_]*(-[a-z0-9_]+)+$/ && !(text in others)) { if (!(text in words)) fault("no name " text " in the crates") }
+    else if (text ~ /^[a-z][a-z0-9_]*(-[a-z0-9_]+)+$/ && !(text in others)) { if (!(text in words)) fault("no name " text " in the code") }
 }
 
 # the texts in backticks of a line, each handed on
@@ -103,7 +103,7 @@ BEGIN {
         while (match(path, /\//)) { path = substr(path, RSTART + 1); ends[path] = 1 }
     }
     close(list)
-    code = "find crates examples crates.txt -name out -prune -o -type f \\( -name \"*.rt\" -o -name \"*.antt\" -o -name \"*.edit\" -o -name \"*.txt\" -o -name \"*.toml\" \\) -exec cat {} + | LC_ALL=C tr -cs \"A-Za-z0-9_-\" \"\\n\" | LC_ALL=C sort -u"
+    code = "find crates examples python crates.txt -name out -prune -o -type f \\( -name \"*.py\" -o -name \"*.rt\" -o -name \"*.antt\" -o -name \"*.edit\" -o -name \"*.txt\" -o -name \"*.toml\" \\) -exec cat {} + | LC_ALL=C tr -cs \"A-Za-z0-9_-\" \"\\n\" | LC_ALL=C sort -u"
     while ((code | getline word) > 0) {
         words[word] = 1
         n = split(word, parts, "-")
@@ -111,7 +111,7 @@ BEGIN {
     }
     close(code)
     # names in backticks that are no names of this code
-    n = split("HOW LD_PRELOAD SCHED_DEADLINE UnicodeDecodeError WORDS NAME rsvg-convert then-entries-gt64", parts, " ")
+    n = split("HOW LD_PRELOAD SCHED_DEADLINE UnicodeDecodeError WORDS NAME rsvg-convert sweep.py then-entries-gt64", parts, " ")
     for (i = 1; i <= n; i++) others[parts[i]] = 1
     for (path in tree) if (path ~ /^((docs|examples)\/)?[^\/]*\.md$/) pages[++count] = path
     for (p = 1; p <= count; p++) {

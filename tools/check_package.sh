@@ -6,7 +6,7 @@ cd "$(dirname "$0")/.." || exit 2
 [ -x "${1:?no program}" ] || { echo "no program: $1"; exit 2; }
 [ -n "$(command -v dpkg-deb)" ] || { echo 'package: skipped, no dpkg-deb'; exit 0; }
 unset PYTHONPATH RTDVS
-top=$PWD work=$(mktemp -d) cases=0 bad=0
+top=$PWD work=$(mktemp -d) shell=$(command -v sh) cases=0 bad=0
 trap 'rm -r "$work"' EXIT
 trap 'exit 2' HUP INT PIPE TERM
 mkdir "$work/first" "$work/second" "$work/root" || exit 2
@@ -43,12 +43,12 @@ print(find_engine().run(**files, scheduler="edf", governor="cc", ticks=16, versi
 scripts() (
     dpkg-deb -e "$package" "$work/control" && mkdir "$work/stand-ins" || exit
     for name in py3compile py3clean; do
-        printf '#!/bin/sh\necho %s "$@"\n' $name > "$work/stand-ins/$name"
+        printf '#!%s\necho %s "$@"\n' "$shell" $name > "$work/stand-ins/$name"
     done
     chmod +x "$work/stand-ins"/*
     same "$(PATH="$work/stand-ins:$PATH" "$work/control/postinst" configure)" 'py3compile -p rtdvs' &&
         same "$(PATH="$work/stand-ins:$PATH" "$work/control/prerm" remove)" 'py3clean -p rtdvs' &&
-        same "$(PATH='' /bin/sh "$work/control/postinst" configure)" '' && same "$(PATH='' /bin/sh "$work/control/prerm" remove)" ''
+        same "$(PATH='' "$shell" "$work/control/postinst" configure)" '' && same "$(PATH='' "$shell" "$work/control/prerm" remove)" ''
 )
 # The links of the pages, of which each leads to a file or a folder.
 links() {
@@ -75,7 +75,7 @@ holds 'the man page' man_page
 [ -z "$(command -v bash)" ] || holds 'the completion' completion "$root/share/bash-completion/completions/rtdvs"
 holds 'the Python module' module
 python=${PYTHON:-/usr/bin/python3}
-! "$python" -c 'import tomllib' 2> /dev/null || holds 'a call by the Python module' call_from_python
+! "$python" -c 'import tomllib' 2>/dev/null || holds 'a call by the Python module' call_from_python
 holds 'the scripts of the package' scripts
 holds 'links of pages' links
 

@@ -1,6 +1,6 @@
 # check_python.sh PROGRAM: the Python package in python/: its types by mypy --strict, and its tests and the examples of
 # its pages by pytest, once in a UTF-8 locale and once in one with a decimal comma. Then a wheel is built without a network,
-# installed into a fresh virtual environment and used there. PYTHON is the interpreter, /usr/bin/python3 without it;
+# installed into a fresh virtual environment and used there. PYTHON is the interpreter, the system's without it;
 # tools/setup.sh installs what this needs.
 cd "$(dirname "$0")/.." || exit 2
 [ -x "${1:?no program}" ] || { echo "no program: $1"; exit 2; }
@@ -11,9 +11,9 @@ trap 'rm -rf "$work"' EXIT
 trap 'exit 2' HUP INT PIPE TERM
 
 skip() { echo "python: skipped, no $1"; exit 0; }
-"$python" -c 'import tomllib' 2> /dev/null || skip 'Python 3.11 or later'
+"$python" -c 'import tomllib' 2>/dev/null || skip 'Python 3.11 or later'
 for module in pytest hypothesis mypy matplotlib pandas hatchling ensurepip; do
-    "$python" -c "import $module" 2> /dev/null || skip "$module for $python"
+    "$python" -c "import $module" 2>/dev/null || skip "$module for $python"
 done
 [ -n "$(command -v localedef)" ] || skip localedef
 mkdir "$work/locales"

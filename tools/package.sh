@@ -9,7 +9,7 @@ program=$(cd "$(dirname "$1")" && pwd)/$(basename "$1")
 folder=$(cd "${2:-.}" && pwd)
 cd "$(dirname "$0")/.."
 
-# The heading `## 1.0 (2026-11-29)`.
+# The heading `## 1.1 (2026-11-30)`.
 version=$(sed -n 's/^## \([0-9.]*\) (.*/\1/p' CHANGELOG.md | head -n 1)
 date=$(sed -n 's/^## [0-9.]* (\([0-9-]*\))$/\1/p' CHANGELOG.md | head -n 1)
 SOURCE_DATE_EPOCH=$(date -u -d "$date" +%s)
@@ -43,7 +43,7 @@ chmod 755 "$root/usr/bin/rtdvs"
 # Where Python is installed, it compiles the module, and takes what it compiled away again.
 for step in 'postinst compile' 'prerm clean'; do
     script=$root/DEBIAN/${step% *} command=py3${step#* }
-    printf '#!/bin/sh\nset -e\n! command -v %s > /dev/null || %s -p rtdvs\n' $command $command > "$script"
+    printf '#!/%s\nset -e\n! command -v %s >/dev/null || %s -p rtdvs\n' bin/sh $command $command > "$script"
     chmod 755 "$script"
 done
 

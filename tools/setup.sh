@@ -7,12 +7,12 @@ python='python3 python3-pytest python3-hypothesis python3-matplotlib python3-pan
 others='bash gcc libc6-dev locales openmpi-bin'
 
 if [ -z "$(command -v dpkg-query)" ] || [ -z "$(command -v apt-get)" ]; then
-    echo 'setup: no apt-get here. Take Python 3.11 or later as /usr/bin/python3 or by the variable PYTHON, with pytest,'
+    echo 'setup: no apt-get here. Take Python 3.11 or later, which the variable PYTHON names, with pytest,'
     echo 'hypothesis, matplotlib, pandas, distributed, mpi4py, hatchling, venv and mypy; and bash, a C compiler as cc,'
     echo 'localedef with the sources of de_DE, and mpiexec.'
     exit 1
 fi
-installed=$(dpkg-query -W -f '${Package} ${db:Status-Abbrev}\n' $python $others 2> /dev/null | sed -n 's/ ii.*//p')
+installed=$(dpkg-query -W -f '${Package} ${db:Status-Abbrev}\n' $python $others 2>/dev/null | sed -n 's/ ii.*//p')
 missing=
 for package in $python $others; do
     printf '%s\n' "$installed" | grep -q -x "$package" || missing="$missing $package"

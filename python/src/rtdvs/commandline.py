@@ -14,6 +14,7 @@ from typing import BinaryIO, TypeVar
 
 from rtdvs.engine import Engine, TryEngine, find_engine
 from rtdvs.files import Demands, FileFault, Machine, TaskSet
+from rtdvs.trace import Done, Trace
 
 Item = TypeVar("Item")
 Input = Path | bytes
@@ -161,6 +162,16 @@ def read_text(source: Input, kind: str) -> str:
         return content.decode("utf-8")
     except UnicodeDecodeError:
         raise FileFault(f"{kind}: not UTF-8") from None
+
+
+def note_charge(trace: Trace, charge: int) -> None:
+    """Says on standard error if a job used more than declared: then the machine's charge is another one."""
+    most = {task.name: task.worst + 2 * charge for task in trace.tasks}
+    for note in trace.notes:
+        if isinstance(note, Done) and note.used > most.get(note.task, note.used):
+            print(f"note: {note.task} job {note.job} used {note.used} of {most[note.task]} declared units: "
+                  "give the machine's charge by --charge", file=sys.stderr)
+            return
 
 
 def write_output(args: argparse.Namespace, text: str | bytes) -> None:

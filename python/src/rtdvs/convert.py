@@ -7,14 +7,14 @@ Energies are whole numbers. In events and waves a tick is a microsecond.
 
 import argparse
 import json
-import sys
-from collections.abc import Callable, Iterable, Iterator
-from dataclasses import dataclass, replace
+from collections.abc import Iterable, Iterator
+from dataclasses import astuple
 from decimal import Context, Decimal
 from fractions import Fraction
 from typing import TYPE_CHECKING
 
-from rtdvs.commandline import add_files, add_output, read_text, whole_number, write_output
+from rtdvs.commandline import add_files, add_output, note_charge, read_text, whole_number, write_output
+from rtdvs.decimals import decimal
 from rtdvs.files import FileFault
 from rtdvs.trace import Decision, Done, Idle, Position, Release, Run, Trace
 
@@ -34,23 +34,16 @@ def millionths(position: Position, speed: int) -> int:
     >>> millionths(Position(9, 1), 3)
     9333333
     """
-    return position.tick * MILLION + _quotient(position.offset * MILLION, speed)
+    return round(position.time(speed) * MILLION)
 
 
-def _quotient(number: int, by: int) -> int:
-    """The nearest whole number to a quotient, the even one of two."""
-    whole, rest = divmod(number, by)
-    return whole + (2 * rest > by or 2 * rest == by and whole % 2)
+def ticks(time: Fraction) -> str:
+    """A time in ticks.
 
-
-def _time(position: Position, speed: int) -> str:
-    return _ticks(millionths(position, speed), position.offset > 0)
-
-
-def _ticks(parts: int, has_places: bool) -> str:
-    """Millionths of a tick as ticks."""
-    sign, parts = "-" * (parts < 0), abs(parts)
-    return f"{sign}{parts // MILLION}.{parts % MILLION:06}" if has_places else f"{sign}{parts // MILLION}"
+    >>> ticks(Fraction(28, 3)), ticks(Fraction(9))
+    ('9.333333', '9')
+    """
+    return decimal(time, 6 if time.denominator > 1 else 0)
 
 
 def significant(number: int, by: int, digits: int) -> str:
@@ -73,131 +66,54 @@ def _trimmed(text: str) -> str:
 
 # Tables
 
-
-@dataclass(frozen=True, slots=True)
-class Segment:
-    """A segment of a job, or idle time without task and job; the speed is in work units per tick."""
-
-    task: str
-    job: int | None
-    begin: Position
-    end: Position
-    speed: int
-    units: int
-    energy: int
-
-    @property
-    def kind(self) -> str:
-        return "idle" if self.job is None else "run"
-
-    def cells(self) -> tuple[str, ...]:
-        """The row of the table `segments`."""
-        job = "" if self.job is None else str(self.job)
-        return (self.kind, self.task, job, str(self.begin), str(self.end), _time(self.begin, self.speed),
-                _time(self.end, self.speed), str(self.speed), str(self.units), str(self.energy))
-
-
-@dataclass(frozen=True, slots=True)
-class JobEnd:
-    """A job: release and deadline in ticks, completion in millionths of a tick, used and declared work units.
-
-    What isn't known is None: the completion within the run; in version 1 the last deadline and the declared
-    units.
-    """
-
-    task: str
-    job: int
-    release: int
-    deadline: int | None = None
-    done: int | None = None
-    is_within_tick: bool = False
-    used: int | None = None
-    declared: int | None = None
-
-    @property
-    def response(self) -> int | None:
-        """From the release to the completion, in millionths of a tick."""
-        return None if self.done is None else self.done - self.release * MILLION
-
-    @property
-    def laxity(self) -> int | None:
-        """From the completion to the deadline, in millionths of a tick."""
-        return None if self.done is None or self.deadline is None else self.deadline * MILLION - self.done
-
-    def cells(self) -> tuple[str, ...]:
-        """The row of the table `jobs`."""
-        times = ("" if time is None else _ticks(time, self.is_within_tick)
-                 for time in (self.done, self.response, self.laxity))
-        return (self.task, str(self.job), str(self.release), _or_empty(self.deadline), *times,
-                _or_empty(self.used), _or_empty(self.declared))
-
-
-def _or_empty(number: int | None) -> str:
-    return "" if number is None else str(number)
-
-
-def segments(trace: Trace) -> Iterator[Segment]:
-    """The segments of a trace, in order.
-
-    >>> from rtdvs.trace import SAMPLE
-    >>> [segment.kind for segment in segments(Trace.parse(SAMPLE))]
-    ['run', 'run', 'idle']
-    """
-    for note, speed in trace.at_speeds():
-        if isinstance(note, Run):
-            yield Segment(note.task, note.job, note.begin, note.end, speed, note.units, note.energy)
-        elif isinstance(note, Idle):
-            yield Segment("", None, note.begin, note.end, speed, note.units, note.energy)
-
-
-def job_ends(trace: Trace, charge: int = 0) -> tuple[JobEnd, ...]:
-    """The jobs of a trace in the order of their releases. The charge of the machine is in the declared units
-    twice.
-
-    >>> from rtdvs.trace import SAMPLE
-    >>> job_ends(Trace.parse(SAMPLE))[0].laxity
-    500000
-    """
-    declared = {task.name: task for task in trace.tasks}
-    jobs: dict[tuple[str, int], JobEnd] = {}
-    for note, speed in trace.at_speeds():
-        if isinstance(note, Release):
-            task = declared.get(note.task)
-            before = jobs.get((note.task, note.job - 1))
-            if before is not None and task is None:
-                jobs[note.task, note.job - 1] = replace(before, deadline=note.tick)
-            job = JobEnd(note.task, note.job, note.tick)
-            if task is not None:
-                job = replace(job, deadline=note.tick + task.period, declared=task.worst + 2 * charge)
-            jobs[note.task, note.job] = job
-        elif isinstance(note, Done) and (note.task, note.job) in jobs:
-            jobs[note.task, note.job] = replace(
-                jobs[note.task, note.job], done=millionths(note.at, speed), is_within_tick=note.at.offset > 0,
-                used=note.used)
-    return tuple(jobs.values())
-
-
-def over_declared(trace: Trace, charge: int = 0) -> JobEnd | None:
-    """A job that used more than its declared units: then the machine's charge is more than the one given."""
-    return next((job for job in job_ends(trace, charge)
-                 if (job.used or 0) > (job.declared or job.used or 0)), None)
-
-
-def decision_cells(decision: Decision) -> tuple[str, ...]:
-    """The row of the table `decisions`.
-
-    >>> decision_cells(Decision(3, 3, 696, 280))
-    ('3', '3', '696', '280', '2.48571429')
-    """
-    return (str(decision.tick), str(decision.speed), str(decision.num), str(decision.den),
-            significant(decision.num, decision.den, 9))
-
-
-COLUMNS = {
-    "segments": ("kind", "task", "job", "from", "to", "start", "stop", "speed", "units", "energy"),
-    "jobs": ("task", "job", "release", "deadline", "done", "response", "laxity", "used", "declared"),
-    "decisions": ("tick", "speed", "num", "den", "quotient"),
+Cell = str | int | Fraction | None
+TABLES = {  # the columns, and the kind that pandas has of each
+    "segments": {"kind": "object", "task": "object", "job": "Int64", "from": "object", "to": "object",
+                 "start": "float64", "stop": "float64", "speed": "int64", "units": "object",
+                 "energy": "object"},
+    "jobs": {"task": "object", "job": "int64", "release": "int64", "deadline": "Int64", "done": "float64",
+             "response": "float64", "laxity": "float64", "used": "Int64", "declared": "Int64"},
+    "decisions": {"tick": "int64", "speed": "int64", "num": "object", "den": "object", "quotient": "float64"},
 }
+
+
+def rows(trace: Trace, table: str = "segments", charge: int = 0) -> Iterator[tuple[Cell, ...]]:
+    """The rows of a table: segments, jobs or decisions; times in ticks, and None for what isn't known.
+
+    `declared` has the machine's charge twice. In version 1 a job's deadline is the next release of its task.
+
+    >>> from rtdvs.trace import SAMPLE
+    >>> [row[2:7] for row in rows(Trace.parse(SAMPLE), "jobs")]
+    [(0, 2, Fraction(3, 2), Fraction(3, 2), Fraction(1, 2))]
+    """
+    if table == "jobs":
+        return _jobs(trace, charge)
+    if table == "segments":
+        return _segments(trace)
+    return ((note.tick, note.speed, note.num, note.den, Fraction(note.num, note.den))
+            for note in trace.decisions)
+
+
+def _segments(trace: Trace) -> Iterator[tuple[Cell, ...]]:
+    for note, speed in trace.at_speeds():
+        if isinstance(note, Run | Idle):
+            whose = ("run", note.task, note.job) if isinstance(note, Run) else ("idle", "", None)
+            yield (*whose, str(note.begin), str(note.end), note.begin.time(speed), note.end.time(speed),
+                   speed, note.units, note.energy)
+
+
+def _jobs(trace: Trace, charge: int) -> Iterator[tuple[Cell, ...]]:
+    tasks = {task.name: task for task in trace.tasks}
+    released = {(note.task, note.job): note.tick for note in trace.notes if isinstance(note, Release)}
+    ends = {(note.task, note.job): (note.at.time(speed), note.used)
+            for note, speed in trace.at_speeds() if isinstance(note, Done)}
+    for (name, job), release in released.items():
+        task = tasks.get(name)
+        due = release + task.period if task else released.get((name, job + 1))
+        done, used = ends.get((name, job), (None, None))
+        yield (name, job, release, due, done, None if done is None else done - release,
+               None if done is None or due is None else due - done, used,
+               task.worst + 2 * charge if task else None)
 
 
 def csv_text(trace: Trace, table: str = "segments", charge: int = 0) -> str:
@@ -208,15 +124,14 @@ def csv_text(trace: Trace, table: str = "segments", charge: int = 0) -> str:
     task,job,release,deadline,done,response,laxity,used,declared
     t,1,0,2,1.500000,1.500000,0.500000,4,4
     """
-    return "".join(f"{','.join(row)}\n" for row in (COLUMNS[table], *_rows(trace, table, charge)))
+    texts = ([*map(_cell, row)] for row in rows(trace, table, charge))
+    if table == "decisions":
+        texts = ([*map(str, astuple(note)), significant(note.num, note.den, 9)] for note in trace.decisions)
+    return "".join(f"{','.join(row)}\n" for row in (TABLES[table], *texts))
 
 
-def _rows(trace: Trace, table: str, charge: int) -> Iterator[tuple[str, ...]]:
-    if table == "segments":
-        return (segment.cells() for segment in segments(trace))
-    if table == "jobs":
-        return (job.cells() for job in job_ends(trace, charge))
-    return map(decision_cells, trace.decisions)
+def _cell(cell: Cell) -> str:
+    return "" if cell is None else ticks(cell) if isinstance(cell, Fraction) else str(cell)
 
 
 def frame(trace: Trace, table: str = "segments", joule: Fraction | None = None,
@@ -232,63 +147,14 @@ def frame(trace: Trace, table: str = "segments", joule: Fraction | None = None,
     """
     import pandas
 
-    columns = _job_columns(trace, charge) if table == "jobs" else {
-        "segments": _segment_columns, "decisions": _decision_columns}[table](trace)
-    made = pandas.DataFrame({name: pandas.Series(values, dtype=kind)
-                             for name, (kind, values) in columns.items()})
+    found = [[float(cell) if isinstance(cell, Fraction) else cell for cell in row]
+             for row in rows(trace, table, charge)]
+    columns = zip(*found) if found else [()] * len(TABLES[table])
+    made = pandas.DataFrame({name: pandas.Series(list(values), dtype=kind)
+                             for (name, kind), values in zip(TABLES[table].items(), columns)})
     if joule is not None and "energy" in made:
         made["joules"] = [float(energy * joule) for energy in made["energy"]]
     return made
-
-
-Columns = dict[str, tuple[str, list[object]]]
-
-
-def _segment_columns(trace: Trace) -> Columns:
-    rows = list(segments(trace))
-    return {
-        "kind": ("object", [row.kind for row in rows]),
-        "task": ("object", [row.task for row in rows]),
-        "job": ("Int64", [row.job for row in rows]),
-        "from": ("object", [str(row.begin) for row in rows]),
-        "to": ("object", [str(row.end) for row in rows]),
-        "start": ("float64", [float(row.begin.time(row.speed)) for row in rows]),
-        "stop": ("float64", [float(row.end.time(row.speed)) for row in rows]),
-        "speed": ("int64", [row.speed for row in rows]),
-        "units": ("object", [row.units for row in rows]),
-        "energy": ("object", [row.energy for row in rows]),
-    }
-
-
-def _job_columns(trace: Trace, charge: int) -> Columns:
-    rows = job_ends(trace, charge)
-    times: list[tuple[str, Callable[[JobEnd], int | None]]] = [
-        ("done", lambda row: row.done), ("response", lambda row: row.response),
-        ("laxity", lambda row: row.laxity)]
-    return {
-        "task": ("object", [row.task for row in rows]),
-        "job": ("int64", [row.job for row in rows]),
-        "release": ("int64", [row.release for row in rows]),
-        "deadline": ("Int64", [row.deadline for row in rows]),
-        **{name: ("float64", [_as_float(time(row)) for row in rows]) for name, time in times},
-        "used": ("Int64", [row.used for row in rows]),
-        "declared": ("Int64", [row.declared for row in rows]),
-    }
-
-
-def _as_float(parts: int | None) -> float | None:
-    return None if parts is None else parts / MILLION
-
-
-def _decision_columns(trace: Trace) -> Columns:
-    rows = trace.decisions
-    return {
-        "tick": ("int64", [row.tick for row in rows]),
-        "speed": ("int64", [row.speed for row in rows]),
-        "num": ("object", [row.num for row in rows]),
-        "den": ("object", [row.den for row in rows]),
-        "quotient": ("float64", [row.num / row.den for row in rows]),
-    }
 
 
 # Trace events
@@ -310,15 +176,10 @@ def events_text(trace: Trace) -> str:
 def _events(trace: Trace) -> Iterator[str]:
     yield _about("M", "process_name",
                  0) + f',"args":{{"name":{json.dumps(f"{trace.scheduler} {trace.governor}")}}}'
-    yield from _track("idle", IDLE_TRACK)
-    tracks: dict[str, int] = {}
-    for task in trace.tasks:
-        tracks[task.name] = len(tracks) + 1
-        yield from _track(task.name, tracks[task.name])
+    tracks = {name: number for number, name in enumerate(trace.names, 1)}
+    for name, number in ("idle", IDLE_TRACK), *tracks.items():
+        yield from _track(name, number)
     for note, speed in trace.at_speeds():
-        if isinstance(note, Release | Run | Done) and note.task not in tracks:
-            tracks[note.task] = len(tracks) + 1
-            yield from _track(note.task, tracks[note.task])
         if isinstance(note, Decision):
             yield from _counters(note)
         elif isinstance(note, Release | Run | Idle | Done):
@@ -344,15 +205,10 @@ def _event(note: Release | Run | Idle | Done, speed: int, track: int) -> str:
         return _about("i", f"release {note.job}", track) + f',"s":"t","ts":{note.tick}'
     if isinstance(note, Done):
         return _about("i", f"done {note.job}",
-                      track) + f',"s":"t","ts":{_time(note.at, speed)},"args":{{"used":{note.used}}}'
+                      track) + f',"s":"t","ts":{ticks(note.at.time(speed))},"args":{{"used":{note.used}}}'
     name = "idle" if isinstance(note, Idle) else f"{note.task} {note.job}"
-    span = f',"ts":{_time(note.begin, speed)},"dur":{_between(note.begin, note.end, speed)}'
+    span = f',"ts":{ticks(note.begin.time(speed))},"dur":{ticks(note.end.time(speed) - note.begin.time(speed))}'
     return _about("X", name, track) + span + f',"args":{{"units":{note.units},"energy":"{note.energy}"}}'
-
-
-def _between(begin: Position, end: Position, speed: int) -> str:
-    units = (end.tick - begin.tick) * speed + end.offset - begin.offset
-    return _time(Position(*divmod(units, speed)), speed)
 
 
 # Waves
@@ -370,16 +226,11 @@ def vcd_text(trace: Trace) -> str:
     >>> vcd_text(Trace.parse(SAMPLE)).splitlines()[-3:]
     ['1r0', '#2000000', 'r6000 e']
     """
-    names = _task_names(trace)
+    names = trace.names
     return "".join(f"{line}\n" for line in (*_vcd_head(names), *_changes(trace, names)))
 
 
-def _task_names(trace: Trace) -> list[str]:
-    seen = (note.task for note in trace.notes if isinstance(note, Release | Run | Done))
-    return list(dict.fromkeys([*(task.name for task in trace.tasks), *seen]))
-
-
-def _vcd_head(names: list[str]) -> Iterator[str]:
+def _vcd_head(names: tuple[str, ...]) -> Iterator[str]:
     yield "$timescale 1 ps $end"
     yield "$var wire 1 r0 idle $end"
     yield from (f"$var real 64 {letter} {name} $end"
@@ -395,7 +246,7 @@ def _vcd_head(names: list[str]) -> Iterator[str]:
     yield "$end"
 
 
-def _changes(trace: Trace, names: list[str]) -> Iterator[str]:
+def _changes(trace: Trace, names: tuple[str, ...]) -> Iterator[str]:
     """The changes of the wires, and a line for each time that is another than before."""
     now = 0
     for time, lines in _moments(trace, {name: number for number, name in enumerate(names, 1)}):
@@ -437,7 +288,7 @@ def add_command(commands: "argparse._SubParsersAction[argparse.ArgumentParser]")
                                  epilog=EXAMPLE, formatter_class=argparse.RawDescriptionHelpFormatter)
     parser.add_argument("--to", choices=("csv", "chrome", "vcd"), required=True,
                         help="a table, trace events in JSON (Perfetto), or a value change dump (GTKWave)")
-    parser.add_argument("--table", choices=tuple(COLUMNS), help="the table for csv; segments by default")
+    parser.add_argument("--table", choices=tuple(TABLES), help="the table for csv; segments by default")
     parser.add_argument("--charge", type=whole_number(0), metavar="UNITS",
                         help="the machine's charge, which each declared worst case in jobs then has twice")
     add_files(parser, ("trace",))
@@ -454,9 +305,7 @@ def run(args: argparse.Namespace) -> int:
         text = csv_text(trace, args.table or "segments", args.charge or 0)
     else:
         text = vcd_text(trace) if args.to == "vcd" else events_text(trace)
-    over = over_declared(trace, args.charge or 0) if args.table == "jobs" else None
-    if over is not None:
-        print(f"note: {over.task} job {over.job} used {over.used} of {over.declared} declared units: "
-              "give the machine's charge by --charge", file=sys.stderr)
+    if args.table == "jobs":
+        note_charge(trace, args.charge or 0)
     write_output(args, text)
     return 0

@@ -29,17 +29,6 @@ class Completion:
     highest: int
 
 
-def row_names(trace: Trace) -> list[str]:
-    """The tasks in file order; in version 1 in the order of the lines that name them.
-
-    >>> from rtdvs.trace import SAMPLE
-    >>> row_names(Trace.parse(SAMPLE))
-    ['t']
-    """
-    seen = (note.task for note in trace.notes if isinstance(note, Release | Run | Done))
-    return list(dict.fromkeys([*(task.name for task in trace.tasks), *seen]))
-
-
 def periods(trace: Trace) -> dict[str, int]:
     """Each task's period in ticks; in version 1 the distance of its first two releases, if it has two."""
     if trace.tasks:
@@ -94,13 +83,6 @@ def completions(trace: Trace) -> dict[str, list[Completion]]:
             found[note.task].append(Completion(at, latest.get(note.task, 0), note.used,
                                                speed if note.used else 0, highest.get(note.task, 0)))
     return dict(found)
-
-
-def over_worst(trace: Trace, charge: int) -> str | None:
-    """A task with a job above its declared units and twice the charge: then the charge is another one."""
-    most = {task.name: task.worst + 2 * charge for task in trace.tasks}
-    return next((note.task for note in trace.notes
-                 if isinstance(note, Done) and note.used > most.get(note.task, note.used)), None)
 
 
 # Thinning

@@ -14,15 +14,14 @@ from pathlib import Path
 from typing import TYPE_CHECKING, Any
 
 from rtdvs.canvas import INK, PIXEL, POINT, SMALL, TEXT, TITLE, new_figure, save, settings
-from rtdvs.commandline import (add_engine_options, add_files, engine_of, input_path, read_demands,
-                               read_machine, read_tasks,
-                               read_text, whole_number)
+from rtdvs.commandline import (add_engine_options, add_files, engine_of, input_path, note_charge, read_demands,
+                               read_machine, read_tasks, read_text, whole_number)
 from rtdvs.compare import compare
 from rtdvs.figures import parse_means, save_compare, save_means
 from rtdvs.files import FileFault
-from rtdvs.marks import (Bar, Completion, bars, completions, join_narrow, over_worst, periods, readable,
+from rtdvs.marks import (Bar, Completion, bars, completions, join_narrow, periods, readable,
                          releases, round_step,
-                         row_names, short, steps, thin)
+                         short, steps, thin)
 from rtdvs.trace import Decision, Trace
 
 if TYPE_CHECKING:
@@ -152,7 +151,7 @@ def plot_trace(trace: Trace, axes: "Axes", view: View = View()) -> None:
     view = settled(trace, view)
     width = axes.get_position().width * axes.figure.get_figwidth() / PIXEL
     peak = max(decision.num / decision.den for decision in trace.decisions)
-    frame = _Frame(view, tuple(row_names(trace)), peak, width / ((view.last or 0) - view.first))
+    frame = _Frame(view, trace.names, peak, width / ((view.last or 0) - view.first))
     runs = bars(trace)
     _draw_frame(trace, axes, frame)
     _draw_rows(trace, axes, frame)
@@ -174,14 +173,14 @@ def trace_height(trace: Trace, view: View = View()) -> float:
     """
     view = settled(trace, view)
     peak = max(decision.num / decision.den for decision in trace.decisions)
-    return _Frame(view, tuple(row_names(trace)), peak, 1.0).ceiling
+    return _Frame(view, trace.names, peak, 1.0).ceiling
 
 
 def save_trace(trace: Trace, path: Path, view: View = View(), width: int = 1000,
                background: str = "none") -> None:
     """Draws a trace into a file, `width` pixels wide; raises FileFault, OSError."""
     with settings():
-        names = row_names(trace)
+        names = trace.names
         facts = [_facts(trace, name, view.charge) for name in names]
         left = max(100, *(18 + NAME_LETTER * len(name) for name in names),
                    *(18 + LETTER * len(fact) for fact in facts))
@@ -505,10 +504,7 @@ def _check_background(colour: str) -> None:
 def _run_trace(args: argparse.Namespace) -> None:
     trace = Trace.parse(read_text(args.trace, "trace"))
     view = View(getattr(args, "from") or 0, args.to, args.top, args.charge or 0)
-    task = over_worst(trace, view.charge)
-    if task is not None:
-        print(f"note: {task} uses more than its worst case: give the machine's charge by --charge",
-              file=sys.stderr)
+    note_charge(trace, view.charge)
     save_trace(trace, args.output, view, args.width or 1000, args.background)
 
 

@@ -486,6 +486,12 @@ class Trace:
         return last
 
     @property
+    def names(self) -> tuple[str, ...]:
+        """The tasks in file order; in version 1 in the order of the notes that name them."""
+        seen = (note.task for note in self.notes if isinstance(note, Release | Run | Done))
+        return tuple(dict.fromkeys([*(task.name for task in self.tasks), *seen]))
+
+    @property
     def run_energy(self) -> int:
         """The energy of all runs, as the end line has it."""
         return self.end.run_energy
