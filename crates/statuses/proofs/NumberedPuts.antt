@@ -1,5 +1,5 @@
 -- Lines of a numbered list that were put one after another.
-use Rattle.std.proofs.Common.{◌≡◌, ℕ, zero, suc, ◌+◌, ◌-◌, ◌<◌, List, [], ◌∷◌, ◌++◌, ap, ◌∙◌, sym, subst, arith, append-nil, append_assoc}
+use Rattle.std.proofs.Common.{◌≡◌, ℕ, zero, suc, ◌+◌, ◌-◌, ◌<◌, List, [], ◌++◌, ap, ◌∙◌, sym, subst, arith, append-nil, append_assoc}
 use Rattle.dvs_base.specs.Outside.{SinkView}
 use Rattle.dvs_base.specs.WritesText.{Wrote, WroteSome}
 use Rattle.dvs_base.proofs.TextPuts.{wrote-then, wrote-then-some, wrote-some-more}

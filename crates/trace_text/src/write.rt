@@ -3,7 +3,8 @@ ghost use Rattle.std.specs.Prelude.{◌≡◌, ◌+◌, ◌≤◌, ◌++◌, [],
 ghost use Rattle.std.specs.Fmt.{decimal};
 ghost use Rattle.std.specs.Option.{option_copied};
 ghost use Rattle.dvs_base.specs.Parts.{part_text, most_bytes, fraction_text, name_text, position_text};
-ghost use Rattle.trace_text.specs.declared.limits.TheConstants.{LINE_BYTES, NAME_BYTES, POSITION_BYTES, JOB_BYTES, NOTE_LINE_BYTES};
+ghost use Rattle.dvs_base.specs.declared.limits.TheConstants.{LINE_BYTES, NAME_BYTES, POSITION_BYTES};
+ghost use Rattle.trace_text.specs.declared.limits.TheConstants.{JOB_BYTES, NOTE_LINE_BYTES};
 ghost use Rattle.trace_text.specs.TraceLines.{line, run_fields, idle_fields, done_fields, fields_with, note_text, plan_text, scheduler_word, governor_word};
 
 use dvs_base::{
