@@ -6,7 +6,7 @@ ghost use Rattle.trace_reader.specs.Fields.{whole_in, wide_in, position_in, frac
 
 use crate::TraceKind;
 use crate::number::{SAFE_DIGITS, short_number};
-use crate::parts::two;
+use crate::parts::two_parts;
 use dvs_base::{Name, Pos, whole, wide};
 
 // The field as a number below 2^64.
@@ -39,7 +39,7 @@ pub(crate) fn wide_in(field: &[u8]) -> Result<u128, TraceKind>
 pub(crate) fn position_in(field: &[u8]) -> Result<Pos, TraceKind>
     ensures { result ≡ position_in field.now }
 {
-    let (tick, offset) = two(field, b':').ok_or(TraceKind::Number)?;
+    let (tick, offset) = two_parts(field, b':').ok_or(TraceKind::Number)?;
     let tick = whole_in(tick)?;
     let offset = whole_in(offset)?;
     Ok(Pos { tick, offset })
@@ -50,7 +50,7 @@ pub(crate) fn position_in(field: &[u8]) -> Result<Pos, TraceKind>
 pub(crate) fn fraction_in(field: &[u8]) -> Result<(u128, u128), TraceKind>
     ensures { result ≡ fraction_in field.now }
 {
-    let (num, den) = two(field, b'/').ok_or(TraceKind::Number)?;
+    let (num, den) = two_parts(field, b'/').ok_or(TraceKind::Number)?;
     let num = wide_in(num)?;
     let den = wide_in(den)?;
     Ok((num, den))

@@ -6,7 +6,7 @@ ghost use Rattle.trace_text.specs.TraceText.{task_text, has_task_lines, task_lin
 ghost use Rattle.trace_reader.specs.Fields.{parts};
 ghost use Rattle.trace_reader.specs.Heads.{MayBeNext, version_in, plan_line_of, parts_after_tasks, version_task_lines};
 
-use crate::parts::four;
+use crate::parts::four_parts;
 use crate::text_line::line_at;
 use crate::{TraceFault, TraceKind};
 use dvs_base::{Line, Name, Version, governor_of, is_pair, scheduler_of, ticks_of};
@@ -30,7 +30,7 @@ pub(crate) fn version_in(newest: Version, line: &[u8]) -> Result<Version, TraceK
 pub(crate) fn plan_line_of(line: &[u8]) -> Result<PlanLine, TraceKind>
     ensures { result ≡ plan_line_of (parts 32 line.now) }
 {
-    let (word, scheduler, governor, ticks) = four(line, b' ').ok_or(TraceKind::Plan)?;
+    let (word, scheduler, governor, ticks) = four_parts(line, b' ').ok_or(TraceKind::Plan)?;
     let scheduler = scheduler_of(scheduler).ok_or(TraceKind::Plan)?;
     let governor = governor_of(governor).ok_or(TraceKind::Plan)?;
     let ticks = ticks_of(ticks).ok_or(TraceKind::Plan)?;

@@ -7,7 +7,7 @@ ghost use Rattle.trace_reader.specs.Items.{release_in, speed_in, run_in, idle_in
 
 use crate::TraceKind;
 use crate::fields::{fraction_in, position_in, task_in, whole_in, wide_in};
-use crate::parts::{cut, four, six, three, two};
+use crate::parts::{cut, four_parts, six_parts, three_parts, two_parts};
 use dvs_base::{Name, Note, Version};
 use trace_text::has_task_lines;
 
@@ -24,7 +24,7 @@ fn release_in(names: &[Name], fields: &[u8]) -> Result<Item, TraceKind>
     ensures item { result ≡ release_in names.now (parts 32 fields.now) }
     ensures task { IfOk result (HasTaskBelow (length names.now)) }
 {
-    let (tick, task, job) = three(fields, b' ').ok_or(TraceKind::Word)?;
+    let (tick, task, job) = three_parts(fields, b' ').ok_or(TraceKind::Word)?;
     let tick = whole_in(tick)?;
     let task = task_in(names, task)?;
     let job = whole_in(job)?;
@@ -36,7 +36,7 @@ fn speed_in(fields: &[u8]) -> Result<Item, TraceKind>
     ensures item { result ≡ speed_in (parts 32 fields.now) }
     ensures task { (c : ℕ) → IfOk result (HasTaskBelow c) }
 {
-    let (tick, speed, demand) = three(fields, b' ').ok_or(TraceKind::Word)?;
+    let (tick, speed, demand) = three_parts(fields, b' ').ok_or(TraceKind::Word)?;
     let tick = whole_in(tick)?;
     let speed = whole_in(speed)?;
     let (num, den) = fraction_in(demand)?;
@@ -54,7 +54,7 @@ fn run_in(names: &[Name], fields: &[u8]) -> Result<Item, TraceKind>
     ensures item { result ≡ run_in names.now (parts 32 fields.now) }
     ensures task { IfOk result (HasTaskBelow (length names.now)) }
 {
-    let (from, to, task, job, units, energy) = six(fields, b' ').ok_or(TraceKind::Word)?;
+    let (from, to, task, job, units, energy) = six_parts(fields, b' ').ok_or(TraceKind::Word)?;
     let from = position_in(from)?;
     let to = position_in(to)?;
     let task = task_in(names, task)?;
@@ -76,7 +76,7 @@ fn idle_in(fields: &[u8]) -> Result<Item, TraceKind>
     ensures item { result ≡ idle_in (parts 32 fields.now) }
     ensures task { (c : ℕ) → IfOk result (HasTaskBelow c) }
 {
-    let (from, to, units, energy) = four(fields, b' ').ok_or(TraceKind::Word)?;
+    let (from, to, units, energy) = four_parts(fields, b' ').ok_or(TraceKind::Word)?;
     let from = position_in(from)?;
     let to = position_in(to)?;
     let units = whole_in(units)?;
@@ -95,7 +95,7 @@ fn done_in(names: &[Name], fields: &[u8]) -> Result<Item, TraceKind>
     ensures item { result ≡ done_in names.now (parts 32 fields.now) }
     ensures task { IfOk result (HasTaskBelow (length names.now)) }
 {
-    let (at, task, job, used) = four(fields, b' ').ok_or(TraceKind::Word)?;
+    let (at, task, job, used) = four_parts(fields, b' ').ok_or(TraceKind::Word)?;
     let at = position_in(at)?;
     let task = task_in(names, task)?;
     let job = whole_in(job)?;
@@ -113,7 +113,7 @@ fn end_in(fields: &[u8]) -> Result<Item, TraceKind>
     ensures item { result ≡ end_in (parts 32 fields.now) }
     ensures task { (c : ℕ) → IfOk result (HasTaskBelow c) }
 {
-    let (ticks, run, idle) = three(fields, b' ').ok_or(TraceKind::Word)?;
+    let (ticks, run, idle) = three_parts(fields, b' ').ok_or(TraceKind::Word)?;
     let ticks = whole_in(ticks)?;
     let run = wide_in(run)?;
     let idle = wide_in(idle)?;
@@ -129,7 +129,7 @@ fn energy_in(version: Version, names: &[Name], fields: &[u8]) -> Result<Item, Tr
     if !has_task_lines(version) {
         return Err(TraceKind::Word);
     }
-    let (task, energy) = two(fields, b' ').ok_or(TraceKind::Word)?;
+    let (task, energy) = two_parts(fields, b' ').ok_or(TraceKind::Word)?;
     let task = task_in(names, task)?;
     let energy = wide_in(energy)?;
     Ok(Item::Share { task, energy })

@@ -35,7 +35,7 @@ fn timed_of<'a>(given: Given<'a>) -> Result<Timed, WordFault>
 }
 
 // The `run` command, from the values that were given.
-fn planned<'a>(given: Given<'a>) -> Result<Command<'a>, WordFault>
+fn run_command<'a>(given: Given<'a>) -> Result<Command<'a>, WordFault>
     ensures read { answer result ≡ command_from verb.Run (shown_given given.entry) }
     ensures ready { IfOk result (λ c. IsReadyCommand (shown_command c)) }
 {
@@ -55,7 +55,7 @@ fn planned<'a>(given: Given<'a>) -> Result<Command<'a>, WordFault>
 }
 
 // The `poll` command, from the values that were given.
-fn polled<'a>(given: Given<'a>) -> Result<Command<'a>, WordFault>
+fn poll_command<'a>(given: Given<'a>) -> Result<Command<'a>, WordFault>
     ensures read { answer result ≡ command_from verb.Poll (shown_given given.entry) }
     ensures ready { IfOk result (λ c. IsReadyCommand (shown_command c)) }
 {
@@ -76,7 +76,7 @@ fn polled<'a>(given: Given<'a>) -> Result<Command<'a>, WordFault>
 }
 
 // The `admit` command, from the values that were given.
-fn admitted<'a>(given: Given<'a>) -> Result<Command<'a>, WordFault>
+fn admit_command<'a>(given: Given<'a>) -> Result<Command<'a>, WordFault>
     ensures { answer result ≡ command_from verb.Admit (shown_given given.entry) }
 {
     let tasks = need(given.tasks, Opt::Tasks)?;
@@ -90,7 +90,7 @@ fn admitted<'a>(given: Given<'a>) -> Result<Command<'a>, WordFault>
 }
 
 // The `replay` or the `migrate` command, as asked, from the values that were given.
-fn traced<'a>(given: Given<'a>, asked: TraceUse) -> Result<Command<'a>, WordFault>
+fn traced_command<'a>(given: Given<'a>, asked: TraceUse) -> Result<Command<'a>, WordFault>
     ensures { answer result ≡ trace_command asked (shown_given given.entry) }
 {
     let tasks = need(given.tasks, Opt::Tasks)?;
@@ -111,7 +111,7 @@ fn traced<'a>(given: Given<'a>, asked: TraceUse) -> Result<Command<'a>, WordFaul
 }
 
 // The `workload` command, from the values that were given.
-fn made<'a>(given: Given<'a>) -> Result<Command<'a>, WordFault>
+fn workload_command<'a>(given: Given<'a>) -> Result<Command<'a>, WordFault>
     ensures { answer result ≡ command_from verb.Workload (shown_given given.entry) }
 {
     let seed = need(given.seed, Opt::Seed)?;
@@ -119,7 +119,7 @@ fn made<'a>(given: Given<'a>) -> Result<Command<'a>, WordFault>
 }
 
 // The `response` command, from the values that were given.
-fn responding<'a>(given: Given<'a>) -> Result<Command<'a>, WordFault>
+fn response_command<'a>(given: Given<'a>) -> Result<Command<'a>, WordFault>
     ensures { answer result ≡ command_from verb.Response (shown_given given.entry) }
 {
     let tasks = need(given.tasks, Opt::Tasks)?;
@@ -128,7 +128,7 @@ fn responding<'a>(given: Given<'a>) -> Result<Command<'a>, WordFault>
 }
 
 // The `constrain` command, from the values that were given.
-fn constrained<'a>(given: Given<'a>) -> Result<Command<'a>, WordFault>
+fn constrain_command<'a>(given: Given<'a>) -> Result<Command<'a>, WordFault>
     ensures { answer result ≡ command_from verb.Constrain (shown_given given.entry) }
 {
     let tasks = need(given.tasks, Opt::Tasks)?;
@@ -142,7 +142,7 @@ fn constrained<'a>(given: Given<'a>) -> Result<Command<'a>, WordFault>
 }
 
 // The `least` command, from the values that were given.
-fn bounded<'a>(given: Given<'a>) -> Result<Command<'a>, WordFault>
+fn least_command<'a>(given: Given<'a>) -> Result<Command<'a>, WordFault>
     ensures read { answer result ≡ command_from verb.Least (shown_given given.entry) }
     ensures ready { IfOk result (λ c. IsReadyCommand (shown_command c)) }
 {
@@ -163,14 +163,14 @@ pub fn built<'a>(verb: Verb, given: Given<'a>) -> Result<Command<'a>, WordFault>
     ensures ready { IfOk result (λ c. IsReadyCommand (shown_command c)) }
 {
     match verb {
-        Verb::Run => planned(given),
-        Verb::Admit => admitted(given),
-        Verb::Replay => traced(given, TraceUse::Replay),
-        Verb::Migrate => traced(given, TraceUse::Migrate),
-        Verb::Workload => made(given),
-        Verb::Response => responding(given),
-        Verb::Constrain => constrained(given),
-        Verb::Poll => polled(given),
-        Verb::Least => bounded(given),
+        Verb::Run => run_command(given),
+        Verb::Admit => admit_command(given),
+        Verb::Replay => traced_command(given, TraceUse::Replay),
+        Verb::Migrate => traced_command(given, TraceUse::Migrate),
+        Verb::Workload => workload_command(given),
+        Verb::Response => response_command(given),
+        Verb::Constrain => constrain_command(given),
+        Verb::Poll => poll_command(given),
+        Verb::Least => least_command(given),
     }
 }
