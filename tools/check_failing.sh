@@ -1,6 +1,7 @@
 # check_failing.sh PROGRAM: what a call leaves where the system fails. The library fails.c, loaded before the C library,
 # lets the n-th allocation, opening, read or write fail: each one of a call of each command, in a run of its own.
 # What has to be left is worked out from FORMATS.md; each line is one write, and each file is opened once.
+# The first allocations are those for the words and the probes, of which each takes at least one.
 [ -x "${1:?no program}" ] || { echo "no program: $1"; exit 2; }
 program=$1
 cd "$(dirname "$0")/.." || exit 2
@@ -17,8 +18,10 @@ cases=0 bad=0
 left() { [ $status = "$1" ] && head -n "$2" "$work/whole" | cmp -s - "$work/out" && head -n "$3" "$work/notes" | cmp -s - "$work/err"; }
 # STATUS PATTERN: whether the run left this status, no answer, and one line of this kind
 refused() { [ $status = "$1" ] && [ ! -s "$work/out" ] && [ "$(wc -l < "$work/err")" -eq 1 ] && grep -qxE "$2" "$work/err"; }
-# whether it left status 9 alone
-silent() { [ $status = 9 ] && [ ! -s "$work/out" ] && [ ! -s "$work/err" ]; }
+# whether it left status 9 alone, and so did each run before it
+silent() {
+    [ $status = 9 ] && [ ! -s "$work/out" ] && [ ! -s "$work/err" ] && [ $n = $((quiet + 1)) ] && quiet=$n
+}
 
 # whether the run left what it may, where call number n of this kind failed in this way
 may() {
@@ -45,7 +48,7 @@ calls() {
 
 # KIND HOW WORDS..: lets each call of a kind fail in one way
 each() {
-    kind=$1 how=$2 n=1
+    kind=$1 how=$2 n=1 quiet=0
     shift 2
     while
         FAILS=$kind HOW=$how AT=$n LD_PRELOAD=$work/fails.so "$program" "$@" > "$work/out" 2> "$work/err" 3> "$work/reached"
@@ -59,7 +62,14 @@ each() {
     wanted=$(calls $files)
     [ "$wanted" = $((n - 1)) ] || { [ "$wanted" = some ] && [ $n -gt 1 ]; } ||
         { echo "$1, $kind $how: $((n - 1)) calls, wanted $wanted"; bad=$((bad + 1)); }
+    [ $kind != alloc ] || [ $quiet -ge $(($# + 3)) ] ||
+        { echo "$1: $quiet allocations before the call, for $# words and 3 probes"; bad=$((bad + 1)); }
 }
+
+# Lines of more than 64 bytes.
+name=abcdefghijklmnopqrstuvwxyz_-6789
+printf '[[task]]\nname = "%s"\nperiod = 1099511627776\nworst = 1000000000000000000\n' $name > "$work/tasks"
+printf 'idle = 1000\n[[point]]\nspeed = 1000000\nmillivolts = 20000\n' > "$work/machine"
 
 while read -r words; do
     files=$(echo "$words" | awk '{ for (i = 1; i < NF; i++) if ($i ~ /^--(tasks|machine|demands|trace|deadlines|requests)$/) print substr($i, 3) }')
@@ -86,6 +96,7 @@ constrain --tasks deadlines/tasks.toml --machine deadlines/machine.toml --deadli
 poll --tasks server/tasks.toml --machine server/machine.toml --requests server/requests.csv --server s --scheduler edf --governor none --ticks 15
 workload --seed 1
 least --machine controller/machine.toml --units 1000 --ticks 20
+run --tasks $work/tasks --machine $work/machine --scheduler edf --governor none --ticks 1099511627776 --format 2
 CALLS
 echo "failing: $cases cases, $bad differ"
 [ $bad = 0 ]
