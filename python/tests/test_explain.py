@@ -324,7 +324,7 @@ def random_inputs(seed: int) -> tuple[Inputs, int]:
 @pytest.mark.parametrize("part", range(8))
 def test_random_plans(part: int, engine: Engine) -> None:
     """The program's traces are the simulated ones, and right; altered ones are refused at the wrong line."""
-    for seed in range(20 * part, 20 * part + 20):
+    for seed in range(8 * part, 8 * part + 8):
         inputs, ticks = random_inputs(seed)
         rng = random.Random(seed)
         for pair in PAIRS:

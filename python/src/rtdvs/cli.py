@@ -22,7 +22,8 @@ from rtdvs import (
 from rtdvs.engine import EngineError
 
 COMMANDS: tuple[ModuleType, ...] = (
-    explain, simulate, statistics, compare, sensitivity, generate, evaluate, paper_table, design, plot, convert,
+    explain, simulate, statistics, compare, sensitivity, generate, evaluate, paper_table, design, plot,
+    convert,
 )
 
 

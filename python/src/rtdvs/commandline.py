@@ -1,6 +1,7 @@
 """What the commands share: options, input, output and a progress bar."""
 
 import argparse
+import inspect
 import io
 import re
 import sys
@@ -10,12 +11,13 @@ from contextlib import AbstractContextManager
 from fractions import Fraction
 from pathlib import Path
 from time import monotonic
-from typing import BinaryIO, TypeVar
+from typing import BinaryIO, TypeAlias, TypeVar
 
 from rtdvs.engine import Engine, TryEngine, find_engine
-from rtdvs.files import Demands, FileFault, Machine, TaskSet
-from rtdvs.trace import Done, Trace
+from rtdvs.files import Demands, FileFault, Machine, TaskSet, load
+from rtdvs.trace import MOST_TICKS, Done, Trace
 
+Commands: TypeAlias = "argparse._SubParsersAction[argparse.ArgumentParser]"
 Item = TypeVar("Item")
 Input = Path | bytes
 """A file's path, or what standard input held."""
@@ -29,9 +31,35 @@ FILES = {
     "trace": "the trace, in version 1 or 2",
 }
 BAR = 30
+SCHEDULERS, KINDS = ("edf", "rm"), ("none", "static", "cc", "la")
 
 
 # Options
+
+def add_parser(commands: Commands, name: str, handler: Callable[[argparse.Namespace], int], about: str,
+               example: str) -> argparse.ArgumentParser:
+    """Adds a command: its handler, whose docstring or its module's is the help, and calls as an example."""
+    described = inspect.getdoc(handler) or sys.modules[handler.__module__].__doc__
+    calls = "".join(f"\n  python3 -m rtdvs {words}" for words in example.split("\n"))
+    parser = commands.add_parser(name, help=about, description=described, epilog=f"example:{calls}",
+                                 formatter_class=argparse.RawDescriptionHelpFormatter)
+    parser.set_defaults(handler=handler)
+    return parser
+
+
+def add_ticks(parser: argparse.ArgumentParser) -> None:
+    """Adds `--ticks`, the length of a run."""
+    parser.add_argument("--ticks", type=whole_number(1, MOST_TICKS), required=True, metavar="N",
+                        help="the length of the run")
+
+
+def add_pair(parser: argparse.ArgumentParser, scheduler: str | None = None,
+             governor: str | None = None) -> None:
+    """Adds `--scheduler` and `--governor`, which are required without a default."""
+    for name, words, default in (("scheduler", SCHEDULERS, scheduler), ("governor", KINDS, governor)):
+        parser.add_argument(f"--{name}", choices=words, default=default, required=default is None,
+                            help=default and f"{default} unless given")
+
 
 def add_files(parser: argparse.ArgumentParser, required: Sequence[str], optional: Sequence[str] = ()) -> None:
     """Adds options for files, each an Input: tasks, machine, demands, deadlines, requests, trace.
@@ -121,22 +149,21 @@ def input_path(word: str) -> Input:
 
 def read_tasks(args: argparse.Namespace) -> TaskSet:
     """The task set of `--tasks`; raises FileFault and OSError."""
-    source: Input = args.tasks
-    return TaskSet.parse(source) if isinstance(source, bytes) else TaskSet.read(source)
+    return TaskSet.parse(_content(args.tasks))
 
 
 def read_machine(args: argparse.Namespace) -> Machine:
     """The machine of `--machine`; raises FileFault and OSError."""
-    source: Input = args.machine
-    return Machine.parse(source) if isinstance(source, bytes) else Machine.read(source)
+    return Machine.parse(_content(args.machine))
 
 
 def read_demands(args: argparse.Namespace, tasks: TaskSet) -> Demands | None:
     """The demands of `--demands`, or None without that option; raises FileFault and OSError."""
-    source: Input | None = args.demands
-    if source is None:
-        return None
-    return Demands.parse(source, tasks) if isinstance(source, bytes) else Demands.read(source, tasks)
+    return None if args.demands is None else Demands.parse(_content(args.demands), tasks)
+
+
+def _content(source: Input) -> bytes:
+    return source if isinstance(source, bytes) else load(source)
 
 
 def open_input(source: Input) -> AbstractContextManager[BinaryIO]:

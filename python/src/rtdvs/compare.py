@@ -1,16 +1,31 @@
-"""What each scheduler and governor does to the energy and to the tasks of one set."""
+"""What each scheduler and governor does to the energy and to the tasks of one set.
+
+A row for each of the seven pairs, and for traces given beside them:
+
+    energy            of running and idling, every digit
+    of_none           as a share of EDF with none
+    above_bound       what is above the bound of least, as a share of the bound
+    switches          of the speed
+    idle, at_SPEED    shares of the run
+    least_laxity      the least time from a completion to its deadline, in ticks
+    jitter            the greatest difference between two responses of one task, in ticks
+
+A pair that is denied has the line of its refusal. Shares and ticks are rounded once, half to even.
+"""
 
 import argparse
-from collections import defaultdict
 from collections.abc import Iterable, Iterator, Mapping, Sequence
 from concurrent.futures import Executor
 from dataclasses import dataclass, replace
 from fractions import Fraction
 
 from rtdvs.commandline import (
+    Commands,
     Input,
     add_engine_options,
     add_files,
+    add_parser,
+    add_ticks,
     engine_of,
     executor_of,
     input_path,
@@ -21,24 +36,17 @@ from rtdvs.commandline import (
     read_text,
     whole_number,
 )
-from rtdvs.decimals import decimal
+from rtdvs.decimals import aligned, decimal
 from rtdvs.engine import Answer, Denied, Engine, Least, least_call, parse_least, run_call
 from rtdvs.files import Demands, FileFault, Machine, TaskSet
-from rtdvs.trace import MOST_TICKS, Job, Run, Trace, TraceFault
+from rtdvs.statistics import task_statistics
+from rtdvs.trace import Run, Trace, TraceFault
 
 PAIRS = (("edf", "none"), ("edf", "static"), ("edf", "cc"), ("edf", "la"),
          ("rm", "none"), ("rm", "static"), ("rm", "cc"))
 
 HEADING = ("scheduler", "governor", "energy", "of_none", "above_bound", "switches", "idle", "least_laxity",
            "jitter")
-ABOUT = """
-Prints a row for each of the seven pairs, and for traces given beside them. energy: of running and idling,
-every digit; of_none: as a share of EDF with none; above_bound: what is above the bound of least, as a share
-of the bound; switches: of the speed; idle, at_SPEED: shares of the run; least_laxity: the least time from a
-completion to its deadline, jitter: the greatest difference of two responses of one task, both in ticks. A
-pair that is denied has the line of its refusal. Shares and ticks are rounded once, half to even.
-"""
-
 
 @dataclass(frozen=True, slots=True)
 class Result:
@@ -127,23 +135,11 @@ def units_of(trace: Trace) -> int:
     return sum(note.units for note in trace.notes if isinstance(note, Run))
 
 
-def least_laxity(jobs: Iterable[Job]) -> Fraction | None:
-    """The least time in ticks from a completion to its deadline."""
-    return min((job.laxity for job in jobs if job.laxity is not None), default=None)
-
-
-def jitter(jobs: Iterable[Job]) -> Fraction | None:
-    """The greatest difference in ticks between two responses of one task."""
-    responses: defaultdict[str, list[Fraction]] = defaultdict(list)
-    for job in jobs:
-        if job.response is not None:
-            responses[job.task].append(job.response)
-    return max((max(times) - min(times) for times in responses.values()), default=None)
-
-
 def result(trace: Trace, tasks: TaskSet, least: Least, base: int) -> Result:
     """What a trace comes to, with the bound for its units; `base` is the energy that shares are of, or 0."""
-    jobs = trace.jobs(tasks)
+    of_tasks = task_statistics(trace, tasks)
+    laxities = [each.least_laxity for each in of_tasks if each.least_laxity is not None]
+    jitters = [each.jitter for each in of_tasks if each.jitter is not None]
     bound = Fraction(least.energy, least.rounds)
     return Result(
         energy=trace.energy,
@@ -151,8 +147,8 @@ def result(trace: Trace, tasks: TaskSet, least: Least, base: int) -> Result:
         above_bound=trace.energy / bound - 1 if bound else None,
         switches=trace.switches,
         idle=trace.idle_time / trace.ticks,
-        least_laxity=least_laxity(jobs),
-        jitter=jitter(jobs),
+        least_laxity=min(laxities, default=None),
+        jitter=max(jitters, default=None),
         residency={speed: time / trace.ticks for speed, time in trace.residency().items()},
     )
 
@@ -201,7 +197,7 @@ def table(rows: Sequence[Row]) -> str:
     """The rows below their heading, all shares and ticks with four decimal places."""
     speeds = sorted({speed for row in rows if row.result for speed in row.result.residency})
     heading = (*HEADING, *(f"at_{speed}" for speed in speeds))
-    return aligned([heading, *(cells(row, speeds) for row in rows)])
+    return aligned([heading, *(cells(row, speeds) for row in rows)], left=2)
 
 
 def cells(row: Row, speeds: Sequence[int]) -> tuple[str, ...]:
@@ -222,40 +218,20 @@ def finer_table(rows: Sequence[Row], finer: Mapping[int, Sequence[Fraction | Non
     shares = [[energy / row.result.energy if energy is not None and row.result and row.result.energy else None
                for row, energy in zip(rows, energies)] for energies in finer.values()]
     return aligned([heading, *((row.scheduler, row.governor, *(decimal(share, 4) for share in column))
-                               for row, *column in zip(rows, *shares))])
+                               for row, *column in zip(rows, *shares))], left=2)
 
 
-def aligned(lines: Sequence[tuple[str, ...]]) -> str:
-    """The lines in columns: the first two to the left, numbers to the right. A shorter line is a refusal.
-
-    >>> print(aligned([("pair", "of", "energy", "idle"), ("rm", "cc", "7", "0"), ("rm", "none", "denied")]))
-    pair  of  energy  idle
-    rm    cc       7     0
-    rm    none  denied
-    <BLANKLINE>
-    """
-    whole = [line for line in lines if len(line) == len(lines[0])]
-    left, middle, *widths = (max(map(len, column)) for column in zip(*whole))
-    rows = ((line, widths if len(line) == len(lines[0]) else [0] * len(line)) for line in lines)
-    return "".join(f"{line[0]:{left}}  {line[1]:{middle}}"
-                   + "".join(f"  {cell:>{width}}" for cell, width in zip(line[2:], wide)) + "\n"
-                   for line, wide in rows)
-
-
-def add_command(commands: "argparse._SubParsersAction[argparse.ArgumentParser]") -> None:
+def add_command(commands: Commands) -> None:
     """Adds the command `compare`."""
-    parser = commands.add_parser(
-        "compare", help="energies and times under each scheduler and governor", description=ABOUT,
-        epilog="python3 -m rtdvs compare --tasks tasks.toml --machine machine.toml --ticks 16 --finer 2 10")
+    parser = add_parser(commands, "compare", run, "energies and times under each scheduler and governor",
+                        "compare --tasks tasks.toml --machine machine.toml --ticks 16 --finer 2 10")
     add_files(parser, ["tasks", "machine"], ["demands"])
-    parser.add_argument("--ticks", type=whole_number(1, MOST_TICKS), required=True, metavar="N",
-                        help="the ticks of each run")
+    add_ticks(parser)
     parser.add_argument("--trace", type=input_path, nargs="+", default=[], metavar="FILE",
                         help="traces of these files and ticks, of any governor, each as a row more")
     parser.add_argument("--finer", type=whole_number(1), nargs="+", default=[], metavar="N",
                         help="the energies in ticks N times finer too, as shares of those in the ticks given")
     add_engine_options(parser, jobs=True)
-    parser.set_defaults(handler=run)
 
 
 def run(args: argparse.Namespace) -> int:

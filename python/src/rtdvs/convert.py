@@ -13,7 +13,16 @@ from decimal import Context, Decimal
 from fractions import Fraction
 from typing import TYPE_CHECKING
 
-from rtdvs.commandline import add_files, add_output, note_charge, read_text, whole_number, write_output
+from rtdvs.commandline import (
+    Commands,
+    add_files,
+    add_output,
+    add_parser,
+    note_charge,
+    read_text,
+    whole_number,
+    write_output,
+)
 from rtdvs.decimals import decimal
 from rtdvs.files import FileFault
 from rtdvs.trace import Decision, Done, Idle, Position, Release, Run, Trace
@@ -207,7 +216,8 @@ def _event(note: Release | Run | Idle | Done, speed: int, track: int) -> str:
         return _about("i", f"done {note.job}",
                       track) + f',"s":"t","ts":{ticks(note.at.time(speed))},"args":{{"used":{note.used}}}'
     name = "idle" if isinstance(note, Idle) else f"{note.task} {note.job}"
-    span = f',"ts":{ticks(note.begin.time(speed))},"dur":{ticks(note.end.time(speed) - note.begin.time(speed))}'
+    begin, end = note.begin.time(speed), note.end.time(speed)
+    span = f',"ts":{ticks(begin)},"dur":{ticks(end - begin)}'
     return _about("X", name, track) + span + f',"args":{{"units":{note.units},"energy":"{note.energy}"}}'
 
 
@@ -276,16 +286,11 @@ def _moments(trace: Trace, wires: dict[str, int]) -> Iterator[tuple[int, Iterabl
 # The command
 
 
-EXAMPLE = """examples:
-  python3 -m rtdvs convert --to csv --table jobs --trace paper.trace --output jobs.csv
-  python3 -m rtdvs convert --to vcd --trace paper.trace --output paper.vcd
-"""
-
-
-def add_command(commands: "argparse._SubParsersAction[argparse.ArgumentParser]") -> None:
+def add_command(commands: Commands) -> None:
     """Adds the command `convert`."""
-    parser = commands.add_parser("convert", help="a trace as CSV, trace events or waves", description=__doc__,
-                                 epilog=EXAMPLE, formatter_class=argparse.RawDescriptionHelpFormatter)
+    parser = add_parser(commands, "convert", run, "a trace as CSV, trace events or waves",
+                        "convert --to csv --table jobs --trace paper.trace --output jobs.csv\n"
+                        "convert --to vcd --trace paper.trace --output paper.vcd")
     parser.add_argument("--to", choices=("csv", "chrome", "vcd"), required=True,
                         help="a table, trace events in JSON (Perfetto), or a value change dump (GTKWave)")
     parser.add_argument("--table", choices=tuple(TABLES), help="the table for csv; segments by default")
@@ -293,11 +298,9 @@ def add_command(commands: "argparse._SubParsersAction[argparse.ArgumentParser]")
                         help="the machine's charge, which each declared worst case in jobs then has twice")
     add_files(parser, ("trace",))
     add_output(parser)
-    parser.set_defaults(handler=run)
 
 
 def run(args: argparse.Namespace) -> int:
-    """Runs the command."""
     if args.to != "csv" and (args.table or args.charge is not None):
         raise FileFault(f"--table and --charge are for csv only, and not for {args.to}")
     trace = Trace.parse(read_text(args.trace, "trace"))

@@ -1,5 +1,6 @@
-"""Exact numbers as decimals, rounded once; the point is a point in every locale."""
+"""Exact numbers as decimals, rounded once; the point is a point in every locale. Tables in columns."""
 
+from collections.abc import Sequence
 from fractions import Fraction
 
 
@@ -14,3 +15,19 @@ def decimal(value: Fraction | int | None, places: int) -> str:
     digits = f"{abs(round(value * 10**places)):0{places + 1}}"
     sign = "-" if value < 0 and int(digits) > 0 else ""
     return f"{sign}{digits[:-places]}.{digits[-places:]}" if places else f"{sign}{digits}"
+
+
+def aligned(rows: Sequence[Sequence[str]], left: int = 1) -> str:
+    """Rows in columns: so many to the left, the others to the right. A row that is shorter isn't aligned.
+
+    >>> print(aligned([("of", "energy", "idle"), ("cc", "7", "0"), ("none", "denied")]), end="")
+    of    energy  idle
+    cc         7     0
+    none  denied
+    """
+    whole = [row for row in rows if len(row) == len(rows[0])]
+    widths = [max(map(len, column)) for column in zip(*whole, strict=True)]
+    widths[:left] = [max(len(row[place]) for row in rows) for place in range(left)]
+    lines = (row if len(row) < len(widths) else [*row[:left], *map(str.rjust, row[left:], widths[left:])]
+             for row in rows)
+    return "".join("  ".join([*map(str.ljust, line[:left], widths), *line[left:]]) + "\n" for line in lines)

@@ -31,16 +31,33 @@ from fractions import Fraction
 from pathlib import Path
 from typing import Any
 
-from rtdvs.commandline import (add_engine_options, add_output, engine_of, exact_fraction, input_path,
-                               read_text,
-                               whole_number, write_output)
+from rtdvs.commandline import (
+    Commands,
+    add_engine_options,
+    add_output,
+    add_pair,
+    add_parser,
+    engine_of,
+    exact_fraction,
+    input_path,
+    read_text,
+    whole_number,
+    write_output,
+)
 from rtdvs.device_tree import Choice, OperatingPoint, operating_points
-from rtdvs.files import Demands, FileFault, Machine, Point, Task, TaskSet
+from rtdvs.draws import jobs_of
+from rtdvs.files import (
+    LONGEST_HYPERPERIOD,
+    MOST_MILLIVOLTS,
+    MOST_SPEED,
+    Demands,
+    FileFault,
+    Machine,
+    Point,
+    Task,
+    TaskSet,
+)
 from rtdvs.trace import Trace
-
-MOST_MILLIVOLTS = 20_000
-MOST_SPEED = 1_000_000
-MOST_MULTIPLE = 1 << 48
 
 
 @dataclass(frozen=True, slots=True)
@@ -137,7 +154,7 @@ class Rounding:
 
 @dataclass(frozen=True, slots=True)
 class Design:
-    """The files for a board, their scale and roundings; the joules of an energy of 1, if power was measured."""
+    """The files for a board, their scale and roundings; the joules of an energy of 1, if power is known."""
 
     tasks: TaskSet
     machine: Machine
@@ -211,7 +228,7 @@ def choose_tick(board: Board) -> Fraction:
     periods = [task.period for task in board.tasks]
     most = sum(task.worst / task.period for task in board.tasks) / 1000
     fitting = [tick for tick in _ticks(periods)
-               if math.lcm(*(period // tick for period in periods)) <= MOST_MULTIPLE]
+               if math.lcm(*(period // tick for period in periods)) <= LONGEST_HYPERPERIOD]
     if not fitting:
         raise _fault("the periods have no common multiple up to 2^48 ticks; give rounder periods, or a tick")
     return min(fitting, key=lambda tick: (max(most, _added_utilisation(board.tasks, tick)), -tick))
@@ -290,10 +307,10 @@ def is_measured(points: Iterable[BoardPoint]) -> bool:
 
 def usual_demands(board: Board, made: Design, ticks: int) -> Demands:
     """The demands of all jobs of these ticks: what jobs usually take, rounded up to units."""
+    usual = {task.name: task.usual for task in board.tasks if task.usual is not None}
     return Demands({
-        (task.name, job): math.ceil(given.usual / made.scale.unit)
-        for given, task in zip(board.tasks, made.tasks) if given.usual is not None
-        for job in range(1, -(-(ticks - task.offset) // task.period) + 1)
+        (task.name, job): math.ceil(usual[task.name] / made.scale.unit)
+        for task, job in jobs_of(made.tasks, ticks) if task.name in usual
     })
 
 
@@ -456,7 +473,7 @@ def _millivolts(point: BoardPoint) -> int:
 
 
 def _effective_millivolts(points: Sequence[BoardPoint]) -> list[int]:
-    """Whole millivolts, their squares nearly in proportion to the energies of a cycle; the dearest has 20000."""
+    """Whole millivolts, their squares nearly in proportion to a cycle's energies; the dearest has 20000."""
     energies = [(point.milliwatts or Fraction(0)) / point.megahertz for point in points]
     squares = [energy / max(energies) * MOST_MILLIVOLTS**2 for energy in energies]
     return [_nearest_root(square) for square in squares]
@@ -486,19 +503,13 @@ def _joule(board: Board, machine: Machine, scale: Scale) -> Fraction | None:
     return unit / (machine.points[-1].millivolts ** 2 * 1000)
 
 
-EXAMPLE = """examples:
-  python3 -m rtdvs design --board board.toml --folder drone
-  python3 -m rtdvs design --board board.toml --trace drone.trace
-  python3 -m rtdvs design --device-tree examples/board.dts --table little --output machine.toml
-"""
-
-
-def add_command(commands: "argparse._SubParsersAction[argparse.ArgumentParser]") -> None:
+def add_command(commands: Commands) -> None:
     """Adds the command `design`."""
-    parser = commands.add_parser("design",
-                                 help="files in ticks and work units from milliseconds, cycles and volts",
-                                 description=__doc__, epilog=EXAMPLE,
-                                 formatter_class=argparse.RawDescriptionHelpFormatter)
+    parser = add_parser(commands, "design", run,
+                        "files in ticks and work units from milliseconds, cycles and volts",
+                        "design --board board.toml --folder drone\n"
+                        "design --board board.toml --trace drone.trace\n"
+                        "design --device-tree examples/board.dts --table little --output machine.toml")
     parser.add_argument("--board", type=input_path, metavar="FILE", help="the description of a board")
     parser.add_argument("--folder", type=Path, help="writes tasks.toml and machine.toml there")
     parser.add_argument("--tick-ms", type=exact_fraction, metavar="MS",
@@ -510,7 +521,6 @@ def add_command(commands: "argparse._SubParsersAction[argparse.ArgumentParser]")
     _add_tree_options(parser)
     _add_settle_options(parser)
     add_output(parser)
-    parser.set_defaults(handler=run)
 
 
 def _add_tree_options(parser: argparse.ArgumentParser) -> None:
@@ -528,9 +538,7 @@ def _add_settle_options(parser: argparse.ArgumentParser) -> None:
     group = parser.add_argument_group("the tick",
                                       "halves the tick until the energy of a run moves by at most 1 %%")
     group.add_argument("--settle-ms", type=exact_fraction, metavar="MS", help="the time of each run")
-    group.add_argument("--scheduler", choices=("edf", "rm"), default="edf", help="edf by default")
-    group.add_argument("--governor", choices=("none", "static", "cc", "la"), default="cc",
-                       help="cc by default")
+    add_pair(parser, "edf", "cc")
     add_engine_options(parser)
 
 
@@ -542,7 +550,6 @@ def _hardware(word: str) -> tuple[int, ...]:
 
 
 def run(args: argparse.Namespace) -> int:
-    """Runs the command."""
     for option in ("tick_ms", "unit_cycles", "settle_ms"):
         if getattr(args, option) is not None and getattr(args, option) <= 0:
             raise _fault(f"--{option.replace('_', '-')} has to be above 0")

@@ -12,15 +12,11 @@ from fractions import Fraction
 from itertools import islice
 from math import exp, floor, isqrt, lcm, log
 
-from rtdvs.files import Demands, Task, TaskSet
+from rtdvs.files import LONGEST_HYPERPERIOD, LONGEST_TIME, MOST_SPEED, MOST_TASKS, Demands, Task, TaskSet
 
 MODULUS = 2**31 - 1
 FACTOR = 48271
 MOST_SEED = MODULUS - 1
-MOST_TASKS = 64
-MOST_PERIOD = 2**40
-MOST_MULTIPLE = 2**48
-MOST_SPEED = 1_000_000
 
 PUBLISHED_SEED = 2001
 PUBLISHED_COUNTS = (5, 8, 10, 15)
@@ -105,10 +101,10 @@ class Listed:
     periods: tuple[int, ...]
 
     def __post_init__(self) -> None:
-        require(len(self.periods) > 0 and all(1 <= period <= MOST_PERIOD for period in self.periods),
-                f"a period is 1 to {MOST_PERIOD}")
-        require(lcm(*self.periods) <= MOST_MULTIPLE,
-                f"the periods have no common multiple up to {MOST_MULTIPLE}")
+        require(len(self.periods) > 0 and all(1 <= period <= LONGEST_TIME for period in self.periods),
+                f"a period is 1 to {LONGEST_TIME}")
+        require(lcm(*self.periods) <= LONGEST_HYPERPERIOD,
+                f"the periods have no common multiple up to {LONGEST_HYPERPERIOD}")
 
     def draw(self, count: int, stream: Iterator[int]) -> list[int]:
         return [self.periods[drawn(stream, len(self.periods))] for _ in range(count)]
@@ -130,9 +126,9 @@ class LogUniform:
     multiple: int = PUBLISHED_TICKS
 
     def __post_init__(self) -> None:
-        require(1 <= self.low <= self.high <= MOST_PERIOD,
-                f"low is 1 to high, and high at most {MOST_PERIOD}")
-        require(1 <= self.multiple <= MOST_MULTIPLE, f"multiple is 1 to {MOST_MULTIPLE}")
+        require(1 <= self.low <= self.high <= LONGEST_TIME,
+                f"low is 1 to high, and high at most {LONGEST_TIME}")
+        require(1 <= self.multiple <= LONGEST_HYPERPERIOD, f"multiple is 1 to {LONGEST_HYPERPERIOD}")
 
     def draw(self, count: int, stream: Iterator[int]) -> list[int]:
         choices = divisors(self.multiple, self.low, self.high)

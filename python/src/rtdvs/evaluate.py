@@ -1,7 +1,9 @@
 """The evaluation of Pillai and Shin (2001) with random sets: energy over utilisation, in tables.
 
 A sweep runs each set under each pair of scheduler and governor, on the machines and for the demands of the
-figures. It leaves a file for each set in its folder, so a sweep that was stopped goes on where it was.
+figures, and writes a table for each figure of docs/EVALUATION.md into the folder, of all results there. It
+leaves a file for each set, so a sweep that was stopped goes on when the call is made again. The last line
+counts what is wrong: a run that is missing, an energy below the bound or above EDF with none.
 """
 
 import argparse
@@ -12,7 +14,15 @@ from dataclasses import dataclass
 from fractions import Fraction
 from pathlib import Path
 
-from rtdvs.commandline import add_engine_options, engine_of, exact_fraction, progress, whole_number
+from rtdvs.commandline import (
+    Commands,
+    add_engine_options,
+    add_parser,
+    engine_of,
+    exact_fraction,
+    progress,
+    whole_number,
+)
 from rtdvs.compare import PAIRS, Case, energy_of, runs
 from rtdvs.decimals import decimal
 from rtdvs.engine import Denied, Engine
@@ -33,11 +43,6 @@ from rtdvs.trace import Done, Idle, Release, Run, Trace
 DRAWS = {"published": published_sets, "uunifast": uunifast_sets}
 CURVES = (*(f"{scheduler} {governor}" for scheduler, governor in PAIRS), "bound")
 TENTHS = range(1, 11)
-ABOUT = """
-Runs random sets under each scheduler and governor, and writes a table for each figure of docs/EVALUATION.md
-into the folder, of all results there. A sweep that was stopped goes on when the call is made again. The last
-line counts what is wrong: a run that is missing, an energy below the bound or above EDF with none.
-"""
 
 
 @dataclass(frozen=True, slots=True)
@@ -363,11 +368,10 @@ def summary(records: Collection[Record], wrong: Collection[str]) -> str:
     return f"{len(records)} lines, {len(groups)} groups, {denied} denied under RM, {len(wrong)} faults"
 
 
-def add_command(commands: "argparse._SubParsersAction[argparse.ArgumentParser]") -> None:
+def add_command(commands: Commands) -> None:
     """Adds the command `evaluate`."""
-    parser = commands.add_parser(
-        "evaluate", help="energy over utilisation, of random sets", description=ABOUT,
-        epilog="python3 -m rtdvs evaluate --folder sweep --jobs 4 --counts 5 --utilisations 0.1 0.2")
+    parser = add_parser(commands, "evaluate", run, "energy over utilisation, of random sets",
+                        "evaluate --folder sweep --jobs 4 --counts 5 --utilisations 0.1 0.2")
     parser.add_argument("--folder", type=Path, required=True, help="where results and tables are kept")
     parser.add_argument("--sets", type=whole_number(1, 999), default=100, metavar="N",
                         help="for each number of tasks and each utilisation; 100 unless given")
@@ -377,7 +381,6 @@ def add_command(commands: "argparse._SubParsersAction[argparse.ArgumentParser]")
     parser.add_argument("--utilisations", type=tenth, nargs="+", default=TENTHS, metavar="U",
                         help="tenths from 0.1 to 1; all unless given")
     add_engine_options(parser, jobs=True)
-    parser.set_defaults(handler=run)
 
 
 def tenth(word: str) -> int:

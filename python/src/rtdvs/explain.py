@@ -8,6 +8,8 @@ deadlines and totals.
 Without the demand file a job needs what its `done` line says, or its worst case without one. A run that ends
 too early is then found one line later than `replay` finds it, at the line that is there instead of the `done`
 line.
+
+The status is 1 if the trace is wrong; standard error then names its first wrong line.
 """
 
 import argparse
@@ -16,7 +18,15 @@ import sys
 from collections.abc import Callable, Iterable, Iterator, Sequence
 from dataclasses import astuple, dataclass
 
-from rtdvs.commandline import add_files, open_input, read_demands, read_machine, read_tasks
+from rtdvs.commandline import (
+    Commands,
+    add_files,
+    add_parser,
+    open_input,
+    read_demands,
+    read_machine,
+    read_tasks,
+)
 from rtdvs.files import Demands, Machine, Point, Task, TaskSet
 from rtdvs.rules import (
     GOVERNORS,
@@ -392,16 +402,11 @@ def _handle(args: argparse.Namespace) -> int:
     return 0
 
 
-def add_command(commands: "argparse._SubParsersAction[argparse.ArgumentParser]") -> None:
+def add_command(commands: Commands) -> None:
     """Adds the command `explain`."""
-    parser = commands.add_parser(
-        "explain", help="explain each decision of a trace, and check the whole trace", description=__doc__,
-        formatter_class=argparse.RawDescriptionHelpFormatter,
-        epilog="The status is 1 if the trace is wrong; standard error then names its first wrong line.\n\n"
-               "example:\n"
-               "  python3 -m rtdvs explain --tasks tasks.toml --machine machine.toml --trace run.trace")
+    parser = add_parser(commands, "explain", _handle, "explain each decision of a trace, and check its lines",
+                        "explain --tasks tasks.toml --machine machine.toml --trace run.trace")
     add_files(parser, ("tasks", "machine", "trace"), ("demands",))
     parser.add_argument("--any", action="store_true",
                         help="a trace of another governor: any demand, and any of the speeds at any tick")
     parser.add_argument("--quiet", action="store_true", help="the last line only")
-    parser.set_defaults(handler=_handle)

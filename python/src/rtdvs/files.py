@@ -21,7 +21,7 @@ from typing import Any, Self
 LONGEST_FILE = 2**24
 MOST_TASKS, MOST_POINTS, MOST_REQUESTS = 64, 32, 100_000
 LONGEST_TIME, MOST_WORK, LONGEST_HYPERPERIOD = 2**40, 2**60, 2**48
-TOP_SPEED, MOST_MILLIVOLTS, MOST_IDLE, MOST_CHARGE = 1_000_000, 20_000, 1_000, 1_000_000
+MOST_SPEED, MOST_MILLIVOLTS, MOST_IDLE, MOST_CHARGE = 1_000_000, 20_000, 1_000, 1_000_000
 
 
 class FileFault(ValueError):
@@ -122,7 +122,7 @@ class TaskSet(_File):
     @classmethod
     def read(cls, path: Path) -> Self:
         """The task set of a file; raises FileFault and OSError."""
-        return cls.parse(_load(path))
+        return cls.parse(load(path))
 
     def text(self) -> str:
         """The task file."""
@@ -179,7 +179,7 @@ class Machine(_File):
     @classmethod
     def read(cls, path: Path) -> Self:
         """The machine of a file; raises FileFault and OSError."""
-        return cls.parse(_load(path))
+        return cls.parse(load(path))
 
     def text(self) -> str:
         """The machine file."""
@@ -221,7 +221,7 @@ class Demands(_File):
     @classmethod
     def read(cls, path: Path, tasks: TaskSet) -> Self:
         """The demands of a file for these tasks; raises FileFault and OSError."""
-        return cls.parse(_load(path), tasks)
+        return cls.parse(load(path), tasks)
 
     def text(self) -> str:
         """The demand file."""
@@ -256,7 +256,7 @@ class Deadlines(_File):
     @classmethod
     def read(cls, path: Path, tasks: TaskSet) -> Self:
         """The deadlines of a file for these tasks; raises FileFault and OSError."""
-        return cls.parse(_load(path), tasks)
+        return cls.parse(load(path), tasks)
 
     def text(self) -> str:
         """The deadline file."""
@@ -302,7 +302,7 @@ class Requests(_File):
     @classmethod
     def read(cls, path: Path) -> Self:
         """The requests of a file; raises FileFault and OSError."""
-        return cls.parse(_load(path))
+        return cls.parse(load(path))
 
     def text(self) -> str:
         """The request file."""
@@ -311,7 +311,8 @@ class Requests(_File):
 
 # Bytes
 
-def _load(path: Path) -> bytes:
+def load(path: Path) -> bytes:
+    """The bytes of a file, at most one more than a file may have; raises OSError."""
     with path.open("rb") as file:
         return file.read(LONGEST_FILE + 1)
 
@@ -413,7 +414,7 @@ def _task_text(task: Task) -> str:
 
 def _point(entry: _Table) -> Point:
     entry.refuse_others("speed", "millivolts")
-    return Point(entry.number("speed", (1, TOP_SPEED)), entry.number("millivolts", (1, MOST_MILLIVOLTS)))
+    return Point(entry.number("speed", (1, MOST_SPEED)), entry.number("millivolts", (1, MOST_MILLIVOLTS)))
 
 
 def _point_text(point: Point) -> str:

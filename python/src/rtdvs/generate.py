@@ -9,9 +9,13 @@ from math import lcm
 from pathlib import Path
 
 from rtdvs.commandline import (
+    Commands,
     add_engine_options,
     add_files,
     add_output,
+    add_pair,
+    add_parser,
+    add_ticks,
     engine_of,
     exact_fraction,
     read_tasks,
@@ -19,11 +23,7 @@ from rtdvs.commandline import (
     write_output,
 )
 from rtdvs.draws import (
-    MOST_MULTIPLE,
-    MOST_PERIOD,
     MOST_SEED,
-    MOST_SPEED,
-    MOST_TASKS,
     PUBLISHED_COUNTS,
     PUBLISHED_SEED,
     PUBLISHED_TICKS,
@@ -42,15 +42,24 @@ from rtdvs.draws import (
 )
 from rtdvs.engine import Denied, Engine
 from rtdvs.explain import Walk, explain, last_line
-from rtdvs.files import Demands, Machine, Point, Task, TaskSet
-from rtdvs.trace import MOST_TICKS
+from rtdvs.files import (
+    LONGEST_HYPERPERIOD,
+    LONGEST_TIME,
+    MOST_SPEED,
+    MOST_TASKS,
+    Demands,
+    Machine,
+    Point,
+    Task,
+    TaskSet,
+)
 
 BOARD = Machine((Point(2, 3000), Point(3, 4000), Point(4, 5000)))
 """The machine of the exercises, which is that of the example of Pillai and Shin (2001)."""
 
 SMALL_PERIODS = tuple(periods for size in (2, 3) for periods in combinations((4, 5, 6, 8, 10, 12), size)
                       if lcm(*periods) <= 24)
-ABOUT = {"edf": "earliest deadline first", "rm": "rate monotonic priorities"}
+SCHEDULERS = {"edf": "earliest deadline first", "rm": "rate monotonic priorities"}
 
 
 @dataclass(frozen=True, slots=True)
@@ -69,8 +78,8 @@ class Exercise:
         speeds = ", ".join(f"{point.speed} at {point.millivolts} mV" for point in BOARD.points)
         rows = "".join(f"| `{task.name}` | {task.period} | {task.worst} | {self._needs(task)} |\n"
                        for task in self.tasks)
-        return (f"Write the trace of {self.tasks.hyperperiod} ticks under {ABOUT[self.scheduler]} with the "
-                f"governor `{self.governor}`.\nThe machine has the speeds {speeds}.\n\n"
+        return (f"Write the trace of {self.tasks.hyperperiod} ticks under {SCHEDULERS[self.scheduler]} with "
+                f"the governor `{self.governor}`.\nThe machine has the speeds {speeds}.\n\n"
                 f"| Task | Period | Worst case | Its jobs need |\n|---|---|---|---|\n{rows}")
 
     def _needs(self, task: Task) -> str:
@@ -130,40 +139,46 @@ def exercise(engine: Engine, seed: int, scheduler: str = "edf", governor: str = 
 # The command
 
 
-def add_command(commands: "argparse._SubParsersAction[argparse.ArgumentParser]") -> None:
+def add_command(commands: Commands) -> None:
     """Adds the command `generate`."""
-    parser = commands.add_parser("generate", help="random task sets, demands and exercises by a seed",
-                                 description="Draws task sets, demands and exercises by a seed.",
-                                 epilog="python3 -m rtdvs generate uunifast --count 8 --utilisation 0.7 --seed 1")
+    parser = add_parser(commands, "generate", lambda args: 2,  # a kind is required
+                        "random task sets, demands and exercises by a seed",
+                        "generate uunifast --count 8 --utilisation 0.7 --seed 1\n"
+                        "generate exercise --seed 7 --folder seven")
     kinds = parser.add_subparsers(metavar="KIND", required=True)
     for add in (add_uunifast, add_published, add_demands, add_exercise):
         add(kinds)
 
 
-def add_uunifast(kinds: "argparse._SubParsersAction[argparse.ArgumentParser]") -> None:
-    parser = kinds.add_parser(
-        "uunifast", help="a task set by UUniFast",
-        description="Draws a task set by UUniFast (Bini and Buttazzo 2005).",
-        epilog="python3 -m rtdvs generate uunifast --count 8 --utilisation 0.7 --seed 1 --periods 10 20 50")
+def add_seed(parser: argparse._ActionsContainer, default: int | None = None, required: bool = True) -> None:
+    """Adds `--seed`; with a default it isn't required."""
+    parser.add_argument("--seed", type=whole_number(1, MOST_SEED), default=default, metavar="N",
+                        required=required and default is None,
+                        help=None if default is None else f"{default} unless given")
+
+
+def add_uunifast(kinds: Commands) -> None:
+    parser = add_parser(kinds, "uunifast", run_uunifast, "a task set by UUniFast",
+                        "generate uunifast --count 8 --utilisation 0.7 --seed 1 --periods 10 20 50")
     parser.add_argument("--count", type=whole_number(1, MOST_TASKS), required=True, metavar="N",
                         help="the number of tasks")
     parser.add_argument("--utilisation", type=exact_fraction, required=True, metavar="U",
                         help="of the whole set, above 0 and at most 1, as 0.7 or 7/10")
-    parser.add_argument("--seed", type=whole_number(1, MOST_SEED), required=True, metavar="N")
+    add_seed(parser)
     parser.add_argument("--top", type=whole_number(1, MOST_SPEED), default=1000, metavar="N",
                         help="the highest speed in work units per tick; 1000 unless given")
-    parser.add_argument("--periods", type=whole_number(1, MOST_PERIOD), nargs="+", metavar="N",
+    parser.add_argument("--periods", type=whole_number(1, LONGEST_TIME), nargs="+", metavar="N",
                         help="periods in ticks, each equally likely; or without them:")
     for name, default, about in (("low", 10, "the shortest"), ("high", 1000, "the longest")):
-        parser.add_argument(f"--{name}", type=whole_number(1, MOST_PERIOD), metavar="N",
+        parser.add_argument(f"--{name}", type=whole_number(1, LONGEST_TIME), metavar="N",
                             help=f"{about} period in ticks, with uniform logarithms; {default} unless given")
-    parser.add_argument("--multiple", type=whole_number(1, MOST_MULTIPLE), metavar="N",
+    parser.add_argument("--multiple", type=whole_number(1, LONGEST_HYPERPERIOD), metavar="N",
                         help=f"the number that all periods divide; {PUBLISHED_TICKS} unless given")
     add_output(parser)
-    parser.set_defaults(handler=run_uunifast)
 
 
 def run_uunifast(args: argparse.Namespace) -> int:
+    """Draws a task set by UUniFast (Bini and Buttazzo 2005)."""
     given = {name: getattr(args, name) for name in ("low", "high", "multiple")}
     bounds = {name: value for name, value in given.items() if value is not None}
     require(not (args.periods and bounds), "periods are a list, or from low to high, not both")
@@ -172,26 +187,22 @@ def run_uunifast(args: argparse.Namespace) -> int:
     return 0
 
 
-def add_published(kinds: "argparse._SubParsersAction[argparse.ArgumentParser]") -> None:
-    parser = kinds.add_parser(
-        "published", help="a set of the published evaluation",
-        description="Draws a set of docs/EVALUATION.md, as those of Pillai and Shin (2001).",
-        epilog="python3 -m rtdvs generate published --count 8 --tenths 7 --number 1")
+def add_published(kinds: Commands) -> None:
+    parser = add_parser(kinds, "published", run_published, "a set of the published evaluation",
+                        "generate published --count 8 --tenths 7 --number 1")
     parser.add_argument("--count", type=int, choices=PUBLISHED_COUNTS, required=True,
                         help="the number of tasks")
-    parser.add_argument("--tenths", type=whole_number(1, 10), required=True, metavar="N",
-                        help="the utilisation in tenths")
-    parser.add_argument("--number", type=whole_number(1, 999), required=True, metavar="N",
-                        help="the set's number among these")
+    for name, most, about in (("tenths", 10, "the utilisation in tenths"),
+                              ("number", 999, "the set's number among these")):
+        parser.add_argument(f"--{name}", type=whole_number(1, most), required=True, metavar="N", help=about)
     parser.add_argument("--sets", type=whole_number(1, 999), default=100, metavar="N",
                         help="how many there are of each kind; 100 unless given")
-    parser.add_argument("--seed", type=whole_number(1, MOST_SEED), default=PUBLISHED_SEED, metavar="N",
-                        help=f"{PUBLISHED_SEED} unless given")
+    add_seed(parser, PUBLISHED_SEED)
     add_output(parser)
-    parser.set_defaults(handler=run_published)
 
 
 def run_published(args: argparse.Namespace) -> int:
+    """Draws a set of docs/EVALUATION.md, as those of Pillai and Shin (2001)."""
     require(args.number <= args.sets, f"number is 1 to {args.sets}")
     wanted = SetName(args.count, args.tenths, args.number)
     sets = published_sets(args.sets, args.seed)
@@ -199,24 +210,20 @@ def run_published(args: argparse.Namespace) -> int:
     return 0
 
 
-def add_demands(kinds: "argparse._SubParsersAction[argparse.ArgumentParser]") -> None:
-    parser = kinds.add_parser(
-        "demands", help="demands of all jobs of a run",
-        description="Prints a demand file for all jobs of a run.",
-        epilog="python3 -m rtdvs generate demands --tasks tasks.toml --ticks 100 --share 0.7")
+def add_demands(kinds: Commands) -> None:
+    parser = add_parser(kinds, "demands", run_demands, "demands of all jobs of a run",
+                        "generate demands --tasks tasks.toml --ticks 100 --share 0.7")
     add_files(parser, ["tasks"])
-    parser.add_argument("--ticks", type=whole_number(1, MOST_TICKS), required=True, metavar="N",
-                        help="of the run")
+    add_ticks(parser)
     which = parser.add_mutually_exclusive_group(required=True)
     which.add_argument("--share", type=exact_fraction, metavar="S",
                        help="what each job takes of its worst case, 0 to 1")
-    which.add_argument("--seed", type=whole_number(1, MOST_SEED), metavar="N",
-                       help="each job draws its own share by this seed")
+    add_seed(which, required=False)
     add_output(parser)
-    parser.set_defaults(handler=run_demands)
 
 
 def run_demands(args: argparse.Namespace) -> int:
+    """Prints a demand file for all jobs of a run; with a seed each job draws its own share."""
     tasks = read_tasks(args)
     if args.share is None:
         demands = taken_uniform(tasks, args.seed, args.ticks)
@@ -227,22 +234,21 @@ def run_demands(args: argparse.Namespace) -> int:
     return 0
 
 
-def add_exercise(kinds: "argparse._SubParsersAction[argparse.ArgumentParser]") -> None:
-    parser = kinds.add_parser(
-        "exercise", help="an exercise with its solution",
-        description="Draws a set with small numbers, and writes a question, the files, the trace that solves "
-        "it and the explanation of each decision into a folder. The question is printed as well.",
-        epilog="python3 -m rtdvs generate exercise --seed 7 --scheduler edf --governor la --folder seven")
-    parser.add_argument("--seed", type=whole_number(1, MOST_SEED), required=True, metavar="N")
-    parser.add_argument("--scheduler", choices=("edf", "rm"), default="edf", help="edf unless given")
-    parser.add_argument("--governor", choices=("none", "static", "cc", "la"), default="cc",
-                        help="cc unless given")
+def add_exercise(kinds: Commands) -> None:
+    parser = add_parser(kinds, "exercise", run_exercise, "an exercise with its solution",
+                        "generate exercise --seed 7 --scheduler edf --governor la --folder seven")
+    add_seed(parser)
+    add_pair(parser, "edf", "cc")
     parser.add_argument("--folder", type=Path, required=True, help="where the files are written")
     add_engine_options(parser)
-    parser.set_defaults(handler=run_exercise)
 
 
 def run_exercise(args: argparse.Namespace) -> int:
+    """Draws a set with small numbers, and writes an exercise into a folder.
+
+    It has the question, the files, the trace that solves it and the explanation of each decision. The
+    question is printed as well.
+    """
     drawn_one = exercise(engine_of(args), args.seed, args.scheduler, args.governor)
     drawn_one.write(args.folder)
     print(drawn_one.question(), end="")

@@ -1,11 +1,23 @@
-"""The energies of the worked example of Pillai and Shin (2001), as shares of EDF with `none`."""
+"""The energies of the worked example of Pillai and Shin (2001), as shares of EDF with `none`.
+
+A row has ticks k times finer: periods, worst cases, demands and the ticks of the run times k, at the same
+speeds. The last row is the paper's own.
+"""
 
 import argparse
 from collections.abc import Iterable, Iterator
 from concurrent.futures import Executor
 from fractions import Fraction
 
-from rtdvs.commandline import add_engine_options, engine_of, executor_of, progress, whole_number
+from rtdvs.commandline import (
+    Commands,
+    add_engine_options,
+    add_parser,
+    engine_of,
+    executor_of,
+    progress,
+    whole_number,
+)
 from rtdvs.compare import Case, energy_of, runs
 from rtdvs.decimals import decimal
 from rtdvs.engine import Denied, Engine
@@ -23,12 +35,6 @@ PAIRS = (("edf", "none"), ("rm", "static"), ("edf", "static"), ("edf", "cc"), ("
 HEADING = ("k", "none", "RM static", "EDF static", "EDF cc", "RM cc", "EDF la")
 PUBLISHED = ("paper", "1.0", "1.0", "0.64", "0.52", "0.71", "0.44")
 FINER = (1, 3, 10, 100)
-ABOUT = """
-Prints the energies of the worked example of Pillai and Shin (2001), as shares of EDF with none. A row has
-ticks k times finer: periods, worst cases, demands and the ticks of the run times k, at the same speeds. The
-last row is the paper's own.
-"""
-
 
 def shares(engine: Engine, times: int, executor: Executor | None = None) -> tuple[Fraction, ...]:
     """The energies of the published pairs in ticks that are so much finer, each over the first.
@@ -65,16 +71,14 @@ def line(cells: tuple[str, ...]) -> str:
     return f"{cells[0]:>6}" + "".join(f"  {cell:>10}" for cell in cells[1:])
 
 
-def add_command(commands: "argparse._SubParsersAction[argparse.ArgumentParser]") -> None:
+def add_command(commands: Commands) -> None:
     """Adds the command `paper-table`."""
-    parser = commands.add_parser(
-        "paper-table", help="the energies of the example of Pillai and Shin, in finer ticks too",
-        description=ABOUT,
-        epilog="python3 -m rtdvs paper-table --finer 3 30")
+    parser = add_parser(commands, "paper-table", run,
+                        "the energies of the example of Pillai and Shin, in finer ticks too",
+                        "paper-table --finer 3 30")
     parser.add_argument("--finer", type=whole_number(1), nargs="+", default=FINER, metavar="K",
                         help="a row for each; 1, 3, 10 and 100 unless given")
     add_engine_options(parser, jobs=True)
-    parser.set_defaults(handler=run)
 
 
 def run(args: argparse.Namespace) -> int:

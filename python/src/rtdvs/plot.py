@@ -14,8 +14,21 @@ from pathlib import Path
 from typing import TYPE_CHECKING, Any
 
 from rtdvs.canvas import INK, PIXEL, POINT, SMALL, TEXT, TITLE, new_figure, save, settings
-from rtdvs.commandline import (add_engine_options, add_files, engine_of, input_path, note_charge, read_demands,
-                               read_machine, read_tasks, read_text, whole_number)
+from rtdvs.commandline import (
+    Commands,
+    add_engine_options,
+    add_files,
+    add_parser,
+    add_ticks,
+    engine_of,
+    input_path,
+    note_charge,
+    read_demands,
+    read_machine,
+    read_tasks,
+    read_text,
+    whole_number,
+)
 from rtdvs.compare import compare
 from rtdvs.figures import parse_means, save_compare, save_means
 from rtdvs.files import FileFault
@@ -441,18 +454,12 @@ def _sign(label: str, colour: str, marker: object, **style: Any) -> Any:
 # The command
 
 
-EXAMPLE = """examples:
-  python3 -m rtdvs plot trace --trace paper.trace --top 4 --output paper.svg
-  python3 -m rtdvs plot compare --tasks tasks.toml --machine machine.toml --ticks 2000 --output compare.pdf
-  python3 -m rtdvs plot evaluation --table examples/evaluation/tasks.tsv --output tasks.svg
-"""
-
-
-def add_command(commands: "argparse._SubParsersAction[argparse.ArgumentParser]") -> None:
+def add_command(commands: Commands) -> None:
     """Adds the command `plot`."""
-    parser = commands.add_parser("plot", help="pictures of traces, of comparisons and of the evaluation",
-                                 description=__doc__, epilog=EXAMPLE,
-                                 formatter_class=argparse.RawDescriptionHelpFormatter)
+    parser = add_parser(commands, "plot", run, "pictures of traces, of comparisons and of the evaluation",
+                        "plot trace --trace paper.trace --top 4 --output paper.svg\n"
+                        "plot compare --tasks tasks.toml --machine machine.toml --ticks 99 --output a.pdf\n"
+                        "plot evaluation --table examples/evaluation/tasks.tsv --output tasks.svg")
     kinds = parser.add_subparsers(metavar="PICTURE", required=True)
     trace = kinds.add_parser("trace", help="a trace, task by task, with the speed and the demand")
     add_files(trace, ("trace",))
@@ -464,8 +471,7 @@ def add_command(commands: "argparse._SubParsersAction[argparse.ArgumentParser]")
     _add_file(trace, _run_trace)
     pairs = kinds.add_parser("compare", help="the energy of each pair, and its time at each speed")
     add_files(pairs, ("tasks", "machine"), ("demands",))
-    pairs.add_argument("--ticks", type=whole_number(1), required=True, metavar="N",
-                       help="the ticks of the runs")
+    add_ticks(pairs)
     add_engine_options(pairs)
     _add_file(pairs, _run_compare)
     means = kinds.add_parser("evaluation", help="a table of the evaluation")
@@ -479,11 +485,10 @@ def _add_file(parser: argparse.ArgumentParser, draw: Callable[[argparse.Namespac
     parser.add_argument("--output", type=Path, required=True, metavar="FILE",
                         help="the picture: .svg, .pdf or .png")
     parser.add_argument("--background", default="none", metavar="COLOUR", help="none by default")
-    parser.set_defaults(handler=run, draw=draw)
+    parser.set_defaults(draw=draw)
 
 
 def run(args: argparse.Namespace) -> int:
-    """Runs the command."""
     try:
         _check_background(args.background)
         args.draw(args)

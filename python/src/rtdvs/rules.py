@@ -14,7 +14,6 @@ from operator import mul
 from rtdvs.files import FileFault, Machine, Point, Task, TaskSet
 from rtdvs.trace import Decision, Done, End, Idle, Note, Release, Run, TaskEnergy
 
-SCHEDULERS = ("edf", "rm")
 Demand = tuple[int, int]
 Pair = tuple[str, str]
 """A scheduler and a governor."""

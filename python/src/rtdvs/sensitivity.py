@@ -1,4 +1,10 @@
-"""How far a task set is from the limit of a test: how worst cases can grow, how slow a machine can be."""
+"""How far a task set is from the limit of a test: how worst cases can grow, how slow a machine can be.
+
+The command prints the most thousandths that all worst cases can be multiplied by, each product rounded up;
+for each task its worst case and the most units that it can have; the highest speed and the lowest that is
+enough. Each limit leaves the rest as it is; a dash says that no number is enough. A set that is denied has
+limits below its own numbers.
+"""
 
 import argparse
 from collections.abc import Callable, Iterator
@@ -7,8 +13,10 @@ from dataclasses import dataclass, replace
 from functools import partial
 
 from rtdvs.commandline import (
+    Commands,
     add_engine_options,
     add_files,
+    add_parser,
     engine_of,
     executor_of,
     progress,
@@ -16,18 +24,9 @@ from rtdvs.commandline import (
     read_tasks,
 )
 from rtdvs.engine import Denied, Engine, admit_call, response_call
-from rtdvs.files import Machine, Point, TaskSet
+from rtdvs.files import MOST_SPEED, Machine, Point, TaskSet
 
 TESTS = ("edf", "rm", "response")
-ABOUT = """
-Prints the most thousandths that all worst cases can be multiplied by, each product rounded up; for each task
-its worst case and the most units that it can have; the highest speed and the lowest that is enough. Each
-limit leaves the rest as it is; a dash says that no number is enough. A set that is denied has limits below
-its own numbers.
-"""
-MOST_SPEED = 1_000_000
-"""The highest speed that a machine file can have, in work units per tick."""
-
 
 @dataclass(frozen=True, slots=True)
 class Limits:
@@ -158,17 +157,14 @@ def shown(limit: int | None) -> str:
     return "-" if limit is None else str(limit)
 
 
-def add_command(commands: "argparse._SubParsersAction[argparse.ArgumentParser]") -> None:
+def add_command(commands: Commands) -> None:
     """Adds the command `sensitivity`."""
-    parser = commands.add_parser(
-        "sensitivity", help="how far a set is from the limit of a test",
-        description=ABOUT,
-        epilog="python3 -m rtdvs sensitivity --tasks tasks.toml --machine machine.toml --test edf")
+    parser = add_parser(commands, "sensitivity", run, "how far a set is from the limit of a test",
+                        "sensitivity --tasks tasks.toml --machine machine.toml --test edf")
     add_files(parser, ["tasks", "machine"])
     parser.add_argument("--test", choices=TESTS, required=True,
                         help="edf or rm: the test of admit; response: the exact one under RM")
     add_engine_options(parser, jobs=True)
-    parser.set_defaults(handler=run)
 
 
 def run(args: argparse.Namespace) -> int:

@@ -2,16 +2,25 @@
 
 The function gets the state at a decision and returns the demand, a numerator and a denominator in work units
 per tick. The speed is then the lowest of the machine that meets it. The trace is drawn, compared and checked
-as any other.
+as any other. The command has the program's governors; `rtdvs.simulate.simulate` takes any function.
 """
 
 import argparse
 from collections.abc import Iterator, Mapping
 
-from rtdvs.commandline import add_files, read_demands, read_machine, read_tasks, whole_number
+from rtdvs.commandline import (
+    Commands,
+    add_files,
+    add_pair,
+    add_parser,
+    add_ticks,
+    read_demands,
+    read_machine,
+    read_tasks,
+)
 from rtdvs.files import Demands, FileFault, Machine, TaskSet
-from rtdvs.rules import GOVERNORS, SCHEDULERS, Governor, Latest, Plan, State
-from rtdvs.trace import MOST_TICKS, Decision, Done, End, Idle, Note, Position, Release, Run, TaskEnergy, Trace
+from rtdvs.rules import GOVERNORS, Governor, Latest, Plan, State
+from rtdvs.trace import Decision, Done, End, Idle, Note, Position, Release, Run, TaskEnergy, Trace
 
 
 class DeadlineMissed(ValueError):
@@ -149,17 +158,11 @@ def _handle(args: argparse.Namespace) -> int:
     return 0
 
 
-def add_command(commands: "argparse._SubParsersAction[argparse.ArgumentParser]") -> None:
+def add_command(commands: Commands) -> None:
     """Adds the command `simulate`."""
-    parser = commands.add_parser(
-        "simulate", help="simulate a run under a governor in Python", description=__doc__,
-        formatter_class=argparse.RawDescriptionHelpFormatter,
-        epilog="Here the governor is one of the program's; rtdvs.simulate.simulate takes your function.\n\n"
-               "example:\n  python3 -m rtdvs simulate --tasks tasks.toml --machine machine.toml "
-               "--scheduler edf --governor cc --ticks 16")
+    parser = add_parser(commands, "simulate", _handle, "simulate a run under a governor in Python",
+                        "simulate --tasks tasks.toml --machine machine.toml --scheduler edf --governor cc "
+                        "--ticks 16")
     add_files(parser, ("tasks", "machine"), ("demands",))
-    parser.add_argument("--scheduler", required=True, choices=SCHEDULERS)
-    parser.add_argument("--governor", required=True, choices=("none", "static", "cc", "la"))
-    parser.add_argument("--ticks", required=True, type=whole_number(1, MOST_TICKS), metavar="TICKS",
-                        help="the length of the run")
-    parser.set_defaults(handler=_handle)
+    add_pair(parser)
+    add_ticks(parser)

@@ -15,8 +15,8 @@ from collections.abc import Sequence
 from dataclasses import dataclass
 from fractions import Fraction
 
-from rtdvs.commandline import add_files, open_input, read_tasks
-from rtdvs.decimals import decimal
+from rtdvs.commandline import Commands, add_files, add_parser, open_input, read_tasks
+from rtdvs.decimals import aligned, decimal
 from rtdvs.files import TaskSet
 from rtdvs.trace import Job, Trace, TraceFault
 
@@ -79,32 +79,18 @@ def task_statistics(trace: Trace, tasks: TaskSet) -> tuple[TaskStatistics, ...]:
     return tuple(statistics_of(name, own) for name, own in jobs.items())
 
 
-def table(rows: Sequence[Sequence[str]]) -> str:
-    """Rows as columns, the first to the left and the others to the right.
-
-    >>> table([("a", "1"), ("bc", "23")])
-    'a    1\\nbc  23\\n'
-    """
-    widths = [max(map(len, column)) for column in zip(*rows, strict=True)]
-    lines = ("  ".join([row[0].ljust(widths[0]), *map(str.rjust, row[1:], widths[1:])]) for row in rows)
-    return "".join(f"{line.rstrip()}\n" for line in lines)
-
-
 def _handle(args: argparse.Namespace) -> int:
     tasks = read_tasks(args)
     with open_input(args.trace) as file:
         trace = Trace.parse(file.read().decode("latin-1"))
     if trace.tasks and trace.tasks != tasks.tasks:
         raise TraceFault(3, "its tasks aren't those of the task file")
-    print(table([COLUMNS, *(each.row() for each in task_statistics(trace, tasks))]), end="")
+    print(aligned([COLUMNS, *(each.row() for each in task_statistics(trace, tasks))]), end="")
     return 0
 
 
-def add_command(commands: "argparse._SubParsersAction[argparse.ArgumentParser]") -> None:
+def add_command(commands: Commands) -> None:
     """Adds the command `statistics`."""
-    parser = commands.add_parser(
-        "statistics", help="print response times, laxity, preemptions and energy of each task",
-        description=__doc__, formatter_class=argparse.RawDescriptionHelpFormatter,
-        epilog="example:\n  python3 -m rtdvs statistics --tasks tasks.toml --trace run.trace")
+    parser = add_parser(commands, "statistics", _handle, "print times, preemptions and energy of each task",
+                        "statistics --tasks tasks.toml --trace run.trace")
     add_files(parser, ("tasks", "trace"))
-    parser.set_defaults(handler=_handle)

@@ -13,11 +13,10 @@ from fractions import Fraction
 from pathlib import Path
 from typing import Self, TextIO
 
-from rtdvs.files import Task, TaskSet
+from rtdvs.files import MOST_TASKS, Task, TaskSet
 
 MOST_LINES = 800_000
 MOST_BYTES = 255
-MOST_TASKS = 64
 MOST_TICKS = 2**40
 
 
