@@ -1,6 +1,8 @@
 # check_links.sh: checks the pages, those at the top and in docs and examples.
 # Checked are: the file and the heading of each relative link; each path in backticks; each name of code in backticks,
-# which has to occur as a word in a crate or in python; and that MESSAGES.md has each refusal's line of FORMATS.md.
+# which has to occur as a word in a crate or in python; and the lines of refusals in MESSAGES.md: each is printed by some
+# call of crates/stored_calls or by a test with large files or little memory (crates/call_tests/src/hostile), each refusal
+# that is stored is one of them, and they have each text of the code.
 # A path may be shortened from the left (`specs/Laws.antt`), and may have `*`. Folders that builds make aren't looked for.
 cd "$(dirname "$0")/.." || exit 2
 exec awk '
@@ -88,12 +90,72 @@ function each_link(line,    target) {
     }
 }
 
-# a refusal of FORMATS.md has to be in MESSAGES.md, letter for letter
-function each_message(line,    parts, n, i) {
+# a line of MESSAGES.md as a pattern: numbers, names, a line, and letters that stand for themselves
+function pattern_of(line) {
+    gsub(/[.*?+()\[\]]/, "[&]", line)
+    gsub(/<(word|key)>/, "[A-Za-z0-9_?-]*", line)
+    gsub(/<option>/, "--[a-z]+", line)
+    gsub(/<(task|field)>/, "[A-Za-z0-9_-]+", line)
+    gsub(/<line>/, ".*", line)
+    gsub(/<[a-z]+>/, "[0-9]+", line)
+    return "^" line "$"
+}
+
+# the lines in the first column of a row of MESSAGES.md, and all its texts
+function take_row(line,    parts, cells, n, i) {
     n = split(line, parts, "`")
-    for (i = 2; i < n; i += 2)
-        if (parts[i] ~ /^(denied|misses) .*<|^(words|load|tasks|machine|demands|deadlines|requests|trace|<file>|limit|over worst|differs|wanted|found|write): |^no memory$/ && index(messages, "`" parts[i] "`") == 0)
-            fault("MESSAGES.md lacks " parts[i])
+    for (i = 2; i < n; i += 2) texts = texts parts[i] "\n"
+    if (split(line, cells, "|") < 4) return
+    n = split(cells[2], parts, "`")
+    for (i = 2; i < n; i += 2) { patterns[pattern_of(parts[i])] = parts[i]; line_at[pattern_of(parts[i])] = nr }
+}
+
+# a stored line has to be one of them; a line that a failed put has cut has "no line feed" after it
+function check_stored(line,    pattern, some) {
+    if (line !~ /^!/ || line ~ /^!probe /) return
+    for (pattern in patterns) if (substr(line, 2) ~ pattern) { some = 1; printed[pattern] = 1 }
+    if (!some) fault("docs/MESSAGES.md lacks " substr(line, 2))
+}
+
+# a line that a test of large files or little memory wants; of a file that is too long it names the kind of file
+function check_tested(text,    pattern) {
+    if (text ~ /^word: /) sub(/"$/, ": too long\"", text)
+    gsub(/^(word: )?"|(\\n)?"$/, "", text)
+    for (pattern in patterns) if (text ~ pattern) printed[pattern] = 1
+}
+
+# a text of the code without its line feed has to be part of a text of MESSAGES.md
+function check_text(text) {
+    sub(/^b"/, "", text)
+    sub(/(\\n)?"$/, "", text)
+    if (index(texts, text) == 0) fault("docs/MESSAGES.md lacks the text " text)
+}
+
+function check_messages(    line, before, pattern, list) {
+    page = "docs/MESSAGES.md"
+    for (nr = 1; (getline line < page) > 0; nr++) take_row(line)
+    close(page)
+    page = "crates/stored_calls/stdout"
+    for (nr = 1; (getline line < page) > 0; nr++) {
+        if (line != "no line feed") check_stored(before)
+        before = line
+    }
+    check_stored(before)
+    close(page)
+    list = "grep -rhoE \"(word: )?\\\"[^\\\"]*\\\"\" crates/call_tests/src/hostile"
+    while ((list | getline line) > 0) check_tested(line)
+    close(list)
+    page = "docs/MESSAGES.md"
+    for (pattern in patterns) { nr = line_at[pattern]; if (!(pattern in printed)) fault("no stored call and no test has " patterns[pattern]) }
+    list = "grep -o \"b\\\"[^\\\"]*\\\"\" crates/*/src/fault_line.rt crates/statuses/src/refusal.rt crates/statuses/src/difference.rt"
+    while ((list | getline line) > 0) {
+        page = substr(line, 1, index(line, ":") - 1)
+        nr = 0
+        check_text(substr(line, index(line, ":") + 1))
+        read++
+    }
+    close(list)
+    if (!read) fault("no texts of refusals in the code")
 }
 
 BEGIN {
@@ -117,7 +179,6 @@ BEGIN {
     for (p = 1; p <= count; p++) {
         fenced = 0
         while ((getline line < pages[p]) > 0) {
-            if (pages[p] == "docs/MESSAGES.md") messages = messages line "\n"
             if (is_prose(line) && line ~ /^#+ /) { sub(/^#+ /, "", line); anchors[pages[p], slug(line)] = 1 }
         }
         close(pages[p])
@@ -131,10 +192,10 @@ BEGIN {
             if (!is_prose(line)) continue
             each_link(line)
             each_code(line)
-            if (page == "docs/FORMATS.md") each_message(line)
         }
         close(page)
     }
+    check_messages()
     print "links: " count " pages, " faults + 0 " faults"
     exit faults > 0
 }'

@@ -1,6 +1,6 @@
 """The files that the program reads: task sets, machines, demands, deadlines and requests.
 
-Each is parsed by the rules, the limits and the order of docs/FORMATS.md. The text of a FileFault is the line
+Each is parsed by the rules of docs/FORMATS.md, in the order of docs/MESSAGES.md. The text of a FileFault is the line
 that the program prints for the same file. `tomllib` reads TOML 1.0: a file with TOML 1.1's additions (line
 breaks and a last comma in braces, the escapes `\\e` and `\\x`) is "not TOML" here, and the program reads it.
 A key of more than 80 parts, arrays more than 80 deep and dates out of the calendar are refused by both, not
