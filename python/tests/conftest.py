@@ -5,6 +5,7 @@ import os
 from pathlib import Path
 
 import pytest
+from examples import DATA, TOP
 from hypothesis import HealthCheck, settings
 
 from rtdvs.engine import Engine
@@ -12,7 +13,6 @@ from rtdvs.engine import Engine
 # Libraries print numbers as the environment asks, be it with a decimal comma; messages stay English.
 locale.setlocale(locale.LC_ALL, "")
 locale.setlocale(locale.LC_MESSAGES, "C")
-TOP = Path(__file__).resolve().parents[2]
 
 settings.register_profile("gate", derandomize=True, deadline=None, max_examples=30, database=None,
                           suppress_health_check=list(HealthCheck))
@@ -28,7 +28,7 @@ def top() -> Path:
 @pytest.fixture(scope="session")
 def data() -> Path:
     """The folders of the examples' files: paper, offsets, controller, deadlines, server and others."""
-    return TOP / "crates" / "example_runs" / "data"
+    return DATA
 
 
 @pytest.fixture(scope="session")

@@ -9,8 +9,6 @@ from math import ceil, floor, lcm
 from rtdvs.files import Demands, Machine, Point, Task, TaskSet
 
 PERIODS = [1, 2, 3, 4, 5, 6, 8, 10, 12, 15, 20, 24, 30, 40, 60]
-PAIRS = [("edf", "none"), ("edf", "static"), ("edf", "cc"), ("edf", "la"),
-         ("rm", "none"), ("rm", "static"), ("rm", "cc")]
 
 
 @dataclass

@@ -3,17 +3,15 @@
 from collections.abc import Iterator
 from pathlib import Path
 
-from rtdvs.compare import compare
+from examples import DATA, TOP
+
+from rtdvs.compare import PAIRS, compare
 from rtdvs.engine import Engine, find_engine
 from rtdvs.figures import parse_means, save_compare, save_means
 from rtdvs.files import Demands, Machine, TaskSet
 from rtdvs.plot import View, save_trace
 from rtdvs.trace import Trace
 
-TOP = Path(__file__).resolve().parents[2]
-DATA = TOP / "crates" / "example_runs" / "data"
-PAIRS = (("edf", "none"), ("edf", "static"), ("edf", "cc"), ("edf", "la"), ("rm", "none"), ("rm", "static"),
-         ("rm", "cc"))
 TRACES = {  # a picture's name: the folder, the pair, the ticks, the view and the width
     "edf_cc_with_demands": ("paper", ("edf", "cc"), 16, View(top=4), 1000),
     **{f"{scheduler}_{governor}": ("paper", (scheduler, governor), 16, View(top=4), 500) for scheduler,

@@ -12,6 +12,7 @@ from pathlib import Path
 from typing import Any
 
 import pytest
+from examples import SHORT, TRACES, path_id, version_1
 from hypothesis import given
 from hypothesis import strategies as st
 
@@ -24,7 +25,6 @@ from rtdvs.simulate import simulate
 from rtdvs.trace import Position, Trace
 
 STEP = Fraction(1, 10**6)
-EXAMPLES = sorted(Path(__file__).resolve().parents[2].glob("crates/example_runs/data/*/*.trace"))
 Waves = dict[tuple[str, ...], list[tuple[int, Fraction]]]
 
 
@@ -175,25 +175,18 @@ def check_waves(text: str, vcd: str) -> None:
         assert abs(area(waves["tasks", f"{task}/open"]) - sum(spent)) <= STEP * len(spent)
 
 
-def version_1(text: str) -> str:
-    """The same run in version 1."""
-    kept = [line for line in text.splitlines() if line.split()[0] not in ("task", "energy")]
-    return "\n".join(["trace 1", *kept[1:], ""])
-
-
 def check_all(text: str) -> None:
     check_tables(text)
     check_events(text)
     check_waves(text, vcd_text(Trace.parse(text)))
 
 
-@pytest.mark.parametrize("path", EXAMPLES, ids=lambda path: f"{path.parent.name}/{path.stem}")
+@pytest.mark.parametrize("path", TRACES, ids=path_id)
 def test_examples(path: Path) -> None:
     check_all(path.read_text())
 
 
-@pytest.mark.parametrize("path", [path for path in EXAMPLES if path.parent.name != "long"],
-                         ids=lambda path: f"{path.parent.name}/{path.stem}")
+@pytest.mark.parametrize("path", SHORT, ids=path_id)
 def test_examples_in_version_2(path: Path, engine: Engine) -> None:
     check_all(engine.migrate(path.parent / "tasks.toml", path.parent / "machine.toml", path))
 

@@ -4,13 +4,12 @@ from collections.abc import Iterator
 from fractions import Fraction
 from math import exp, log, sqrt
 from typing import Any
-from pathlib import Path
 
 import pytest
 from hypothesis import given
 from hypothesis import strategies as st
 
-from rtdvs.files import Demands, TaskSet
+from rtdvs.files import TaskSet
 from rtdvs.draws import (
     DrawFault,
     Listed,

@@ -11,6 +11,7 @@ from concurrent.futures import Executor, ProcessPoolExecutor, ThreadPoolExecutor
 from pathlib import Path
 
 import pytest
+from examples import BOARD, PAPER
 
 from rtdvs import engine as engine_module
 from rtdvs.engine import (
@@ -46,10 +47,7 @@ from rtdvs.engine import (
     parse_workload,
     workload_call,
 )
-from rtdvs.files import Deadlines, Demands, Machine, Point, Requests, Task, TaskSet
-
-FAST = Machine((Point(2, 3000), Point(3, 4000), Point(4, 5000)))
-PAPER = TaskSet((Task("t1", 8, 12), Task("t2", 10, 12), Task("t3", 14, 4)))
+from rtdvs.files import Deadlines, Demands, Requests, Task, TaskSet
 
 
 def fake(folder: Path, body: str, name: str = "rtdvs") -> Path:
@@ -64,28 +62,28 @@ def fake(folder: Path, body: str, name: str = "rtdvs") -> Path:
 # The program's answers; the expected ones are those of docs/COMMANDS.md.
 
 def test_admitted(engine: Engine) -> None:
-    assert engine.admit(PAPER, FAST, "edf") == Admitted("edf", 836, 280, 3)
-    assert engine.admit(PAPER, FAST, "rm") == Admitted("rm", 52, 14, 4)
+    assert engine.admit(PAPER, BOARD, "edf") == Admitted("edf", 836, 280, 3)
+    assert engine.admit(PAPER, BOARD, "rm") == Admitted("rm", 52, 14, 4)
 
 
 def test_run(engine: Engine, data: Path) -> None:
     paper = data / "paper"
     demands = Demands.read(paper / "demands.csv", PAPER)
     stored = (paper / "edf_cc_with_demands.trace").read_text()
-    assert engine.run(PAPER, FAST, "edf", "cc", 16, demands, version=1) == stored
-    second = engine.run(paper / "tasks.toml", FAST, "edf", "cc", 16, demands)
+    assert engine.run(PAPER, BOARD, "edf", "cc", 16, demands, version=1) == stored
+    second = engine.run(paper / "tasks.toml", BOARD, "edf", "cc", 16, demands)
     assert second.startswith("trace 2\nplan edf cc 16\ntask t1 8 0 12\n")
 
 
 def test_replay_and_migrate(engine: Engine, data: Path) -> None:
     trace = data / "paper" / "edf_la_with_demands.trace"
-    found = engine.replay(PAPER, FAST, trace)
+    found = engine.replay(PAPER, BOARD, trace)
     assert (found.released, found.finished, found.run_energy, found.idle_energy) == (6, 6, 315_000_000_000, 0)
-    assert engine.migrate(PAPER, FAST, trace).startswith("trace 2\n")
+    assert engine.migrate(PAPER, BOARD, trace).startswith("trace 2\n")
 
 
 def test_responses(engine: Engine) -> None:
-    assert engine.respond(PAPER, FAST) == {"t1": 3, "t2": 6, "t3": 7}
+    assert engine.respond(PAPER, BOARD) == {"t1": 3, "t2": 6, "t3": 7}
 
 
 def test_constrained(engine: Engine, data: Path) -> None:
@@ -104,7 +102,7 @@ def test_polled(engine: Engine, data: Path) -> None:
 
 
 def test_least(engine: Engine) -> None:
-    assert engine.least(FAST, 28, 16) == Least(2, 0, 4, 2, 28, 504_000_000_000, 18_000_000_000, 0)
+    assert engine.least(BOARD, 28, 16) == Least(2, 0, 4, 2, 28, 504_000_000_000, 18_000_000_000, 0)
 
 
 def test_workload(engine: Engine) -> None:
@@ -186,22 +184,22 @@ def test_unknown_statuses(status: int) -> None:
 
 def test_refusals_of_the_program(engine: Engine, data: Path, tmp_path: Path) -> None:
     with pytest.raises(Denied, match="denied edf"):
-        engine.admit(TaskSet((Task("a", 1, 5),)), FAST, "edf")
+        engine.admit(TaskSet((Task("a", 1, 5),)), BOARD, "edf")
     with pytest.raises(WordsRefused, match="rm has no governor la"):
-        engine.run(PAPER, FAST, "rm", "la", 16)
+        engine.run(PAPER, BOARD, "rm", "la", 16)
     with pytest.raises(LoadFailed, match="load: tasks"):
-        engine.admit(tmp_path / "absent", FAST, "edf")
+        engine.admit(tmp_path / "absent", BOARD, "edf")
     with pytest.raises(LoadFailed, match="load: machine"):
         engine.admit(PAPER, tmp_path, "edf")
     with pytest.raises(FileRefused, match="tasks: not TOML"):
-        engine.admit(b"\xff", FAST, "edf")
+        engine.admit(b"\xff", BOARD, "edf")
     with pytest.raises(TooManyJobs):
-        engine.run(PAPER, FAST, "edf", "none", 2**40)
+        engine.run(PAPER, BOARD, "edf", "none", 2**40)
     with pytest.raises(OverWorst):
-        engine.run(PAPER, FAST, "edf", "none", 16, Demands({("t1", 1): 13}))
+        engine.run(PAPER, BOARD, "edf", "none", 16, Demands({("t1", 1): 13}))
     trace = (data / "paper" / "edf_la_with_demands.trace").read_text().replace("speed 3 2", "speed 3 3")
     with pytest.raises(Differs, match="differs: line 10\nwanted: speed 3 2 8/5\nfound: speed 3 3 8/5"):
-        engine.replay(PAPER, FAST, trace)
+        engine.replay(PAPER, BOARD, trace)
 
 
 # Programs that fail
@@ -412,7 +410,7 @@ def tried(bare: Path, monkeypatch: pytest.MonkeyPatch) -> TryEngine:
 
 
 def test_one_build_for_all_calls(tried: TryEngine, bare: Path) -> None:
-    admits = [admit_call(PAPER, FAST, "edf"), admit_call(PAPER, bare / "absent", "rm")]
+    admits = [admit_call(PAPER, BOARD, "edf"), admit_call(PAPER, bare / "absent", "rm")]
     found = [*tried.answers([workload_call(1), *admits, workload_call(2)])]
     assert [answer.status for answer in found] == [0, 1, 1, 0]
     assert [found[0].out, found[3].out] == [b"1\n", b"2\n"]

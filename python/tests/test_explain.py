@@ -1,6 +1,5 @@
 """The checker of traces: right ones of the program, altered ones, and the command line."""
 
-import dataclasses
 import os
 import random
 import re
@@ -8,25 +7,26 @@ import subprocess
 import sys
 import tracemalloc
 from collections.abc import Callable, Iterator
+from dataclasses import dataclass
 from pathlib import Path
 
 import pytest
-from model import PAIRS, random_case
+from examples import DATA, TOP, version_1
+from model import random_case
 
 from rtdvs.cli import main
+from rtdvs.compare import PAIRS
 from rtdvs.engine import Denied, Engine
 from rtdvs.explain import Walk, WrongTrace, check, explain, last_line
 from rtdvs.files import Demands, FileFault, Machine, Point, Task, TaskSet
 from rtdvs.rules import GOVERNORS, Plan
 from rtdvs.simulate import simulate
-from rtdvs.trace import TaskEnergy, Trace
+from rtdvs.trace import Trace
 
-TOP = Path(__file__).resolve().parents[2]
-DATA = TOP / "crates" / "example_runs" / "data"
 EXERCISES = TOP / "examples" / "exercises"
 
 
-@dataclasses.dataclass(frozen=True)
+@dataclass(frozen=True)
 class Inputs:
     """The files of a run."""
 
@@ -311,11 +311,6 @@ def altered(rng: random.Random, lines: list[str]) -> tuple[list[str], int, str]:
     return [*lines[:place], text[:at] + digit + text[at + 1:], *lines[place + 1:]], place + 1, word
 
 
-def version_1(trace: Trace) -> str:
-    notes = tuple(note for note in trace.notes if not isinstance(note, TaskEnergy))
-    return dataclasses.replace(trace, version=1, tasks=(), notes=notes).text()
-
-
 def random_inputs(seed: int) -> tuple[Inputs, int]:
     tasks, machine, demands, ticks = random_case(seed, long=True)
     return Inputs(tasks, machine, demands if seed % 4 else None), ticks
@@ -336,7 +331,7 @@ def test_random_plans(part: int, engine: Engine) -> None:
                     inputs.refusal(["trace 1\n", f"plan {pair[0]} {pair[1]} 1\n"])
                 continue
             trace = inputs.simulated(pair, ticks)
-            assert text == (trace.text() if version == 2 else version_1(trace))
+            assert text == (trace.text() if version == 2 else version_1(trace.text()))
             inputs.assert_right(text)
             if inputs.demands:
                 assert_altered(inputs, rng, text.splitlines(True))
@@ -361,7 +356,7 @@ def test_altered_simulations(pair: tuple[str, str]) -> None:
             continue
         trace = inputs.simulated(pair, ticks)
         inputs.assert_right(trace.text())
-        assert_altered(inputs, random.Random(seed), version_1(trace).splitlines(True))
+        assert_altered(inputs, random.Random(seed), version_1(trace.text()).splitlines(True))
         assert_altered(inputs, random.Random(seed), trace.text().splitlines(True))
 
 

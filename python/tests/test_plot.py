@@ -7,6 +7,7 @@ from pathlib import Path
 
 import pictures
 import pytest
+from examples import SHORT, TOP, path_id
 from hypothesis import given
 from hypothesis import strategies as st
 
@@ -22,9 +23,6 @@ from rtdvs.trace import Trace
 
 pytest.importorskip("matplotlib")
 SVG = "{http://www.w3.org/2000/svg}"
-TOP = Path(__file__).resolve().parents[2]
-EXAMPLES = [path for path in sorted(TOP.glob("crates/example_runs/data/*/*.trace"))
-            if path.parent.name != "long"]
 
 
 def marks(path: Path) -> dict[str, int]:
@@ -41,7 +39,7 @@ def texts(path: Path) -> list[str]:
     return ["".join(text.itertext()) for text in ElementTree.parse(path).getroot().iter(f"{SVG}text")]
 
 
-@pytest.mark.parametrize("path", EXAMPLES, ids=lambda path: f"{path.parent.name}/{path.stem}")
+@pytest.mark.parametrize("path", SHORT, ids=path_id)
 def test_marks_are_those_of_the_trace(path: Path, tmp_path: Path) -> None:
     lines = [line.split() for line in path.read_text().splitlines()]
     save_trace(Trace.read(path), tmp_path / "a.svg")

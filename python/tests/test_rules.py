@@ -6,11 +6,13 @@ from itertools import pairwise
 from pathlib import Path
 
 import pytest
-from model import PAIRS, Model, random_case
+from examples import BOARD
+from model import Model, random_case
 
 from rtdvs.cli import main
+from rtdvs.compare import PAIRS
 from rtdvs.explain import Walk, explain
-from rtdvs.files import Demands, FileFault, Machine, Point, Task, TaskSet
+from rtdvs.files import Demands, FileFault, Task, TaskSet
 from rtdvs.rules import GOVERNORS, Plan, State
 from rtdvs.simulate import DeadlineMissed, simulate
 from rtdvs.trace import Decision, Run, Trace
@@ -199,7 +201,6 @@ def test_simulate_command(capsys: pytest.CaptureFixture[str], data: Path) -> Non
 # Governors of one's own
 
 TASKS = TaskSet((Task("a", 4, 4), Task("b", 6, 9)))
-MACHINE = Machine((Point(2, 3000), Point(3, 4000), Point(4, 5000)))
 
 
 def test_own_governor() -> None:
@@ -207,9 +208,9 @@ def test_own_governor() -> None:
         """What is open, over the time to the earliest deadline."""
         return sum(job.left for job in state.jobs), state.first_deadline - state.now
 
-    trace = simulate(TASKS, MACHINE, "edf", 12, careful, Demands({("a", 1): 2}))
+    trace = simulate(TASKS, BOARD, "edf", 12, careful, Demands({("a", 1): 2}))
     lines = trace.text().splitlines(True)
-    summary = explain(Walk(TASKS, MACHINE, lines, Demands({("a", 1): 2}), any_governor=True))
+    summary = explain(Walk(TASKS, BOARD, lines, Demands({("a", 1): 2}), any_governor=True))
     # a needs 2 + 4 + 4 units and b 9 + 9; all are complete.
     assert (summary.released, summary.complete) == (5, 5)
     assert sum(note.units for note in trace.notes if isinstance(note, Run)) == 28
@@ -219,10 +220,10 @@ def test_own_governor() -> None:
 def test_a_slow_governor_misses() -> None:
     # At 2 units a tick a takes the ticks 0 and 1, and b, due at 6, has 8 of its 9 units in the next four.
     with pytest.raises(DeadlineMissed, match="b job 1 was due at 6 and is not complete: it has had 8 units"):
-        simulate(TASKS, MACHINE, "edf", 12, lambda state: (0, 1))
+        simulate(TASKS, BOARD, "edf", 12, lambda state: (0, 1))
 
 
 @pytest.mark.parametrize("demand", [(-1, 1), (1, 0)])
 def test_no_demand(demand: tuple[int, int]) -> None:
     with pytest.raises(ValueError, match="the governor's demand at tick 0 is "):
-        simulate(TASKS, MACHINE, "edf", 12, lambda state: demand)
+        simulate(TASKS, BOARD, "edf", 12, lambda state: demand)

@@ -6,6 +6,7 @@ from math import ceil
 from pathlib import Path
 
 import pytest
+from examples import BOARD, PAPER
 from hypothesis import given, settings
 from hypothesis import strategies as st
 
@@ -15,8 +16,6 @@ from rtdvs.files import Machine, Point, Task, TaskSet
 from rtdvs.sensitivity import Limits, sensitivity
 
 Captured = pytest.CaptureFixture[str]
-PAPER = TaskSet((Task("t1", 8, 12), Task("t2", 10, 12), Task("t3", 14, 4)))
-BOARD = Machine((Point(2, 3000), Point(3, 4000), Point(4, 5000)))
 
 
 @pytest.mark.parametrize(("tasks", "machine", "test", "wanted"), [

@@ -1,9 +1,9 @@
 """Traces: the worked one of docs/TRACE.md by hand, and what is refused."""
 
 from fractions import Fraction
-from pathlib import Path
 
 import pytest
+from examples import DATA, PAPER, TRACES
 from hypothesis import given
 from hypothesis import strategies as st
 
@@ -12,11 +12,8 @@ from rtdvs.files import Task, TaskSet
 from rtdvs.statistics import task_statistics
 from rtdvs.trace import Decision, End, Job, Position, Run, Trace, TraceFault, parse_lines
 
-TOP = Path(__file__).resolve().parents[2]
-DATA = TOP / "crates" / "example_runs" / "data"
-PAPER = DATA / "paper" / "edf_cc_with_demands.trace"
-TASKS = TaskSet((Task("t1", 8, 12), Task("t2", 10, 12), Task("t3", 14, 4)))
-TEXTS = [path.read_text() for path in sorted(DATA.glob("*/*.trace"))]
+WORKED = DATA / "paper" / "edf_cc_with_demands.trace"
+TEXTS = [path.read_text() for path in TRACES]
 
 
 def third(ticks: int, thirds: int) -> Fraction:
@@ -25,11 +22,11 @@ def third(ticks: int, thirds: int) -> Fraction:
 
 def test_worked_trace() -> None:
     """At 3 units a tick to tick 4 and from 8 to 10, otherwise at 2; a unit costs 16 * 10^9 or 9 * 10^9."""
-    trace = Trace.read(PAPER)
+    trace = Trace.read(WORKED)
     assert (trace.version, trace.scheduler, trace.governor) == (1, "edf", "cc")
     assert (trace.ticks, trace.tasks) == (16, ())
     milliard = 10**9
-    assert trace.jobs(TASKS) == (
+    assert trace.jobs(PAPER) == (
         Job("t1", 1, 0, 8, Fraction(0), third(2, 2), 8, 0, 128 * milliard),
         Job("t2", 1, 0, 10, third(2, 2), Fraction(4), 4, 0, 64 * milliard),
         Job("t3", 1, 0, 14, Fraction(4), Fraction(6), 4, 0, 36 * milliard),
@@ -37,8 +34,8 @@ def test_worked_trace() -> None:
         Job("t2", 2, 10, 20, Fraction(10), Fraction(12), 4, 0, 36 * milliard),
         Job("t3", 2, 14, 28, Fraction(14), Fraction(16), 4, 0, 36 * milliard),
     )
-    assert [job.response for job in trace.jobs(TASKS)] == [third(2, 2), 4, 6, third(1, 1), 2, 2]
-    assert [job.laxity for job in trace.jobs(TASKS)] == [third(5, 1), 6, 8, third(6, 2), 8, 12]
+    assert [job.response for job in trace.jobs(PAPER)] == [third(2, 2), 4, 6, third(1, 1), 2, 2]
+    assert [job.laxity for job in trace.jobs(PAPER)] == [third(5, 1), 6, 8, third(6, 2), 8, 12]
     assert trace.residency() == {3: Fraction(4 + 2), 2: Fraction(4 + 6)}
     assert (trace.switches, len(trace.decisions), trace.decisions[0]) == (3, 8, Decision(0, 3, 836, 280))
     assert trace.idle_time == 2 + Fraction(2, 3) + 2  # ticks 6 and 7, two units of tick 9, ticks 12 and 13
@@ -67,10 +64,10 @@ def test_preemption() -> None:
 
 def test_jobs_that_are_not_complete() -> None:
     """At 4 ticks only t2's first job is complete beside t1's; t3 has no start."""
-    lines = PAPER.read_text().replace("cc 16", "cc 4").splitlines(True)[:12]
+    lines = WORKED.read_text().replace("cc 16", "cc 4").splitlines(True)[:12]
     cut = Trace.parse("".join(lines) + "end 4 192000000000 0\n")
-    assert [job.completion for job in cut.jobs(TASKS)] == [third(2, 2), 4, None]
-    waiting = task_statistics(cut, TASKS)[2]
+    assert [job.completion for job in cut.jobs(PAPER)] == [third(2, 2), 4, None]
+    waiting = task_statistics(cut, PAPER)[2]
     assert waiting.row() == ("t3", "1", "0", "-", "-", "-", "-", "0", "0")
 
 
@@ -129,9 +126,9 @@ def test_refused(text: str, line: int, part: str) -> None:
 def test_jobs_need_their_releases_and_periods() -> None:
     trace = Trace.parse("trace 1\nplan edf mine 1\nspeed 0 2 1/1\nrun 0:0 1:0 a 1 2 5\nend 1 5 0\n")
     with pytest.raises(TraceFault, match="line 4: a job 1 is not released"):
-        trace.jobs(TASKS)
+        trace.jobs(PAPER)
     with pytest.raises(TraceFault, match="line 3: the period of t1 is not known"):
-        Trace.read(PAPER).jobs()
+        Trace.read(WORKED).jobs()
 
 
 @given(st.sampled_from(TEXTS), st.data())
@@ -160,7 +157,7 @@ def test_widest_numbers(one: int, two: int, energy: int) -> None:
 
 def test_statistics_command(capsys: pytest.CaptureFixture[str]) -> None:
     words = ["statistics", "--tasks", str(DATA / "paper/tasks.toml"), "--trace"]
-    assert main([*words, str(PAPER)]) == 0
+    assert main([*words, str(WORKED)]) == 0
     # t1: (8/3 + 4/3)/2; t2: (4 + 2)/2; t3: (6 + 2)/2
     assert capsys.readouterr().out.split() == (
         "task jobs complete mean_response greatest_response jitter least_laxity preemptions energy "

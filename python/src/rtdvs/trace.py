@@ -200,53 +200,28 @@ def _shape(word: str, *fields: str) -> re.Pattern[str]:
     return re.compile(" ".join([word, *(_SHAPES[field] for field in fields)]) + "\n")
 
 
-def _task(name: str, period: str, offset: str, worst: str) -> Item:
-    return Task(name, int(period), int(worst), int(offset))
-
-
-def _release(tick: str, task: str, job: str) -> Item:
-    return Release(int(tick), task, int(job))
-
-
-def _decision(tick: str, speed: str, num: str, den: str) -> Item:
-    return Decision(int(tick), int(speed), int(num), int(den))
-
-
-def _run(tick: str, offset: str, end: str, end_offset: str, task: str, *numbers: str) -> Item:
-    job, units, energy = map(int, numbers)
-    begin = Position(int(tick), int(offset))
-    return Run(begin, Position(int(end), int(end_offset)), task, job, units, energy)
-
-
-def _idle(tick: str, offset: str, end: str, end_offset: str, units: str, energy: str) -> Item:
-    begin = Position(int(tick), int(offset))
-    return Idle(begin, Position(int(end), int(end_offset)), int(units), int(energy))
-
-
-def _done(tick: str, offset: str, task: str, job: str, used: str) -> Item:
-    return Done(Position(int(tick), int(offset)), task, int(job), int(used))
-
-
-def _task_energy(task: str, energy: str) -> Item:
-    return TaskEnergy(task, int(energy))
-
-
-def _end(ticks: str, run_energy: str, idle_energy: str) -> Item:
-    return End(int(ticks), int(run_energy), int(idle_energy))
+def _at(tick: str, offset: str) -> Position:
+    return Position(int(tick), int(offset))
 
 
 _PLAN = _shape("plan", "scheduler", "name", "ticks")
 _ITEMS: dict[str, tuple[re.Pattern[str], Callable[..., Item]]] = {
-    "task": (_shape("task", "name", "counted", "number", "counted"), _task),
-    "release": (_shape("release", "number", "name", "number"), _release),
-    "speed": (_shape("speed", "number", "number", "fraction"), _decision),
-    "run": (_shape("run", "position", "position", "name", "number", "number", "energy"), _run),
-    "idle": (_shape("idle", "position", "position", "number", "energy"), _idle),
-    "done": (_shape("done", "position", "name", "number", "number"), _done),
-    "energy": (_shape("energy", "name", "energy"), _task_energy),
-    "end": (_shape("end", "number", "energy", "energy"), _end),
+    "task": (_shape("task", "name", "counted", "number", "counted"),
+             lambda name, period, offset, worst: Task(name, int(period), int(worst), int(offset))),
+    "release": (_shape("release", "number", "name", "number"),
+                lambda tick, task, job: Release(int(tick), task, int(job))),
+    "speed": (_shape("speed", "number", "number", "fraction"),
+              lambda *numbers: Decision(*map(int, numbers))),
+    "run": (_shape("run", "position", "position", "name", "number", "number", "energy"),
+            lambda *groups: Run(_at(*groups[:2]), _at(*groups[2:4]), groups[4], *map(int, groups[5:]))),
+    "idle": (_shape("idle", "position", "position", "number", "energy"),
+             lambda *groups: Idle(_at(*groups[:2]), _at(*groups[2:4]), *map(int, groups[4:]))),
+    "done": (_shape("done", "position", "name", "number", "number"),
+             lambda tick, offset, task, job, used: Done(_at(tick, offset), task, int(job), int(used))),
+    "energy": (_shape("energy", "name", "energy"), lambda task, energy: TaskEnergy(task, int(energy))),
+    "end": (_shape("end", "number", "energy", "energy"), lambda *numbers: End(*map(int, numbers))),
 }
-_NONE = re.compile("(?!)"), _end  # a pattern that nothing matches
+_NONE = re.compile("(?!)"), End  # a pattern that nothing matches
 
 
 def _head(lines: Iterator[str]) -> Head:
