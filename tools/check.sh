@@ -1,8 +1,23 @@
 # check.sh: what is checked beside the proofs, on the program that `rt ci` leaves, or on another:
 #     sh tools/check.sh [PROGRAM]
-# It runs each tools/check_*.sh, also after one fails, at the top of the repository and with the program's absolute path.
-# A check that passes prints one line and ends with 0. One whose line says `skipped` lacks a tool and isn't counted.
+# It runs each check of the list below, also after one fails, at the top of the repository and with the program's absolute
+# path. A check that passes prints one line and ends with 0. The first number of its line counts its cases and is at least
+# that of the list. One whose line says `skipped` lacks a tool and isn't counted; with TOOLS=all it fails.
 # The last line has the counts; the status is 1 where a check failed, and 2 where there is no program.
+least='completion 95
+copies 10
+exercises 30
+failing 1700
+form 6
+links 24
+main 51
+named 9
+package 11
+peer 140
+python 1160
+reading 160
+wrapper 37'
+
 here=$(cd "$(dirname "$0")/.." && pwd) || exit 2
 program=${1:-$here/crates/rtdvs/out/rtdvs}
 case $program in
@@ -13,22 +28,37 @@ esac
 cd "$here" || exit 2
 passed=0 failed=0
 
-for check in tools/check_*.sh; do
-    said=$(sh "$check" "$program")
+# WHAT: counts the check as failed, and says why
+fails() {
+    echo "tools/check_$name.sh: failed, $1"
+    failed=$((failed + 1))
+}
+
+# The names come by another stream, so that a check can't read them.
+while read -r name cases <&3; do
+    said=$(sh "tools/check_$name.sh" "$program")
     status=$?
     printf '%s\n' "$said"
+    counted=$(printf '%s\n' "$said" | sed -n 's/^[a-z]*: \([0-9][0-9]*\) .*/\1/p')
     if [ $status != 0 ]; then
-        echo "$check: failed, status $status"
-        failed=$((failed + 1))
+        fails "status $status"
     elif [ -z "$said" ] || [ "$(printf '%s\n' "$said" | wc -l)" -ne 1 ]; then
-        echo "$check: failed, not one line"
-        failed=$((failed + 1))
+        fails 'not one line'
+    elif [ "${said#"$name: skipped, "}" != "$said" ]; then
+        [ "$TOOLS" != all ] || fails 'skipped'
+    elif [ "${counted:-0}" -lt "$cases" ]; then
+        fails "at least $cases cases are wanted"
     else
-        case $said in
-        *': skipped, '*) ;;
-        *) passed=$((passed + 1)) ;;
-        esac
+        passed=$((passed + 1))
     fi
+done 3<< LEAST
+$least
+LEAST
+
+for check in tools/check_*.sh; do
+    name=${check#tools/check_}
+    name=${name%.sh}
+    printf '%s\n' "$least" | grep -q "^$name " || fails 'not in the list of tools/check.sh'
 done
 
 echo "checks: $passed passed, $failed failed"
