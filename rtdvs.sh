@@ -1,8 +1,17 @@
-# rtdvs.sh: runs the program from any folder, as `sh rtdvs.sh run --tasks tasks.toml ..`.
-# It calls crates/rtdvs/out/rtdvs where that is built. Else it calls `rt try`, which compiles for a minute, proves nothing
+#!/bin/sh
+# rtdvs.sh: runs the program from any folder, also through a symbolic link, as `sh rtdvs.sh run --tasks tasks.toml ..`.
+# It calls crates/rtdvs/out/rtdvs if that is built. Otherwise it calls `rt try`, which compiles for a minute, proves nothing
 # and is hundreds of times slower. Both ways leave the program's own output, errors and exit status; `rt try` writes them
-# when the program has ended. Where it has no answer (as for more than 1 MiB) or is missing, the status is 125.
-here=$(CDPATH='' cd "$(dirname "$0")" && pwd) || exit 125
+# when the program has ended. If it has no answer (as for more than 1 MiB) or is missing, the status is 125.
+script=$0
+while [ -L "$script" ]; do
+    folder=$(dirname "$script") link=$(readlink "$script") || exit 125
+    case $link in
+    /*) script=$link ;;
+    *) script=$folder/$link ;;
+    esac
+done
+here=$(CDPATH='' cd "$(dirname "$script")" && pwd) || exit 125
 program=$here/crates/rtdvs/out/rtdvs
 [ -f "$program" ] && [ -x "$program" ] && exec "$program" "$@"
 [ -n "$(command -v rt)" ] || { echo "rtdvs.sh: no $program, and no rt on the path" >&2; exit 125; }
@@ -34,4 +43,5 @@ cd "$here/crates/rtdvs" && rt try --seconds 3600 -- "$@" 2> "$notes"
 status=$(LC_ALL=C sed -n '$s/^run=ended status=\([0-9]*\) .*/\1/p' "$notes")
 [ -n "$status" ] || { cat "$notes" >&2; exit 125; }
 LC_ALL=C sed -e '/^checked: /d' -e '$d' "$notes" >&2
+[ ! -t 2 ] || echo "rtdvs.sh: for faster calls build the program once: cd $here/crates/rtdvs && rt run -- workload --seed 1" >&2
 exit "$status"

@@ -1,7 +1,7 @@
 # check_wrapper.sh PROGRAM [try]: whether rtdvs.sh leaves what the program leaves: its exit status, its standard output and
 # its standard error. Each call is made by the built program, and by a stand-in for `rt try`, which as the kit's does
-# calls the program in another folder and adds two lines on standard error. With `try` the kit's own makes README's call
-# too, which takes a minute or two.
+# calls the program in another folder and adds two lines on standard error. It is called through symbolic links too, and on
+# a terminal where there is `script`. With `try` the kit's own makes README's call too, which takes a minute or two.
 cd "$(dirname "$0")/.." || exit 2
 [ -x "${1:?no program}" ] || { echo "no program: $1"; exit 2; }
 program=$(cd "$(dirname "$1")" && pwd)/$(basename "$1")
@@ -18,7 +18,7 @@ for tree in built bare; do
 done
 cp crates/example_runs/data/paper/*.* "$work/a b"
 ln -s "$program" "$work/built/crates/rtdvs/out/rtdvs"
-for tool in sh dirname mktemp sed cat rm env; do ln -s "$(command -v $tool)" "$work/tools/$tool"; done
+for tool in sh dirname readlink mktemp sed cat rm env; do ln -s "$(command -v $tool)" "$work/tools/$tool"; done
 cat > "$work/stand-in/rt" << END
 #!$(command -v sh)
 [ "\$1 \$2 \$3 \$4" = 'try --seconds 3600 --' ] && [ -d ../../crates/rtdvs ] || exit 2
@@ -90,6 +90,27 @@ compare . run --ticks 0
 compare . run tasks.toml --tasks
 compare . 'a "quoted" $word' '*'
 compare .
+
+# Through links, by the file's own first line and run bit: one with the whole path, one to that with a relative one.
+mkdir "$work/links" "$work/links/more" && cd "$work/a b" || exit 2
+ln -s "$work/bare/rtdvs.sh" "$work/links/whole" && ln -s ../whole "$work/links/more/relative" || exit 2
+call own "$program" admit --tasks tasks.toml --machine machine.toml --scheduler edf
+for link in whole more/relative; do
+    PATH=$work/stand-in:$work/tools call link "$work/links/$link" admit --tasks tasks.toml --machine machine.toml --scheduler edf
+    leaves link 0 "$(cat "$work/own.out")" ''
+done
+
+# On a terminal a slow call says so before it, and after it how to get a faster program.
+if script -qec true "$work/typescript" > "$work/script" 2>&1; then
+    PATH=$work/stand-in:$work/tools:$PATH script -qec "sh '$work/bare/rtdvs.sh' least --units 1" "$work/typescript" > "$work/script" 2>&1
+    for said in 'no built program, so rt try compiles one; it takes a minute' \
+        "for faster calls build the program once: cd $work/bare/crates/rtdvs && rt run -- workload --seed 1"; do
+        cases=$((cases + 1))
+        tr -d '\r' < "$work/script" | grep -q -x -F "rtdvs.sh: $said" && continue
+        echo "wrapper: not said on a terminal: $said" && cat "$work/script"
+        bad=$((bad + 1))
+    done
+fi
 
 # No program and no rt; then an rt that can't answer.
 cd "$work/bare" || exit 2
