@@ -31,6 +31,14 @@ impl Place {
     }
 }
 
+// The bytes of a file of a case; none if the case lacks it.
+fn bytes_of(file: &Option<Vec<u8>>) -> &[u8] {
+    match file {
+        Some(bytes) => bytes,
+        None => b"".as_slice(),
+    }
+}
+
 /// The files of the case so far, which have the names T, M, F and D; the loads and puts that fail in the next call, counted
 /// from 1, and its probes.
 #[derive(Drop)]
@@ -157,19 +165,13 @@ impl Stage {
         self.probes.clear();
     }
 
-    // A shelf with the files of the case.
+    // A shelf with the files of the case; one that it lacks is empty, and no call names it.
     fn shelf(&self, alloc: Global) -> Result<MemShelf, Trouble> {
         let mut shelf = MemShelf::new(alloc, &self.loads)?;
-        for (name, place) in [
-            ("T", Place::T),
-            ("M", Place::M),
-            ("F", Place::F),
-            ("D", Place::D),
-        ] {
-            if let Some(file) = self.file(place) {
-                shelf.add(name, file)?;
-            }
-        }
+        shelf.add("T", bytes_of(&self.t))?;
+        shelf.add("M", bytes_of(&self.m))?;
+        shelf.add("F", bytes_of(&self.f))?;
+        shelf.add("D", bytes_of(&self.d))?;
         Ok(shelf)
     }
 
