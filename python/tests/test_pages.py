@@ -82,7 +82,7 @@ class Reader:
 
     def call(self, words: str) -> tuple[int, str]:
         """The exit status of a command and what it prints, on both streams."""
-        made = subprocess.run(["timeout", "100", "sh", "-c", words], cwd=self.folder, text=True,
+        made = subprocess.run(["timeout", "600", "sh", "-c", words], cwd=self.folder, text=True,
                               stdin=subprocess.DEVNULL, stdout=subprocess.PIPE, stderr=subprocess.STDOUT)
         return made.returncode, made.stdout
 
