@@ -1,54 +1,249 @@
-"""The pages of the package: their blocks are run from the first to the last, in the folder that they name."""
+"""The pages: what each block of calls prints, run from the first block of a page to its last, in a folder of its own.
+
+The folder has the names that a page uses at the top of the repository. A comment before a block, which a reader
+doesn't see, says what else is needed:
+
+    <!-- not run: why it can't be -->
+    <!-- first: a command that prepares the folder -->
+    <!-- file: name, under which the text of the block is kept -->
+    <!-- status: that of the block's last call, if it isn't 0 -->
+    <!-- lines of: a command, of which the block, or the code in a table's first column, are lines in this order -->
+"""
 
 import doctest
+import os
 import re
-import shutil
 import subprocess
 import sys
+import textwrap
+from collections.abc import Iterator
+from dataclasses import dataclass, field
 from pathlib import Path
 
 import pytest
 
-PYTHON = re.compile(r"^```python\n(.*?)^```$", re.DOTALL | re.MULTILINE)
-CALLS = re.compile(r"^    \$ (.*)\n((?:    (?!\$ ).*\n)*)", re.MULTILINE)
+TOP = Path(__file__).resolve().parents[2]
+PAGES = sorted(path.relative_to(TOP) for path in [*TOP.glob("*.md"), *(TOP / "docs").glob("*.md")])
+SOLUTIONS = Path("examples", "exercises", "solutions.txt")
+TOKEN = re.compile(r"""
+    ^<!--\ (?P<key>not\ run|first|file|status|lines\ of):\ (?P<value>.*)\ -->$
+    | ^```(?P<kind>.*)\n(?P<fenced>(?:.*\n)*?)```$
+    | (?<=\n\n)(?P<indented>(?:\ {4}.*\n)+(?:\n+(?:\ {4}.*\n)+)*)
+    | (?P<table>(?:^\|.*\n)+)""", re.MULTILINE | re.VERBOSE)
+CALL = re.compile(r"^\$ (?P<words>.*)\n(?P<printed>(?:(?!\$ ).*\n)*)", re.MULTILINE)
+BARE = re.compile(r"(?:(?:\./rtdvs|python3 -m rtdvs) .*\n)+")
 
 
-def page(top: Path, name: str) -> str:
-    return (top / "docs" / name).read_text(encoding="utf-8")
+@dataclass(frozen=True, slots=True)
+class Block:
+    """A block or a table of a page: its first line's number, and the comments before it."""
+    line: int
+    kind: str
+    text: str
+    comments: tuple[tuple[str, str], ...] = ()
+
+    def said(self, key: str) -> list[str]:
+        return [value for found, value in self.comments if found == key]
 
 
-@pytest.fixture(autouse=True)
-def folder(data: Path, program: Path, tmp_path: Path, monkeypatch: pytest.MonkeyPatch) -> None:
-    """A folder with the files of the paper's example, and `python3` on the path."""
-    shutil.copytree(data / "paper", tmp_path, dirs_exist_ok=True)
-    (tmp_path / "python3").symlink_to(sys.executable)
-    monkeypatch.chdir(tmp_path)
-    monkeypatch.setenv("RTDVS", str(program))
-    monkeypatch.setenv("PATH", f"{tmp_path}:/usr/bin:/bin")
+def blocks(text: str) -> Iterator[Block]:
+    """The blocks and tables of a page; indented ones without their four blanks.
 
-
-def test_blocks_of_the_api(top: Path) -> None:
-    """A block with prompts has what they print; any other is only run."""
-    for module in ("matplotlib", "pandas"):
-        pytest.importorskip(module)
-    names: dict[str, object] = {}
-    text = page(top, "PYTHON.md")
-    for block in PYTHON.finditer(text):
-        if not block[1].startswith(">>> "):
-            exec(block[1], names)
+    >>> [(block.line, block.kind, block.text) for block in blocks("A\\n\\n    b\\n\\n    c\\n\\n```sh\\nd\\n```\\n")]
+    [(3, 'indented', 'b\\n\\nc\\n'), (8, 'sh', 'd\\n')]
+    """
+    comments: list[tuple[str, str]] = []
+    for token in TOKEN.finditer(text):
+        if token["key"]:
+            comments.append((token["key"], token["value"]))
             continue
-        line = text.count("\n", 0, block.start(1))
-        test = doctest.DocTestParser().get_doctest(block[1], names, "PYTHON.md", "PYTHON.md", line)
+        part = next(name for name in ("fenced", "indented", "table") if token[name] is not None)
+        line = text.count("\n", 0, token.start(part)) + 1
+        inner = textwrap.dedent(token[part]) if part == "indented" else token[part]
+        yield Block(line, token["kind"] if part == "fenced" else part, inner, tuple(comments))
+        comments.clear()
+
+
+def solutions(text: str) -> Iterator[Block]:
+    """The calls of the exercises, a block for each, whose last line may be its status."""
+    kept = re.sub(r"^#.*$", "", text, flags=re.MULTILINE)
+    for call in CALL.finditer(kept):
+        status = re.search(r"^status (\d+)\n", call[0], re.MULTILINE)
+        inner = re.sub(r"^(?:status \d+)?\n", "", call[0], flags=re.MULTILINE)
+        yield Block(kept.count("\n", 0, call.start()) + 1, "calls", inner, (("status", status[1]),) if status else ())
+
+
+@dataclass(frozen=True, slots=True)
+class Reader:
+    """Someone who types what a page has: the page's name, the folder, and the names that Python knows so far."""
+    page: str
+    folder: Path
+    names: dict[str, object] = field(default_factory=dict)
+
+    def call(self, words: str) -> tuple[int, str]:
+        """The exit status of a command and what it prints, on both streams."""
+        made = subprocess.run(["timeout", "600", "sh", "-c", words], cwd=self.folder, text=True,
+                              stdin=subprocess.DEVNULL, stdout=subprocess.PIPE, stderr=subprocess.STDOUT)
+        return made.returncode, made.stdout
+
+    def fault(self, line: int, what: str) -> str:
+        return f"{self.page}:{line}: {what}"
+
+    def faults(self, block: Block) -> Iterator[str]:
+        """What differs in a block."""
+        if block.said("not run"):
+            return
+        for words in block.said("first"):
+            status, printed = self.call(words)
+            if status:
+                yield self.fault(block.line, f"status {status} of: {words}\n{printed}")
+        for name in block.said("file"):
+            (self.folder / name).write_text(block.text, encoding="utf-8")
+        for words in block.said("lines of"):
+            yield from self.lines(block, words)
+        if not block.said("file") and not block.said("lines of"):
+            yield from self.tried(block)
+
+    def tried(self, block: Block) -> Iterator[str]:
+        """A block of calls and what they print; one of calls only, or of shell; one of Python."""
+        if block.text.startswith("$ "):
+            yield from self.calls(block)
+        elif block.kind == "sh" or BARE.fullmatch(block.text):
+            status, printed = self.call(f"set -e\n{block.text}")
+            if status:
+                yield self.fault(block.line, f"status {status}\n{printed}")
+        elif block.kind == "python":
+            yield from self.python(block)
+
+    def calls(self, block: Block) -> Iterator[str]:
+        for call in CALL.finditer(block.text):
+            status, printed = self.call(call["words"])
+            last = call.end() == len(block.text)
+            wanted_status = int((*block.said("status"), "0")[0]) if last else 0
+            line = block.line + block.text.count("\n", 0, call.start())
+            if status != wanted_status:
+                yield self.fault(line, f"status {status}, the page says {wanted_status}: {call['words']}\n{printed}")
+            wanted, found = call["printed"].splitlines(), printed.splitlines()
+            if wanted != found:
+                same = next((place for place, pair in enumerate(zip(wanted, found)) if pair[0] != pair[1]),
+                            min(len(wanted), len(found)))
+                yield self.fault(line + 1 + same, f"printed is {[*found, 'no line'][same]!r}, "
+                                                  f"the page says {[*wanted, 'no line'][same]!r}: {call['words']}")
+
+    def lines(self, block: Block, words: str) -> Iterator[str]:
+        """A block that has some lines of what a command prints, in their order."""
+        status, printed = self.call(words)
+        if status:
+            yield self.fault(block.line, f"status {status}: {words}\n{printed}")
+        rest = iter(printed.splitlines())
+        for place, line in enumerate(block.text.splitlines()):
+            cells = re.findall(r"`([^`]*)`", line.split("|")[1]) if block.kind == "table" else [line]
+            for cell in cells:
+                if cell not in rest:
+                    yield self.fault(block.line + place, f"no such line, or not here: {cell!r}: {words}")
+                    return
+
+    def python(self, block: Block) -> Iterator[str]:
+        """A block with prompts has what they print; any other is only run."""
+        if not block.text.startswith(">>> "):
+            exec(compile("\n" * (block.line - 1) + block.text, self.page, "exec"), self.names)
+            return
+        test = doctest.DocTestParser().get_doctest(block.text, self.names, self.page, self.page, block.line - 1)
         found: list[str] = []
         doctest.DocTestRunner(verbose=False).run(test, out=found.append, clear_globs=False)
-        assert not found, "".join(found)
-        names |= test.globs
+        self.names.update(test.globs)
+        if found:
+            yield self.fault(block.line, "".join(found))
 
 
-def test_the_sweep(top: Path, tmp_path: Path, monkeypatch: pytest.MonkeyPatch) -> None:
-    monkeypatch.setenv("PYTHONPATH", str(top / "python" / "src"))
-    text = page(top, "SWEEPS.md").partition("## Beyond one machine")[0]
-    (tmp_path / "sweep.py").write_text(PYTHON.findall(text)[0])
-    for call, wanted in CALLS.findall(text):
-        found = subprocess.run(["sh", "-c", call], capture_output=True, text=True, timeout=60)
-        assert (found.stdout, found.stderr) == (re.sub("^    ", "", wanted, flags=re.MULTILINE), ""), call
+@pytest.fixture
+def folder(program: Path, tmp_path: Path, monkeypatch: pytest.MonkeyPatch) -> Path:
+    """The folder in which a page is read: the names at the top of the repository, and `python3` on the path."""
+    for module in ("matplotlib", "pandas"):
+        pytest.importorskip(module)
+    tools = tmp_path / "bin"
+    top = tmp_path / "top"
+    for made in (tools, top):
+        made.mkdir()
+    (tools / "python3").symlink_to(sys.executable)
+    (top / "rtdvs").symlink_to(program)
+    for name in ("crates", "docs", "examples", "python", "tools"):
+        (top / name).symlink_to(TOP / name)
+    monkeypatch.chdir(top)
+    monkeypatch.setenv("RTDVS", str(program))
+    monkeypatch.setenv("PATH", os.pathsep.join([str(tools), *os.defpath.split(os.pathsep)]))
+    monkeypatch.setenv("PYTHONPATH", str(TOP / "python" / "src"))
+    monkeypatch.setenv("PYTHONDONTWRITEBYTECODE", "1")
+    return top
+
+
+@pytest.mark.parametrize("page", [*PAGES, SOLUTIONS], ids=str)
+def test_pages(page: Path, folder: Path) -> None:
+    text = (TOP / page).read_text(encoding="utf-8")
+    found = list(solutions(text) if page == SOLUTIONS else blocks(text))
+    reader = Reader(str(page), folder)
+    faults = [fault for block in found for fault in reader.faults(block)]
+    assert not faults, "\n" + "\n".join(faults)
+
+
+SMALL = """A page.
+
+    $ echo 3
+    3
+    $ echo 4; echo 5
+    4
+    6
+
+<!-- status: 2 -->
+
+    $ exit 2
+
+<!-- not run: it would fail -->
+
+    $ exit 1
+
+<!-- first: echo a > kept -->
+<!-- file: other -->
+
+    b
+
+<!-- lines of: cat kept other -->
+
+| Line | |
+|---|---|
+| `a` | `c` |
+| `b` | |
+
+<!-- lines of: cat other kept -->
+
+| `a`, `b` | |
+
+    $ exit 3
+
+```sh
+exit 4
+```
+
+```python
+>>> 1 + 1
+3
+```
+"""
+
+
+def test_a_fault_has_its_page_and_line(folder: Path) -> None:
+    reader = Reader("small.md", folder)
+    faults = [fault.splitlines()[0] for block in blocks(SMALL) for fault in reader.faults(block)]
+    assert faults == [
+        "small.md:7: printed is '5', the page says '6': echo 4; echo 5",
+        "small.md:31: no such line, or not here: 'b': cat other kept",
+        "small.md:33: status 3, the page says 0: exit 3",
+        "small.md:36: status 4",
+        "small.md:40: " + "*" * 70,
+    ]
+
+
+def test_a_stored_call_has_its_status() -> None:
+    found = list(solutions("# about\n$ a\nb\nstatus 7\n\n# more\n$ c\n"))
+    assert [(block.line, block.text, block.said("status")) for block in found] == [
+        (2, "$ a\nb\n", ["7"]), (7, "$ c\n", [])]
