@@ -14,9 +14,9 @@ main 51
 named 9
 package 11
 peer 140
-python 1160
+python 1150
 reading 160
-wrapper 37'
+wrapper 41'
 
 here=$(cd "$(dirname "$0")/.." && pwd) || exit 2
 program=${1:-$here/crates/rtdvs/out/rtdvs}
