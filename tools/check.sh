@@ -16,7 +16,7 @@ package 11
 peer 140
 python 1150
 reading 160
-wrapper 41'
+wrapper 37'
 
 here=$(cd "$(dirname "$0")/.." && pwd) || exit 2
 program=${1:-$here/crates/rtdvs/out/rtdvs}
