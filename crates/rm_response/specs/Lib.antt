@@ -1,4 +1,5 @@
 pub mod Denials
 pub mod Known
 pub mod Bounds
-pub mod Last
+pub mod Loads
+pub mod Fits

@@ -1,9 +1,10 @@
 // A lower bound on a response: the tasks before one task count by their rates (after Sjödin and Hansson 1998).
-ghost use Rattle.std.specs.Prelude.{◌≡◌, ◌≤◌, ◌<◌, ◌^◌, length};
+ghost use Rattle.std.specs.Prelude.{◌≡◌, ◌≤◌, ◌<◌, ◌-◌, ◌*◌, ◌^◌, length};
 ghost use Rattle.dvs_base.specs.declared.kind.Scheduler.TheVariants.{Rm};
+ghost use Rattle.freq_table.specs.Tables.{highest_speed};
+ghost use Rattle.task_model.specs.Tasks.{hyper_of};
 ghost use Rattle.sched_model.specs.Plan.{plan_of, count, period, rate};
 ghost use Rattle.sched_model.specs.Priority.{sum_before};
-ghost use Rattle.rm_response_laws.specs.Bounds.{spare};
 ghost use Rattle.rm_response.specs.Bounds.{ticks_beside};
 
 use freq_table::Machine;
@@ -24,13 +25,13 @@ fn rates_before(tasks: &TaskSet, machine: &Machine, k: u32) -> u128
     sum
 }
 
-// What the highest speed does in one hyperperiod beyond the work of the tasks before task k; 0 where it does no more.
-fn spare(tasks: &TaskSet, machine: &Machine, k: u32) -> u128
-    requires { k < length tasks.now }
-    ensures { result ≡ spare (plan_of tasks.now machine.now Rm) k }
+// What the highest speed does in one hyperperiod beyond `rates` units; 0 where it does no more.
+pub(crate) fn spare(tasks: &TaskSet, machine: &Machine, rates: u128) -> u128
+    ensures value { result ≡ highest_speed machine.now * hyper_of tasks.now - rates }
+    ensures low { result ≤ 2 ^ 72 }
 {
-    let capacity = u128::from(machine.top()) * u128::from(tasks.hyper());
-    capacity.saturating_sub(rates_before(tasks, machine, k))
+    let _machine_limits = machine.as_slice();
+    (u128::from(machine.top()) * u128::from(tasks.hyper())).saturating_sub(rates)
 }
 
 // The ticks that `work` units take at the speed that the rates of the tasks before task k leave; one more than the
@@ -40,7 +41,7 @@ pub(crate) fn ticks_beside(tasks: &TaskSet, machine: &Machine, work: u128, k: u3
     requires task { k < length tasks.now }
     ensures { result ≡ ticks_beside (plan_of tasks.now machine.now Rm) work k }
 {
-    let spare = spare(tasks, machine, k);
+    let spare = spare(tasks, machine, rates_before(tasks, machine, k));
     if spare == 0 {
         return u128::from(LONGEST_PERIOD) + 1;
     }

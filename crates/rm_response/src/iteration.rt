@@ -7,10 +7,12 @@ ghost use Rattle.task_model.specs.Tasks.{task_at};
 ghost use Rattle.sched_model.specs.Plan.{plan_of, top_speed};
 ghost use Rattle.sched_model.specs.Priority.{is_up_to};
 ghost use Rattle.governor.specs.Worst.{level_work_in};
-ghost use Rattle.rm_response_laws.specs.Responses.{response, EarlierRespond, IsUnserved};
+ghost use Rattle.rm_response_laws.specs.Responses.{response, IsUnserved};
 ghost use Rattle.rm_response_laws.specs.Bounds.{IsUnservedFrom};
+ghost use Rattle.rm_response.specs.Loads.{AreBefore};
 
 use crate::bound::ticks_beside;
+use crate::loads::Load;
 use crate::search::searched;
 use crate::work::{level_work_in, work_before};
 use freq_table::Machine;
@@ -66,10 +68,16 @@ fn next_tick(tasks: &TaskSet, machine: &Machine, ticks: u64, k: u32, i: u32) -> 
 }
 
 // The response of task i in ticks; one more than its period where it has none. `from` is a number of ticks, and fewer
-// ticks don't serve its level.
-pub(crate) fn response_of(tasks: &TaskSet, machine: &Machine, from: u64, i: u32) -> u64
+// ticks don't serve its level. The loads are the tasks before it.
+pub(crate) fn response_of(
+    tasks: &TaskSet,
+    machine: &Machine,
+    loads: &[Load],
+    from: u64,
+    i: u32,
+) -> u64
     requires task { i < length tasks.now }
-    requires earlier { EarlierRespond (plan_of tasks.now machine.now Rm) i }
+    requires before { AreBefore (plan_of tasks.now machine.now Rm) i loads.now }
     requires some { 1 ≤ from }
     requires unserved { IsUnserved (plan_of tasks.now machine.now Rm) i from }
     ensures { result ≡ response (plan_of tasks.now machine.now Rm) i }
@@ -82,7 +90,7 @@ pub(crate) fn response_of(tasks: &TaskSet, machine: &Machine, from: u64, i: u32)
     let mut steps = 0;
     while at <= u128::from(period) {
         if steps == MOST_STEPS {
-            return searched(tasks, machine, at as u64, i);
+            return searched(tasks, machine, loads, at as u64, i);
         }
         let next = next_tick(tasks, machine, at as u64, k, i);
         if next <= at {

@@ -9,7 +9,7 @@
 
 mod bound;
 mod iteration;
-mod last;
+mod loads;
 mod response;
 mod search;
 mod work;

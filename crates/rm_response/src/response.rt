@@ -1,5 +1,5 @@
 // The responses of a task set on a machine.
-ghost use Rattle.std.specs.Prelude.{◌≡◌, ◌<◌, IfOk, OnOk, IfErr, MatchResult, None, Some, length, slice_index, ℕ};
+ghost use Rattle.std.specs.Prelude.{◌≡◌, ◌<◌, ◌≤◌, IfOk, OnOk, IfErr, MatchResult, None, Some, length, slice_index, vec_capacity, [], ℕ};
 ghost use Rattle.grid_fraction.specs.Numbers.{list_below};
 ghost use Rattle.dvs_base.specs.Checks.{IsUnlessMemory};
 ghost use Rattle.dvs_base.specs.declared.kind.Scheduler.TheVariants.{Rm};
@@ -11,6 +11,7 @@ ghost use Rattle.rm_response.specs.Denials.{IsFirstLate, responses, AreLeast, mi
 ghost use Rattle.rm_response.specs.Known.{AreAllKnown, late_task};
 
 use crate::iteration::response_of;
+use crate::loads::{Load, add, load_of};
 use crate::work::level_work_in;
 use freq_table::Machine;
 use sched_model::rm_order;
@@ -60,14 +61,17 @@ pub enum ResponseFault {
 }
 
 // The responses in file order, written over `entries`. They are computed in RM order, and the error is the first task
-// in it without a response.
+// in it without a response. `loads` has room for all tasks.
 fn respond(
     mut entries: Vec<u64>,
+    mut loads: Vec<Load>,
     order: &[u32],
     tasks: &TaskSet,
     machine: &Machine,
 ) -> Result<Vec<u64>, u32>
     requires one_each { length entries.items ≡ length tasks.now }
+    requires no_loads { loads.items ≡ [] }
+    requires room { length tasks.now ≤ vec_capacity loads }
     requires order { let p = plan_of tasks.now machine.now Rm in order.now ≡ in_order (period p) (count p) }
     ensures known { IfOk result (λ v. AreAllKnown (plan_of tasks.now machine.now Rm) v.items) }
     ensures late { let p = plan_of tasks.now machine.now Rm in
@@ -75,13 +79,16 @@ fn respond(
     ensures found { let p = plan_of tasks.now machine.now Rm in
         MatchResult result (λ v. late_task p ≡ None) (λ task. late_task p ≡ Some task) }
 {
+    let _task_limits = tasks.as_slice();
+    let _machine_limits = machine.as_slice();
     let mut from = 1;
     for &task in order {
-        let response = response_of(tasks, machine, from, task);
+        let response = response_of(tasks, machine, &loads, from, task);
         if response > tasks.task(task).period {
             return Err(task);
         }
         entries[task as usize] = response;
+        add(&mut loads, load_of(tasks, machine, task), response);
         from = response;
     }
     Ok(entries)
@@ -132,7 +139,10 @@ pub fn rm_response(
     let Ok(entries) = vec![in alloc; 0; tasks.count() as usize] else {
         return Err(ResponseFault::NoMemory);
     };
-    match respond(entries, &order, tasks, machine) {
+    let Ok(loads) = Vec::with_capacity(alloc, tasks.count() as usize) else {
+        return Err(ResponseFault::NoMemory);
+    };
+    match respond(entries, loads, &order, tasks, machine) {
         Ok(ticks) => Ok(Response { ticks }),
         Err(task) => Err(missing(tasks, machine, task)),
     }

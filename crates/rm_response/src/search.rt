@@ -1,25 +1,39 @@
 // The search for the response of a task among the ticks up to its period (after Bini and Buttazzo 2004).
-ghost use Rattle.std.specs.Prelude.{◌≡◌, ◌≤◌, ◌<◌, ◌*◌, ◌^◌, IsTrue, IsFalse, length};
+ghost use Rattle.std.specs.Prelude.{◌≡◌, ◌≤◌, ◌<◌, ◌+◌, ◌*◌, ◌^◌, IsTrue, IsFalse, length, All};
 ghost use Rattle.dvs_base.specs.declared.kind.Scheduler.TheVariants.{Rm};
+ghost use Rattle.dvs_base.specs.declared.limits.TheConstants.{MOST_TASKS};
 ghost use Rattle.task_model.specs.declared.limits.TheConstants.{LONGEST_PERIOD};
-ghost use Rattle.task_model.specs.Tasks.{task_at};
+ghost use Rattle.task_model.specs.Tasks.{task_at, hyper_of};
 ghost use Rattle.freq_table.specs.Tables.{highest_speed};
 ghost use Rattle.sched_model.specs.Plan.{plan_of};
-ghost use Rattle.rm_response_laws.specs.Responses.{response, EarlierRespond, IsUnserved};
-ghost use Rattle.rm_response_laws.specs.WorkBeside.{NoneFits, FindsFit};
+ghost use Rattle.rm_response_laws.specs.Responses.{response, IsUnserved};
+ghost use Rattle.rm_response.specs.Loads.{IsLoad, AreLoads, AreBefore, HasRate, work_of};
+ghost use Rattle.rm_response.specs.Fits.{NoneFits, FindsFit, EndsDecide};
 
-use crate::bound::ticks_beside;
-use crate::last::last_before;
-use crate::work::{held_work, work_before};
+use crate::bound::spare;
+use crate::loads::{Load, held, rates_of, work_of};
 use freq_table::Machine;
+use grid_fraction::up;
 use sched_model::worst;
 use task_model::TaskSet;
+
+// The most times that the first of the ticks is raised in one call.
+const MOST_RAISES: u32 = 4;
 
 // The ticks `first` to `last`.
 #[derive(Clone, Copy)]
 struct Span {
     first: u64,
     last: u64,
+}
+
+// What the ends of a span decide: that `Fit(t)` is a fit, that there is none, or that there is none before
+// `From(first)`.
+#[derive(Clone, Copy)]
+enum Ends {
+    Fit(u64),
+    NoFit,
+    From(u64),
 }
 
 // What the highest speed does in `ticks` ticks, in work units.
@@ -32,69 +46,133 @@ fn done_in(machine: &Machine, ticks: u64) -> u128
     u128::from(machine.top()) * u128::from(ticks)
 }
 
-// Whether `rest` units are too many for `most` ticks at the highest speed, or at the speed that the rates of the tasks
-// before task k leave.
-fn is_beyond(tasks: &TaskSet, machine: &Machine, k: u32, rest: u128, most: u64) -> bool
-    requires task { k < length tasks.now }
-    requires some_rest { 1 ≤ rest }
+// Whether `rest` units are too many for `most` ticks at the highest speed, or at the speed that the rates of the loads
+// leave.
+fn is_beyond(tasks: &TaskSet, machine: &Machine, loads: &[Load], rest: u128, most: u64) -> bool
+    requires few { length loads.now ≤ MOST_TASKS }
+    requires each { All IsLoad loads.now }
+    requires rates { All (HasRate (hyper_of tasks.now)) loads.now }
     requires low_ticks { most ≤ LONGEST_PERIOD }
-    ensures none { IsTrue result → NoneFits (plan_of tasks.now machine.now Rm) k rest 1 most }
+    ensures none { IsTrue result → NoneFits (highest_speed machine.now) loads.now rest 0 (most + 1) }
     ensures within { IsFalse result → rest ≤ highest_speed machine.now * most }
     ensures low { IsFalse result → rest ≤ 2 ^ 64 }
 {
-    let _task_limits = tasks.as_slice();
-    let _machine_limits = machine.as_slice();
-    rest > done_in(machine, most) || ticks_beside(tasks, machine, rest, k) > u128::from(most)
+    rest > done_in(machine, most)
+        || spare(tasks, machine, rates_of(loads)) * u128::from(most)
+            < rest * u128::from(tasks.hyper())
 }
 
-// One of the ticks of the span into which `rest` units fit beside the work of the tasks before task k, if any. Unless
-// the last of the ticks is one, the last of these tasks is taken away: as many of its jobs count as begin in the last
-// of the ticks or, up to its release before that, as begin up to there.
-fn fitting(tasks: &TaskSet, machine: &Machine, k: u32, rest: u128, span: Span) -> Option<u64>
-    requires task { k < length tasks.now }
-    requires earlier { EarlierRespond (plan_of tasks.now machine.now Rm) k }
-    requires some_rest { 1 ≤ rest }
+// Whether `rest` units fit into `ticks` ticks beside the work of the loads.
+fn fits(machine: &Machine, loads: &[Load], rest: u128, ticks: u64) -> bool
+    requires few { length loads.now ≤ MOST_TASKS }
+    requires each { All IsLoad loads.now }
+    requires low_rest { rest ≤ 2 ^ 64 }
+    requires low_ticks { ticks ≤ LONGEST_PERIOD }
+    ensures yes { IsTrue result → rest + work_of loads.now ticks ≤ highest_speed machine.now * ticks }
+    ensures no { IsFalse result → highest_speed machine.now * ticks < rest + work_of loads.now ticks }
+{
+    rest + work_of(loads, ticks) <= done_in(machine, ticks)
+}
+
+// The first ticks of a span raised to those that the work of `rest` units and of the loads in them takes, again and
+// again; one more than the last where they pass it.
+fn raised(machine: &Machine, loads: &[Load], rest: u128, span: Span) -> u64
+    requires few { length loads.now ≤ MOST_TASKS }
+    requires each { All IsLoad loads.now }
+    requires low_rest { rest ≤ 2 ^ 64 }
+    requires in_span { span.first ≤ span.last }
+    requires low_ticks { span.last ≤ LONGEST_PERIOD }
+    ensures low { span.first ≤ result }
+    ensures within { result ≤ span.last + 1 }
+    ensures none { NoneFits (highest_speed machine.now) loads.now rest span.first result }
+{
+    let _machine_limits = machine.as_slice();
+    let mut first = span.first;
+    for _ in 0..MOST_RAISES {
+        let next = up(rest + work_of(loads, first), machine.top());
+        if next > u128::from(span.last) {
+            return span.last + 1;
+        }
+        if next <= u128::from(first) {
+            return first;
+        }
+        first = next as u64;
+    }
+    first
+}
+
+// What the ends of the span decide.
+fn ends_of(machine: &Machine, loads: &[Load], rest: u128, span: Span) -> Ends
+    requires few { length loads.now ≤ MOST_TASKS }
+    requires each { All IsLoad loads.now }
+    requires low_rest { rest ≤ 2 ^ 64 }
+    requires in_span { span.first ≤ span.last }
+    requires low_ticks { span.last ≤ LONGEST_PERIOD }
+    ensures { EndsDecide (highest_speed machine.now) loads.now rest span.first span.last result }
+{
+    if fits(machine, loads, rest, span.last) {
+        return Ends::Fit(span.last);
+    }
+    let first = raised(machine, loads, rest, span);
+    if first > span.last {
+        return Ends::NoFit;
+    }
+    if fits(machine, loads, rest, first) {
+        return Ends::Fit(first);
+    }
+    Ends::From(first)
+}
+
+// One of the ticks of the span into which `rest` units fit beside the work of the loads, if any. Unless the ends of the
+// span decide, the first load is taken away: as many of its jobs count as begin in the last of the ticks or, up to its
+// release before that, as begin up to there.
+fn fitting(
+    tasks: &TaskSet,
+    machine: &Machine,
+    loads: &[Load],
+    rest: u128,
+    span: Span,
+) -> Option<u64>
+    requires loads { AreLoads (highest_speed machine.now) (hyper_of tasks.now) loads.now }
     requires low_rest { rest ≤ 2 ^ 102 }
     requires some_ticks { 1 ≤ span.first }
     requires in_span { span.first ≤ span.last }
     requires low_ticks { span.last ≤ LONGEST_PERIOD }
-    ensures { FindsFit (plan_of tasks.now machine.now Rm) k rest span.first span.last result }
+    ensures { FindsFit (highest_speed machine.now) loads.now rest span.first span.last result }
 {
-    let _task_limits = tasks.as_slice();
-    let _machine_limits = machine.as_slice();
-    if is_beyond(tasks, machine, k, rest, span.last) {
+    if is_beyond(tasks, machine, loads, rest, span.last) {
         return None;
     }
-    let Some(j) = last_before(tasks, k) else {
+    let Some((load, others)) = loads.split_first() else {
         return Some(span.last);
     };
-    if rest + work_before(tasks, machine, span.last, k) <= done_in(machine, span.last) {
-        return Some(span.last);
-    }
-    let period = tasks.task(j).period;
-    let release = (span.last - 1) / period * period;
-    let begun = held_work(tasks, machine, span.last, j);
-    let after = Span {
-        first: span.first.max(release + 1),
-        last: span.last,
+    let first = match ends_of(machine, loads, rest, span) {
+        Ends::Fit(ticks) => return Some(ticks),
+        Ends::NoFit => return None,
+        Ends::From(first) => first,
     };
-    let found = fitting(tasks, machine, j, rest + begun, after);
-    if found.is_some() || release < span.first {
+    let last = span.last;
+    let release = (last - 1) / load.period * load.period;
+    let begun = Span {
+        first: first.max(release + 1),
+        last,
+    };
+    let found = fitting(tasks, machine, others, rest + held(*load, last), begun);
+    if found.is_some() || release < first {
         return found;
     }
-    let ended = held_work(tasks, machine, release, j);
-    let until = Span {
-        first: span.first,
+    let ended = Span {
+        first,
         last: release,
     };
-    fitting(tasks, machine, j, rest + ended, until)
+    fitting(tasks, machine, others, rest + held(*load, release), ended)
 }
 
 // The response of task i in ticks; one more than its period where it has none. `from` is a number of ticks, and fewer
-// ticks don't serve its level.
-pub(crate) fn searched(tasks: &TaskSet, machine: &Machine, from: u64, i: u32) -> u64
+// ticks don't serve its level. The loads are the tasks before it.
+pub(crate) fn searched(tasks: &TaskSet, machine: &Machine, loads: &[Load], from: u64, i: u32) -> u64
     requires task { i < length tasks.now }
-    requires earlier { EarlierRespond (plan_of tasks.now machine.now Rm) i }
+    requires before { AreBefore (plan_of tasks.now machine.now Rm) i loads.now }
     requires some { 1 ≤ from }
     requires within { from ≤ (task_at tasks.now i).period }
     requires unserved { IsUnserved (plan_of tasks.now machine.now Rm) i from }
@@ -108,7 +186,7 @@ pub(crate) fn searched(tasks: &TaskSet, machine: &Machine, from: u64, i: u32) ->
         first: from,
         last: period,
     };
-    let Some(mut high) = fitting(tasks, machine, i, job, whole) else {
+    let Some(mut high) = fitting(tasks, machine, loads, job, whole) else {
         return period + 1;
     };
     let mut low = from;
@@ -118,7 +196,7 @@ pub(crate) fn searched(tasks: &TaskSet, machine: &Machine, from: u64, i: u32) ->
             first: low,
             last: middle,
         };
-        match fitting(tasks, machine, i, job, half) {
+        match fitting(tasks, machine, loads, job, half) {
             Some(ticks) => high = ticks,
             None => low = middle + 1,
         }

@@ -4,5 +4,4 @@ pub mod ResponseSearch
 pub mod Firsts
 pub mod ResponseMeaning
 pub mod RateBounds
-pub mod WorkFits
 mod Examples

@@ -1,24 +1,30 @@
-use Rattle.std.proofs.Common.{ℕ, ◌+◌, ap, sym, subst, arith}
+use Rattle.std.proofs.Common.{ℕ, ◌+◌, length, ap, sym, subst, arith}
+use Rattle.sched_model.proofs.Orders.{length-in_order}
 use Rattle.std.specs.Prelude.{slice_index, slice_set}
 use Rattle.dvs_base.specs.declared.kind.Scheduler.TheVariants.{Rm}
 use Rattle.task_model.specs.declared.task.Task.{Task}
 use Rattle.sched_model.specs.Plan.{Plan, plan_of, count, period}
+use Rattle.sched_model.specs.Admission.{IsWithinLimits}
 use Rattle.rm_response_laws.specs.Responses.{HasResponse}
+use Rattle.rm_response.specs.declared.loads.Load.{Load}
+use Rattle.rm_response.specs.Loads.{load_of, IsLoad, AreBefore, IsPutAfter}
 use Rattle.rm_response.proofs.Places.{at-below}
 use Rattle.rm_response.proofs.KnownResponses.{AreKnown, earlier, known-next, known-all}
+use Rattle.rm_response.proofs.LoadsBefore.{first-before, first-more}
 use Rattle.rm_response.proofs.response.respond.Goals as goal
 
 pub response_of-response-requires : goal.response_of-response-requires
 response_of-response-requires c =
     let p : Plan = plan_of c.args.tasks.now c.args.machine.now Rm in
+    let lim : IsWithinLimits p = record { tasks = c.as_slice-task_limits.ensures.limits; machine = c.as_slice-machine_limits.ensures.limits } in
     let js = c.args.order.now in
     let k = c.loop-task.task-index in
     record {
       task = at-below (period p) (count p) js c.requires.order k c.loop-task-test.true;
-      earlier = earlier p js c.requires.order k c.loop-task.from c.loop-task.entries.items c.loop-task.invariant
-          c.loop-task-test.true;
-      some = c.loop-task.invariant.some;
-      unserved = c.loop-task.invariant.unserved k (omega arith) c.loop-task-test.true;
+      before = subst (AreBefore p (slice_index js k)) (sym c.deref.ensures.value)
+          (first-before p lim js c.requires.order k c.loop-task.loads.items c.loop-task.invariant.loads c.loop-task-test.true);
+      some = c.loop-task.invariant.known.some;
+      unserved = c.loop-task.invariant.known.unserved k (omega arith) c.loop-task-test.true;
     }
 
 pub task-requires : goal.task-requires
@@ -35,7 +41,7 @@ returns-then-response-task-clause-late c =
       task = at-below (period p) (count p) js c.requires.order k c.loop-task-test.true;
       late = (let long = ap (λ (t : Task). t.period) c.task.ensures.task in
           omega (arith, c.if-response-task.true, c.response_of-response.ensures, long));
-      first = earlier p js c.requires.order k c.loop-task.from c.loop-task.entries.items c.loop-task.invariant
+      first = earlier p js c.requires.order k c.loop-task.from c.loop-task.entries.items c.loop-task.invariant.known
           c.loop-task-test.true;
     }
 
@@ -44,15 +50,33 @@ loop-task-preserved c =
     let p : Plan = plan_of c.args.tasks.now c.args.machine.now Rm in
     let js = c.args.order.now in
     let k = c.loop-task.task-index in
+    let j = slice_index js k in
+    let lim : IsWithinLimits p = record { tasks = c.as_slice-task_limits.ensures.limits; machine = c.as_slice-machine_limits.ensures.limits } in
+    let loads = c.loop-task.loads.items in
+    let new = c.add.new.loads.items in
     let entries = c.loop-task.entries.items in
     let long = ap (λ (t : Task). t.period) c.task.ensures.task in
     let has : HasResponse p (slice_index js k) =
     omega (arith, c.if-response-task.false, c.response_of-response.ensures, long) in
-    subst (λ (r : ℕ). AreKnown p js (k + 1) r (slice_set entries (slice_index js k) r)) (sym c.response_of-response.ensures)
-    (known-next p js c.requires.order k c.loop-task.from entries c.loop-task.invariant c.loop-task-test.true has)
+    record {
+      known = subst (λ (r : ℕ). AreKnown p js (k + 1) r (slice_set entries (slice_index js k) r)) (sym c.response_of-response.ensures)
+          (known-next p js c.requires.order k c.loop-task.from entries c.loop-task.invariant.known c.loop-task-test.true has);
+      loads = first-more p lim js c.requires.order k loads c.loop-task.invariant.loads c.loop-task-test.true new has
+          (subst IsLoad c.load_of.ensures.value c.load_of.ensures.low)
+          (subst (λ (r : ℕ). IsPutAfter r (load_of p j) loads new) c.response_of-response.ensures
+          (subst (λ (x : Load). IsPutAfter c.response_of-response.result x loads new) c.load_of.ensures.value c.add.ensures.put));
+      room = omega arith;
+    }
 
 pub returns-clause-known : goal.returns-clause-known
 returns-clause-known c =
     let p : Plan = plan_of c.args.tasks.now c.args.machine.now Rm in
     known-all p c.args.order.now c.requires.order c.loop-task.task-index c.loop-task.from c.loop-task.entries.items
-    c.loop-task.invariant c.loop-task-test.false
+    c.loop-task.invariant.known c.loop-task-test.false
+
+pub add-requires : goal.add-requires
+add-requires c =
+    let p : Plan = plan_of c.args.tasks.now c.args.machine.now Rm in
+    let all = ap (length {A = ℕ}) c.requires.order in
+    let at = c.loop-task.invariant in
+    omega (arith, c.loop-task.loads.ok, at.loads.long, at.room, all, length-in_order (period p) (count p), c.loop-task-test.true)

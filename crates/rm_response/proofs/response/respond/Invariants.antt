@@ -1,7 +1,16 @@
+use Rattle.std.proofs.Common.{◌≤◌, length}
+use Rattle.std.specs.Prelude.{vec_capacity}
 use Rattle.dvs_base.specs.declared.kind.Scheduler.TheVariants.{Rm}
-use Rattle.sched_model.specs.Plan.{plan_of}
+use Rattle.sched_model.specs.Plan.{Plan, plan_of}
 use Rattle.rm_response.proofs.KnownResponses.{AreKnown}
+use Rattle.rm_response.proofs.LoadsBefore.{AreFirst}
 use Rattle.rm_response.proofs.response.respond.Given as goal
 
 abbrev pub invariant-loop-task : goal.invariant-loop-task
-invariant-loop-task l = AreKnown (plan_of l.tasks l.machine Rm) l.order l.task-index l.from l.entries.items
+invariant-loop-task l =
+    let p : Plan = plan_of l.tasks l.machine Rm in
+    record {
+      known : AreKnown p l.order l.task-index l.from l.entries.items;
+      loads : AreFirst p l.order l.task-index l.loads.items;
+      room : length l.tasks ≤ vec_capacity l.loads;
+    }

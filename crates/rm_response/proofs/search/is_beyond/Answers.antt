@@ -1,16 +1,19 @@
-use Rattle.std.proofs.Common.{◌<◌, arith}
+use Rattle.std.proofs.Common.{◌≡◌, ◌*◌, ◌-◌, ◌<◌, ap, ap₂, ◌∙◌, arith, ℕ}
 use Rattle.std.proofs.lemmas.Bool.Decides.{nat_tests}
-use Rattle.dvs_base.specs.declared.kind.Scheduler.TheVariants.{Rm}
-use Rattle.sched_model.specs.Plan.{Plan, plan_of}
-use Rattle.sched_model.specs.Admission.{IsWithinLimits}
-use Rattle.rm_response.proofs.FitDecisions.{none-over}
+use Rattle.task_model.specs.Tasks.{hyper_of}
+use Rattle.freq_table.specs.Tables.{highest_speed}
+use Rattle.rm_response.specs.Loads.{rates_of}
+use Rattle.rm_response.proofs.LoadFits.{none-beyond}
 use Rattle.rm_response.proofs.search.is_beyond.Goals as goal
 
 pub returns-else-rest-done_in-clause-none : goal.returns-else-rest-done_in-clause-none
 returns-else-rest-done_in-clause-none c = λ on.
-    let p : Plan = plan_of c.args.tasks.now c.args.machine.now Rm in
-    let lim : IsWithinLimits p =
-    record { tasks = c.as_slice-task_limits.ensures.limits; machine = c.as_slice-machine_limits.ensures.limits } in
-    let over : c.from.result < c.ticks_beside.result = grind (arith, nat_tests, on) in
-    none-over p lim c.args.k c.args.rest c.args.most 1 c.requires.some_rest c.requires.low_ticks
-    (omega (arith, over, c.from.ensures, c.ticks_beside.ensures))
+    let f = highest_speed c.args.machine.now in
+    let h = hyper_of c.args.tasks.now in
+    let xs = c.args.loads.now in
+    let over : c.spare.result * c.from.result < c.args.rest * c.from-else-rest-done_in.result = grind (arith, nat_tests, on) in
+    let left : c.spare.result * c.from.result ≡ (f * h - rates_of xs) * c.args.most =
+    ap₂ (λ (s m : ℕ). s * m) (c.spare.ensures.value ∙ ap (λ (r : ℕ). f * h - r) c.rates_of.ensures.value) c.from.ensures in
+    let right : c.args.rest * c.from-else-rest-done_in.result ≡ c.args.rest * h =
+    ap (λ (n : ℕ). c.args.rest * n) (c.from-else-rest-done_in.ensures ∙ c.hyper.ensures.hyper) in
+    none-beyond f h xs c.args.rest c.args.most c.requires.each c.requires.rates (omega (arith, over, left, right))

@@ -1,0 +1,230 @@
+-- Whether work fits into some ticks beside loads, by the first of them, and that the loads can be taken away in turn.
+use Rattle.std.proofs.Common.{◌≡◌, ◌⊎◌, inl, inr, ℕ, zero, suc, ◌+◌, ◌-◌, ◌*◌, ◌/◌, ◌<◌, ◌≤◌, max, true, false, List, [], ◌∷◌, Option, Some, None, is_some, take, sym, ◌∙◌, ap, subst, arith, div-add-mod', mod-lt}
+use Rattle.std.specs.Prelude.{All, insert}
+use Rattle.std.proofs.Math.Nat.{mul-le-mul_left, mul-le-mul_right, div-mul-le_self}
+use Rattle.std.proofs.lemmas.Bool.{cases_lt}
+use Rattle.std.proofs.lemmas.List.Elements.{All-head, All-tail}
+use Rattle.std.proofs.lemmas.List.Sums.{sum_by-cons, sum_by-insert}
+use Rattle.grid_fraction.specs.Numbers.{ceil_div}
+use Rattle.grid_fraction.proofs.Ceilings.{ceil-mono}
+use Rattle.governor.proofs.RmLevels.{ceil_covers}
+use Rattle.rm_response_laws.proofs.Ceilings.{ceil-after, ceil-least, ceil-sum}
+use Rattle.rm_response_laws.proofs.RateBounds.{spare-does}
+use Rattle.rm_response.specs.declared.loads.Load.{Load}
+use Rattle.rm_response.specs.Loads.{held, work_of, rates_of, IsLoad, HasRate, AreInTurn, AreLoads}
+use Rattle.rm_response.specs.Fits.{Fits, NoneFits, FindsFit, IsFrom}
+
+-- where each number that passes also passes s later, with s at most d, one of the d numbers after `low` passes, and is at
+-- least t, if t passes and is no later than the last of them
+later-past : (P : ℕ → Type 0) (s d low : ℕ) → 1 ≤ s → s ≤ d → ((t : ℕ) → P t → P (t + s))
+    → (n t : ℕ) → t ≤ low + d → low < t + n → P t → (u : ℕ) × (t ≤ u) × (low < u) × (u ≤ low + d) × P u
+later-past P s d low some most step zero t within past here = (t, omega arith, omega arith, within, here)
+later-past P s d low some most step (suc n) t within past here =
+    elim (cases_lt low t) [
+      | inl after ↦ (t, omega arith, after, within, here)
+      | inr before ↦
+          let later = later-past P s d low some most step n (t + s) (omega arith) (omega arith) (step t here) in
+          (later.0, omega (arith, later.1), later.2, later.3, later.4)
+    ]
+
+held-later : (t u : ℕ) (x : Load) → IsLoad x → t ≤ u → held t x ≤ held u x
+held-later t u x is le = mul-le-mul_right x.worst (ceil-mono t u x.period is.some_period le)
+
+-- in more ticks loads can ask for no less work
+work-later : (t u : ℕ) (xs : List Load) → All IsLoad xs → t ≤ u → work_of xs t ≤ work_of xs u
+work-later t u [] each le = omega arith
+work-later t u (x ∷ xs) each le =
+    let first = held-later t u x (All-head IsLoad x xs each) le in
+    let others = work-later t u xs (All-tail IsLoad x xs each) le in
+    omega (arith, first, others, sum_by-cons (held t) x xs, sum_by-cons (held u) x xs)
+
+-- the work of a sum of ticks is at most the sum of the work
+work-sum : (t s : ℕ) (xs : List Load) → All IsLoad xs → work_of xs (t + s) ≤ work_of xs t + work_of xs s
+work-sum t s [] each = omega arith
+work-sum t s (x ∷ xs) each =
+    let is = All-head IsLoad x xs each in
+    let first = mul-le-mul_right x.worst (ceil-sum t s x.period is.some_period) in
+    let others = work-sum t s xs (All-tail IsLoad x xs each) in
+    omega (arith, first, others, sum_by-cons (held (t + s)) x xs, sum_by-cons (held t) x xs, sum_by-cons (held s) x xs)
+
+-- the rate of a load for t ticks is within the work of its jobs that they can hold
+rate-held : (h t : ℕ) (x : Load) → IsLoad x → HasRate h x → t * x.rate ≤ h * held t x
+rate-held h t x is rate =
+    let m : t * x.rate ≤ ceil_div t x.period * x.period * x.rate = mul-le-mul_right x.rate (ceil_covers t x.period is.some_period) in
+    let whole : ceil_div t x.period * (x.rate * x.period) ≡ ceil_div t x.period * (x.worst * h) = ap (λ n. ceil_div t x.period * n) rate in
+    omega (arith, m, whole)
+
+rates-work : (h t : ℕ) (xs : List Load) → All IsLoad xs → All (HasRate h) xs → t * rates_of xs ≤ h * work_of xs t
+rates-work h t [] each rates = omega arith
+rates-work h t (x ∷ xs) each rates =
+    let first = rate-held h t x (All-head IsLoad x xs each) (All-head (HasRate h) x xs rates) in
+    let others = rates-work h t xs (All-tail IsLoad x xs each) (All-tail (HasRate h) x xs rates) in
+    let left : t * rates_of (x ∷ xs) ≡ t * (x.rate + rates_of xs) = ap (λ n. t * n) (sum_by-cons (λ (y : Load). y.rate) x xs) in
+    let right : h * work_of (x ∷ xs) t ≡ h * (held t x + work_of xs t) = ap (λ n. h * n) (sum_by-cons (held t) x xs) in
+    omega (arith, first, others, left, right)
+
+-- where `rest` units take more than `most` ticks at the speed that the rates leave, they don't fit
+pub none-beyond : (f h : ℕ) (xs : List Load) (rest most : ℕ) → All IsLoad xs → All (HasRate h) xs
+    → (f * h - rates_of xs) * most < rest * h → NoneFits f xs rest 0 (most + 1)
+none-beyond f h xs rest most each rates over t from lt =
+    elim (cases_lt (f * t) (rest + work_of xs t)) [
+      | inl more ↦ more
+      | inr done ↦
+          let scaled : (rest + work_of xs t) * h ≤ f * t * h = mul-le-mul_right h done in
+          let less = spare-does rest (work_of xs t) f h t (rates_of xs) scaled (rates-work h t xs each rates) in
+          let within : (f * h - rates_of xs) * t ≤ (f * h - rates_of xs) * most = mul-le-mul_left (f * h - rates_of xs) (omega arith) in
+          absurd (omega (arith, less, within, over))
+    ]
+
+-- where `rest` units and the work of `least` ticks take `next` ticks, they fit into none before those
+pub none-raised : (f : ℕ) (xs : List Load) (rest low least next : ℕ) → 0 < f → All IsLoad xs
+    → NoneFits f xs rest low least → next ≡ ceil_div (rest + work_of xs least) f → NoneFits f xs rest low next
+none-raised f xs rest low least next some each none is t from lt =
+    elim (cases_lt t least) [
+      | inl before ↦ none t from before
+      | inr after ↦
+          omega (arith, ceil-least (rest + work_of xs least) f t some (omega arith), work-later least t xs each after)
+    ]
+
+-- what is found from the least ticks on is found of all
+pub found-from : (f : ℕ) (xs : List Load) (rest low most least : ℕ) (found : Option ℕ) → IsFrom f xs rest low most least
+    → FindsFit f xs rest least most found → FindsFit f xs rest low most found
+found-from f xs rest low most least None is none = λ t from lt.
+    elim (cases_lt t least) [ inl before ↦ is.none t from before | inr after ↦ none t after lt ]
+found-from f xs rest low most least (Some t) is fit = record {
+  from = (let g = fit.from in let h = is.from in omega arith);
+  within = fit.within;
+  done = fit.done;
+}
+
+-- the first load and the others
+module _ (f h : ℕ) (x : Load) (xs : List Load) (loads : AreLoads f h (x ∷ xs)) where
+  abbrev d : ℕ
+  d = x.period
+
+  is_load : IsLoad x
+  is_load = All-head IsLoad x xs loads.each
+
+  pub others-loads : AreLoads f h xs
+  others-loads = record {
+    few = (let n = loads.few in omega arith);
+    each = All-tail IsLoad x xs loads.each;
+    rates = All-tail (HasRate h) x xs loads.rates;
+    in_turn = loads.in_turn.1;
+  }
+
+  split : (t : ℕ) → work_of (x ∷ xs) t ≡ held t x + work_of xs t
+  split t = sum_by-cons (held t) x xs
+
+  -- what fits beside the jobs of the first load in m ticks fits beside those in fewer
+  fits-fewer : (rest from m low most t : ℕ) → low ≤ from → m ≤ most → Fits f xs (rest + held m x) from m t
+      → Fits f (x ∷ xs) rest low most t
+  fits-fewer rest from m low most t after le fit = record {
+    from = (let g = fit.from in omega arith);
+    within = (let w = fit.within in omega arith);
+    done = omega (arith, split t, held-later t m x is_load fit.within, fit.done);
+  }
+
+  -- after the last multiple of the period up to m, as many jobs of the first load begin in t ticks as in m
+  held-after : (q t m : ℕ) → q * d < t → t ≤ m → m ≤ q * d + d → held t x ≡ held m x
+  held-after q t m past le within =
+      let first : t ≡ q * d + (t - q * d) = omega arith in
+      let second : m ≡ q * d + (m - q * d) = omega arith in
+      let one = ap (λ u. ceil_div u d) first ∙ ceil-after q d (t - q * d) (omega arith) (omega arith) in
+      let two = ap (λ u. ceil_div u d) second ∙ ceil-after q d (m - q * d) (omega arith) (omega arith) in
+      ap (λ n. n * x.worst) (one ∙ sym two)
+
+  -- Units fit beside the loads only where they fit beside the others and the jobs of the first: in the period of the
+  -- first that has the last of the ticks, or in the one before it.
+  none-first : (rest low most q : ℕ) → 1 ≤ low → q * d < most → most ≤ q * d + d
+      → NoneFits f xs (rest + held most x) (max low (q * d + 1)) (most + 1)
+      → (low ≤ q * d → NoneFits f xs (rest + held (q * d) x) low (q * d + 1))
+      → NoneFits f (x ∷ xs) rest low (most + 1)
+  none-first rest low most q some below high none-in none-before t from lt =
+      elim (cases_lt (f * t) (rest + work_of (x ∷ xs) t)) [
+        | inl more ↦ more
+        | inr done ↦
+            elim (cases_lt (q * d) t) [
+              | inl past ↦
+                  let same = held-after q t most past (omega arith) high in
+                  let over = none-in t (omega (arith, past, from)) lt in
+                  absurd (omega (arith, split t, same, over, done))
+              | inr within ↦ absurd (early q within done (none-before (omega (arith, from, within))))
+            ]
+      ]
+    where
+      early : (q : ℕ) → t ≤ q * d → rest + work_of (x ∷ xs) t ≤ f * t
+          → NoneFits f xs (rest + held (q * d) x) low (q * d + 1) → ⊥
+      early zero within done none = omega (arith, within, some, from)
+      early (suc q) within done none =
+          let served = loads.in_turn.0 in
+          let s = served.ticks in
+          let later : (u : ℕ) → rest + work_of (x ∷ xs) u ≤ f * u → rest + work_of (x ∷ xs) (u + s) ≤ f * (u + s) =
+          λ u fit. omega (arith, work-sum u s (x ∷ xs) loads.each, served.done, fit) in
+          let found = later-past (λ u. rest + work_of (x ∷ xs) u ≤ f * u) s d (q * d) served.some served.within
+          later (suc (q * d)) t (omega (arith, within)) (omega arith) done in
+          let same = held-after q found.0 (suc q * d) found.2 (omega (arith, found.3)) (omega arith) in
+          let over = none found.0 (omega (arith, found.1, found.2, from)) (omega (arith, found.3)) in
+          omega (arith, split found.0, same, over, found.4)
+
+  module _ (rest low most : ℕ) (some : 1 ≤ low) (in_span : low ≤ most) where
+    -- the last release of the first load before `most`
+    abbrev release : ℕ
+    release = (most - 1) / d * d
+
+    below : release < most
+    below = omega (arith, div-mul-le_self (most - 1) d, some, in_span)
+
+    neither : NoneFits f xs (rest + held most x) (max low (release + 1)) (most + 1)
+        → (low ≤ release → NoneFits f xs (rest + held release x) low (release + 1))
+        → NoneFits f (x ∷ xs) rest low (most + 1)
+    neither none-in none-before =
+        let split = div-add-mod' (most - 1) d in
+        let less = mod-lt (most - 1) is_load.some_period in
+        none-first rest low most ((most - 1) / d) some below (omega (arith, split, less, some, in_span)) none-in none-before
+
+    -- what is found beside the jobs that begin before `most` ticks are over, and no less than `after` ticks
+    abbrev FindsIn : ℕ → ℕ → Option ℕ → Type 0
+    FindsIn begun after found = (begun ≡ held most x) × (after ≡ max low (release + 1)) × FindsFit f xs (rest + begun) after most found
+
+    in-period : (begun after : ℕ) (found : Option ℕ) → FindsIn begun after found
+        → FindsFit f xs (rest + held most x) (max low (release + 1)) most found
+    in-period begun after found is =
+        subst (λ b. FindsFit f xs (rest + b) (max low (release + 1)) most found) is.0
+        (subst (λ a. FindsFit f xs (rest + begun) a most found) is.1 is.2)
+
+    -- these jobs decide, or there are no earlier ticks
+    pub found-in : (begun after : ℕ) (found : Option ℕ) → FindsIn begun after found
+        → (is_some found ≡ true) ⊎ (release < low) → FindsFit f (x ∷ xs) rest low most found
+    found-in begun after (Some t) is why =
+        fits-fewer rest (max low (release + 1)) most low most t (omega arith) (omega arith) (in-period begun after (Some t) is)
+    found-in begun after None is (inl some') = absurd cc
+    found-in begun after None is (inr early) = neither (in-period begun after None is) (λ le. absurd (omega (arith, early, le)))
+
+    -- where they find none, the jobs that begin before the last release decide
+    pub found-before : (begun after ended : ℕ) (first found : Option ℕ) → FindsIn begun after first → is_some first ≡ false
+        → ended ≡ held release x → FindsFit f xs (rest + ended) low release found → FindsFit f (x ∷ xs) rest low most found
+    found-before begun after ended (Some t) found is e jobs later = absurd cc
+    found-before begun after ended None found is e jobs later =
+        go found (subst (λ b. FindsFit f xs (rest + b) low release found) jobs later)
+      where
+        go : (found : Option ℕ) → FindsFit f xs (rest + held release x) low release found → FindsFit f (x ∷ xs) rest low most found
+        go (Some t) fit = fits-fewer rest low release low most t (omega arith) (omega (arith, below)) fit
+        go None none = neither (in-period begun after None is) (λ le. none)
+
+-- a load y that is served in s ticks can be put into others after some whose periods are at least s
+pub put-in_turn : (f s : ℕ) (y : Load) (xs : List Load) (k : ℕ) → AreInTurn f xs → 1 ≤ s → s ≤ y.period
+    → work_of (y ∷ xs) s ≤ f * s → All (λ x. s ≤ x.period) (take k xs) → AreInTurn f (insert xs k y)
+put-in_turn f s y xs zero turn some within done long =
+    (record { ticks = s; some = some; within = within; done = done }, turn)
+put-in_turn f s y [] (suc k) turn some within done long =
+    (record { ticks = s; some = some; within = within; done = done }, turn)
+put-in_turn f s y (x ∷ xs) (suc k) turn some within done long =
+    let own = sum_by-cons (held s) y (x ∷ xs) in
+    let parts = sum_by-cons (held s) x xs in
+    let fewer : work_of (y ∷ xs) s ≤ f * s = omega (arith, sum_by-cons (held s) y xs, own, parts, done) in
+    let all : work_of (x ∷ insert xs k y) s ≤ f * s =
+    omega (arith, sum_by-cons (held s) x (insert xs k y), sum_by-insert (held s) xs k y, own, parts, done) in (
+      record { ticks = s; some = some; within = All-head (λ z. s ≤ z.period) x (take k xs) long; done = all },
+      put-in_turn f s y xs k turn.1 some within fewer (All-tail (λ z. s ≤ z.period) x (take k xs) long),
+    )

@@ -1,0 +1,114 @@
+-- The loads of the tasks before a task in RM order, and what a fit beside them says of its response.
+use Rattle.std.proofs.Common.{◌≡◌, inl, inr, ℕ, suc, ◌+◌, ◌*◌, ◌<◌, ◌≤◌, List, [], ◌∷◌, ◌++◌, length, take, drop, refl, sym, ◌∙◌, ap, subst, arith}
+use Rattle.std.specs.Prelude.{All, insert, slice_index}
+use Rattle.std.proofs.lemmas.Bool.{cases_lt}
+use Rattle.std.proofs.lemmas.List.{take-append-drop, drop_more, take_more}
+use Rattle.std.proofs.lemmas.List.Edits.{length-insert}
+use Rattle.std.proofs.lemmas.List.Elements.{All-append, All-cons, All-drop, All-nil, All-take}
+use Rattle.std.proofs.lemmas.List.Sums.{sum_by-cons, sum_by-insert}
+use Rattle.grid_fraction.specs.Numbers.{ceil_div}
+use Rattle.sched_model.specs.Plan.{Plan, count, period, worst, top_speed, hyper}
+use Rattle.sched_model.specs.Priority.{sum_before, in_order}
+use Rattle.sched_model.specs.Admission.{IsWithinLimits}
+use Rattle.sched_model.proofs.Limits.{period_divides}
+use Rattle.sched_model.proofs.Orders.{sum_list, sum_list-snoc, sum_before-prefix, length-in_order}
+use Rattle.governor.specs.Worst.{level_work_in}
+use Rattle.rm_response_laws.specs.Responses.{response, HasResponse, IsUnserved}
+use Rattle.rm_response_laws.specs.Bounds.{held_work}
+use Rattle.rm_response_laws.proofs.Ceilings.{ceil-after}
+use Rattle.rm_response_laws.proofs.ResponseSearch.{response-bound}
+use Rattle.rm_response.specs.declared.loads.Load.{Load}
+use Rattle.rm_response.specs.Loads.{held, work_of, load_of, IsLoad, HasRate, AreInTurn, AreBefore, IsPutAfter}
+use Rattle.rm_response.specs.Fits.{Fits, NoneFits}
+use Rattle.rm_response.proofs.Places.{at-below}
+use Rattle.rm_response.proofs.LoadFits.{put-in_turn}
+
+-- the loads are the first k of the tasks js
+pub record AreFirst (p : Plan) (js : List ℕ) (k : ℕ) (xs : List Load) : Type 0 where
+  pub long : length xs ≡ k
+  pub each : All IsLoad xs
+  pub rates : All (HasRate (hyper p)) xs
+  pub in_turn : AreInTurn (top_speed p) xs
+  pub work : (t : ℕ) → work_of xs t ≡ sum_list (held_work p t) (take k js)
+
+-- what holds of a list's elements and of one more holds of all where that is put in
+all-insert : (P : Load → Type 0) (xs : List Load) (k : ℕ) (x : Load) → All P xs → P x → All P (insert xs k x)
+all-insert P xs k x all here =
+    All-append P (take k xs) (x ∷ drop k xs) (All-take P k xs all) (All-cons P x (drop k xs) here (All-drop P k xs all))
+
+module _ (p : Plan) (lim : IsWithinLimits p) (js : List ℕ) (is : js ≡ in_order (period p) (count p)) (k : ℕ) where
+  pub first-none : AreFirst p js 0 []
+  first-none = record {
+    long = refl;
+    each = All-nil IsLoad;
+    rates = All-nil (HasRate (hyper p));
+    in_turn = tt;
+    work = λ t. refl;
+  }
+
+  module _ (xs : List Load) (are : AreFirst p js k xs) (below : k < length js) where
+    abbrev j : ℕ
+    j = slice_index js k
+
+    -- the work of the first k tasks is that of the tasks before the next
+    before-work : (t : ℕ) → work_of xs t ≡ sum_before (count p) (period p) (held_work p t) j
+    before-work t =
+        let parts : js ≡ take k js ++ j ∷ drop (k + 1) js =
+        sym (take-append-drop k js) ∙ ap (λ ys. take k js ++ ys) (drop_more js k 0 below) in
+        are.work t ∙ sym (sum_before-prefix (period p) (held_work p t) (count p) j (take k js) (drop (k + 1) js) (sym is ∙ parts))
+
+    pub first-before : AreBefore p j xs
+    first-before = record {
+      loads = record {
+        few = (let n = lim.tasks.few in omega (arith, are.long, ap (length {A = ℕ}) is, length-in_order (period p) (count p)));
+        each = are.each;
+        rates = are.rates;
+        in_turn = are.in_turn;
+      };
+      work = before-work;
+    }
+
+    -- with the next task, put after some whose periods are at least its response, they are the first k + 1
+    pub first-more : (ys : List Load) → HasResponse p j → IsLoad (load_of p j)
+        → IsPutAfter (response p j) (load_of p j) xs ys → AreFirst p js (k + 1) ys
+    first-more ys has is_load put =
+        let x = load_of p j in
+        let bound = response-bound p j has in
+        let divides = period_divides p lim j (at-below (period p) (count p) js is k below) in
+        let rate : HasRate (hyper p) x = let all = ap (λ n. worst p j * n) divides in omega (arith, all) in
+        let all : work_of (x ∷ xs) (response p j) ≤ top_speed p * response p j =
+        omega (arith, sum_by-cons (held (response p j)) x xs, before-work (response p j), bound.fits) in
+        let new : AreFirst p js (k + 1) (insert xs put.place x) = record {
+          long = length-insert xs put.place x put.within ∙ ap (λ n. n + 1) are.long;
+          each = all-insert IsLoad xs put.place x are.each is_load;
+          rates = all-insert (HasRate (hyper p)) xs put.place x are.rates rate;
+          in_turn = put-in_turn (top_speed p) (response p j) x xs put.place are.in_turn bound.some bound.within all put.long;
+          work = λ t.
+              sum_by-insert (held t) xs put.place x
+              ∙ (ap (λ n. n + held_work p t j) (are.work t)
+              ∙ (sym (sum_list-snoc (held_work p t) (take k js) j) ∙ ap (sum_list (held_work p t)) (sym (take_more js k 0 below))));
+        } in
+        subst (AreFirst p js (k + 1)) (sym put.is) new
+
+module _ (p : Plan) (i : ℕ) (xs : List Load) (before : AreBefore p i xs) where
+  own-work : (t : ℕ) → 1 ≤ t → t ≤ period p i → held_work p t i ≡ worst p i
+  own-work t pos le =
+      let one : ceil_div t (period p i) ≡ 1 = ap (λ u. ceil_div u (period p i)) (omega arith) ∙ ceil-after 0 (period p i) t pos le in
+      ap (λ n. n * worst p i) one ∙ omega arith
+
+  -- ticks up to the period into which one job of task i fits serve its level
+  pub serves-fit : (low most t : ℕ) → 1 ≤ low → most ≤ period p i → Fits (top_speed p) xs (worst p i) low most t
+      → level_work_in p t i ≤ top_speed p * t
+  serves-fit low most t some within fit =
+      let own = own-work t (omega (arith, some, fit.from)) (omega (arith, within, fit.within)) in
+      omega (arith, own, fit.done, before.work t)
+
+  -- where ticks below `low` don't serve the level of task i, and one job of it fits into none of the ticks from there
+  -- to m, none of the ticks up to m serve
+  pub unserved-none : (low m : ℕ) → m ≤ period p i → IsUnserved p i low → NoneFits (top_speed p) xs (worst p i) low (m + 1)
+      → IsUnserved p i (suc m)
+  unserved-none low m within un none t pos lt =
+      elim (cases_lt t low) [
+        | inl early ↦ un t pos early
+        | inr after ↦ omega (arith, own-work t pos (omega arith), none t after (omega arith), before.work t)
+      ]

@@ -1,0 +1,65 @@
+-- Loads: tasks whose jobs count beside other work, in the order in which the search takes them away.
+use Rattle.std.specs.Prelude.{ℕ, List, [], ◌∷◌, length, take, insert, sum_by, All, ◌≡◌, ◌*◌, ◌^◌, ◌≤◌}
+use Rattle.grid_fraction.specs.Numbers.{ceil_div}
+use Rattle.dvs_base.specs.declared.limits.TheConstants.{MOST_TASKS}
+use Rattle.sched_model.specs.Plan.{Plan, count, period, worst, hyper, rate, top_speed}
+use Rattle.sched_model.specs.Priority.{sum_before}
+use Rattle.rm_response_laws.specs.Bounds.{held_work}
+use Rattle.rm_response.specs.declared.loads.Load.{Load}
+
+-- the work of the jobs of a load that t ticks can hold
+abbrev pub held : ℕ → Load → ℕ
+held t x = ceil_div t x.period * x.worst
+
+-- the work that loads can ask for in t ticks
+abbrev pub work_of : List Load → ℕ → ℕ
+work_of xs t = sum_by (held t) xs
+
+-- the work of loads in a hyperperiod
+abbrev pub rates_of : List Load → ℕ
+rates_of xs = sum_by (λ x. x.rate) xs
+
+-- task j of a plan as a load
+abbrev pub load_of : Plan → ℕ → Load
+load_of p j = record { period = period p j; worst = worst p j; rate = rate p j }
+
+-- a load has a period, and its numbers are low
+pub record IsLoad (x : Load) : Type 0 where
+  pub some_period : 1 ≤ x.period
+  pub low_worst : x.worst ≤ 2 ^ 61
+  pub low_rate : x.rate ≤ 2 ^ 109
+
+-- in h ticks, a multiple of its period, the jobs of a load ask for its rate
+abbrev pub HasRate : ℕ → Load → Type 0
+HasRate h x = x.rate * x.period ≡ x.worst * h
+
+-- some number of ticks, from 1 to `most`, is enough for loads: in them speed f does the work that they can ask for
+pub record AreServedWithin (f : ℕ) (xs : List Load) (most : ℕ) : Type 0 where
+  pub ticks : ℕ
+  pub some : 1 ≤ ticks
+  pub within : ticks ≤ most
+  pub done : work_of xs ticks ≤ f * ticks
+
+-- loads can be taken away in turn: each is served within its period, and with it all loads after it
+abbrev pub AreInTurn : ℕ → List Load → Type 0
+AreInTurn f [] = Unit {0}
+AreInTurn f (x ∷ xs) = AreServedWithin f (x ∷ xs) x.period × AreInTurn f xs
+
+-- at most as many loads as a set has tasks, which can be taken away in turn at speed f
+pub record AreLoads (f h : ℕ) (xs : List Load) : Type 0 where
+  pub few : length xs ≤ MOST_TASKS
+  pub each : All IsLoad xs
+  pub rates : All (HasRate h) xs
+  pub in_turn : AreInTurn f xs
+
+-- the loads are the tasks before task i in RM order
+pub record AreBefore (p : Plan) (i : ℕ) (xs : List Load) : Type 0 where
+  pub loads : AreLoads (top_speed p) (hyper p) xs
+  pub work : (t : ℕ) → work_of xs t ≡ sum_before (count p) (period p) (held_work p t) i
+
+-- a load is put into others, after some whose periods are at least s ticks
+pub record IsPutAfter (s : ℕ) (x : Load) (old new : List Load) : Type 0 where
+  pub place : ℕ
+  pub within : place ≤ length old
+  pub long : All (λ y. s ≤ y.period) (take place old)
+  pub is : new ≡ insert old place x

@@ -1,0 +1,97 @@
+// Loads: tasks whose jobs count beside other work, in the order in which the search takes them away.
+ghost use Rattle.std.specs.Prelude.{◌≡◌, ◌≤◌, ◌<◌, ◌^◌, length, take, All, vec_len, vec_capacity};
+ghost use Rattle.dvs_base.specs.declared.kind.Scheduler.TheVariants.{Rm};
+ghost use Rattle.dvs_base.specs.declared.limits.TheConstants.{MOST_TASKS};
+ghost use Rattle.task_model.specs.declared.limits.TheConstants.{LONGEST_PERIOD};
+ghost use Rattle.sched_model.specs.Plan.{plan_of};
+ghost use Rattle.rm_response.specs.Loads.{IsLoad, IsPutAfter, held, work_of, rates_of, load_of};
+
+use freq_table::Machine;
+use grid_fraction::up;
+use sched_model::{rate, worst};
+use task_model::TaskSet;
+
+/// A task that counts with its jobs: its period in ticks, its worst case, and its work in one hyperperiod.
+#[derive(Clone, Copy)]
+pub(crate) struct Load {
+    pub(crate) period: u64,
+    pub(crate) worst: u64,
+    pub(crate) rate: u128,
+}
+
+// Task j as a load.
+pub(crate) fn load_of(tasks: &TaskSet, machine: &Machine, j: u32) -> Load
+    requires { j < length tasks.now }
+    ensures value { result ≡ load_of (plan_of tasks.now machine.now Rm) j }
+    ensures low { IsLoad result }
+{
+    Load {
+        period: tasks.task(j).period,
+        worst: worst(tasks, machine, j),
+        rate: rate(tasks, machine, j),
+    }
+}
+
+// The work of the jobs of a load that `ticks` ticks can hold, in work units.
+pub(crate) fn held(load: Load, ticks: u64) -> u128
+    requires ticks { ticks ≤ LONGEST_PERIOD }
+    requires some_period { 1 ≤ load.period }
+    requires low_worst { load.worst ≤ 2 ^ 61 }
+    ensures value { result ≡ held ticks load }
+    ensures low { result ≤ 2 ^ 101 }
+{
+    up(u128::from(ticks), load.period) * u128::from(load.worst)
+}
+
+// The work that the loads can ask for in `ticks` ticks, in work units.
+pub(crate) fn work_of(loads: &[Load], ticks: u64) -> u128
+    requires ticks { ticks ≤ LONGEST_PERIOD }
+    requires few { length loads.now ≤ MOST_TASKS }
+    requires each { All IsLoad loads.now }
+    ensures value { result ≡ work_of loads.now ticks }
+    ensures low { result ≤ 2 ^ 107 }
+{
+    let mut sum = 0;
+    for load in loads {
+        sum += held(*load, ticks);
+    }
+    sum
+}
+
+// The work of the loads in one hyperperiod, in work units.
+pub(crate) fn rates_of(loads: &[Load]) -> u128
+    requires few { length loads.now ≤ MOST_TASKS }
+    requires each { All IsLoad loads.now }
+    ensures value { result ≡ rates_of loads.now }
+    ensures low { result ≤ 2 ^ 115 }
+{
+    let mut sum = 0;
+    for load in loads {
+        sum += load.rate;
+    }
+    sum
+}
+
+// The place among loads for one with the worst case `worst` that has the response `response`: after those with greater
+// worst cases, up to the first whose period is below the response.
+fn place_of(loads: &[Load], worst: u64, response: u64) -> usize
+    ensures within { result ≤ length loads.now }
+    ensures long { All (λ x. response ≤ x.period) (take result loads.now) }
+{
+    for (k, other) in loads.iter().enumerate() {
+        if other.period < response || other.worst <= worst {
+            return k;
+        }
+    }
+    loads.len()
+}
+
+// Puts a load with this response into its place.
+pub(crate) fn add(loads: &mut Vec<Load>, load: Load, response: u64)
+    requires { vec_len loads.old < vec_capacity loads.old }
+    ensures put { IsPutAfter response load loads.old.items loads.new.items }
+    ensures capacity { vec_capacity loads.old ≤ vec_capacity loads.new }
+{
+    let place = place_of(loads, load.worst, response);
+    let _room_was_reserved = loads.insert(place, load);
+}
