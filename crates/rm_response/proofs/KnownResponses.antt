@@ -11,8 +11,7 @@ use Rattle.sched_model.specs.Plan.{Plan, count, period, offset}
 use Rattle.sched_model.specs.Priority.{stands_before, in_order}
 use Rattle.sched_model.proofs.Tables.{get-table, length-list_below}
 use Rattle.rm_response_laws.specs.Responses.{response, HasResponse, EarlierRespond, IsUnserved, AllRespond, IsFirstDoneAt}
-use Rattle.rm_response_laws.proofs.ResponseSearch.{response-bound}
-use Rattle.rm_response_laws.proofs.RateBounds.{unserved-before}
+use Rattle.rm_response_laws.proofs.ResponseSearch.{response-bound, unserved-before}
 use Rattle.dvs_base.specs.declared.kind.Scheduler.TheVariants.{Rm}
 use Rattle.sched_model.specs.Admission.{IsWithinLimits}
 use Rattle.task_model.specs.Tasks.{NoneOffset}

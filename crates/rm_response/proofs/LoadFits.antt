@@ -9,10 +9,24 @@ use Rattle.grid_fraction.specs.Numbers.{ceil_div}
 use Rattle.grid_fraction.proofs.Ceilings.{ceil-mono}
 use Rattle.governor.proofs.RmLevels.{ceil_covers}
 use Rattle.rm_response_laws.proofs.Ceilings.{ceil-after, ceil-least, ceil-sum}
-use Rattle.rm_response_laws.proofs.RateBounds.{spare-does}
 use Rattle.rm_response.specs.declared.loads.Load.{Load}
 use Rattle.rm_response.specs.Loads.{held, work_of, rates_of, IsLoad, HasRate, AreInTurn, AreLoads}
 use Rattle.rm_response.specs.Fits.{Fits, NoneFits, FindsFit, IsFrom}
+
+-- what the work of u ticks has beside that of some tasks fits into the speed that their rates leave
+spare-does : (r b f h u c : ℕ) → (r + b) * h ≤ f * u * h → u * c ≤ h * b → r * h ≤ (f * h - c) * u
+spare-does r b f h u c done rates = elim (cases_lt (f * h) c) [
+  | inl over ↦
+      let none : f * h - c ≡ 0 = omega arith in
+      let more : f * h * u ≤ c * u = mul-le-mul_right u (omega arith) in
+      rw none (omega (arith, more))
+  | inr within ↦ split (f * h - c) (omega arith)
+]
+  where
+    split : (x : ℕ) → x + c ≡ f * h → r * h ≤ x * u
+    split x e =
+        let whole : (x + c) * u ≡ f * h * u = ap (λ y. y * u) e in
+        omega (arith, whole)
 
 -- where each number that passes also passes s later, with s at most d, one of the d numbers after `low` passes, and is at
 -- least t, if t passes and is no later than the last of them

@@ -1,5 +1,5 @@
 -- The loads of the tasks before a task in RM order, and what a fit beside them says of its response.
-use Rattle.std.proofs.Common.{◌≡◌, inl, inr, ℕ, suc, ◌+◌, ◌*◌, ◌<◌, ◌≤◌, List, [], ◌∷◌, ◌++◌, length, take, drop, refl, sym, ◌∙◌, ap, subst, arith}
+use Rattle.std.proofs.Common.{◌≡◌, inl, inr, ℕ, ◌+◌, ◌*◌, ◌<◌, ◌≤◌, List, [], ◌∷◌, ◌++◌, length, take, drop, refl, sym, ◌∙◌, ap, subst, arith}
 use Rattle.std.specs.Prelude.{All, insert, slice_index}
 use Rattle.std.proofs.lemmas.Bool.{cases_lt}
 use Rattle.std.proofs.lemmas.List.{take-append-drop, drop_more, take_more}
@@ -14,7 +14,7 @@ use Rattle.sched_model.proofs.Limits.{period_divides}
 use Rattle.sched_model.proofs.Orders.{sum_list, sum_list-snoc, sum_before-prefix, length-in_order}
 use Rattle.governor.specs.Worst.{level_work_in}
 use Rattle.rm_response_laws.specs.Responses.{response, HasResponse, IsUnserved}
-use Rattle.rm_response_laws.specs.Bounds.{held_work}
+use Rattle.rm_response_laws.specs.HeldWork.{held_work}
 use Rattle.rm_response_laws.proofs.Ceilings.{ceil-after}
 use Rattle.rm_response_laws.proofs.ResponseSearch.{response-bound}
 use Rattle.rm_response.specs.declared.loads.Load.{Load}
@@ -104,11 +104,11 @@ module _ (p : Plan) (i : ℕ) (xs : List Load) (before : AreBefore p i xs) where
       omega (arith, own, fit.done, before.work t)
 
   -- where ticks below `low` don't serve the level of task i, and one job of it fits into none of the ticks from there
-  -- to m, none of the ticks up to m serve
-  pub unserved-none : (low m : ℕ) → m ≤ period p i → IsUnserved p i low → NoneFits (top_speed p) xs (worst p i) low (m + 1)
-      → IsUnserved p i (suc m)
-  unserved-none low m within un none t pos lt =
+  -- on and below `end`, none of the ticks below `end` serve
+  pub unserved-none : (low end : ℕ) → end ≤ period p i + 1 → IsUnserved p i low → NoneFits (top_speed p) xs (worst p i) low end
+      → IsUnserved p i end
+  unserved-none low end within un none t pos lt =
       elim (cases_lt t low) [
         | inl early ↦ un t pos early
-        | inr after ↦ omega (arith, own-work t pos (omega arith), none t after (omega arith), before.work t)
+        | inr after ↦ omega (arith, own-work t pos (omega arith), none t after lt, before.work t)
       ]

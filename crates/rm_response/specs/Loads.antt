@@ -4,7 +4,7 @@ use Rattle.grid_fraction.specs.Numbers.{ceil_div}
 use Rattle.dvs_base.specs.declared.limits.TheConstants.{MOST_TASKS}
 use Rattle.sched_model.specs.Plan.{Plan, count, period, worst, hyper, rate, top_speed}
 use Rattle.sched_model.specs.Priority.{sum_before}
-use Rattle.rm_response_laws.specs.Bounds.{held_work}
+use Rattle.rm_response_laws.specs.HeldWork.{held_work}
 use Rattle.rm_response.specs.declared.loads.Load.{Load}
 
 -- the work of the jobs of a load that t ticks can hold

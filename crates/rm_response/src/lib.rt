@@ -7,8 +7,6 @@
 //! show it.
 #![tactic(auto)]
 
-mod bound;
-mod iteration;
 mod loads;
 mod response;
 mod search;

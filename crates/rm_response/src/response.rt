@@ -1,6 +1,5 @@
 // The responses of a task set on a machine.
 ghost use Rattle.std.specs.Prelude.{◌≡◌, ◌<◌, ◌≤◌, IfOk, OnOk, IfErr, MatchResult, None, Some, length, slice_index, vec_capacity, [], ℕ};
-ghost use Rattle.grid_fraction.specs.Numbers.{list_below};
 ghost use Rattle.dvs_base.specs.Checks.{IsUnlessMemory};
 ghost use Rattle.dvs_base.specs.declared.kind.Scheduler.TheVariants.{Rm};
 ghost use Rattle.task_model.specs.Tasks.{task_at, NoneOffset};
@@ -10,8 +9,8 @@ ghost use Rattle.rm_response_laws.specs.Responses.{response, AllRespond, MeetsAl
 ghost use Rattle.rm_response.specs.Denials.{IsFirstLate, responses, AreLeast, misses_at, IsResponseDenial, IsMissedAtPeriod, IsShownMiss, exact_answer};
 ghost use Rattle.rm_response.specs.Known.{AreAllKnown, late_task};
 
-use crate::iteration::response_of;
 use crate::loads::{Load, add, load_of};
+use crate::search::response_of;
 use crate::work::level_work_in;
 use freq_table::Machine;
 use sched_model::rm_order;

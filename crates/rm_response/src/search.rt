@@ -1,5 +1,5 @@
 // The search for the response of a task among the ticks up to its period (after Bini and Buttazzo 2004).
-ghost use Rattle.std.specs.Prelude.{◌≡◌, ◌≤◌, ◌<◌, ◌+◌, ◌*◌, ◌^◌, IsTrue, IsFalse, length, All};
+ghost use Rattle.std.specs.Prelude.{◌≡◌, ◌≤◌, ◌<◌, ◌+◌, ◌-◌, ◌*◌, ◌^◌, IsTrue, IsFalse, length, All};
 ghost use Rattle.dvs_base.specs.declared.kind.Scheduler.TheVariants.{Rm};
 ghost use Rattle.dvs_base.specs.declared.limits.TheConstants.{MOST_TASKS};
 ghost use Rattle.task_model.specs.declared.limits.TheConstants.{LONGEST_PERIOD};
@@ -10,15 +10,17 @@ ghost use Rattle.rm_response_laws.specs.Responses.{response, IsUnserved};
 ghost use Rattle.rm_response.specs.Loads.{IsLoad, AreLoads, AreBefore, HasRate, work_of};
 ghost use Rattle.rm_response.specs.Fits.{NoneFits, FindsFit, EndsDecide};
 
-use crate::bound::spare;
 use crate::loads::{Load, held, rates_of, work_of};
 use freq_table::Machine;
 use grid_fraction::up;
 use sched_model::worst;
 use task_model::TaskSet;
 
-// The most times that the first of the ticks is raised in one call.
+// The most times that the first of the ticks is raised in one call of `fitting`.
 const MOST_RAISES: u32 = 4;
+
+// The most times that it is raised for one task before the ticks up to the task's period are halved.
+const MOST_STEPS: u32 = 1000;
 
 // The ticks `first` to `last`.
 #[derive(Clone, Copy)]
@@ -44,6 +46,15 @@ fn done_in(machine: &Machine, ticks: u64) -> u128
 {
     let _machine_limits = machine.as_slice();
     u128::from(machine.top()) * u128::from(ticks)
+}
+
+// What the highest speed does in one hyperperiod beyond `rates` units; 0 where it does no more.
+fn spare(tasks: &TaskSet, machine: &Machine, rates: u128) -> u128
+    ensures value { result ≡ highest_speed machine.now * hyper_of tasks.now - rates }
+    ensures low { result ≤ 2 ^ 72 }
+{
+    let _machine_limits = machine.as_slice();
+    (u128::from(machine.top()) * u128::from(tasks.hyper())).saturating_sub(rates)
 }
 
 // Whether `rest` units are too many for `most` ticks at the highest speed, or at the speed that the rates of the loads
@@ -74,9 +85,9 @@ fn fits(machine: &Machine, loads: &[Load], rest: u128, ticks: u64) -> bool
     rest + work_of(loads, ticks) <= done_in(machine, ticks)
 }
 
-// The first ticks of a span raised to those that the work of `rest` units and of the loads in them takes, again and
-// again; one more than the last where they pass it.
-fn raised(machine: &Machine, loads: &[Load], rest: u128, span: Span) -> u64
+// The first ticks of a span raised to those that the work of `rest` units and of the loads in them takes, at most
+// `steps` times (the iteration of Joseph and Pandya 1986); one more than the last where they pass it.
+fn raised(machine: &Machine, loads: &[Load], rest: u128, span: Span, steps: u32) -> u64
     requires few { length loads.now ≤ MOST_TASKS }
     requires each { All IsLoad loads.now }
     requires low_rest { rest ≤ 2 ^ 64 }
@@ -88,7 +99,7 @@ fn raised(machine: &Machine, loads: &[Load], rest: u128, span: Span) -> u64
 {
     let _machine_limits = machine.as_slice();
     let mut first = span.first;
-    for _ in 0..MOST_RAISES {
+    for _ in 0..steps {
         let next = up(rest + work_of(loads, first), machine.top());
         if next > u128::from(span.last) {
             return span.last + 1;
@@ -113,7 +124,7 @@ fn ends_of(machine: &Machine, loads: &[Load], rest: u128, span: Span) -> Ends
     if fits(machine, loads, rest, span.last) {
         return Ends::Fit(span.last);
     }
-    let first = raised(machine, loads, rest, span);
+    let first = raised(machine, loads, rest, span, MOST_RAISES);
     if first > span.last {
         return Ends::NoFit;
     }
@@ -168,9 +179,9 @@ fn fitting(
     fitting(tasks, machine, others, rest + held(*load, release), ended)
 }
 
-// The response of task i in ticks; one more than its period where it has none. `from` is a number of ticks, and fewer
-// ticks don't serve its level. The loads are the tasks before it.
-pub(crate) fn searched(tasks: &TaskSet, machine: &Machine, loads: &[Load], from: u64, i: u32) -> u64
+// The response of task i in ticks; one more than its period where it has none. `from` is a number of ticks up to its
+// period, and fewer ticks don't serve its level. The loads are the tasks before it.
+fn searched(tasks: &TaskSet, machine: &Machine, loads: &[Load], from: u64, i: u32) -> u64
     requires task { i < length tasks.now }
     requires before { AreBefore (plan_of tasks.now machine.now Rm) i loads.now }
     requires some { 1 ≤ from }
@@ -202,4 +213,39 @@ pub(crate) fn searched(tasks: &TaskSet, machine: &Machine, loads: &[Load], from:
         }
     }
     high
+}
+
+// The response of task i in ticks; one more than its period where it has none. `from` is a number of ticks, and fewer
+// ticks don't serve its level. The loads are the tasks before it.
+pub(crate) fn response_of(
+    tasks: &TaskSet,
+    machine: &Machine,
+    loads: &[Load],
+    from: u64,
+    i: u32,
+) -> u64
+    requires task { i < length tasks.now }
+    requires before { AreBefore (plan_of tasks.now machine.now Rm) i loads.now }
+    requires some { 1 ≤ from }
+    requires unserved { IsUnserved (plan_of tasks.now machine.now Rm) i from }
+    ensures { result ≡ response (plan_of tasks.now machine.now Rm) i }
+{
+    let _task_limits = tasks.as_slice();
+    let period = tasks.task(i).period;
+    if from > period {
+        return period + 1;
+    }
+    let job = u128::from(worst(tasks, machine, i));
+    let span = Span {
+        first: from,
+        last: period,
+    };
+    let at = raised(machine, loads, job, span, MOST_STEPS);
+    if at > period {
+        return period + 1;
+    }
+    if fits(machine, loads, job, at) {
+        return at;
+    }
+    searched(tasks, machine, loads, at, i)
 }

@@ -5,7 +5,7 @@ ghost use Rattle.task_model.specs.declared.limits.TheConstants.{LONGEST_PERIOD};
 ghost use Rattle.sched_model.specs.Plan.{plan_of, count, period};
 ghost use Rattle.sched_model.specs.Priority.{sum_before};
 ghost use Rattle.governor.specs.Worst.{level_work_in};
-ghost use Rattle.rm_response_laws.specs.Bounds.{held_work};
+ghost use Rattle.rm_response_laws.specs.HeldWork.{held_work};
 
 use freq_table::Machine;
 use grid_fraction::up;

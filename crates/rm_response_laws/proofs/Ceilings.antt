@@ -1,5 +1,5 @@
 -- Quotients rounded up: their values after a multiple, and what they cover.
-use Rattle.std.proofs.Common.{◌≡◌, inl, inr, ℕ, zero, suc, ◌+◌, ◌-◌, ◌*◌, ◌<◌, ◌≤◌, arith, add-mul, one-mul}
+use Rattle.std.proofs.Common.{◌≡◌, inl, inr, ℕ, suc, ◌+◌, ◌-◌, ◌*◌, ◌<◌, ◌≤◌, arith, add-mul, one-mul}
 use Rattle.std.proofs.Math.Nat.{mul-le-mul_right, div-mul-le_self}
 use Rattle.std.proofs.lemmas.Bool.{cases_lt}
 use Rattle.grid_fraction.specs.Numbers.{ceil_div}
@@ -32,11 +32,3 @@ ceil-sum a b d pos =
     let first = ceil_covers a d pos in
     let second = ceil_covers b d pos in
     ceil-within (a + b) d (ceil_div a d + ceil_div b d) pos (omega (arith, first, second))
-
--- the quotient of a positive number is at least 1
-pub ceil-some : (n d : ℕ) → 0 < d → 0 < n → 1 ≤ ceil_div n d
-ceil-some n d pos some = go (ceil_div n d) (ceil_covers n d pos)
-  where
-    go : (q : ℕ) → n ≤ q * d → 1 ≤ q
-    go zero covers = absurd (omega (arith, covers))
-    go (suc q) covers = omega arith

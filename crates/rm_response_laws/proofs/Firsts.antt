@@ -1,6 +1,6 @@
 -- The first job of a task, with every job at its worst case and no missed deadline of the tasks before it: it
 -- completes as soon as the highest speed has done what its level can ask for, and not before.
-use Rattle.std.proofs.Common.{◌≡◌, inl, inr, ℕ, zero, suc, ◌+◌, ◌*◌, ◌/◌, ◌%◌, ◌<◌, ◌≤◌, Bool, true, false, List, refl, sym, ◌∙◌, ap, arith, if◌then◌else◌, div-add-mod', mod-lt, ◌-◌, length, subst, zero-mul, mul-zero, one-mul}
+use Rattle.std.proofs.Common.{◌≡◌, inl, inr, ℕ, zero, suc, ◌+◌, ◌*◌, ◌/◌, ◌%◌, ◌<◌, ◌≤◌, Bool, true, false, refl, sym, ◌∙◌, ap, arith, if◌then◌else◌, div-add-mod', mod-lt, ◌-◌, length, subst, zero-mul, mul-zero, one-mul}
 use Rattle.std.proofs.Math.Nat.{mul-le-mul_right}
 use Rattle.std.proofs.lemmas.Bool.{cases_lt, le-leb}
 use Rattle.std.proofs.lemmas.Bool.Decides.{nat_tests}
@@ -10,7 +10,7 @@ use Rattle.grid_fraction.proofs.Ceilings.{ceil-at}
 use Rattle.task_model.specs.Tasks.{NoneOffset}
 use Rattle.sched_model.specs.Plan.{Plan, count, period, offset, worst, top_speed}
 use Rattle.sched_model.specs.Jobs.{due, latest, worst_demand}
-use Rattle.sched_model.specs.Ticks.{PublishedDemand, Tick, exec}
+use Rattle.sched_model.specs.Ticks.{PublishedDemand, exec}
 use Rattle.sched_model.specs.Admission.{IsWithinLimits}
 use Rattle.sched_model.proofs.Limits.{some_period}
 use Rattle.sched_model.proofs.LevelSums.{sum_where-plus, sum_up_to-where, sum_where-term, sum_where-zero, up_to-self}

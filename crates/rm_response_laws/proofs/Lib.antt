@@ -3,5 +3,4 @@ pub mod BusyStretches
 pub mod ResponseSearch
 pub mod Firsts
 pub mod ResponseMeaning
-pub mod RateBounds
 mod Examples

@@ -1,12 +1,15 @@
 -- What the search for a response finds.
-use Rattle.std.proofs.Common.{◌≡◌, ◌⊎◌, inl, inr, ℕ, zero, suc, ◌+◌, ◌*◌, ◌≤◌, Bool, true, false, refl, arith}
+use Rattle.std.proofs.Common.{◌≡◌, ◌⊎◌, inl, inr, ℕ, zero, suc, ◌+◌, ◌*◌, ◌≤◌, ◌<◌, Bool, true, false, refl, arith}
 use Rattle.std.proofs.lemmas.Bool.{le-leb, leb-true, cases_lt}
 use Rattle.std.proofs.lemmas.Bool.Decides.{nat_tests}
 use Rattle.grid_fraction.specs.Numbers.{first_from}
 use Rattle.grid_fraction.proofs.Searches.{first_from-before, first_from-most, first_from-none}
-use Rattle.sched_model.specs.Plan.{Plan, period, top_speed}
+use Rattle.sched_model.specs.Plan.{Plan, count, period, top_speed}
+use Rattle.sched_model.specs.Priority.{stands_before}
+use Rattle.sched_model.proofs.Allotments.{up_to-before}
 use Rattle.governor.specs.Worst.{level_work_in}
 use Rattle.rm_response_laws.specs.Responses.{is_level_served, IsUnserved, response, HasResponse}
+use Rattle.rm_response_laws.specs.HeldWork.{held_work}
 use Rattle.rm_response_laws.proofs.BusyStretches.{IsBound}
 
 -- m is where a search of n numbers from `from` on ends: at a number that passes, or past the last one
@@ -75,3 +78,11 @@ unfolding response
 response-none p i un =
     first_from-none (period p i) 1 (is_level_served p i)
     (λ u a b. let over = un u a (omega arith) in grind (arith, nat_tests, over))
+
+-- fewer ticks than the response of a task before task i don't serve the level of task i
+pub unserved-before : (p : Plan) (i k : ℕ) → k < count p → stands_before (period p) k i ≡ true
+    → IsUnserved p i (response p k)
+unserved-before p i k h on u pos lt =
+    let first = before-response p k u pos lt in
+    let within = up_to-before (count p) (period p) (held_work p u) k i h on in
+    omega (arith, first, within)

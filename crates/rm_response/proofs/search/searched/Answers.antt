@@ -18,8 +18,8 @@ returns-in_default c =
     let none : NoneFits (top_speed p) xs (worst p i) from (period p i + 1) =
     subst (λ (w : ℕ). NoneFits (top_speed p) xs w from (period p i + 1)) job
     (subst (λ (d : ℕ). NoneFits (top_speed p) xs c.from-job.result from (d + 1)) long c.in_default.ensures) in
-    let un = unserved-none p i xs c.requires.before from (period p i) (omega arith) c.requires.unserved none in
-    omega (arith, response-none p i un, long)
+    let un = unserved-none p i xs c.requires.before from (period p i + 1) (omega arith) c.requires.unserved none in
+    omega (arith, response-none p i (λ u pos lt. un u pos (omega arith)), long)
 
 pub loop-low-init : goal.loop-low-init
 loop-low-init c =
@@ -71,7 +71,7 @@ loop-low-preserved c =
     let low = c.loop-low.low in
     let middle = low + (c.loop-low.high - low) / 2 in
     let none : NoneFits (top_speed p) xs (worst p i) low (middle + 1) = subst (λ (w : ℕ). NoneFits (top_speed p) xs w low (middle + 1)) job c.in-None.ensures in
-    let un = unserved-none p i xs c.requires.before low middle (omega (arith, at.within, c.loop-low-test.true)) at.unserved none in
+    let un = unserved-none p i xs c.requires.before low (middle + 1) (omega (arith, at.within, c.loop-low-test.true)) at.unserved none in
     record {
       some = omega arith;
       above = omega (arith, c.loop-low-test.true);
