@@ -91,7 +91,7 @@ module _ (p : Plan) (lim : IsWithinLimits p) (js : List ℕ) (is : js ≡ in_ord
         subst (AreFirst p js (k + 1)) (sym put.is) new
 
 module _ (p : Plan) (i : ℕ) (xs : List Load) (before : AreBefore p i xs) where
-  own-work : (t : ℕ) → 1 ≤ t → t ≤ period p i → held_work p t i ≡ worst p i
+  pub own-work : (t : ℕ) → 1 ≤ t → t ≤ period p i → held_work p t i ≡ worst p i
   own-work t pos le =
       let one : ceil_div t (period p i) ≡ 1 = ap (λ u. ceil_div u (period p i)) (omega arith) ∙ ceil-after 0 (period p i) t pos le in
       ap (λ n. n * worst p i) one ∙ omega arith

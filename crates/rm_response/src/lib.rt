@@ -10,6 +10,5 @@
 mod loads;
 mod response;
 mod search;
-mod work;
 
 pub use response::{Response, ResponseFault, rm_response};

@@ -5,15 +5,15 @@ ghost use Rattle.dvs_base.specs.declared.kind.Scheduler.TheVariants.{Rm};
 ghost use Rattle.task_model.specs.Tasks.{task_at, NoneOffset};
 ghost use Rattle.sched_model.specs.Plan.{plan_of, count, period};
 ghost use Rattle.sched_model.specs.Priority.{in_order};
+ghost use Rattle.governor.specs.Worst.{level_work_in};
 ghost use Rattle.rm_response_laws.specs.Responses.{response, AllRespond, MeetsAllDeadlines};
 ghost use Rattle.rm_response.specs.Denials.{IsFirstLate, responses, AreLeast, misses_at, IsResponseDenial, IsMissedAtPeriod, IsShownMiss, exact_answer};
 ghost use Rattle.rm_response.specs.Known.{AreAllKnown, late_task};
 
-use crate::loads::{Load, add, load_of};
+use crate::loads::{Load, add, load_of, work_of};
 use crate::search::response_of;
-use crate::work::level_work_in;
 use freq_table::Machine;
-use sched_model::rm_order;
+use sched_model::{rm_order, worst};
 use std::alloc::Global;
 use std::marker::Model;
 use task_model::TaskSet;
@@ -59,6 +59,13 @@ pub enum ResponseFault {
     NoMemory,
 }
 
+// A task without a response, and the work in work units that its level can ask for in its period.
+#[derive(Clone, Copy)]
+struct Late {
+    task: u32,
+    work: u128,
+}
+
 // The responses in file order, written over `entries`. They are computed in RM order, and the error is the first task
 // in it without a response. `loads` has room for all tasks.
 fn respond(
@@ -67,24 +74,28 @@ fn respond(
     order: &[u32],
     tasks: &TaskSet,
     machine: &Machine,
-) -> Result<Vec<u64>, u32>
+) -> Result<Vec<u64>, Late>
     requires one_each { length entries.items ≡ length tasks.now }
     requires no_loads { loads.items ≡ [] }
     requires room { length tasks.now ≤ vec_capacity loads }
     requires order { let p = plan_of tasks.now machine.now Rm in order.now ≡ in_order (period p) (count p) }
     ensures known { IfOk result (λ v. AreAllKnown (plan_of tasks.now machine.now Rm) v.items) }
     ensures late { let p = plan_of tasks.now machine.now Rm in
-        IfErr result (IsFirstLate (period p) (response p) (count p)) }
+        IfErr result (λ e. IsFirstLate (period p) (response p) (count p) e.task) }
+    ensures work { let p = plan_of tasks.now machine.now Rm in
+        IfErr result (λ e. e.work ≡ level_work_in p (period p e.task) e.task) }
     ensures found { let p = plan_of tasks.now machine.now Rm in
-        MatchResult result (λ v. late_task p ≡ None) (λ task. late_task p ≡ Some task) }
+        MatchResult result (λ v. late_task p ≡ None) (λ e. late_task p ≡ Some e.task) }
 {
     let _task_limits = tasks.as_slice();
     let _machine_limits = machine.as_slice();
     let mut from = 1;
     for &task in order {
         let response = response_of(tasks, machine, &loads, from, task);
-        if response > tasks.task(task).period {
-            return Err(task);
+        let period = tasks.task(task).period;
+        if response > period {
+            let work = u128::from(worst(tasks, machine, task)) + work_of(&loads, period);
+            return Err(Late { task, work });
         }
         entries[task as usize] = response;
         add(&mut loads, load_of(tasks, machine, task), response);
@@ -94,15 +105,15 @@ fn respond(
 }
 
 // The fault of a task without a response, with the numbers of its period.
-fn missing(tasks: &TaskSet, machine: &Machine, task: u32) -> ResponseFault
-    requires { task < length tasks.now }
-    ensures { result ≡ misses_at (plan_of tasks.now machine.now Rm) task }
+fn missing(tasks: &TaskSet, machine: &Machine, late: Late) -> ResponseFault
+    requires task { late.task < length tasks.now }
+    requires work { let p = plan_of tasks.now machine.now Rm in late.work ≡ level_work_in p (period p late.task) late.task }
+    ensures { result ≡ misses_at (plan_of tasks.now machine.now Rm) late.task }
 {
-    let period = tasks.task(task).period;
     ResponseFault::Misses {
-        task,
-        num: level_work_in(tasks, machine, period, task),
-        cap: u128::from(machine.top()) * u128::from(period),
+        task: late.task,
+        num: late.work,
+        cap: u128::from(machine.top()) * u128::from(tasks.task(late.task).period),
     }
 }
 
@@ -143,6 +154,6 @@ pub fn rm_response(
     };
     match respond(entries, loads, &order, tasks, machine) {
         Ok(ticks) => Ok(Response { ticks }),
-        Err(task) => Err(missing(tasks, machine, task)),
+        Err(late) => Err(missing(tasks, machine, late)),
     }
 }

@@ -1,16 +1,17 @@
-use Rattle.std.proofs.Common.{ℕ, ◌+◌, length, ap, sym, subst, arith}
-use Rattle.sched_model.proofs.Orders.{length-in_order}
-use Rattle.std.specs.Prelude.{slice_index, slice_set}
+use Rattle.std.proofs.Common.{ℕ, ◌+◌, length, ap, ap₂, ◌∙◌, sym, subst, arith}
+use Rattle.std.specs.Prelude.{slice_index, slice_set, ◌≡◌}
 use Rattle.dvs_base.specs.declared.kind.Scheduler.TheVariants.{Rm}
 use Rattle.task_model.specs.declared.task.Task.{Task}
 use Rattle.sched_model.specs.Plan.{Plan, plan_of, count, period}
 use Rattle.sched_model.specs.Admission.{IsWithinLimits}
+use Rattle.sched_model.proofs.Limits.{some_period}
+use Rattle.sched_model.proofs.Orders.{length-in_order}
 use Rattle.rm_response_laws.specs.Responses.{HasResponse}
 use Rattle.rm_response.specs.declared.loads.Load.{Load}
-use Rattle.rm_response.specs.Loads.{load_of, IsLoad, AreBefore, IsPutAfter}
+use Rattle.rm_response.specs.Loads.{load_of, work_of, IsLoad, AreBefore, IsPutAfter}
 use Rattle.rm_response.proofs.Places.{at-below}
 use Rattle.rm_response.proofs.KnownResponses.{AreKnown, earlier, known-next, known-all}
-use Rattle.rm_response.proofs.LoadsBefore.{first-before, first-more}
+use Rattle.rm_response.proofs.LoadsBefore.{first-before, first-more, own-work}
 use Rattle.rm_response.proofs.response.respond.Goals as goal
 
 pub response_of-response-requires : goal.response_of-response-requires
@@ -27,20 +28,42 @@ response_of-response-requires c =
       unserved = c.loop-task.invariant.known.unserved k (omega arith) c.loop-task-test.true;
     }
 
-pub task-requires : goal.task-requires
-task-requires c =
+pub work_of-requires-clause-few : goal.work_of-requires-clause-few
+work_of-requires-clause-few c =
+    let p : Plan = plan_of c.args.tasks.now c.args.machine.now Rm in
+    let lim : IsWithinLimits p = record { tasks = c.as_slice-task_limits.ensures.limits; machine = c.as_slice-machine_limits.ensures.limits } in
+    let before = first-before p lim c.args.order.now c.requires.order c.loop-task.task-index c.loop-task.loads.items
+    c.loop-task.invariant.loads c.loop-task-test.true in
+    omega (arith, ap (length {A = Load}) c.deref-then-response-period.ensures.value, before.loads.few)
+
+pub returns-then-response-period-clause-work : goal.returns-then-response-period-clause-work
+returns-then-response-period-clause-work c =
+    let p : Plan = plan_of c.args.tasks.now c.args.machine.now Rm in
+    let lim : IsWithinLimits p = record { tasks = c.as_slice-task_limits.ensures.limits; machine = c.as_slice-machine_limits.ensures.limits } in
+    let js = c.args.order.now in
+    let k = c.loop-task.task-index in
+    let j = slice_index js k in
+    let xs = c.loop-task.loads.items in
+    let before = first-before p lim js c.requires.order k xs c.loop-task.invariant.loads c.loop-task-test.true in
+    let some = some_period p lim j (at-below (period p) (count p) js c.requires.order k c.loop-task-test.true) in
+    let beside : c.work_of.result ≡ work_of xs (period p j) =
+    c.work_of.ensures.value ∙ ap₂ work_of c.deref-then-response-period.ensures.value (ap (λ (t : Task). t.period) c.task-period.ensures.task) in
+    omega (arith, c.from.ensures, c.worst.ensures.value, beside, before.work (period p j), own-work p j xs before (period p j) some (omega arith))
+
+pub task-period-requires : goal.task-period-requires
+task-period-requires c =
     let p : Plan = plan_of c.args.tasks.now c.args.machine.now Rm in
     at-below (period p) (count p) c.args.order.now c.requires.order c.loop-task.task-index c.loop-task-test.true
 
-pub returns-then-response-task-clause-late : goal.returns-then-response-task-clause-late
-returns-then-response-task-clause-late c =
+pub returns-then-response-period-clause-late : goal.returns-then-response-period-clause-late
+returns-then-response-period-clause-late c =
     let p : Plan = plan_of c.args.tasks.now c.args.machine.now Rm in
     let js = c.args.order.now in
     let k = c.loop-task.task-index in
     record {
       task = at-below (period p) (count p) js c.requires.order k c.loop-task-test.true;
-      late = (let long = ap (λ (t : Task). t.period) c.task.ensures.task in
-          omega (arith, c.if-response-task.true, c.response_of-response.ensures, long));
+      late = (let long = ap (λ (t : Task). t.period) c.task-period.ensures.task in
+          omega (arith, c.if-response-period.true, c.response_of-response.ensures, long));
       first = earlier p js c.requires.order k c.loop-task.from c.loop-task.entries.items c.loop-task.invariant.known
           c.loop-task-test.true;
     }
@@ -55,9 +78,9 @@ loop-task-preserved c =
     let loads = c.loop-task.loads.items in
     let new = c.add.new.loads.items in
     let entries = c.loop-task.entries.items in
-    let long = ap (λ (t : Task). t.period) c.task.ensures.task in
+    let long = ap (λ (t : Task). t.period) c.task-period.ensures.task in
     let has : HasResponse p (slice_index js k) =
-    omega (arith, c.if-response-task.false, c.response_of-response.ensures, long) in
+    omega (arith, c.if-response-period.false, c.response_of-response.ensures, long) in
     record {
       known = subst (λ (r : ℕ). AreKnown p js (k + 1) r (slice_set entries (slice_index js k) r)) (sym c.response_of-response.ensures)
           (known-next p js c.requires.order k c.loop-task.from entries c.loop-task.invariant.known c.loop-task-test.true has);

@@ -35,12 +35,12 @@ returns-clause-missed c =
     let lim : IsWithinLimits p = record { tasks = c.as_slice-task_limits.ensures.limits; machine = c.as_slice-machine_limits.ensures.limits } in
     let late = c.in-Err.ensures.late in
     subst (IsMissedAtPeriod p) (sym c.missing.ensures)
-    (first-misses p lim refl c.in-Err.task late.task c.in_default.ensures.finds late.first late.late)
+    (first-misses p lim refl c.in-Err.late.task late.task c.in_default.ensures.finds late.first late.late)
 
 pub returns-clause-shown : goal.returns-clause-shown
 returns-clause-shown c =
     let p : Plan = plan_of c.args.tasks.now c.args.machine.now Rm in
     let lim : IsWithinLimits p = record { tasks = c.as_slice-task_limits.ensures.limits; machine = c.as_slice-machine_limits.ensures.limits } in
-    let i = c.in-Err.task in
+    let i = c.in-Err.late.task in
     let late = c.in-Err.ensures.late in
     subst IsShownMiss (sym c.missing.ensures) (before-response p i (period p i) (some_period p lim i late.task) late.late)
