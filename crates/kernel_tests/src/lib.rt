@@ -17,6 +17,8 @@ mod kernel_runs;
 #[cfg(test)]
 mod plans;
 #[cfg(test)]
+mod reserve;
+#[cfg(test)]
 mod runs;
 #[cfg(test)]
 mod worked_ticks;

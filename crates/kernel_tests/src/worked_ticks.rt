@@ -1,21 +1,13 @@
 // Ticks of the example of Pillai and Shin 2001, against the notes of the kernel. They are worked out by hand from the
 // definition of the schedule, tick by tick: the speed, and the units of each task.
-use crate::case::Case;
+use crate::case::EXAMPLE;
 use crate::plans::{edf_planned, rm_planned};
 use crate::runs::{HeardRun, Setup, Walk, edf_run, rm_run};
 use dvs_base::{GovernorKind, Note, Pos};
 use std::test::Fail;
-use test_inputs::example::{PAPER_DEMANDS, PAPER_MACHINE, PAPER_TASKS};
 
 // How many ticks are compared.
 const TICKS: usize = 10;
-
-const EXAMPLE: Case = Case {
-    tasks: PAPER_TASKS,
-    machine: PAPER_MACHINE,
-    demands: PAPER_DEMANDS,
-    words: "the example",
-};
 
 // A tick: its speed, and the units that each task gets in it.
 #[derive(Clone, Copy, Debug, PartialEq)]

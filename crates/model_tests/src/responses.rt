@@ -1,5 +1,4 @@
 // Small task sets whose responses are worked by hand.
-ghost use Rattle.std.specs.Prelude.{◌≡◌, IfOk, length};
 
 use freq_table::Machine;
 use rm_response::{ResponseFault, rm_response};

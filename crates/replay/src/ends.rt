@@ -1,7 +1,6 @@
 // The ends of jobs in a trace's notes, and the demands that they fix.
 ghost use Rattle.std.specs.Prelude.{◌≡◌, [], OnOk, IfOk, None};
 ghost use Rattle.std.specs.List.{AllByRecursion};
-ghost use Rattle.task_model.specs.DemandRows.{named_units};
 ghost use Rattle.sched_model.specs.Plan.{count};
 ghost use Rattle.sched_model.specs.Jobs.{demand_of};
 ghost use Rattle.event_kernel.specs.Runs.{IsListOf};

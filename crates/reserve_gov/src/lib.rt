@@ -24,9 +24,6 @@ use governor::{Choice, Governor, chosen};
 use grid_fraction::{Frac, up};
 use sched_model::{Admitted, State};
 
-#[cfg(test)]
-mod tests;
-
 /// The governor reserve, made for a plan.
 #[derive(Drop)]
 pub struct Reserve {

@@ -6,7 +6,6 @@
 
 ghost use Rattle.std.specs.Prelude.{◌≡◌, ◌*◌, ◌<◌, ◌↔◌, IsTrue, IfOk, OnOk, IfErr, length, MatchOption};
 ghost use Rattle.dvs_base.specs.declared.kind.Scheduler.TheVariants.{Rm};
-ghost use Rattle.task_model.specs.Tasks.{task_at};
 ghost use Rattle.sched_model.specs.Plan.{plan_of, period, top_speed};
 ghost use Rattle.sched_model.specs.Tests.{IsRmFeasible};
 ghost use Rattle.rm_admit.specs.Denials.{IsOverloaded, IsFirstOverloaded, IsRmDenial};

@@ -1,41 +1,18 @@
-// The traces of runs under reserve, each worked out by hand.
+// The traces of runs of the example of Pillai and Shin 2001 under the governor reserve, each worked out by hand.
 ghost use Rattle.std.specs.Prelude.{◌≤◌, OnOk};
 ghost use Rattle.dvs_base.specs.declared.limits.TheConstants.{MOST_TICKS};
 ghost use Rattle.governor.specs.Speeds.{unchanging};
 ghost use Rattle.event_kernel.specs.Runs.{IsListOf, MeetsDeadlines};
 ghost use Rattle.reserve_gov.specs.Reserved.{reserved_demand};
 
-use super::Reserve;
-use demand_list::Demands;
+use crate::case::EXAMPLE;
+use crate::plans::{Planned, edf_planned, rm_planned};
 use dvs_base::{MemSink, Version};
-use edf_admit::edf_admit;
 use event_kernel::Kernel;
-use freq_table::Machine;
 use probes::CountProbe;
-use rm_admit::rm_admit;
-use sched_model::Admitted;
+use reserve_gov::Reserve;
 use std::alloc::Global;
 use std::test::Fail;
-use task_model::TaskSet;
-
-// The example of Pillai and Shin 2001, with 4 work units for a millisecond at full speed and a tick of a millisecond.
-const TASKS: &str = r#"
-task = [
-    {name = "t1", period = 8, worst = 12},
-    {name = "t2", period = 10, worst = 12},
-    {name = "t3", period = 14, worst = 4},
-]
-"#;
-
-const MACHINE: &str = r#"
-point = [
-    {speed = 2, millivolts = 3000},
-    {speed = 3, millivolts = 4000},
-    {speed = 4, millivolts = 5000},
-]
-"#;
-
-const DEMANDS: &str = "task,job,units\nt1,1,8\nt1,2,4\nt2,1,4\nt2,2,4\nt3,1,4\nt3,2,4\n";
 
 // EDF. The hyperperiod is 280, so the rates are 12*35 = 420, 12*28 = 336 and 4*20 = 80, and the static demand is
 // 836/280. A tenth of 836 is 83.6, so 84 with rounding up: the reserved demand is 920/280. It is above 3 (840/280) and
@@ -104,15 +81,15 @@ end 8 400000000000 0
 "#;
 
 // The trace of a run under reserve, which meets every deadline.
-fn trace_of(alloc: Global, plan: &Admitted, demands: &Demands, ticks: u64) -> Result<Vec<u8>, Fail>
-    requires list { IsListOf plan.now demands.now }
+fn trace_of(alloc: Global, planned: &Planned, ticks: u64) -> Result<Vec<u8>, Fail>
+    requires list { IsListOf planned.now.plan planned.now.demands }
     requires some_ticks { 1 ≤ ticks }
     requires low_ticks { ticks ≤ MOST_TICKS }
     ensures { OnOk result (MeetsDeadlines (unchanging reserved_demand)
-        (record { plan = plan.now; demands = demands.now; ticks = ticks })) }
+        (record { plan = planned.now.plan; demands = planned.now.demands; ticks = ticks })) }
 {
-    let governor = Reserve::new(plan);
-    let kernel = Kernel::new(alloc, plan, demands, governor, ticks)?;
+    let governor = Reserve::new(&planned.plan);
+    let kernel = Kernel::new(alloc, &planned.plan, &planned.demands, governor, ticks)?;
     let mut out = MemSink::new(alloc, 4096, &[])?;
     let mut probes: Vec<CountProbe> = Vec::new(alloc);
     kernel.run(&mut out, &mut probes, Version::One)?;
@@ -120,22 +97,23 @@ fn trace_of(alloc: Global, plan: &Admitted, demands: &Demands, ticks: u64) -> Re
 }
 
 #[test]
-fn example_of_three_tasks(rt: HostRuntime) -> Result<(), Fail> {
+fn example_under_edf(rt: HostRuntime) -> Result<(), Fail> {
     let alloc = rt.alloc();
-    let tasks = TaskSet::read(alloc, TASKS.as_bytes())?;
-    let machine = Machine::read(alloc, MACHINE.as_bytes())?;
-    let Ok(demands) = Demands::read(alloc, DEMANDS.as_bytes(), &tasks) else {
-        return Err("demands")?;
+    let Some(planned) = edf_planned(alloc, EXAMPLE)? else {
+        return Err("plan")?;
     };
-    let Ok(plan) = edf_admit(alloc, &tasks, &machine) else {
-        return Err("edf")?;
-    };
-    let trace = trace_of(alloc, &plan, &demands, 16)?;
+    let trace = trace_of(alloc, &planned, 16)?;
     assert_eq!(rt; std::str::from_utf8(&trace), Ok(EDF_TRACE));
-    let Ok(plan) = rm_admit(alloc, &tasks, &machine) else {
-        return Err("rm")?;
+    Ok(())
+}
+
+#[test]
+fn example_under_rm(rt: HostRuntime) -> Result<(), Fail> {
+    let alloc = rt.alloc();
+    let Some(planned) = rm_planned(alloc, EXAMPLE)? else {
+        return Err("plan")?;
     };
-    let trace = trace_of(alloc, &plan, &demands, 8)?;
+    let trace = trace_of(alloc, &planned, 8)?;
     assert_eq!(rt; std::str::from_utf8(&trace), Ok(RM_TRACE));
     Ok(())
 }
