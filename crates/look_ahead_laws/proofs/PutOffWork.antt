@@ -1,8 +1,6 @@
 -- What is put off fits into the time after the earliest deadline: its rates suffice, and the highest speed has room.
-use Rattle.std.proofs.Common.{◌≡◌, ℕ, ◌≤◌, true, List, [], ◌∷◌, ◌++◌, refl, arith, if◌then◌else◌, ◌∙◌, sym, subst, zero, suc, ◌+◌, ◌-◌, ◌*◌, ◌<◌, min, Bool, false, append_assoc}
+use Rattle.std.proofs.Common.{◌≡◌, ℕ, ◌≤◌, true, List, [], ◌∷◌, ◌++◌, refl, arith, if◌then◌else◌, ◌∙◌, sym, subst, zero, suc, ◌+◌, ◌-◌, ◌*◌, ◌<◌, min, Bool, false, append_assoc, ◌/◌, nat_eq, nat_le, mul-zero}
 use Rattle.std.proofs.lemmas.Bool.Decides.{nat_tests}
-use Rattle.std.specs.Prelude.{◌/◌, nat_eq, nat_le}
-use Rattle.std.proofs.Math.Nat.{mul-zero}
 use Rattle.std.proofs.lemmas.Bool.{eqb-false}
 use Rattle.sched_model.specs.Priority.{stands_before, in_order, sum_before}
 use Rattle.sched_model.proofs.Orders.{before-self, before-not, sum_list, IsAhead, IsOrdered, first_ahead, sum_list-in_order, in_order-ordered, AreBelow, sum_before-prefix, sum_list-snoc}
