@@ -24,7 +24,7 @@ use Rattle.governor.proofs.Ticks.{tick-closes, demand_most}
 use Rattle.governor.specs.Edf.{due_by}
 use Rattle.dvs_base.specs.declared.kind.GovernorKind.TheVariants.{Cycle}
 use Rattle.dvs_base.specs.PlanWords.{IsPair}
-use Rattle.freq_table.specs.Tables.{speed_at, lowest_entry, lowest_pick, last_entry}
+use Rattle.freq_table.specs.Tables.{speed_at, lowest_entry, lowest_pick}
 use Rattle.freq_table.proofs.Chosen.{picked_meets, picked_met}
 use Rattle.sched_model.specs.Tests.{total_rate}
 use Rattle.sched_model.specs.Admission.{IsWithinLimits, IsAdmitted}
@@ -38,8 +38,7 @@ use Rattle.cc_edf_laws.specs.Conditions.{due_work, credit, CycleCalm, CycleSafe}
 use Rattle.cc_edf_laws.proofs.Rows.{owed, credit_of, boundary_pays, tick_pays, tick_charge, charged_most}
 
 if-weaker : (a b : Bool) (x : ℕ) → (a ≡ true → b ≡ true) → (if a then x else 0) ≤ (if b then x else 0)
-if-weaker true b x h = rw (h refl) (omega arith)
-if-weaker false b x h = omega arith
+if-weaker a b x h = grind arith
 
 module _ (plan : Plan) (dem : JobDemands) (f : ℕ) (s : StateView) (shares : List ℕ) (edf : ServesEdf plan.scheduler)
     (bel : Belongs plan dem s) (legal : IsLegalIn plan dem f s shares) where
@@ -78,9 +77,7 @@ module _ (plan : Plan) (dem : JobDemands) (f : ℕ) (s : StateView) (shares : Li
 -- an inequality of two terms for each task, added up
 sum-two : (n : ℕ) (a b c d : ℕ → ℕ) → ((i : ℕ) → i < n → a i + b i ≤ c i + d i)
     → sum_below n a + sum_below n b ≤ sum_below n c + sum_below n d
-sum-two n a b c d each =
-    let all : sum_below n (λ i. a i + b i) ≤ sum_below n (λ i. c i + d i) = sum_below-le n (λ i. a i + b i) (λ i. c i + d i) each in
-    omega (arith, all, sum_below-add n a b, sum_below-add n c d)
+sum-two n a b c d each = grind (arith, sum_below-le, sum_below-add n a b, sum_below-add n c d)
 
 sum-three : (n : ℕ) (a b p c d q : ℕ → ℕ) → ((i : ℕ) → i < n → a i + b i + p i ≤ c i + d i + q i)
     → sum_below n a + sum_below n b + sum_below n p ≤ sum_below n c + sum_below n d + sum_below n q
@@ -90,23 +87,15 @@ sum-three n a b p c d q each =
 
 -- before the first release no work is due
 cycle_opens : (plan : Plan) → CycleCalm plan (opening plan)
-cycle_opens plan d le =
-    let s = opening plan in
-    let none : due_work plan s d ≡ 0 = sum_where-zero (count plan) (due_by s d) (wleft_at s) (λ i h on. rw (opening_at plan i h) refl) in
-    rw none (omega (arith, mul-zero (hyper plan)))
+cycle_opens plan d le = grind (arith, sum_where-zero, opening_at, mul-zero)
 
 -- each charge is at most the worst case, so the sum of the rates is at most that of the test
 pub cycle_within : (plan : Plan) (s : StateView) → IsOfPlan plan s → (edf_cycle_demand plan s).num ≤ total_rate plan
-cycle_within plan s of =
-    sum_below-le (count plan) (charged_rate_in plan s) (rate plan) (λ i h.
-    let most : charged_of (row_at s i) ≤ worst plan i = (let m = charged_most (row_at s i) (of.used i h) in let w = of.worst i h in omega arith) in
-    mul-le-mul_right (hyper plan / period plan i) most)
+cycle_within plan s of = grind (arith, sum_below-le, charged_most, mul-le-mul_right)
 
 pub cycle_fits : (plan : Plan) (s : StateView) → IsAdmitted plan → ServesEdf plan.scheduler → IsOfPlan plan s
     → (edf_cycle_demand plan s).num ≤ top_speed plan * hyper plan
-cycle_fits plan s adm edf of =
-    let test : total_rate plan ≤ top_speed plan * hyper plan = (full_enough plan adm).edf edf in
-    omega (arith, cycle_within plan s of, test)
+cycle_fits plan s adm edf of = grind (arith, full_enough, cycle_within)
 
 -- in each state of an admitted plan under EDF some entry meets the demand
 pub cycle_met : (plan : Plan) (s : StateView) → IsAdmitted plan → ServesEdf plan.scheduler → IsOfPlan plan s
@@ -158,16 +147,7 @@ module _ (plan : Plan) (lim : IsWithinLimits plan) (dem : JobDemands) (s : State
 
     -- an incomplete job isn't job 0, so it is due within a period
     soon : (i : ℕ) → i < count plan → (row_at s i).done ≡ false → (row_at s i).deadline ≤ s.now + period plan i
-    soon i h open_job =
-        elim (cases_lt 0 (row_at s i).job) [
-          | inl born ↦
-              let e = bel.deadline i h in
-              let r = bel.released i h in
-              let near = due_soon plan i (row_at s i).job born in
-              omega arith
-          | inr none ↦ absurd (let closed : (row_at s i).done ≡ true = unborn_done plan dem s bel i h (omega arith) in
-              let bad : true ≡ false = sym closed ∙ open_job in cc)
-        ]
+    soon i h open_job = grind (arith, cases_lt, due_soon, unborn_done)
 
     -- where the speed covers what the tasks due by d need, they need nothing after the tick
     all_done : (d : ℕ) → sum_where (count plan) (due_by s d) (left_in dem s) ≤ f → due_work plan next d ≡ 0
@@ -212,11 +192,7 @@ module _ (plan : Plan) (lim : IsWithinLimits plan) (dem : JobDemands) (s : State
         (demand_most plan dem s bel i h) (legal_most plan dem f s shares legal i h))))
 
     cycle_ticks : (edf_cycle_demand plan s).num ≤ f * hyper plan → CycleCalm plan s → CycleCalm plan next
-    cycle_ticks fits calm d le =
-        elim (cases_lt (sum_where (count plan) (due_by s d) (left_in dem s)) f) [
-          | inl low ↦ rw (all_done d (omega arith)) (omega (arith, mul-zero (hyper plan)))
-          | inr high ↦ omega (arith, all_paid d le high, calm d (omega arith), fits)
-        ]
+    cycle_ticks fits calm d le = grind (arith, cases_lt, all_done, mul-zero, all_paid)
 
 pub cycle_laws : GovernorLaws Cycle ServesEdf edf_cycle_demand CycleCalm CycleSafe
 cycle_laws = record {
@@ -237,10 +213,7 @@ cycle_laws = record {
 
 -- the work that the highest speed does in H ticks fits well into 128 bits
 work_low : (plan : Plan) → IsAdmitted plan → top_speed plan * hyper plan ≤ TOP_SPEED * 2 ^ 48
-work_low plan adm =
-    let machine = adm.limits.machine in
-    let speed : top_speed plan ≤ TOP_SPEED = (machine.each (last_entry plan.machine) (let some = machine.some in omega arith)).low_speed in
-    mul-le (top_speed plan) (hyper plan) TOP_SPEED (2 ^ 48) speed (low_hyper plan adm.limits)
+work_low plan adm = grind (arith, mul-le, low_hyper)
 
 -- the row of task i is replaced by another row
 module _ (plan : Plan) (s : StateView) (of : IsOfPlan plan s) (rates : List ℕ) (sum : ℕ) (counts : Counts rates sum plan s) (i : ℕ) (h : i < count plan) where
@@ -312,22 +285,8 @@ module _ (plan : Plan) (s : StateView) (of : IsOfPlan plan s) (rates : List ℕ)
   -- after a new charge the sum fits in 128 bits
   pub sum_fits : IsAdmitted plan → (units : ℕ) → units ≤ (row_at s i).worst
       → sum - slice_index rates i + units * (hyper plan / period plan i) < 2 ^ 128
-  sum_fits adm units le =
-      let t = counts.sum_is in
-      let w = of.worst i h in
-      let new : units * (hyper plan / period plan i) ≤ rate plan i =
-      mul-le-mul_right (hyper plan / period plan i) (let m : units ≤ worst plan i = omega arith in m) in
-      let all : total_rate plan ≤ top_speed plan * hyper plan = (full_enough plan adm).edf counts.served in
-      omega (arith, cycle_within plan s of, new, sum_below-term (count plan) (rate plan) i h, all, work_low plan adm, t)
+  sum_fits adm units le = grind (arith, mul-le-mul_right, full_enough, cycle_within, sum_below-term, work_low)
 
 -- before the first release no task is charged
 pub counts-opening : (plan : Plan) → ServesEdf plan.scheduler → Counts (replicate (count plan) 0) 0 plan (opening plan)
-counts-opening plan edf = record {
-  served = edf;
-  one_each = length-replicate (count plan) 0;
-  rate_is = λ i h. get_or-replicate (count plan) i 0 0 h ∙ sym (none i h);
-  sum_is = sym (sum_below-zero (count plan) (charged_rate_in plan (opening plan)) none);
-}
-  where
-    none : (i : ℕ) → i < count plan → charged_rate_in plan (opening plan) i ≡ 0
-    none i h = rw (opening_at plan i h) (omega arith)
+counts-opening plan edf = grind (arith, length-replicate, get_or-replicate, sum_below-zero, opening_at)

@@ -21,8 +21,7 @@ abbrev pub credit_of : ℕ → ℕ → ℕ → Row → ℕ
 credit_of q now d row = charged_of row * q * (min d row.deadline - now)
 
 same_both : (b : Bool) (x : ℕ) → (if b then x else x) ≡ x
-same_both true x = refl
-same_both false x = refl
+same_both b x = grind arith
 
 -- the rate of a released row gives at least what its job may need by d
 opened_pays : (b : Bool) (h q p c now d after : ℕ) → q * p ≡ h → now ≤ d → after ≡ now + p
@@ -41,27 +40,16 @@ opened_pays false h q p c now d after whole le is =
 pub boundary_pays : (plan : Plan) (dem : JobDemands) (h q now d i : ℕ) (row : Row) → q * period plan i ≡ h
     → (row.deadline ≡ now → row.done ≡ true) → now ≤ d
     → h * owed d (boundary_row plan dem now i row) + credit_of q now d row ≤ h * owed d row + credit_of q now d (boundary_row plan dem now i row)
-boundary_pays plan dem h q now d i row whole closed le =
-    boundary_row-by plan dem now i row (λ new. h * owed d new + credit_of q now d row ≤ h * owed d row + credit_of q now d new)
-    (λ at_now.
-    let pays =
-    opened_pays (dem i (row.job + 1) == 0) h q (period plan i) row.worst now d (row.deadline + period plan i) whole le (omega arith) in
-    let none : credit_of q now d row ≡ 0 =
-    (let z : min d row.deadline - now ≡ 0 = omega arith in rw z (mul-zero (charged_of row * q))) in
-    omega (arith, pays, none))
-    (λ later. omega arith)
+boundary_pays plan dem h q now d i row whole closed le = grind (arith, nat_tests, boundary_row-by, opened_pays, mul-zero)
 
 -- a rate of c * q gives at most H times c units in a part of the period
 complete_pays : (h q p c e : ℕ) → q * p ≡ h → e ≤ p → c * q * e ≤ h * c
-complete_pays h q p c e whole le =
-    let small : q * e ≤ h = le_trans (mul-le-mul_left q le) (let g : q * p ≤ h = omega arith in g) in
-    omega (arith, mul-le-mul_left c small)
+complete_pays h q p c e whole le = grind (arith, le_trans, mul-le-mul_left)
 
 -- a complete job in a tick: it needs nothing, and its rate gives one tick less
 tick_done : (b : Bool) (h q used k : ℕ)
     → h * (if b then 0 else 0) + h * (if b then 0 else 0) + used * q * (k + 1) ≤ h * (if b then 0 else 0) + (used + 0) * q * k + used * q
-tick_done true h q used k = omega arith
-tick_done false h q used k = omega arith
+tick_done b h q used k = grind arith
 
 -- a job that stays incomplete in a tick: its work falls by its units, and its rate gives one tick less
 tick_open : (b : Bool) (h q used worst sh k : ℕ) → used + sh ≤ worst → (b ≡ false → sh ≡ 0)
@@ -94,9 +82,7 @@ pub tick_pays : (done : Bool) (h q p need used worst due now d sh : ℕ) → q *
     ≤ h * (if nat_le due d then (if done then 0 else worst - used) else 0) + (if (done || (used + sh == need)) then used + sh
     else worst) * q * (min d due - (now + 1)) + (if done then used else worst) * q
 tick_pays true h q p need used worst due now d sh whole lo ld soon open_job most own none =
-    let z : sh ≡ 0 = omega arith in
-    let span : min d due - now ≡ (min d due - (now + 1)) + 1 = omega arith in
-    rw (z, span) (tick_done (nat_le due d) h q used (min d due - (now + 1)))
+    grind (arith, tick_done (nat_le due d) h q used (min d due - (now + 1)))
 tick_pays false h q p need used worst due now d sh whole lo ld soon open_job most own none =
     let k = min d due - (now + 1) in
     let span : min d due - now ≡ k + 1 = omega arith in

@@ -1,20 +1,17 @@
 -- The static schedule with every job at its worst case: what its jobs lack at each release and tick.
-use Rattle.std.proofs.Common.{◌≡◌, ◌≢◌, ℕ, zero, suc, ◌+◌, ◌-◌, ◌*◌, ◌<◌, ◌≤◌, Bool, true, false, List, length, refl, sym, ◌∙◌, ap, arith, nat_eq}
-use Rattle.std.proofs.Math.Nat.{zero-sub}
+use Rattle.std.proofs.Common.{◌≡◌, ◌≢◌, ℕ, zero, suc, ◌+◌, ◌-◌, ◌*◌, ◌<◌, ◌≤◌, Bool, true, false, List, refl, ◌∙◌, arith, nat_eq}
 use Rattle.std.proofs.lemmas.Bool.Decides.{nat_tests}
-use Rattle.dvs_base.specs.declared.kind.Scheduler.{Scheduler}
 use Rattle.dvs_base.specs.declared.kind.Scheduler.TheVariants.{Rm}
 use Rattle.dvs_base.specs.declared.kind.GovernorKind.TheVariants.{Fixed}
 use Rattle.grid_fraction.specs.Numbers.{sum_where}
-use Rattle.freq_table.specs.Tables.{speed_at, lowest_entry}
-use Rattle.sched_model.specs.Plan.{Plan, count, period, offset, worst, point}
+use Rattle.sched_model.specs.Plan.{Plan, count, period, worst, point}
 use Rattle.sched_model.specs.Jobs.{due, latest, worst_demand}
-use Rattle.sched_model.specs.Ticks.{PublishedDemand, Tick, exec}
+use Rattle.sched_model.specs.Ticks.{PublishedDemand, Tick}
 use Rattle.sched_model.specs.Demand.{published}
-use Rattle.sched_model.specs.Priority.{stands_before, is_up_to, sum_before, sum_up_to}
+use Rattle.sched_model.specs.Priority.{is_up_to, sum_up_to}
 use Rattle.sched_model.specs.Schedule.{entry_in_force}
-use Rattle.sched_model.specs.StaticDemand.{static_demand_of, static_demand, rm_static, static_speed}
-use Rattle.sched_model.specs.Backlog.{lacking, level_lacking, backlog}
+use Rattle.sched_model.specs.StaticDemand.{static_speed}
+use Rattle.sched_model.specs.Backlog.{lacking, backlog}
 use Rattle.sched_model.specs.Admission.{IsAdmitted}
 use Rattle.sched_model.proofs.JobLaws.{due-none, latest-none}
 use Rattle.sched_model.proofs.LevelSums.{sum_where-zero, sum_up_to-where}
@@ -41,15 +38,8 @@ lack-is p (suc t) i pos = refl
 
 pub backlog-is : (p : Plan) (t i : ℕ) → backlog p t i ≡ sum_up_to (count p) (period p) (lack p t) i
 unfolding backlog
-backlog-is p zero i =
-    let none : sum_before (count p) (period p) (λ j. 0) i ≡ 0 =
-    sum_where-zero (count p) (λ j. stands_before (period p) j i) (λ j. 0) (λ j h on. refl) in
-    ap (λ (ticks : List Tick). level_lacking p ticks i) (schedule-none p (worst_demand p) (asked p))
-    ∙ omega (arith, none)
-backlog-is p (suc t) i =
-    let next = schedule-suc p (worst_demand p) (asked p) t in
-    ap (λ (ticks : List Tick). level_lacking p ticks i) next
-    ∙ sym (ap (λ (ticks : List Tick). sum_up_to (count p) (period p) (lacking p ticks) i) next)
+backlog-is p zero i = grind (arith, sum_where-zero, schedule-none)
+backlog-is p (suc t) i = grind (arith, schedule-suc)
 
 pub backlog-where : (p : Plan) (t i : ℕ) → i < count p
     → backlog p t i ≡ sum_where (count p) (is_up_to (period p) i) (lack p t)
@@ -58,10 +48,7 @@ backlog-where p t i h = backlog-is p t i ∙ sum_up_to-where (count p) (period p
 -- under RM the speed of the static schedule is always the static one
 static-same : (p : Plan) → p.scheduler ≡ Rm → (past : List Tick)
     → (point p (entry_in_force p (worst_demand p) (asked p) past)).speed ≡ static_speed p
-static-same p rm past =
-    let same : static_demand p ≡ rm_static p = ap (λ (sch : Scheduler). static_demand_of sch p) rm in
-    ap (speed_at p.machine) (entry-same p (worst_demand p) (asked p) (static_demand p) (published-fixed p (worst_demand p)) past
-    ∙ ap (lowest_entry p.machine) same)
+static-same p rm past = grind (arith, entry-same, published-fixed)
 
 module _ (p : Plan) (adm : IsAdmitted p) where
   -- where a task has no release, it lacks as much after the releases as before
@@ -71,12 +58,7 @@ module _ (p : Plan) (adm : IsAdmitted p) where
   -- where a job of a task is due, the task lacks nothing
   pub lack-none : (t i k : ℕ) → i < count p → t ≡ due p i k → lack p t i ≡ 0
   lack-none zero i k h e = refl
-  lack-none (suc t) i zero h e =
-      let ticks = worst_ticks p (asked p) (suc t) in
-      let long = lack-long p adm.limits (asked p) (suc t) in
-      let before : length ticks - 1 < offset p i = omega (arith, long, e, due-none p i) in
-      ap (λ (k : ℕ). worst_demand p i k - exec p ticks i k) (latest-none p i (length ticks - 1) before)
-      ∙ zero-sub (exec p ticks i 0)
+  lack-none (suc t) i zero h e = grind (arith, lack-long, due-none, latest-none)
   lack-none (suc t) i (suc k) h e = lacking-none p adm (suc t) i (suc k) h (omega arith) e
 
   -- where a job of a task is due, the task lacks its whole worst case after the releases

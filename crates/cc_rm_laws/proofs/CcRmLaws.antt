@@ -1,13 +1,11 @@
 -- The laws of cycle-conserving RM.
-use Rattle.std.proofs.Common.{◌≡◌, ◌⊎◌, inl, inr, ℕ, ◌+◌, ◌-◌, ◌*◌, ◌<◌, ◌≤◌, min, Bool, true, false, List, refl, sym, ◌∙◌, ap, subst, arith, true≢false, ◌^◌, length}
-use Rattle.std.proofs.Math.Nat.{mul-le-mul_right}
-use Rattle.std.specs.Prelude.{◌==◌}
-use Rattle.std.proofs.lemmas.Bool.{cases_Bool, cases_lt, eqb-true, eqb-false}
+use Rattle.std.proofs.Common.{◌≡◌, ◌⊎◌, inl, inr, ℕ, ◌+◌, ◌-◌, ◌*◌, ◌<◌, ◌≤◌, min, Bool, true, false, List, refl, sym, ◌∙◌, ap, subst, arith, true≢false, ◌^◌, length, mul-le-mul_right}
+use Rattle.std.proofs.lemmas.Bool.{cases_lt}
 use Rattle.dvs_base.specs.declared.kind.Scheduler.{Scheduler}
 use Rattle.dvs_base.specs.declared.kind.Scheduler.TheVariants.{Rm}
 use Rattle.grid_fraction.specs.Numbers.{sum_below, sum_where}
 use Rattle.grid_fraction.proofs.Sums.{sum_below-le, sum_below-add}
-use Rattle.grid_fraction.proofs.Least.{least-same, least-below}
+use Rattle.grid_fraction.proofs.Least.{least-same}
 use Rattle.sched_model.specs.declared.state.Row.{Row}
 use Rattle.sched_model.specs.Plan.{Plan, count, period, top_speed}
 use Rattle.sched_model.specs.Jobs.{JobDemands}
@@ -16,7 +14,6 @@ use Rattle.sched_model.specs.StaticDemand.{static_speed, rm_static}
 use Rattle.sched_model.specs.Backlog.{backlog}
 use Rattle.sched_model.specs.Admission.{IsAdmitted}
 use Rattle.sched_model.specs.States.{StateView, row_at, earliest_in, key_in}
-use Rattle.sched_model.proofs.Orders.{before-total}
 use Rattle.sched_model.proofs.Allotments.{allotment_of, down-set-gets}
 use Rattle.sched_model.proofs.LevelSums.{sum_where-mono, sum_where-plus, sum_where-tight}
 use Rattle.governor.specs.Steps.{wleft_at, release_of, share_in, left_in, IsLegalIn, after_tick, IsBeforeAll, Belongs, IsAtDecision}
@@ -26,13 +23,12 @@ use Rattle.governor.specs.Rm.{level}
 use Rattle.cc_rm_laws.specs.Allotments.{base_of, allotted_units, allotted_in, allotment_left_in, rm_cycle_demand}
 use Rattle.cc_rm_laws.specs.Conditions.{CcRmCalm, CcRmSafe}
 use Rattle.cc_rm_laws.proofs.AllottedUnits.{allotment-full, allotment-none, some-term}
-use Rattle.cc_rm_laws.proofs.Lefts.{left_by, left-part, left-full, left-some, left-idle, left-open}
-use Rattle.cc_rm_laws.proofs.Deadlines.{allotted-most, cc_rm_completes, cc_rm_opens, cc_rm_releases}
+use Rattle.cc_rm_laws.proofs.Lefts.{left_by, left-full, left-idle, left-open}
+use Rattle.cc_rm_laws.proofs.Deadlines.{cc_rm_completes, cc_rm_opens, cc_rm_releases}
 use Rattle.dvs_base.specs.declared.kind.GovernorKind.TheVariants.{Cycle}
 use Rattle.dvs_base.specs.PlanWords.{IsPair}
 use Rattle.freq_table.specs.Tables.{speed_at, lowest_entry, lowest_pick}
 use Rattle.freq_table.proofs.Chosen.{speeds_rise, below_highest, lowest_within, lowest-most, picked_meets, picked_met}
-use Rattle.sched_model.proofs.Limits.{some_task}
 use Rattle.governor.specs.Laws.{GovernorLaws}
 use Rattle.governor.specs.ServedSchedulers.{ServesRm}
 
@@ -52,30 +48,20 @@ module _ (plan : Plan) (adm : IsAdmitted plan) (rm : plan.scheduler ≡ Rm) (dem
   done_stays j h closed = rw (tick_at plan dem shares s bel j h) (rw closed refl)
 
   same_earliest : earliest_in plan ticked ≡ earliest_in plan s
-  same_earliest =
-      least-same (count plan) (λ i. (row_at ticked i).deadline) (λ i. (row_at s i).deadline)
-      (λ i h. ap (λ (row : Row). row.deadline) (tick_at plan dem shares s bel i h))
+  same_earliest = grind (arith, least-same, tick_at)
 
   -- what is left after the tick, from the allotments before the tick
   left_then : (j : ℕ)
       → allotment_left_in plan ticked j
       ≡ left_by (row_at ticked j).done (allotted_in plan s j) (base_of s j) (wleft_at ticked j)
-  left_then j =
-      ap (λ (x : ℕ). left_by (row_at ticked j).done
-      (allotment (count plan) (period plan) ((x - s.base_at) * static_speed plan) (base_of s) j)
-      (base_of s j) (wleft_at ticked j)) same_earliest
+  left_then j = grind (arith, same_earliest)
 
   falls : (j : ℕ) → j < count plan → wleft_at ticked j + share_in shares j ≤ wleft_at s j
   falls j h = tick-falls plan dem f s shares bel legal j h
 
   part : (j : ℕ) → j < count plan
       → wleft_at ticked j + allotment_left_in plan s j ≤ wleft_at s j + allotment_left_in plan ticked j
-  part j h =
-      rw (left_then j)
-      (left-part (row_at s j).done (row_at ticked j).done
-      (allotted_in plan s j) (base_of s j) (wleft_at s j) (wleft_at ticked j)
-      (allotted-most plan adm dem s bel j) (bel.base j h)
-      (omega (arith, falls j h)) (done_stays j h) (done_none (row_at ticked j)))
+  part j h = grind (arith, left_then, falls)
 
   out : SharesOut (count plan) (period plan) f (left_in dem s) (share_in shares)
   out = subst (λ (sch : Scheduler). SharesOut (count plan) (key_in sch plan s) f (left_in dem s) (share_in shares))
@@ -97,9 +83,7 @@ module _ (plan : Plan) (adm : IsAdmitted plan) (rm : plan.scheduler ≡ Rm) (dem
         ]
 
     short_allotment : allotment (count plan) (period plan) f (left_in dem s) k < left_in dem s k
-    short_allotment =
-        subst (λ (x : ℕ). x < left_in dem s k)
-        (allotment_of (count plan) (period plan) f (left_in dem s) (share_in shares) out k hk) short
+    short_allotment = grind (arith, allotment_of (count plan) (period plan) f (left_in dem s) (share_in shares) out k hk, short)
 
     -- where task k has some left after the tick, each unit of a task before it lowers what that task has left
     takes_before : (j : ℕ) → j < count plan → stands_before (period plan) j k ≡ true
@@ -115,12 +99,7 @@ module _ (plan : Plan) (adm : IsAdmitted plan) (rm : plan.scheduler ≡ Rm) (dem
     takes_own : (j : ℕ) → j < count plan → k ≡ j
         → left_by (row_at ticked j).done (allotted_in plan s j) (base_of s j) (wleft_at ticked j) + share_in shares j
         ≤ allotment_left_in plan s j
-    takes_own j h same =
-        left-some (row_at s j).done (row_at ticked j).done (allotted_in plan s j)
-        (base_of s j) (wleft_at s j) (wleft_at ticked j) (share_in shares j)
-        (bel.base j h) (falls j h) (done_stays j h)
-        (subst (λ (i : ℕ). 0 < left_by (row_at ticked i).done (allotted_in plan s i) (base_of s i) (wleft_at ticked i))
-        same some_left)
+    takes_own j h same = grind (arith, falls, some_left)
 
     takes_after : (j : ℕ) → j < count plan → stands_before (period plan) k j ≡ true
         → left_by (row_at ticked j).done (allotted_in plan s j) (base_of s j) (wleft_at ticked j) + share_in shares j
@@ -134,15 +113,7 @@ module _ (plan : Plan) (adm : IsAdmitted plan) (rm : plan.scheduler ≡ Rm) (dem
         (falls j h) none (done_stays j h)
 
     takes : (j : ℕ) → j < count plan → allotment_left_in plan ticked j + share_in shares j ≤ allotment_left_in plan s j
-    takes j h =
-        rw (left_then j)
-        (elim (cases_Bool (stands_before (period plan) j k)) [
-          | inl ahead ↦ takes_before j h ahead
-          | inr other ↦ elim (cases_Bool (j == k)) [
-            | inl same ↦ takes_own j h (sym (eqb-true j k same))
-            | inr apart ↦ takes_after j h (before-total (period plan) j k (eqb-false j k apart) other)
-          ]
-        ])
+    takes j h = grind (arith, left_then, takes_before, takes_own, takes_after)
 
     -- where task k has some left after the tick, all units of the tick are handed out
     all_out : sum_below (count plan) (share_in shares) ≡ f
@@ -222,10 +193,7 @@ module _ (plan : Plan) (adm : IsAdmitted plan) (s : StateView) where
   static_within = lowest_within plan.machine (rm_static plan) adm.limits.machine.some
 
   demand_below_top : CcRmCalm plan s → (rm_cycle_demand plan s).num ≤ top_speed plan * (rm_cycle_demand plan s).den
-  demand_below_top calm =
-      let most : static_speed plan ≤ top_speed plan =
-      below_highest plan.machine adm.limits.machine static_entry static_within in
-      omega (arith, calm.total, mul-le-mul_right (earliest_in plan s - s.now) most)
+  demand_below_top calm = grind (arith, below_highest)
 
   chooses : CcRmCalm plan s → CcRmSafe plan s (lowest_entry plan.machine (rm_cycle_demand plan s))
   chooses calm = record {
@@ -240,12 +208,7 @@ module _ (plan : Plan) (adm : IsAdmitted plan) (s : StateView) where
   meets_it calm = picked_met plan.machine adm.limits.machine (rm_cycle_demand plan s) (demand_below_top calm)
 
   pub cycle_den : IsAtDecision plan s → (0 < (rm_cycle_demand plan s).den) × ((rm_cycle_demand plan s).den ≤ 2 ^ 64)
-  cycle_den dec =
-      let some = some_task plan adm.limits in
-      let later : s.now < earliest_in plan s = earliest-later plan adm.limits s dec.before in
-      let first = least-below (count plan) (λ i. (row_at s i).deadline) 0 some in
-      let soon = dec.soon 0 some in
-      (omega arith, omega arith)
+  cycle_den dec = grind (arith, earliest-later)
 
 -- cycle-conserving RM keeps the laws of a governor
 pub cc_rm_laws : GovernorLaws Cycle ServesRm rm_cycle_demand CcRmCalm CcRmSafe

@@ -1,8 +1,7 @@
 -- Calm states of cycle-conserving RM: the opening state is calm, each boundary keeps it calm, and each job that is due in
 -- one is complete.
-use Rattle.std.proofs.Common.{◌≡◌, inl, inr, ℕ, suc, ◌+◌, ◌-◌, ◌*◌, ◌<◌, ◌≤◌, true, sym, ◌∙◌, ap, subst, arith, mul-zero, min, Bool, false, List, [], ◌∷◌, refl}
-use Rattle.std.proofs.lemmas.Bool.{cases_lt, cases_Bool, eqb-true, or_parts}
-use Rattle.std.specs.Prelude.{if◌then◌else◌, map, slice_index}
+use Rattle.std.proofs.Common.{◌≡◌, inl, inr, ℕ, suc, ◌+◌, ◌-◌, ◌*◌, ◌<◌, ◌≤◌, true, sym, ◌∙◌, ap, subst, arith, min, Bool, false, List, [], ◌∷◌, refl, if◌then◌else◌}
+use Rattle.std.proofs.lemmas.Bool.{cases_lt, cases_Bool, or_parts}
 use Rattle.std.specs.List.{list_any}
 use Rattle.std.proofs.lemmas.List.{get_or-map}
 use Rattle.dvs_base.specs.declared.kind.Scheduler.TheVariants.{Rm}
@@ -14,12 +13,12 @@ use Rattle.sched_model.specs.Jobs.{JobDemands, release, due, latest}
 use Rattle.sched_model.specs.StaticDemand.{static_speed}
 use Rattle.sched_model.specs.Backlog.{backlog}
 use Rattle.sched_model.specs.Admission.{IsAdmitted}
-use Rattle.sched_model.specs.States.{StateView, row_at, row_wleft, earliest_in, no_row, opening}
+use Rattle.sched_model.specs.States.{StateView, row_at, row_wleft, earliest_in, opening}
 use Rattle.sched_model.proofs.Limits.{some_period}
 use Rattle.sched_model.proofs.JobLaws.{latest-is, latest-unique, latest_since-pos, release-suc, release-due, due-suc}
-use Rattle.sched_model.proofs.LevelSums.{sum_where-term, up_to-self, greatest-above, greatest-least, sum_where-mono, sum_where-plus, sum_where-zero, level-gets}
+use Rattle.sched_model.proofs.LevelSums.{sum_where-term, up_to-self, greatest-above, greatest-least, sum_where-mono, sum_where-plus, level-gets}
 use Rattle.governor.specs.Steps.{opened_row, after_boundary, wleft_at, release_of, Belongs, each_row, is_due, boundary_row}
-use Rattle.governor.proofs.StatesOfDemands.{wleft-most, earliest-from, unborn_done, boundary-by, none_due_at, some_due_at, done_none, in_rows, opening_at, belongs_boundary, decision_boundary, opened_release, earliest-later}
+use Rattle.governor.proofs.StatesOfDemands.{wleft-most, earliest-from, unborn_done, boundary-by, none_due_at, some_due_at, opening_at, belongs_boundary, decision_boundary, opened_release, earliest-later}
 use Rattle.governor.proofs.Ticks.{demand_most}
 use Rattle.governor.specs.Rm.{level}
 use Rattle.governor.proofs.EdfLaws.{closed_row}
@@ -30,7 +29,6 @@ use Rattle.cc_rm_laws.specs.Allotments.{base_of, allotted_units, allotted_in, al
 use Rattle.cc_rm_laws.specs.Conditions.{CcRmCalm, LacksNothing}
 use Rattle.cc_rm_laws.proofs.AllottedUnits.{allotment-most}
 use Rattle.cc_rm_laws.proofs.Backlog.{lack, lack_after, lack-is, IsQuiet, quiet_row, lack-none, released-lack, after-least, backlog-empties, level_down, backlog-span, backlog-where}
-use Rattle.cc_rm_laws.proofs.Lefts.{left-marked}
 
 module _ (plan : Plan) (adm : IsAdmitted plan) (dem : JobDemands) (s : StateView) (bel : Belongs plan dem s) where
   pub first-due : (i : ℕ) → i < count plan → earliest_in plan s ≤ (row_at s i).deadline
@@ -40,11 +38,7 @@ module _ (plan : Plan) (adm : IsAdmitted plan) (dem : JobDemands) (s : StateView
   released-by i h = omega (arith, greatest-above (count plan) (λ j. release_of plan j (row_at s j)) i h, bel.base_at)
 
   base-by : s.base_at ≤ s.now
-  base-by = omega (
-    arith,
-    greatest-least (count plan) (λ j. release_of plan j (row_at s j)) s.now bel.released,
-    bel.base_at,
-  )
+  base-by = grind (arith, greatest-least)
 
   pub allotted-most : (i : ℕ) → allotted_in plan s i ≤ base_of s i
   allotted-most i = allotment-most (count plan) (period plan) (allotted_units plan s) (base_of s) i
@@ -82,18 +76,12 @@ module _ (plan : Plan) (adm : IsAdmitted plan) (dem : JobDemands) (s : StateView
   -- at the earliest deadline nothing is left of the allotments: a level needs at most its worst static backlog
   pub level-most : CcRmCalm plan s → s.now ≡ earliest_in plan s → (i : ℕ) → i < count plan
       → sum_where (count plan) (level plan i) (wleft_at s) ≤ backlog plan (earliest_in plan s) i
-  level-most calm at_due i h =
-      let z : earliest_in plan s - s.now ≡ 0 = omega arith in
-      let none : static_speed plan * (earliest_in plan s - s.now) ≡ 0 =
-      ap (λ (x : ℕ). static_speed plan * x) z ∙ mul-zero (static_speed plan) in
-      let part = sum_where-le (count plan) (level plan i) (allotment_left_in plan s) in
-      omega (arith, calm.levels i h, calm.total, none, part)
+  level-most calm at_due i h = grind (arith, sum_where-le)
 
   empty-level : CcRmCalm plan s → s.now ≡ earliest_in plan s → (i : ℕ) → i < count plan
       → backlog plan (earliest_in plan s) i ≡ 0 → (row_at s i).done ≡ true
   empty-level calm at_due i h none =
-      let mine = sum_where-term (count plan) (level plan i) (wleft_at s) i h (up_to-self (period plan) i) in
-      closes i h (omega (arith, mine, level-most calm at_due i h, none))
+      grind (arith, sum_where-term (count plan) (level plan i) (wleft_at s) i h (up_to-self (period plan) i), level-most calm at_due i h)
 
   module _ (rm : plan.scheduler ≡ Rm) where
     -- a job that the worst static schedule completes between the mark and the earliest deadline is complete there
@@ -175,16 +163,7 @@ module _ (plan : Plan) where
   opening-done i h = rw (opening_at plan i h) refl
 
   pub cc_rm_opens : CcRmCalm plan (opening plan)
-  cc_rm_opens = record {
-    levels = λ i h.
-        let none =
-        sum_where-zero (count plan) (level plan i) (wleft_at (opening plan))
-        (λ j hj on. done_none (row_at (opening plan) j) (opening-done j hj)) in
-        omega (arith, none);
-    total = (let none = sum_below-zero (count plan) (allotment_left_in plan (opening plan))
-        (λ j hj. rw (opening-done j hj) refl) in omega (arith, none));
-    since = λ i h born before none. opening-done i h;
-  }
+  cc_rm_opens = grind (arith, opening-done, sum_below-zero)
 
 -- a boundary where no row is due changes no row
 rows-still : (plan : Plan) (dem : JobDemands) (now i : ℕ) (rows : List Row) → list_any (is_due now) rows ≡ false
@@ -200,18 +179,7 @@ rows-still plan dem now i (row ∷ rows) none =
 
 state-still : (plan : Plan) (dem : JobDemands) (s : StateView)
     → list_any (is_due s.now) s.rows ≡ false → after_boundary plan dem s ≡ s
-state-still plan dem s none =
-    let rows = rows-still plan dem s.now 0 s.rows none in
-    let at : (if list_any (is_due s.now) s.rows then s.now else s.base_at) ≡ s.base_at =
-    ap (λ (b : Bool). if b then s.now else s.base_at) none in
-    let base : (if list_any (is_due s.now) s.rows then map row_wleft (after_boundary plan dem s).rows else s.base)
-    ≡ s.base =
-    ap (λ (b : Bool). if b then map row_wleft (after_boundary plan dem s).rows else s.base) none in
-    λ j. record { now = s.now; rows = rows j; base_at = at j; base = base j }
-
--- right after the mark a level needs at most what is left of its allotments and its backlog
-marked_level : (w left room a b : ℕ) → left ≡ min room w → w ≤ a → b ≡ a - room → w ≤ left + b
-marked_level w left room a b e le f = omega arith
+state-still plan dem s none = grind (arith, rows-still)
 
 module _ (plan : Plan) (adm : IsAdmitted plan) (rm : plan.scheduler ≡ Rm) (dem : JobDemands) (s : StateView)
     (bel : Belongs plan dem s) (calm : CcRmCalm plan s) (some : list_any (is_due s.now) s.rows ≡ true) where
@@ -225,11 +193,7 @@ module _ (plan : Plan) (adm : IsAdmitted plan) (rm : plan.scheduler ≡ Rm) (dem
   bel' = belongs_boundary plan dem s bel
 
   at_due : s.now ≡ earliest_in plan s
-  at_due =
-      let found = some_due_at (is_due s.now) s.rows some in
-      let at_now : (row_at s found.0).deadline ≡ s.now = eqb-true (row_at s found.0).deadline s.now found.2 in
-      let h : found.0 < count plan = (let g = found.1 in omega (arith, bel.of.rows)) in
-      omega (arith, at_now, earliest-from plan adm.limits dem s bel, first-due plan adm dem s bel found.0 h)
+  at_due = grind (arith, some_due_at, earliest-from, first-due)
 
   mark_now : marked.base_at ≡ s.now
   mark_now = ap (λ (b : Bool). if b then s.now else s.base_at) some
@@ -248,25 +212,18 @@ module _ (plan : Plan) (adm : IsAdmitted plan) (rm : plan.scheduler ≡ Rm) (dem
       omega (arith, mark_now, later) in ap (λ (x : ℕ). x * static_speed plan) span
 
   base_is : (j : ℕ) → j < count plan → base_of marked j ≡ wleft_at marked j
-  base_is j h =
-      ap (λ (b : Bool). slice_index (if b then map row_wleft marked.rows else s.base) j) some
-      ∙ get_or-map row_wleft marked.rows j no_row 0 (in_rows plan dem marked bel' j h)
+  base_is j h = grind (arith, get_or-map, bel')
 
   -- right after the mark an allotment is wholly left
   left_is : (j : ℕ) → j < count plan → allotment_left_in plan marked j ≡ allotted_in plan marked j
-  left_is j h =
-      left-marked (row_at marked j).done (allotted_in plan marked j)
-      (base_of marked j) (wleft_at marked j) (base_is j h)
-      (allotted-most plan adm dem marked bel' j) (done_none (row_at marked j))
+  left_is j h = grind (arith, base_is)
 
   shares : SharesOut (count plan) (period plan) room (base_of marked) (allotted_in plan marked)
   shares = allotment-shares (count plan) (period plan) room (base_of marked)
 
   where_same : (test : ℕ → Bool) (f g : ℕ → ℕ) → ((j : ℕ) → j < count plan → f j ≡ g j)
       → sum_where (count plan) test f ≡ sum_where (count plan) test g
-  where_same test f g e =
-      sum_below-same (count plan) (λ j. if test j then f j else 0)
-      (λ j. if test j then g j else 0) (λ j h. ap (λ (x : ℕ). if test j then x else 0) (e j h))
+  where_same test f g e = grind (arith, sum_below-same)
 
   -- right after the mark the allotments of a level are the smaller of the room and what the level may need
   level_left : (i : ℕ)
@@ -335,15 +292,7 @@ module _ (plan : Plan) (adm : IsAdmitted plan) (rm : plan.scheduler ≡ Rm) (dem
 
   -- a boundary with a release keeps a calm state calm
   marked_calm : CcRmCalm plan marked
-  marked_calm = record {
-    levels = λ i h.
-        marked_level (sum_where (count plan) (level plan i) (wleft_at marked))
-        (sum_where (count plan) (level plan i) (allotment_left_in plan marked)) room
-        (sum_where (count plan) (level plan i) (lack_after plan s.now)) (backlog plan (earliest_in plan marked) i)
-        (level_left i) (level_needs i h) (level_backlog i h);
-    total = marked_total;
-    since = marked_since;
-  }
+  marked_calm = grind (arith, level_left, level_needs, level_backlog, marked_total, marked_since)
 
 pub cc_rm_releases : (plan : Plan) → IsAdmitted plan → plan.scheduler ≡ Rm → (dem : JobDemands) (s : StateView)
     → Belongs plan dem s → CcRmCalm plan s → CcRmCalm plan (after_boundary plan dem s)

@@ -10,14 +10,6 @@ pub left-marked : (done : Bool) (al base w : ℕ) → base ≡ w
 left-marked true al base w e a z = omega (arith, z refl)
 left-marked false al base w e a z = omega arith
 
--- in a tick what is left of an allotment falls by no more than what the job may need
-pub left-part : (done done' : Bool) (al base w w' : ℕ) → al ≤ base → w ≤ base → w' ≤ w → (done ≡ true → done' ≡ true)
-    → (done' ≡ true → w' ≡ 0) → w' + left_by done al base w ≤ w + left_by done' al base w'
-left-part true true al base w w' a b c d z = omega (arith, z refl)
-left-part true false al base w w' a b c d z = absurd (true≢false (sym (d refl)))
-left-part false true al base w w' a b c d z = omega (arith, z refl)
-left-part false false al base w w' a b c d z = omega arith
-
 -- where a job's base is wholly allotted, a tick of `sh` units takes at least these from what is left
 pub left-full : (done done' : Bool) (al base w w' sh : ℕ) → al ≡ base → w ≤ base → w' + sh ≤ w → (done ≡ true → w ≡ 0)
     → (done' ≡ true → w' ≡ 0) → (done ≡ true → done' ≡ true) → left_by done' al base w' + sh ≤ left_by done al base w
@@ -25,13 +17,6 @@ left-full true true al base w w' sh e a b z z' d = omega (arith, z refl)
 left-full true false al base w w' sh e a b z z' d = absurd (true≢false (sym (d refl)))
 left-full false true al base w w' sh e a b z z' d = omega arith
 left-full false false al base w w' sh e a b z z' d = omega arith
-
--- where some is left after the tick, a tick of `sh` units takes at least these from what is left
-pub left-some : (done done' : Bool) (al base w w' sh : ℕ) → w ≤ base → w' + sh ≤ w → (done ≡ true → done' ≡ true)
-    → 0 < left_by done' al base w' → left_by done' al base w' + sh ≤ left_by done al base w
-left-some done true al base w w' sh a b d pos = absurd (omega arith)
-left-some true false al base w w' sh a b d pos = absurd (true≢false (sym (d refl)))
-left-some false false al base w w' sh a b d pos = omega arith
 
 -- a tick in which a job gets no units doesn't raise what is left
 pub left-idle : (done done' : Bool) (al base w w' sh : ℕ) → w' + sh ≤ w → sh ≡ 0 → (done ≡ true → done' ≡ true)

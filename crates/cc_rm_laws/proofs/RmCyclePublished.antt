@@ -1,31 +1,27 @@
 -- On each schedule the published demand of cycle-conserving RM is the governor's own.
-use Rattle.std.proofs.Common.{◌≡◌, ℕ, zero, suc, ◌+◌, ◌-◌, ◌*◌, ◌<◌, ◌≤◌, Bool, true, false, List, length, refl, sym, ◌∙◌, ap, ap₂, arith, if◌then◌else◌, nat_eq, nat_le, length-drop}
+use Rattle.std.proofs.Common.{◌≡◌, ℕ, zero, suc, ◌+◌, ◌-◌, ◌*◌, ◌<◌, ◌≤◌, Bool, true, false, List, length, refl, sym, ◌∙◌, ap, arith, nat_eq, length-drop}
 use Rattle.std.proofs.lemmas.Bool.Decides.{nat_tests}
 use Rattle.dvs_base.specs.declared.kind.Scheduler.{Scheduler}
 use Rattle.dvs_base.specs.declared.kind.Scheduler.TheVariants.{Rm}
 use Rattle.dvs_base.specs.declared.kind.GovernorKind.TheVariants.{Cycle}
-use Rattle.grid_fraction.specs.declared.Frac.{Frac}
 use Rattle.grid_fraction.specs.Numbers.{last_up_to}
 use Rattle.grid_fraction.proofs.Sums.{sum_below-same}
 use Rattle.grid_fraction.proofs.Least.{least-same}
 use Rattle.grid_fraction.proofs.Searches.{any_below-false}
-use Rattle.sched_model.specs.declared.state.Row.{Row}
 use Rattle.sched_model.specs.Plan.{Plan, count, period, worst}
-use Rattle.sched_model.specs.Jobs.{release, due, latest, deadline, releases_at, is_release, last_release, earliest as earliest_at, IsWithin, JobDemands}
-use Rattle.sched_model.specs.Ticks.{Tick, at, exec, is_complete, wleft}
+use Rattle.sched_model.specs.Jobs.{release, due, latest, releases_at, is_release, last_release, earliest as earliest_at, IsWithin, JobDemands}
+use Rattle.sched_model.specs.Ticks.{Tick, at, is_complete, wleft}
 use Rattle.sched_model.specs.CycleDemand.{allotment_at_release, had_since_release, allotment_left, rm_cycle}
 use Rattle.sched_model.specs.Priority.{allotment}
 use Rattle.sched_model.specs.StaticDemand.{static_speed}
 use Rattle.sched_model.specs.Demand.{demand_by, published}
 use Rattle.sched_model.specs.Admission.{IsAdmitted}
-use Rattle.sched_model.specs.States.{StateView, row_at, row_wleft, state_of, earliest_in}
+use Rattle.sched_model.specs.States.{StateView, state_of, earliest_in}
 use Rattle.sched_model.proofs.Limits.{some_period}
 use Rattle.sched_model.proofs.JobLaws.{lt-due, latest-stays, latest-next, release-suc, last_release-le}
 use Rattle.sched_model.proofs.Tables.{get-table}
 use Rattle.sched_model.proofs.States.{row_at-state_of}
-use Rattle.sched_model.proofs.Schedules.{exec-drop}
 use Rattle.sched_model.proofs.Allotments.{allotment-same}
-use Rattle.governor.specs.Steps.{wleft_at}
 use Rattle.governor.specs.Schedule.{Publishes, PublishingLaws}
 use Rattle.governor.specs.ServedSchedulers.{ServesRm}
 use Rattle.governor.proofs.Course.{publishing_laws}
@@ -88,9 +84,7 @@ module _ (p : Plan) (adm : IsAdmitted p) where
 
     -- the earliest deadline at the mark is the earliest one in the state
     first-is : earliest_at p mark ≡ earliest_in p here
-    first-is =
-        least-same (count p) (λ i. deadline p i mark) (λ i. (row_at here i).deadline)
-        (λ i h. ap (due p i) (since-release now i h) ∙ sym (ap (λ (row : Row). row.deadline) (row_at-state_of p dem past i h)))
+    first-is = grind (arith, least-same, since-release, row_at-state_of)
 
     allotted-is : (i : ℕ) → i < count p → allotment_at_release p dem past i ≡ allotted_in p here i
     allotted-is i h =
@@ -102,50 +96,13 @@ module _ (p : Plan) (adm : IsAdmitted p) where
     -- what an open job has had since the last release is what it has had since the mark
     had-is : (i : ℕ) → i < count p → is_complete p dem past i ≡ false
         → had_since_release p past i ≡ had_since_mark here i
-    had-is i h open_job =
-        let k = latest p i now in
-        let job : latest p i mark ≡ k = since-release now i h in
-        let job_then : latest p i (length (at mark past)) ≡ k = ap (latest p i) mark-long ∙ job in
-        let had : had_since_release p past i ≡ exec p past i k - exec p (at mark past) i k =
-        ap (λ (m : ℕ). exec p past i m - exec p (at mark past) i m) job in
-        let less : exec p past i k < dem i k = grind (arith, nat_tests) in
-        let most = within.most i k h in
-        let fewer = exec-drop p i k (now - mark) past in
-        let open_then : nat_le (dem i k) (exec p (at mark past) i k) ≡ false =
-        go (nat_le (dem i k) (exec p (at mark past) i k)) refl less fewer in
-        let base : base_of here i ≡ worst p i - exec p (at mark past) i k =
-        base-is i h
-        ∙ (ap (λ (m : ℕ). if nat_le (dem i m) (exec p (at mark past) i m)
-        then 0 else worst p i - exec p (at mark past) i m) job_then
-        ∙ ap (λ (b : Bool). if b then 0 else worst p i - exec p (at mark past) i k) open_then) in
-        let rest : wleft_at here i ≡ worst p i - exec p past i k =
-        ap row_wleft (row_at-state_of p dem past i h) ∙ ap (λ (b : Bool). if b then 0 else worst p i - exec p past i k) open_job in
-        had
-        ∙ sym (ap₂ (λ a b. a - b) base rest
-        ∙ since_mark (worst p i) (dem i k) (exec p past i k) (exec p (at mark past) i k) fewer less most)
-      where
-        go : {a b c : ℕ} (t : Bool) → nat_le a b ≡ t → c < a → b ≤ c → nat_le a b ≡ false
-        go true e lt le = absurd (grind (arith, nat_tests))
-        go false e lt le = e
+    had-is i h open_job = grind (arith, since-release, mark-long, base-is, row_at-state_of)
 
     left-is : (i : ℕ) → i < count p → allotment_left p dem past i ≡ allotment_left_in p here i
-    left-is i h =
-        go (is_complete p dem past i) refl
-        ∙ sym (ap (λ (row : Row). if row.done then 0 else allotted_in p here i - had_since_mark here i) (row_at-state_of p dem past i h))
-      where
-        go : (b : Bool) → is_complete p dem past i ≡ b
-            → (if is_complete p dem past i then 0 else allotment_at_release p dem past i - had_since_release p past i)
-            ≡ (if is_complete p dem past i then 0 else allotted_in p here i - had_since_mark here i)
-        go true e = rw e refl
-        go false e = rw e (ap₂ (λ a b. a - b) (allotted-is i h) (had-is i h e))
-
-    abbrev frac : ℕ → ℕ → Frac
-    frac a b = record { num = a; den = b }
+    left-is i h = grind (arith, row_at-state_of, allotted-is, had-is)
 
     cycle-is : rm_cycle p dem past ≡ rm_cycle_demand p here
-    cycle-is =
-        ap₂ frac (sum_below-same (count p) (allotment_left p dem past) (allotment_left_in p here) left-is)
-        (ap (λ (n : ℕ). n - now) first-is)
+    cycle-is = grind (arith, sum_below-same (count p) (allotment_left p dem past) (allotment_left_in p here) left-is, first-is)
 
 pub published-cycle : (p : Plan) → IsAdmitted p → p.scheduler ≡ Rm → Publishes rm_cycle_demand Cycle p
 unfolding published

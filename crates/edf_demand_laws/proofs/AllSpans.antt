@@ -41,15 +41,7 @@ hyper_jobs every within (suc q) some le = jobs_due-above every within (suc q * e
 -- at the next tick a task has no more jobs due, or one of its jobs has that tick as its absolute deadline
 next_job : (every within d : ℕ) → 0 < every
     → ((q : ℕ) × (within + q * every ≡ suc d)) ⊎ (jobs_due every within (suc d) ≤ jobs_due every within d)
-next_job every within d some = go (jobs_due every within (suc d)) (jobs_due-below every within (suc d))
-  where
-    go : (m : ℕ) → ((r : ℕ) → r < m → within + r * every ≤ suc d)
-        → ((q : ℕ) × (within + q * every ≡ suc d)) ⊎ (m ≤ jobs_due every within d)
-    go zero low = inr (omega arith)
-    go (suc m) low = elim (eq-or-lt_of_le (low m (omega arith))) [
-      | inl now ↦ inl (m, now)
-      | inr before ↦ inr (omega (arith, jobs_due-above every within d m some (omega arith)))
-    ]
+next_job every within d some = grind (arith, jobs_due-below every within (suc d), eq-or-lt_of_le, jobs_due-above)
 
 module _ (p : Plan) (lim : IsWithinLimits p) (relative : ℕ → ℕ) (con : IsConstrained p relative) where
   -- the number of jobs of task i that are due by d
@@ -87,12 +79,7 @@ module _ (p : Plan) (lim : IsWithinLimits p) (relative : ℕ → ℕ) (con : IsC
 
   -- no work is due by tick 0
   pub none-demand : processor_demand p relative 0 ≡ 0
-  none-demand =
-      sum_below-zero (count p) (work_by 0) (λ i lt.
-      let none : due_by 0 i ≤ 0 =
-      jobs_due-most (period p i) (relative i) 0 0 (λ r le. absurd (omega (arith, con.some i lt))) in
-      let z : due_by 0 i ≡ 0 = omega arith in
-      rw z (omega arith))
+  none-demand = grind (arith, sum_below-zero, jobs_due-most)
 
   -- the processor demand grows at absolute deadlines alone
   next-demand : (d : ℕ)
@@ -128,10 +115,7 @@ module _ (p : Plan) (lim : IsWithinLimits p) (relative : ℕ → ℕ) (con : IsC
       (each : (d : ℕ) → IsDeadline p relative d → d ≤ hyper p → processor_demand p relative d * B ≤ A * d) where
     up_to_hyper : (d : ℕ) → d ≤ hyper p → processor_demand p relative d * B ≤ A * d
     up_to_hyper zero le = rw none-demand (omega arith)
-    up_to_hyper (suc d) le = elim (next-demand d) [
-      | inl now ↦ each (suc d) now le
-      | inr still ↦ omega (arith, mul-le-mul_right B still, up_to_hyper d (omega arith))
-    ]
+    up_to_hyper (suc d) le = grind (arith, next-demand d, mul-le-mul_right, up_to_hyper d (omega arith))
 
     by_steps : (n d : ℕ) → d ≤ n → processor_demand p relative d * B ≤ A * d
     by_steps zero d le = let z : d ≡ 0 = omega arith in rw (z, none-demand) (omega arith)

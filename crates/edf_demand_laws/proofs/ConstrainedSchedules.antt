@@ -1,10 +1,8 @@
 -- There is exactly one constrained schedule of each length at a machine's speed.
-use Rattle.std.proofs.Common.{◌≡◌, inl, inr, ℕ, zero, suc, ◌+◌, ◌<◌, List, [], ◌∷◌, length, refl, arith, ap, ◌∙◌, sym, eq-or-lt_of_le}
-use Rattle.std.proofs.lemmas.Bool.{cases_lt}
+use Rattle.std.proofs.Common.{◌≡◌, ℕ, zero, suc, ◌<◌, List, [], ◌∷◌, length, refl, arith, ap, ◌∙◌, sym}
 use Rattle.std.proofs.lemmas.List.{ext_get_or}
 use Rattle.std.proofs.Math.ListN.{get_or-eq_default}
 use Rattle.grid_fraction.specs.Numbers.{list_below}
-use Rattle.freq_table.specs.declared.machine.Point.{Point}
 use Rattle.freq_table.specs.Tables.{Table, speed_at, IsTable}
 use Rattle.freq_table.proofs.Chosen.{speeds_rise}
 use Rattle.sched_model.specs.Plan.{Plan, count}
@@ -17,25 +15,7 @@ use Rattle.edf_demand_laws.specs.Constrained.{key_at, IsNextAt, IsScheduleAt, co
 
 -- an entry with the speed of an entry of the table is that entry
 pub same-entry : (m : Table) → IsTable m → (e k : ℕ) → e < length m.points → speed_at m k ≡ speed_at m e → k ≡ e
-same-entry m table e k lt same = elim (cases_lt k (length m.points)) [
-  | inl within ↦ elim (cases_lt k e) [
-    | inl below ↦ absurd (
-        let up = table.rising k (omega arith) in
-        let rise = speeds_rise m table (k + 1) e (omega arith) lt in
-        omega arith)
-    | inr from ↦ elim (eq-or-lt_of_le from) [
-      | inl here ↦ sym here
-      | inr above ↦ absurd (
-          let up = table.rising e (omega arith) in
-          let rise = speeds_rise m table (e + 1) k (omega arith) within in
-          omega arith)
-    ]
-  ]
-  | inr past ↦ absurd (
-      let none : speed_at m k ≡ 0 =
-      ap (λ (x : Point). x.speed) (get_or-eq_default m.points (record { speed = 0; millivolts = 0 }) past) in
-      omega (arith, (table.each e lt).some_speed))
-]
+same-entry m table e k lt same = grind (arith, speeds_rise, get_or-eq_default)
 
 module _ (p : Plan) (relative : ℕ → ℕ) (dem : JobDemands) (e : ℕ) where
   abbrev f : ℕ
@@ -60,9 +40,7 @@ module _ (p : Plan) (relative : ℕ → ℕ) (dem : JobDemands) (e : ℕ) where
   pub schedule-exists : (t : ℕ)
       → IsScheduleAt p relative dem f (schedule_at p relative dem e t) × (length (schedule_at p relative dem e t) ≡ t)
   schedule-exists zero = (tt, refl)
-  schedule-exists (suc t) =
-      let r = schedule-exists t in
-      ((r.0, next-may (schedule_at p relative dem e t)), omega (arith, r.1))
+  schedule-exists (suc t) = grind (arith, next-may (schedule_at p relative dem e t), schedule-exists t)
 
   module _ (table : IsTable p.machine) (lt : e < length p.machine.points) where
     next-same : (past : List Tick) (x : Tick) → IsNextAt p relative dem f past x → x ≡ constrained_tick p relative dem e past

@@ -3,16 +3,16 @@
 use Rattle.std.proofs.Common.{◌≡◌, inl, inr, ℕ, zero, suc, ◌-◌, ◌*◌, ◌<◌, ◌≤◌, Bool, true, false, not, ◌&&◌, ◌||◌, nat_eq, nat_le, refl, sym, ◌∙◌, ap, subst, arith, true≢false, length}
 use Rattle.std.proofs.lemmas.Bool.{cases_lt}
 use Rattle.std.proofs.lemmas.Bool.Decides.{nat_tests}
-use Rattle.std.proofs.Math.Nat.{le-mul_of_pos_right, mul-le-mul_right, le_of_mul-le-mul_right}
+use Rattle.std.proofs.Math.Nat.{mul-le-mul_right, le_of_mul-le-mul_right}
 use Rattle.grid_fraction.specs.declared.Frac.{Frac}
 use Rattle.grid_fraction.specs.Numbers.{any_below, all_below, first_from}
 use Rattle.grid_fraction.proofs.Searches.{any_below-found, first_from-found, first_from-most, any-some, all-found}
-use Rattle.sched_model.specs.Plan.{Plan, count, period, hyper}
-use Rattle.sched_model.specs.Jobs.{release, worst_demand}
+use Rattle.sched_model.specs.Plan.{Plan, count, hyper}
+use Rattle.sched_model.specs.Jobs.{release}
 use Rattle.freq_table.specs.Tables.{speed_at}
 use Rattle.sched_model.specs.Admission.{IsWithinLimits}
 use Rattle.sched_model.proofs.Limits.{every_period}
-use Rattle.edf_demand_laws.specs.Constrained.{IsConstrained, absolute, schedule_at}
+use Rattle.edf_demand_laws.specs.Constrained.{IsConstrained, absolute}
 use Rattle.edf_demand_laws.specs.ProcessorDemand.{IsDeadline, IsConstrainedDemand, processor_demand, is_deadline, is_busiest, constrained_demand}
 use Rattle.edf_demand_laws.specs.MetOrMissed.{MeetsAlways, MissesAtWorst}
 use Rattle.edf_demand_laws.proofs.AllSpans.{demand-greatest}
@@ -26,11 +26,7 @@ module _ (p : Plan) (relative : ℕ → ℕ) (con : IsConstrained p relative) wh
   -- a job's number is at most its absolute deadline
   few_jobs : (i k : ℕ) → i < count p → suc k ≤ absolute p relative i (suc k)
   unfolding release
-  few_jobs i k h =
-      let some : 0 < period p i = omega (arith, con.some i h, con.within i h) in
-      let less : suc k - 1 ≡ k = omega arith in
-      let grown : (suc k - 1) * period p i ≡ k * period p i = ap (λ (n : ℕ). n * period p i) less in
-      omega (arith, grown, le-mul_of_pos_right k some, con.some i h)
+  few_jobs i k h = grind arith
 
   found : (d : ℕ) → IsDeadline p relative d → is_deadline p relative d ≡ true
   found d at = go at.job at.some at.is
@@ -43,11 +39,7 @@ module _ (p : Plan) (relative : ℕ → ℕ) (con : IsConstrained p relative) wh
           (omega (arith, few_jobs at.task k at.below, is)) (grind (arith, nat_tests)))
 
   deadline-of : (d : ℕ) → is_deadline p relative d ≡ true → IsDeadline p relative d
-  deadline-of d h =
-      let task = any-some (count p) (λ i. any_below d (λ j. nat_eq (absolute p relative i (suc j)) d)) h in
-      let job = any-some d (λ j. nat_eq (absolute p relative task.0 (suc j)) d) task.2 in
-      let same : nat_eq (absolute p relative task.0 (suc job.0)) d ≡ true = job.2 in
-      record { task = task.0; job = suc job.0; below = task.1; some = omega arith; is = grind (arith, nat_tests) }
+  deadline-of d h = grind (arith, any-some)
 
   module _ (demand : Frac) (is : IsConstrainedDemand p relative demand) where
     abbrev h : ℕ → ℕ
@@ -58,14 +50,7 @@ module _ (p : Plan) (relative : ℕ → ℕ) (con : IsConstrained p relative) wh
 
     -- at no absolute deadline up to the hyperperiod the demand per tick exceeds the constrained demand
     none_over : (e : ℕ) → e < suc (hyper p) → over demand.den e ≡ true
-    none_over e lt = go (is_deadline p relative e) refl
-      where
-        go : (b : Bool) → is_deadline p relative e ≡ b → (not b || nat_le (h e * demand.den) (h demand.den * e)) ≡ true
-        go false s = refl
-        go true s =
-            let most = is.greatest e (deadline-of e s) (omega (arith, lt)) in
-            let same : demand.num * e ≡ h demand.den * e = ap (λ n. n * e) is.num in
-            grind (arith, nat_tests)
+    none_over e lt = grind (arith, deadline-of)
 
     busiest : is_busiest p relative demand.den ≡ true
     busiest = rw (found demand.den is.deadline, all-found (suc (hyper p)) (over demand.den) none_over) refl
@@ -87,9 +72,7 @@ module _ (p : Plan) (relative : ℕ → ℕ) (con : IsConstrained p relative) wh
             (rw (found demand.den is.deadline, less s) refl)
 
     some_den : 1 ≤ demand.den
-    some_den =
-        let at = is.deadline in
-        omega (arith, con.some at.task at.below, at.is)
+    some_den = grind arith
 
     pub is-constrained_demand : demand ≡ constrained_demand p relative
     unfolding constrained_demand
@@ -125,18 +108,4 @@ module _ (p : Plan) (lim : IsWithinLimits p) (relative : ℕ → ℕ) (con : IsC
   -- the speed of an entry that doesn't meet the constrained demand misses a deadline at worst
   pub misses-at-worst : (e : ℕ) → e < length p.machine.points → speed_at p.machine e * demand.den < demand.num
       → MissesAtWorst p relative e demand.den
-  misses-at-worst e lt over =
-      let f = speed_at p.machine e in
-      let dem = worst_demand p in
-      let made = schedule-exists p relative dem e demand.den in
-      record {
-        schedule = made.0;
-        long = made.1;
-        missed = λ met.
-            let fits = needed p relative con f (schedule_at p relative dem e demand.den) made.0 met in
-            let here : processor_demand p relative demand.den ≤ f * demand.den =
-            subst (λ (m : ℕ). processor_demand p relative m ≤ f * m) made.1 fits in
-            omega (arith, here, over, is.num);
-        only = λ other h long.
-            schedule-only p relative dem e lim.machine lt other h ∙ ap (schedule_at p relative dem e) long;
-      }
+  misses-at-worst e lt over = grind (arith, schedule-exists, needed, schedule-only)

@@ -2,7 +2,7 @@
 -- schedule of worst cases is met only there.
 use Rattle.std.proofs.Common.{◌≡◌, ℕ, zero, suc, ◌+◌, ◌-◌, ◌*◌, ◌<◌, ◌≤◌, min, Bool, true, false, eqb, List, [], ◌∷◌, length, refl, arith, if◌then◌else◌, inl, inr, ◌/◌, nat_le, ap, ◌∙◌, sym, subst, eq-or-lt_of_le, add-one}
 use Rattle.std.proofs.lemmas.Bool.Decides.{nat_tests}
-use Rattle.std.proofs.Math.Nat.{div-mul-le_self, mul-le-mul_right, add-div_right}
+use Rattle.std.proofs.Math.Nat.{div-mul-le_self, mul-le-mul_right}
 use Rattle.std.proofs.lemmas.Bool.{le-leb, leb-true, cases_lt}
 use Rattle.grid_fraction.specs.Numbers.{sum_below, sum_where}
 use Rattle.grid_fraction.proofs.Sums.{sum_below-le, sum_below-add, sum_below-own, sum_below-up, sum_below-zero}
@@ -127,9 +127,7 @@ jobs_after every key d = (d - key) / every
 
 jobs_after-step : (every key d : ℕ) → 0 < every → key + every ≤ d
     → jobs_after every key d ≡ jobs_after every (key + every) d + 1
-jobs_after-step every key d some le =
-    let e : d - key ≡ (d - (key + every)) + every = omega arith in
-    ap (λ (m : ℕ). m / every) e ∙ add-div_right (d - (key + every)) some
+jobs_after-step every key d some le = grind arith
 
 -- the jobs by d after `key` are among those due in the span from t to d, where t is at most the next release
 jobs_after-most : (every within key d t : ℕ) → 0 < every → t + within ≤ key + every
@@ -177,9 +175,7 @@ module _ (p : Plan) (relative : ℕ → ℕ) (dem : JobDemands) (f : ℕ) (perio
   some-job i t lt = latest-pos p i t (omega (arith, con.first i lt))
 
   first-job : (i : ℕ) → i < count p → latest p i 0 ≡ 1
-  first-job i lt =
-      let from = first-release p i (con.first i lt) in
-      latest-is p i 1 0 (omega (arith, from)) (omega (arith, from, release-due p i 1 (omega arith), periods i))
+  first-job i lt = grind (arith, first-release p i (con.first i lt), latest-is, release-due p i 1 (omega arith))
 
   calm-start : IsCalm []
   calm-start d le =
@@ -317,15 +313,7 @@ module _ (p : Plan) (relative : ℕ → ℕ) (dem : JobDemands) (f : ℕ) (perio
       moved false e key needs = omega arith
 
   calm-next : (x : Tick) (past : List Tick) → IsNextAt p relative dem f past x → IsCalm past → IsCalm (x ∷ past)
-  calm-next x past next calm d le =
-      let t = length past in
-      let e : length (x ∷ past) ≡ t + 1 = omega arith in
-      let P : ℕ → Type 0 =
-      λ m. sum_where (count p) (is_near m d) (λ i. units_left p dem (x ∷ past) i + after m d i) ≤ f * (d - m) in
-      let falls =
-      sum_below-le (count p) (λ i. if is_near (t + 1) d i then units_left p dem (x ∷ past) i + after (t + 1) d i else 0)
-      (λ i. if is_near t d i then (units_left p dem past i - share x i) + after t d i else 0) (calm-task x past d) in
-      subst P (sym e) (omega (arith, falls, calm-tick x past next calm d (omega arith)))
+  calm-next x past next calm d le = grind (arith, sum_below-le, calm-task x past d, calm-tick x past next calm d (omega arith))
 
   calm : (past : List Tick) → IsScheduleAt p relative dem f past → IsCalm past
   calm [] h = calm-start

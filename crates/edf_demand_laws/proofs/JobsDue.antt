@@ -1,5 +1,5 @@
 -- The number of jobs of a task with absolute deadlines up to d.
-use Rattle.std.proofs.Common.{◌≡◌, ℕ, zero, suc, ◌+◌, ◌-◌, ◌*◌, ◌/◌, ◌<◌, ◌≤◌, Bool, true, false, nat_le, if◌then◌else◌, refl, arith}
+use Rattle.std.proofs.Common.{ℕ, ◌+◌, ◌-◌, ◌*◌, ◌<◌, ◌≤◌, arith}
 use Rattle.std.proofs.Math.Nat.{div-mul-le_self, mul-le-mul_right}
 use Rattle.std.proofs.lemmas.Nat.{le-div}
 use Rattle.std.proofs.lemmas.Bool.{le-leb, leb-true}
@@ -11,18 +11,8 @@ jobs_due-above every within d q some le =
     rw (le-leb within d (omega arith)) (omega (arith, le-div q (d - within) every some (omega arith)))
 
 pub jobs_due-below : (every within d q : ℕ) → q < jobs_due every within d → within + q * every ≤ d
-jobs_due-below every within d q lt = go (nat_le within d) refl lt
-  where
-    go : (b : Bool) → nat_le within d ≡ b → q < (if b then (d - within) / every + 1 else 0) → within + q * every ≤ d
-    go true e lt =
-        let low : q ≤ (d - within) / every = omega arith in
-        omega (arith, leb-true within d e, mul-le-mul_right every low, div-mul-le_self (d - within) every)
-    go false e lt = absurd (omega arith)
+jobs_due-below every within d q lt = grind (arith, leb-true, mul-le-mul_right, div-mul-le_self (d - within) every)
 
 -- where each job due by d is one of the first q, their number is at most q
 pub jobs_due-most : (every within d q : ℕ) → ((r : ℕ) → within + r * every ≤ d → r < q) → jobs_due every within d ≤ q
-jobs_due-most every within d q h = go (jobs_due every within d) (jobs_due-below every within d)
-  where
-    go : (m : ℕ) → ((r : ℕ) → r < m → within + r * every ≤ d) → m ≤ q
-    go zero low = omega arith
-    go (suc m) low = omega (arith, h m (low m (omega arith)))
+jobs_due-most every within d q h = grind (arith, jobs_due-below every within d)

@@ -78,15 +78,8 @@ module _ (m : Table) (table : IsTable m) where
   full-climb f g v w fg vw = mul-le-mul_right 1000 (mul-le-mul (mul-le-mul fg vw) vw)
 
   next-cost : (k : ℕ) → suc k ≤ last_corner m → corner_cost m k ≤ corner_cost m (suc k)
-  next-cost zero le =
-      let share : speed_at m 0 * volts m 0 * volts m 0 * m.idle ≤ speed_at m 0 * volts m 0 * volts m 0 * 1000 =
-      mul-le-mul_left (speed_at m 0 * volts m 0 * volts m 0) table.low_idle in
-      omega (arith, share, idle-cost m, full-cost m 0)
-  next-cost (suc e) le =
-      let more : speed_at m e * volts m e * volts m e * 1000 ≤ speed_at m (suc e) * volts m (suc e) * volts m (suc e) * 1000 =
-      full-climb (speed_at m e) (speed_at m (suc e)) (volts m e) (volts m (suc e))
-      (let s = next-units (suc e) le in omega arith) (volts-climb e (suc e) (omega arith) (omega arith)) in
-      omega (arith, more, full-cost m e, full-cost m (suc e))
+  next-cost zero le = grind (arith, mul-le-mul_left (speed_at m 0 * volts m 0 * volts m 0) table.low_idle, idle-cost m, full-cost m 0)
+  next-cost (suc e) le = grind (arith, full-climb, next-units (suc e) le, full-cost m e, full-cost m (suc e))
 
   pub cost-climb : (j k : ℕ) → j ≤ k → k ≤ last_corner m → corner_cost m j ≤ corner_cost m k
   cost-climb = climb-le (corner_cost m) (last_corner m) next-cost
@@ -192,8 +185,4 @@ module _ (m : Table) (units ticks : ℕ) where
   pub found-is : (a b : ℕ) (l : Least) → units ≤ ticks * highest_speed m
       → ((c d : ℕ) → c < a → Holds m units ticks c d → ⊥) → IsFirstPartner m units ticks a b
       → l ≡ least_of m units ticks a b → Ok l ≡ least_energy_of m units ticks
-  found-is a b l fits none r is =
-      let within : nat_lt (ticks * highest_speed m) units ≡ false = grind (arith, nat_tests) in
-      let low : low_corner m units ticks ≡ a = low-is a b none r.holds in
-      let high : high_corner m units ticks a ≡ b = high-is a b r in
-      rw (within, low, high) (ap Ok is)
+  found-is a b l fits none r is = grind (arith, low-is a b none r.holds, high-is a b r)

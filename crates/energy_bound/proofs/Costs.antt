@@ -86,11 +86,7 @@ module _ (p : Plan) (dem : JobDemands) (ask : PublishedDemand) (some : 1 ≤ len
   choices (x ∷ past) h = (choice-next past x h.1, choices past h.0)
 
   pub costs-its-ticks : (ticks : List Tick) → IsScheduleBy p dem ask ticks → CostsItsTicks p ticks (notes_of p dem ask ticks)
-  costs-its-ticks ticks h = record {
-    choices = All-from_recursion (IsChoice p.machine) (choices_of p ticks) (choices ticks h);
-    units = omega (arith, with-end p dem ask run_units ticks, units ticks h);
-    cost = omega (arith, with-end p dem ask run_energy_told ticks, with-end p dem ask idle_energy_told ticks, costs ticks h);
-  }
+  costs-its-ticks ticks h = grind (arith, choices, All-from_recursion, units, with-end, costs)
 
 pub schedules-cost : (m : Table) → 1 ≤ length m.points → SchedulesCostTheirTicks m
 schedules-cost m some p dem ask ticks machine h = costs-its-ticks p dem ask (subst (λ (t : Table). 1 ≤ length t.points) (sym machine) some) ticks h
@@ -98,9 +94,7 @@ schedules-cost m some p dem ask ticks machine h = costs-its-ticks p dem ask (sub
 -- a tick of w units, r below its speed f, costs no less than the mix of an idle tick and a full one
 over_mix : (w r f v share f0 v0 : ℕ) → f0 * v0 * v0 ≤ f * v * v
     → r * (f0 * v0 * v0 * share) + w * (f * v * v * 1000) ≤ f * (v * v * (1000 * w + share * r))
-over_mix w r f v share f0 v0 h =
-    let idle : r * share * (f0 * v0 * v0) ≤ r * share * (f * v * v) = mul-le-mul_left (r * share) h in
-    omega (arith, idle)
+over_mix w r f v share f0 v0 h = grind (arith, mul-le-mul_left (r * share) h)
 
 -- where an idle tick and a full one are on or above a line, so is the tick: M * units + s is at most D * cost + g
 over_line : (w r f M D s g idle full cost : ℕ) → w + r ≡ f → 0 < f → s ≤ D * idle + g → M * f + s ≤ D * full + g

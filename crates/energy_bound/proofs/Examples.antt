@@ -2,7 +2,6 @@
 use Rattle.std.proofs.Common.{◌≡◌, ℕ, true, false, [], ◌∷◌, List, Ok, Err, refl, codes, arith}
 use Rattle.std.proofs.lemmas.List.Elements.{All-from_recursion}
 use Rattle.dvs_base.specs.declared.kind.Scheduler.TheVariants.{Edf}
-use Rattle.freq_table.specs.declared.machine.Point.{Point}
 use Rattle.freq_table.specs.Tables.{Table}
 use Rattle.sched_model.specs.Plan.{Plan}
 use Rattle.sched_model.specs.Jobs.{release, due, latest, worst_demand}
@@ -11,26 +10,15 @@ use Rattle.sched_model.specs.Priority.{in_order}
 use Rattle.sched_model.specs.Schedule.{schedule_by}
 use Rattle.sched_model.specs.Notes.{notes_before_end, notes_of}
 use Rattle.sched_model.proofs.Schedules.{schedule_exists}
-use Rattle.sched_model.proofs.Examples.{task_of}
+use Rattle.sched_model.proofs.Examples.{entry_of, three_speeds, task_of}
 use Rattle.energy_bound.specs.declared.least.Least.{Least}
 use Rattle.energy_bound.specs.Choices.{Choice, IsChoice}
 use Rattle.energy_bound.specs.Bounds.{BoundsChoices}
 use Rattle.energy_bound.specs.Schedules.{energy_spent, BoundsSchedules}
 use Rattle.energy_bound.specs.FirstPairs.{least_energy_of}
 
-abbrev entry_of : ℕ → ℕ → Point
-entry_of speed millivolts = record { speed = speed; millivolts = millivolts }
-
--- three speeds, and idle units that cost nothing: a full tick costs 18, 48 and 100 times 1000000000
-abbrev three_speeds : Table
-three_speeds = record {
-  points = entry_of 2 3000 ∷ entry_of 3 4000 ∷ entry_of 4 5000 ∷ [];
-  idle = 0;
-  charge = 0;
-}
-
--- 40 units in 16 ticks take 8 ticks at speed 2 and 8 at speed 3, which cost 8 * 18 + 8 * 48; the price of a unit is
--- 48 - 18 = 30, and that of a tick 18 - 2 * 30 = -42
+-- a full tick costs 18, 48 or 100, times 1000000000; 40 units in 16 ticks take 8 ticks at speed 2 and 8 at speed 3, which
+-- cost 8 * 18 + 8 * 48; the price of a unit is 48 - 18 = 30, and that of a tick 18 - 2 * 30 = -42
 two_speeds : least_energy_of three_speeds 40 16 ≡ Ok (record {
   rounds = 1;
   low = 2;

@@ -1,6 +1,6 @@
 -- Some two corners hold, for every number of units that the highest speed does in the ticks.
 use Rattle.std.proofs.lemmas.Bool.Decides.{nat_tests}
-use Rattle.std.proofs.Common.{◌≡◌, ◌⊎◌, inl, inr, ℕ, zero, suc, ◌-◌, ◌*◌, ◌<◌, ◌≤◌, ap, subst, arith, mul-le-mul_left}
+use Rattle.std.proofs.Common.{◌≡◌, ◌⊎◌, inl, inr, ℕ, zero, suc, ◌-◌, ◌*◌, ◌<◌, ◌≤◌, arith, mul-le-mul_left}
 use Rattle.std.proofs.lemmas.Bool.{cases_lt}
 use Rattle.energy_bound.proofs.Lines.{Above, above-first, above-second, ratio-trans, slope-above, above-slope, above-chain}
 
@@ -41,13 +41,7 @@ module _ (u c : ℕ → ℕ) (last : ℕ)
 
   -- some point up to n has the steepest line to a later one z: no point up to n is below it
   tangent : (n z : ℕ) → n < z → z ≤ last → (p : ℕ) × Touches n z p
-  tangent zero z lt zl = (
-    0,
-    record {
-      within = omega arith;
-      above = λ k le. let e : 0 ≡ k = omega arith in subst (OnLine 0 z) e (above-first (u 0) (c 0) (u z) (c z));
-    },
-  )
+  tangent zero z lt zl = grind (arith, above-first (u 0) (c 0) (u z) (c z))
   tangent (suc n) z lt zl = go (tangent n z (omega arith) zl)
     where
       go : (p : ℕ) × Touches n z p → (p : ℕ) × Touches (suc n) z p
@@ -95,21 +89,7 @@ module _ (u c : ℕ → ℕ) (last : ℕ)
   u-climb j k jk kl = grind (arith, nat_tests)
 
   first-two : (T W : ℕ) → u 0 ≡ 0 → 1 ≤ last → W ≤ T * u 1 → Enclosed T W 1
-  first-two T W none le fits = (
-    0,
-    (
-      1,
-      record {
-        order = omega arith;
-        within = omega arith;
-        low = (let e : T * u 0 ≡ T * 0 = ap (λ v. T * v) none in omega arith);
-        high = fits;
-        above = up_to-more (OnLine 0 1) 0
-            (λ k le. let e : 0 ≡ k = omega arith in subst (OnLine 0 1) e (above-first (u 0) (c 0) (u 1) (c 1)))
-            (above-second (u 0) (c 0) (u 1) (c 1));
-      },
-    ),
-  )
+  first-two T W none le fits = grind (arith, up_to-more, above-first (u 0) (c 0) (u 1) (c 1), above-second (u 0) (c 0) (u 1) (c 1))
 
   -- with one more point, the tangent to it encloses W where it begins low enough
   with-tangent : (T W n p : ℕ) → W ≤ T * u (suc n) → Touches n (suc n) p → T * u p ≤ W → Enclosed T W (suc n)

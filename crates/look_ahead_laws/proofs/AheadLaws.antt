@@ -1,13 +1,10 @@
 -- The laws of look-ahead EDF.
-use Rattle.std.proofs.Common.{◌≡◌, inl, inr, ℕ, ◌+◌, ◌-◌, ◌*◌, ◌^◌, ◌<◌, ◌≤◌, List, ◌∷◌, ◌++◌, length, refl, sym, ◌∙◌, ap, subst, arith}
-use Rattle.std.proofs.Math.Nat.{mul-le-mul_left, mul-le-mul_right}
-use Rattle.std.proofs.lemmas.Bool.{lt-leb, cases_lt}
+use Rattle.std.proofs.Common.{◌≡◌, inl, inr, ℕ, ◌+◌, ◌-◌, ◌*◌, ◌^◌, ◌<◌, ◌≤◌, List, ◌∷◌, ◌++◌, length, refl, sym, ◌∙◌, ap, subst, arith, mul-le-mul_left, mul-le-mul_right}
+use Rattle.std.proofs.lemmas.Bool.{cases_lt}
 use Rattle.dvs_base.specs.declared.kind.Scheduler.{Scheduler}
 use Rattle.dvs_base.specs.declared.kind.GovernorKind.TheVariants.{Ahead}
 use Rattle.dvs_base.specs.PlanWords.{IsPair}
 use Rattle.grid_fraction.specs.declared.Frac.{Frac}
-use Rattle.grid_fraction.proofs.Least.{least-below}
-use Rattle.freq_table.specs.declared.machine.Pick.{Pick}
 use Rattle.freq_table.specs.Tables.{Table, speed_at, last_entry, highest_speed, lowest_entry, IsTable}
 use Rattle.freq_table.proofs.Chosen.{below_highest, lowest_within, picked_meets, lowest_pick-none}
 use Rattle.sched_model.specs.Plan.{Plan, count, hyper, rate, top_speed}
@@ -17,7 +14,7 @@ use Rattle.sched_model.specs.Tests.{total_rate}
 use Rattle.sched_model.specs.AheadDemand.{spread_rates}
 use Rattle.sched_model.specs.Admission.{IsAdmitted}
 use Rattle.sched_model.specs.States.{StateView, earliest_in}
-use Rattle.sched_model.proofs.Limits.{some_task, some_hyper}
+use Rattle.sched_model.proofs.Limits.{some_hyper}
 use Rattle.sched_model.proofs.Orders.{sum_list, sum_list-in_order, in_order-below, sum_list-append}
 use Rattle.governor.specs.Steps.{wleft_at, IsAtDecision, Belongs}
 use Rattle.governor.specs.ServedSchedulers.{ServesEdf}
@@ -31,10 +28,7 @@ use Rattle.look_ahead_laws.proofs.PutOffWork.{due_work, all_paid, before_is, rat
 
 -- where the highest speed doesn't meet a demand, the last entry is picked
 last_picked : (m : Table) → IsTable m → (d : Frac) → highest_speed m * d.den < d.num → lowest_entry m d ≡ last_entry m
-last_picked m table d over =
-    sym (ap (λ (p : Pick). p.index) (lowest_pick-none m d table.some (λ j lt.
-    let low : speed_at m j * d.den ≤ highest_speed m * d.den = mul-le-mul_right d.den (below_highest m table j lt) in
-    lt-leb d.num (speed_at m j * d.den) (omega (arith, low, over)))))
+last_picked m table d over = grind (arith, lowest_pick-none, mul-le-mul_right, below_highest)
 
 module _ (plan : Plan) (s : StateView) where
   -- the sum of all rates is the sum over the tasks in EDF order
@@ -61,9 +55,7 @@ module _ (plan : Plan) (s : StateView) where
       omega (arith, at, within)
 
   load_in_order : (d : ℕ) → load plan s d ≡ sum_list (due_work plan (deadline_at s) (wleft_at s) d) (edf_order plan s)
-  load_in_order d =
-      load_is plan s d
-      ∙ sym (sum_list-in_order (due_work plan (deadline_at s) (wleft_at s) d) (deadline_at s) (count plan))
+  load_in_order d = grind (arith, load_is, sum_list-in_order)
 
   -- an entry whose speed meets the demand is safe
   meets_safe : (k : ℕ) → IsAdmitted plan → ServesEdf plan.scheduler → k < length plan.machine.points
@@ -97,11 +89,7 @@ module _ (plan : Plan) (s : StateView) where
   -- the time to the earliest deadline is positive and fits in 64 bits
   pub ahead_den : IsAdmitted plan → IsAtDecision plan s
       → (0 < (ahead_demand plan s).den) × ((ahead_demand plan s).den ≤ 2 ^ 64)
-  ahead_den adm dec =
-      let next = earliest-later plan adm.limits s dec.before in
-      let first : earliest_in plan s ≤ deadline_at s 0 =
-      least-below (count plan) (deadline_at s) 0 (some_task plan adm.limits) in
-      (omega arith, (let near = dec.soon 0 (some_task plan adm.limits) in omega (arith, near, first)))
+  ahead_den adm dec = grind (arith, earliest-later)
 
 pub ahead_laws : GovernorLaws Ahead ServesEdf ahead_demand AheadCalm AheadSafe
 ahead_laws = record {

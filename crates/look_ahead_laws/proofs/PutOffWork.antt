@@ -1,10 +1,7 @@
 -- What is put off fits into the time after the earliest deadline: its rates suffice, and the highest speed has room.
-use Rattle.std.proofs.Common.{◌≡◌, ℕ, ◌≤◌, true, List, [], ◌∷◌, ◌++◌, refl, arith, if◌then◌else◌, ap, ◌∙◌, sym, subst, inl, inr, zero, suc, ◌+◌, ◌-◌, ◌*◌, ◌<◌, min, Bool, false, append_assoc}
+use Rattle.std.proofs.Common.{◌≡◌, ℕ, ◌≤◌, true, List, [], ◌∷◌, ◌++◌, refl, arith, if◌then◌else◌, ◌∙◌, sym, subst, zero, suc, ◌+◌, ◌-◌, ◌*◌, ◌<◌, min, Bool, false, append_assoc, ◌/◌, nat_eq, nat_le, mul-zero}
 use Rattle.std.proofs.lemmas.Bool.Decides.{nat_tests}
-use Rattle.std.specs.Prelude.{◌/◌, ◌%◌, nat_eq, nat_le}
-use Rattle.std.proofs.Math.Nat.{mul-le-mul_right, mul-zero, le_trans, div-mul-le_self}
-use Rattle.std.proofs.lemmas.Nat.{div_below, mod_below, div-add-mod'}
-use Rattle.std.proofs.lemmas.Bool.{le-leb, lt-leb, cases_lt, eqb-false}
+use Rattle.std.proofs.lemmas.Bool.{eqb-false}
 use Rattle.sched_model.specs.Priority.{stands_before, in_order, sum_before}
 use Rattle.sched_model.proofs.Orders.{before-self, before-not, sum_list, IsAhead, IsOrdered, first_ahead, sum_list-in_order, in_order-ordered, AreBelow, sum_before-prefix, sum_list-snoc}
 use Rattle.sched_model.specs.AheadDemand.{sum_after, first_due, slack, put_off, spread_rate, spread_rates, due_first}
@@ -30,26 +27,17 @@ ordered-rest key f i (j ∷ pre) post o =
 pub sum_after-suffix : (key f : ℕ → ℕ) (n i : ℕ) (pre post : List ℕ) → in_order key n ≡ pre ++ i ∷ post
     → sum_after n key f i ≡ sum_list f post
 sum_after-suffix key f n i pre post e =
-    sym (sum_list-in_order (λ k. if stands_before key i k then f k else 0) key n)
-    ∙ (ap (sum_list (λ k. if stands_before key i k then f k else 0)) e
-    ∙ ordered-rest key f i pre post (subst (IsOrdered key) e (in_order-ordered key n)))
+    grind (arith, sum_list-in_order, ordered-rest key f i pre post (subst (IsOrdered key) e (in_order-ordered key n)))
 
 -- ONE TASK, over plain numbers: y is put off, and v is its rate
 
 -- y units, at most g * l / h rounded down, need over l ticks a rate of at most g, rounded up
 pub spread_within : (g l h y : ℕ) → 0 < h → 0 < l → y ≤ g * l / h → (y * h + (l - 1)) / l ≤ g
-spread_within g l h y ph pl le =
-    let low : y * h ≤ g * l = le_trans (mul-le-mul_right h le) (div-mul-le_self (g * l) h) in
-    let small : (y * h + (l - 1)) / l < g + 1 = div_below (y * h + (l - 1)) l (g + 1) pl (omega arith) in
-    omega arith
+spread_within g l h y ph pl le = grind arith
 
 -- the rate of y units over l ticks, rounded up, suffices for them
 spread_enough : (l h y : ℕ) → 0 < l → h * y ≤ (y * h + (l - 1)) / l * l
-spread_enough l h y pl =
-    let n = y * h + (l - 1) in
-    let cut : n / l * l + n % l ≡ n = div-add-mod' n l in
-    let rest : n % l < l = mod_below n l pl in
-    omega arith
+spread_enough l h y pl = grind arith
 
 some_slack : (l : ℕ) → nat_eq l 0 ≡ false → 0 < l
 some_slack l h = omega (arith, eqb-false l 0 h)
@@ -58,10 +46,7 @@ some_slack l h = omega (arith, eqb-false l 0 h)
 step_within : (b : Bool) (u w l h pre after most : ℕ) → 0 < h → (b ≡ false → 0 < l) → pre + u + after ≤ most
     → pre + (if b then u else ((if b then 0 else min w ((most - pre - after) * l / h)) * h + (l - 1)) / l) + after ≤ most
 step_within true u w l h pre after most ph pl fits = fits
-step_within false u w l h pre after most ph pl fits =
-    let y = min w ((most - pre - after) * l / h) in
-    let v = spread_within (most - pre - after) l h y ph (pl refl) (omega arith) in
-    omega (arith, v)
+step_within false u w l h pre after most ph pl fits = grind (arith, spread_within)
 
 -- a task puts off no more than it needs
 put_most : (b : Bool) (w g : ℕ) → (if b then 0 else min w g) ≤ w
@@ -77,35 +62,12 @@ put_fits false u w g l h pl = spread_enough l h (min w g) (pl refl)
 -- the work of one task due by d is run before the earliest deadline or done by its rates after it
 term_pays : (h a end d w y u v : ℕ) → a ≤ end → y ≤ w → h * y ≤ v * (end - a)
     → (if nat_le end d then h * w + u * (d - end) else 0) ≤ h * (w - y) + (v * min (d - a) (end - a) + u * ((d - a) - (end - a)))
-term_pays h a end d w y u v la le fits =
-    elim (cases_lt d end) [
-      | inl later ↦ rw (lt-leb end d later) (omega arith)
-      | inr by ↦
-          let m : min (d - a) (end - a) ≡ end - a = omega arith in
-          let r : (d - a) - (end - a) ≡ d - end = omega arith in
-          let e : w ≡ (w - y) + y = omega arith in
-          let whole : h * w ≡ h * (w - y) + h * y =
-          ap (λ (x : ℕ). h * x) e ∙ (let z : h * ((w - y) + y) ≡ h * (w - y) + h * y = omega arith in z) in
-          rw (le-leb end d by, m, r) (omega (arith, whole))
-    ]
+term_pays h a end d w y u v la le fits = grind arith
 
 -- one tick more adds a task's rate then in force to what it has worked off
 work_row : (v u l x : ℕ)
     → v * min (suc x) l + u * (suc x - l) ≡ (v * min x l + u * (x - l)) + (if nat_le l x then u else v)
-work_row v u l x =
-    elim (cases_lt x l) [
-      | inl before ↦
-          let a : min (suc x) l ≡ x + 1 = omega arith in
-          let b : min x l ≡ x = omega arith in
-          let c : suc x - l ≡ 0 = omega arith in
-          let e : x - l ≡ 0 = omega arith in
-          rw (lt-leb l x before, a, b, c, e) (omega arith)
-      | inr past ↦
-          let a : min (suc x) l ≡ l = omega arith in
-          let b : min x l ≡ l = omega arith in
-          let c : suc x - l ≡ (x - l) + 1 = omega arith in
-          rw (le-leb l x past, a, b, c) (omega arith)
-    ]
+work_row v u l x = grind arith
 
 -- THE TASKS IN ORDER
 
@@ -128,10 +90,7 @@ module _ (plan : Plan) (due left : ℕ → ℕ) where
 
   work_zero : (xs : List ℕ) → work 0 xs ≡ 0
   work_zero [] = refl
-  work_zero (i ∷ xs) =
-      let m : min 0 (slack plan due i) ≡ 0 = omega arith in
-      let r : 0 - slack plan due i ≡ 0 = omega arith in
-      rw (m, r) (omega (arith, work_zero xs, mul-zero (spread_rate plan due left (spread_rates plan due left xs) i), mul-zero (rate plan i)))
+  work_zero (i ∷ xs) = grind (arith, mul-zero, work_zero xs)
 
   work_more : (x : ℕ) (xs : List ℕ) → work (suc x) xs ≡ work x xs + past_rate x xs
   work_more x [] = refl
@@ -142,10 +101,7 @@ module _ (plan : Plan) (due left : ℕ → ℕ) where
   all_spread : (x i : ℕ) (xs : List ℕ) → x < slack plan due i → IsAhead due i xs
       → past_rate x xs ≡ spread_rates plan due left xs
   all_spread x i [] lt ahead = refl
-  all_spread x i (j ∷ js) lt ahead =
-      let rises : due i ≤ due j = key_rises due i j ahead.0 in
-      let later : x < slack plan due j = omega arith in
-      rw (lt-leb (slack plan due j) x later) (omega (arith, all_spread x i js lt ahead.1))
+  all_spread x i (j ∷ js) lt ahead = grind (arith, all_spread x i js lt ahead.1)
 
   -- the work due by d is run before the earliest deadline or worked off after it
   pub all_paid : (d : ℕ) (xs : List ℕ) → AreBelow (count plan) xs
@@ -172,32 +128,14 @@ module _ (plan : Plan) (due left : ℕ → ℕ) where
       → sum_list (rate plan) l + spread_rates plan due left xs ≤ top_speed plan * hyper plan
   rate_within l [] e ph fits = fits
   rate_within l (i ∷ xs) e ph fits =
-      let next : sum_list (rate plan) (l ++ i ∷ []) ≡ sum_list (rate plan) l + rate plan i = sum_list-snoc (rate plan) l i in
-      let ih = rate_within (l ++ i ∷ []) xs (e ∙ sym (append_assoc l (i ∷ []) xs)) ph (omega (arith, next)) in
-      let after = spread_rates plan due left xs in
-      let room : sum_list (rate plan) l + rate plan i + after ≤ top_speed plan * hyper plan = omega (arith, next, ih) in
-      let before = before_is l xs i e in
-      let one =
-      let late = slack plan due i in
-      step_within (nat_eq late 0) (rate plan i) (left i) late (hyper plan) (sum_before (count plan) due (rate plan) i) after
-      (top_speed plan * hyper plan) ph (some_slack late) (rw before room) in
-      omega (arith, before, one)
+      grind (arith, sum_list-snoc, before_is, step_within, rate_within (l ++ i ∷ []) xs (e ∙ sym (append_assoc l (i ∷ []) xs)) ph)
 
   past_within : (x : ℕ) (l xs : List ℕ) → in_order due (count plan) ≡ l ++ xs → IsOrdered due xs → 0 < hyper plan
       → sum_list (rate plan) l + sum_list (rate plan) xs ≤ top_speed plan * hyper plan
       → sum_list (rate plan) l + past_rate x xs ≤ top_speed plan * hyper plan
   past_within x l [] e order ph fits = fits
   past_within x l (i ∷ xs) e order ph fits =
-      elim (cases_lt x (slack plan due i)) [
-        | inl before ↦
-            let same : past_rate x (i ∷ xs) ≡ spread_rates plan due left (i ∷ xs) =
-            (let b : nat_le (slack plan due i) x ≡ false = lt-leb (slack plan due i) x before in rw b (omega (arith, all_spread x i xs before order.0))) in
-            rw same (rate_within l (i ∷ xs) e ph fits)
-        | inr past ↦
-            let next : sum_list (rate plan) (l ++ i ∷ []) ≡ sum_list (rate plan) l + rate plan i = sum_list-snoc (rate plan) l i in
-            let ih = past_within x (l ++ i ∷ []) xs (e ∙ sym (append_assoc l (i ∷ []) xs)) order.1 ph (omega (arith, next)) in
-            rw (le-leb (slack plan due i) x past) (omega (arith, next, ih))
-      ]
+      grind (arith, all_spread, rate_within, sum_list-snoc, past_within x (l ++ i ∷ []) xs (e ∙ sym (append_assoc l (i ∷ []) xs)) order.1 ph)
 
   pub work_within : (x : ℕ) → 0 < hyper plan
       → sum_list (rate plan) (in_order due (count plan)) ≤ top_speed plan * hyper plan

@@ -1,7 +1,5 @@
 -- The equations over all tasks at once have a solution; each gives the demand and keeps the rates within the speed.
-use Rattle.std.proofs.Common.{◌≡◌, ℕ, ◌+◌, ◌-◌, ◌*◌, ◌<◌, ◌≤◌, true, false, eqb, List, [], ◌∷◌, ◌++◌, refl, sym, ◌∙◌, ap, subst, arith, append_assoc, true≢false}
-use Rattle.std.specs.Prelude.{nat_eq, if◌then◌else◌}
-use Rattle.std.proofs.lemmas.Bool.{ne_eqb}
+use Rattle.std.proofs.Common.{◌≡◌, ℕ, ◌+◌, ◌-◌, ◌*◌, ◌<◌, ◌≤◌, true, false, eqb, List, [], ◌∷◌, ◌++◌, refl, sym, ◌∙◌, ap, subst, arith, append_assoc, true≢false, nat_eq, if◌then◌else◌, ne_eqb}
 use Rattle.std.proofs.lemmas.Bool.Decides.{nat_tests}
 use Rattle.grid_fraction.specs.Numbers.{sum_below, ceil_div}
 use Rattle.sched_model.specs.Plan.{Plan, count, hyper, rate, top_speed}
@@ -38,27 +36,16 @@ module _ (plan : Plan) (s : StateView) where
 
     rate_same : (i after : ℕ) → i < count plan → rates_after plan s v i ≡ after
         → v i ≡ spread_rate plan due left after i
-    rate_same i after lt e =
-        let late = slack plan due i in
-        spread.needs i lt
-        ∙ ap (λ (m : ℕ). if nat_eq late 0 then rate plan i else ceil_div (m * hyper plan) late) (put_same i after lt e)
+    rate_same i after lt e = grind arith
 
     whole_rates : (l xs : List ℕ) → edf_order plan s ≡ l ++ xs → sum_list v xs ≡ spread_rates plan due left xs
     whole_rates l [] e = refl
-    whole_rates l (i ∷ xs) e =
-        let rest = whole_rates (l ++ i ∷ []) xs (e ∙ sym (append_assoc l (i ∷ []) xs)) in
-        let at = rate_same i (spread_rates plan due left xs) (back_below l (i ∷ xs) e).0 (after_is v l xs i e ∙ rest) in
-        omega (arith, rest, at)
+    whole_rates l (i ∷ xs) e = grind (arith, back_below, after_is, whole_rates (l ++ i ∷ []) xs (e ∙ sym (append_assoc l (i ∷ []) xs)))
 
     whole_first : (l xs : List ℕ) → edf_order plan s ≡ l ++ xs
         → sum_list (λ i. left i - y i) xs ≡ due_first plan due left xs
     whole_first l [] e = refl
-    whole_first l (i ∷ xs) e =
-        let next : edf_order plan s ≡ (l ++ i ∷ []) ++ xs = e ∙ sym (append_assoc l (i ∷ []) xs) in
-        let at =
-        put_same i (spread_rates plan due left xs) (back_below l (i ∷ xs) e).0 (after_is v l xs i e ∙ whole_rates (l ++ i ∷ []) xs next) in
-        let rest = whole_first (l ++ i ∷ []) xs next in
-        omega (arith, rest, at)
+    whole_first l (i ∷ xs) e = grind (arith, append_assoc, back_below, after_is, whole_rates, whole_first (l ++ i ∷ []) xs)
 
     -- the demand's numerator is the sum of the units that are not put off
     whole_demand : (ahead_demand plan s).num ≡ sum_below (count plan) (λ i. left i - y i)
@@ -67,12 +54,7 @@ module _ (plan : Plan) (s : StateView) where
     -- the rate of each task, with those of the tasks after it and before it, is within the highest speed
     whole_rate : IsAdmitted plan → ServesEdf plan.scheduler → (i : ℕ) → i < count plan
         → v i + rates_after plan s v i + rates_before plan s i ≤ top_speed plan * hyper plan
-    whole_rate adm serves i lt =
-        let at = stands-in_order due (count plan) i lt in
-        let whole = each_rate plan s adm serves at.0 at.1.0 i at.1.1 in
-        let rates = whole_rates at.0 (i ∷ at.1.0) at.1.1 in
-        let later = after_is v at.0 at.1.0 i at.1.1 in
-        omega (arith, whole, rates, later)
+    whole_rate adm serves i lt = grind (arith, stands-in_order due (count plan) i lt, each_rate, whole_rates, after_is)
 
   pub is_demand : IsDemandOfSpread plan s
   is_demand y v spread = whole_demand y v spread
@@ -119,10 +101,7 @@ module _ (plan : Plan) (s : StateView) where
   sum_here : (l xs : List ℕ) → edf_order plan s ≡ l ++ xs
       → sum_list (rate_in (edf_order plan s)) xs ≡ spread_rates plan due left xs
   sum_here l [] e = refl
-  sum_here l (i ∷ xs) e =
-      let rest = sum_here (l ++ i ∷ []) xs (e ∙ sym (append_assoc l (i ∷ []) xs)) in
-      let at = rate_here l xs i e in
-      omega (arith, rest, at)
+  sum_here l (i ∷ xs) e = grind (arith, rate_here, sum_here (l ++ i ∷ []) xs (e ∙ sym (append_assoc l (i ∷ []) xs)))
 
   found_spread : IsSpreadIn plan s (put_in (edf_order plan s)) (rate_in (edf_order plan s))
   found_spread = record {

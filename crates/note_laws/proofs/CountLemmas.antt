@@ -1,6 +1,6 @@
 -- The counts of a schedule's notes, tick by tick. They say once that a job completes, when it has had its demand, and not
 -- after its deadline.
-use Rattle.std.proofs.Common.{◌≡◌, ◌+◌, Bool, true, false, List, [], ◌∷◌, ◌++◌, refl, arith, ap, ℕ, suc, ◌≤◌, not, ◌&&◌, length, if◌then◌else◌, ◌∙◌, sym, nat_eq, nat_le, ◌-◌, ◌*◌, ◌/◌, ◌%◌, ◌<◌, inl, inr, nat_lt, div-add-mod', mul-le-mul_right}
+use Rattle.std.proofs.Common.{◌≡◌, ◌+◌, Bool, true, false, List, [], ◌∷◌, ◌++◌, refl, arith, ap, ℕ, ◌≤◌, not, ◌&&◌, length, if◌then◌else◌, ◌∙◌, sym, nat_eq, nat_le, ◌-◌, ◌*◌, ◌<◌, inl, nat_lt, div-add-mod'}
 use Rattle.std.specs.Prelude.{count_by, cond}
 use Rattle.std.specs.List.{AllByRecursion}
 use Rattle.std.proofs.lemmas.List.Sums.{sum_by-cons}
@@ -37,11 +37,7 @@ count-next test x xs = sum_by-cons (λ y. cond (test y) 1 0) x xs
 -- where a count is 0, no element of the list passes the test
 pub none-counted : {A : Type 0} (test : A → Bool) (xs : List A) → count_by test xs ≡ 0 → AllByRecursion (λ x. test x ≡ false) xs
 none-counted test [] e = tt
-none-counted test (x ∷ xs) e = (off (test x) refl, none-counted test xs (omega (arith, count-next test x xs, e)))
-  where
-    off : (b : Bool) → test x ≡ b → test x ≡ false
-    off true f = absurd (omega (arith, count-next test x xs, e, ap one_if f))
-    off false f = f
+none-counted test (x ∷ xs) e = grind (arith, count-next test x xs, none-counted test xs (omega (arith, count-next test x xs, e)))
 
 -- a list with exactly one element that passes the test
 pub record IsAlone {A : Type 0} (test : A → Bool) (xs : List A) : Type 0 where
@@ -202,14 +198,7 @@ module _ (p : Plan) (dem : JobDemands) (ask : PublishedDemand) (lim : IsWithinLi
 
   balanced : (ticks : List Tick) → IsScheduleBy p dem ask ticks → Balanced ticks
   balanced [] h = grind (arith, nat_tests, none-sum, sum_below-zero)
-  balanced (x ∷ past) h =
-      let before = balanced past h.0 in
-      let a = adds x past h in
-      record {
-        decisions =
-            omega (arith, before.decisions, a.decided, a.released, a.finished, decision-cause past, some-counted (λ i. completes_in p dem x past i));
-        completed = omega (arith, before.completed, a.released, a.finished, open-after x past, open-most past);
-      }
+  balanced (x ∷ past) h = grind (arith, adds, decision-cause, some-counted, open-after, open-most, balanced past h.0)
 
   pub few : (ticks : List Tick) → IsScheduleBy p dem ask ticks → AreFew (totals_of (notes_of p dem ask ticks))
   few ticks h = grind (arith, nat_tests, balanced, with-end, completions)
@@ -225,20 +214,7 @@ IsInTime t i k _ = Unit {0}
 
 -- a unit boundary within the units of n ticks is not after their end
 by-end : (from f n q t : ℕ) → 0 < f → from + n ≤ t → q ≤ n * f → IsBy t (position_of from f q)
-by-end from f n q t some le within = elim (cases_lt (from + q / f) t) [
-  | inl before ↦ inl before
-  | inr late ↦
-      let whole : q / f * f + q % f ≡ q = div-add-mod' q f in
-      let over : n ≤ q / f = omega (arith, late, le) in
-      let most : n * f ≤ q / f * f = mul-le-mul_right f over in
-      let exact : q / f * f ≤ n * f = omega (arith, whole, within) in
-      let last : q / f ≤ n = le_of_mul-le-mul_right exact some in
-      inr (omega (arith, late, last, le), omega (arith, whole, most, within))
-]
-
--- the numbers below b and b itself are those below b + 1
-next-below : (a b : ℕ) → one_if (nat_lt a b) + one_if (nat_eq a b) ≡ one_if (nat_lt a (suc b))
-next-below a b = grind (arith, nat_tests, one_if)
+by-end from f n q t some le within = grind (arith, div-add-mod' q f, le_of_mul-le-mul_right)
 
 module _ (p : Plan) (dem : JobDemands) (ask : PublishedDemand) (lim : IsWithinLimits p) (i k : ℕ) (inside : i < count p) (some_job : 1 ≤ k) where
   some : 0 < period p i
@@ -281,23 +257,11 @@ module _ (p : Plan) (dem : JobDemands) (ask : PublishedDemand) (lim : IsWithinLi
   told-empty : dem i k ≡ 0 → (ticks : List Tick) → IsScheduleBy p dem ask ticks
       → told (notes_before_end p dem ask ticks) ≡ one_if (nat_lt (release p i k) (length ticks))
   told-empty none [] h = let never : nat_lt (release p i k) 0 ≡ false = grind (arith, nat_tests) in rw never told-none
-  told-empty none (x ∷ past) h =
-      let empty : nat_eq (dem i k) 0 ≡ true = grind (arith, nat_tests) in
-      omega (
-        arith,
-        completion-adds x past h,
-        told-empty none past h.0,
-        ap (λ b. one_if (b && nat_eq (release p i k) (length past))) empty,
-        reached-all (dem i k) (exec p past i k) (omega (arith, none)),
-        reached-all (dem i k) (exec p (x ∷ past) i k) (omega (arith, none)),
-        next-below (release p i k) (length past),
-      )
+  told-empty none (x ∷ past) h = grind (arith, completion-adds, told-empty none past h.0)
 
   told-some : 0 < dem i k → (ticks : List Tick) → IsScheduleBy p dem ask ticks → told (notes_before_end p dem ask ticks) ≡ done_by p dem i k ticks
   told-some needs [] h = omega (arith, told-none, reached-none (dem i k) 0 needs)
-  told-some needs (x ∷ past) h =
-      let other : nat_eq (dem i k) 0 ≡ false = grind (arith, nat_tests) in
-      omega (arith, completion-adds x past h, told-some needs past h.0, ap (λ b. one_if (b && nat_eq (release p i k) (length past))) other)
+  told-some needs (x ∷ past) h = grind (arith, completion-adds, told-some needs past h.0)
 
   -- the last note of a schedule is no completion
   all-told : (ticks : List Tick) → told (notes_of p dem ask ticks) ≡ told (notes_before_end p dem ask ticks)

@@ -1,6 +1,6 @@
 -- The segments of a tick or of a span: at most one more than the jobs that complete in its last tick.
-use Rattle.std.proofs.Common.{◌≡◌, ◌⊎◌, ℕ, zero, suc, ◌+◌, ◌-◌, ◌<◌, ◌≤◌, min, Bool, true, false, ◌&&◌, List, [], ◌∷◌, ◌++◌, length, replicate, refl, arith, if◌then◌else◌, ap, ap₂, ◌∙◌, sym, subst, append_assoc, append-nil, nat_eq, nat_le, nat_lt, not}
-use Rattle.std.proofs.lemmas.Bool.{cases_lt, and_parts, or_parts}
+use Rattle.std.proofs.Common.{◌≡◌, ℕ, zero, suc, ◌+◌, ◌-◌, ◌<◌, ◌≤◌, min, Bool, true, false, ◌&&◌, List, [], ◌∷◌, ◌++◌, length, replicate, refl, arith, if◌then◌else◌, ap, ap₂, ◌∙◌, sym, subst, append_assoc, append-nil, nat_eq, nat_le, nat_lt}
+use Rattle.std.proofs.lemmas.Bool.{cases_lt, or_parts}
 use Rattle.std.proofs.lemmas.Bool.Decides.{nat_tests}
 use Rattle.std.proofs.lemmas.List.{replicate-append-replicate}
 use Rattle.sched_model.specs.declared.holder.Holder.{Holder}
@@ -15,7 +15,7 @@ use Rattle.grid_fraction.proofs.Sums.{sum_below-le, sum_below-zero}
 use Rattle.grid_fraction.proofs.Searches.{any_below-false}
 use Rattle.sched_model.specs.Plan.{Plan, count, point}
 use Rattle.sched_model.specs.Jobs.{JobDemands, latest, due, is_release}
-use Rattle.sched_model.specs.Ticks.{PublishedDemand, Tick, exec, is_done, share, units_left}
+use Rattle.sched_model.specs.Ticks.{PublishedDemand, Tick, share, units_left}
 use Rattle.sched_model.specs.Decision.{completes_in, is_decision}
 use Rattle.sched_model.specs.Schedule.{IsNext, IsScheduleBy}
 use Rattle.sched_model.specs.Admission.{IsWithinLimits}
@@ -60,9 +60,7 @@ run-leads h (suc m) n us leads few =
 run-most : (h : Holder) (m : ℕ) (us : List Holder) → segments (replicate m h ++ us) ≤ min 1 m + segments us
 run-most h zero us = omega arith
 run-most h (suc zero) us = omega (arith, before-most h (pieces_of us))
-run-most h (suc (suc m)) us =
-    let fewer : segments (replicate (suc m) h ++ us) ≤ suc (segments us) = omega (arith, run-most h (suc m) us) in
-    omega (arith, one-more h (segments us) (replicate (suc m) h ++ us) refl fewer)
+run-most h (suc (suc m)) us = grind (arith, run-most h (suc m) us)
 
 -- the units of the tasks of a list, one task after another, and then the idle ones
 abbrev pub laid_out : (given job : ℕ → ℕ) → ℕ → List ℕ → List Holder
@@ -73,12 +71,7 @@ pub laid-out : (given job : ℕ → ℕ) (room : ℕ) (is : List ℕ)
     → given_units given job is ++ replicate (room - sum_list given is) Nobody
     ≡ laid_out given job room is
 laid-out given job room [] = let all : room - 0 ≡ room = omega arith in ap (λ n. replicate n Nobody) all
-laid-out given job room (i ∷ is) =
-    let rest : room - (given i + sum_list given is) ≡ (room - given i) - sum_list given is = omega arith in
-    let own : List Holder = replicate (given i) (Held i (job i)) in
-    let others : List Holder = given_units given job is in
-    append_assoc own others (replicate (room - (given i + sum_list given is)) Nobody)
-    ∙ ap (λ us. own ++ us) (ap (λ n. others ++ replicate n Nobody) rest ∙ laid-out given job (room - given i) is)
+laid-out given job room (i ∷ is) = grind (arith, append_assoc, laid-out given job (room - given i) is)
 
 -- the tasks of a list take what they need in turn, as far as the room goes
 abbrev pub TakeTurns : (need given : ℕ → ℕ) → ℕ → List ℕ → Type 0
@@ -114,24 +107,11 @@ module _ (n : ℕ) (key : ℕ → ℕ) (room : ℕ) (need given : ℕ → ℕ) (
 abbrev pub served : (need given : ℕ → ℕ) → ℕ → ℕ
 served need given i = if nat_lt 0 (need i) && nat_le (need i) (given i) then 1 else 0
 
-served-some : (need given : ℕ → ℕ) (i room : ℕ) → given i ≡ min room (need i)
-    → min 1 (given i) + min 1 (room - given i) ≤ min 1 room + served need given i
-served-some need given i room turn = grind (arith, nat_tests, cases_lt)
-
 -- the segments of the units are at most one more than the tasks that get all they need
 pub segments-most : (need given job : ℕ → ℕ) (room : ℕ) (is : List ℕ) → TakeTurns need given room is
     → segments (laid_out given job room is) ≤ min 1 room + sum_list (served need given) is
-segments-most need given job room [] turns =
-    let all : segments (replicate room Nobody ++ []) ≡ segments (replicate room Nobody) =
-    ap segments (append-nil (replicate room Nobody)) in
-    omega (arith, run-most Nobody room [], all)
-segments-most need given job room (i ∷ is) turns =
-    omega (
-      arith,
-      run-most (Held i (job i)) (given i) (laid_out given job (room - given i) is),
-      segments-most need given job (room - given i) is turns.1,
-      served-some need given i room turns.0,
-    )
+segments-most need given job room [] turns = grind (arith, append-nil (replicate room Nobody), run-most Nobody room)
+segments-most need given job room (i ∷ is) turns = grind (arith, run-most, segments-most need given job (room - given i) is turns.1)
 
 -- the holder for the first task of a list that needs something: its job, or nobody where no task needs any
 abbrev pub first_holder : (need job : ℕ → ℕ) → List ℕ → Holder
@@ -142,10 +122,7 @@ first_holder need job (i ∷ is) = if nat_eq (need i) 0 then first_holder need j
 none-laid : (need given job : ℕ → ℕ) (room : ℕ) (is : List ℕ) → room ≡ 0 → TakeTurns need given room is
     → laid_out given job room is ≡ []
 none-laid need given job room [] none turns = rw none refl
-none-laid need given job room (i ∷ is) none turns =
-    let nothing : given i ≡ 0 = omega (arith, none, turns.0) in
-    ap (λ n. replicate n (Held i (job i)) ++ laid_out given job (room - given i) is) nothing
-    ∙ none-laid need given job (room - given i) is (omega (arith, none)) turns.1
+none-laid need given job room (i ∷ is) none turns = grind (arith, none-laid need given job (room - given i) is (omega (arith, none)) turns.1)
 
 -- a task that needs nothing gets nothing
 skips : (need given job : ℕ → ℕ) (room i : ℕ) (is : List ℕ) → TakeTurns need given room (i ∷ is) → need i ≡ 0
@@ -180,27 +157,7 @@ first-leads need given job room (i ∷ is) turns = go (nat_eq (need i) 0) refl (
 pub first-alone : (need given job : ℕ → ℕ) (room : ℕ) (is : List ℕ) → TakeTurns need given room is
     → sum_list (served need given) is ≡ 0 → laid_out given job room is ≡ replicate room (first_holder need job is)
 first-alone need given job room [] turns none = refl
-first-alone need given job room (i ∷ is) turns none =
-    go (nat_eq (need i) 0) refl (λ t e. first-alone need given job room is t e)
-  where
-    go : (b : Bool) → nat_eq (need i) 0 ≡ b
-        → (TakeTurns need given room is → sum_list (served need given) is ≡ 0
-        → laid_out given job room is ≡ replicate room (first_holder need job is))
-        → laid_out given job room (i ∷ is) ≡ replicate room (first_holder need job (i ∷ is))
-    go true e ih =
-        let nothing : need i ≡ 0 = grind (arith, nat_tests) in
-        let skip = skips need given job room i is turns nothing in
-        rw e (skip.1 ∙ ih skip.0 (omega (arith, none)))
-    go false e ih =
-        let some : 0 < need i = grind (arith, nat_tests) in
-        let all : given i ≡ room = full some (cases_lt (given i) (need i)) in
-        rw e
-        (ap (λ us. replicate (given i) (Held i (job i)) ++ us)
-        (none-laid need given job (room - given i) is (omega (arith, all)) turns.1)
-        ∙ (append-nil (replicate (given i) (Held i (job i))) ∙ ap (λ m. replicate m (Held i (job i))) all))
-      where
-        full : 0 < need i → (given i < need i) ⊎ (need i ≤ given i) → given i ≡ room
-        full some c = grind (arith, nat_tests)
+first-alone need given job room (i ∷ is) turns none = grind (arith, none-laid, append-nil, first-alone need given job room is)
 
 -- the first holder depends only on which tasks need something, and on their jobs
 first-same : (n : ℕ) (need other job later : ℕ → ℕ) (is : List ℕ) → AreBelow n is
@@ -230,10 +187,7 @@ module _ (p : Plan) (dem : JobDemands) (ask : PublishedDemand) (lim : IsWithinLi
   laid_at past x = laid_out (share x) (job_at past) (speed x) (order_at past)
 
   units-laid : (past : List Tick) (x : Tick) → tick_units p past x ≡ laid_at past x
-  units-laid past x =
-      let given : List Holder = given_units (share x) (job_at past) (order_at past) in
-      ap (λ n. given ++ replicate (speed x - n) Nobody) (sym (sum_list-in_order (share x) (key_at past) (count p)))
-      ∙ laid-out (share x) (job_at past) (speed x) (order_at past)
+  units-laid past x = grind (arith, sum_list-in_order (share x) (key_at past) (count p), laid-out (share x) (job_at past) (speed x) (order_at past))
 
   turns : (past : List Tick) (x : Tick) → IsNext p dem ask past x
       → TakeTurns (units_left p dem past) (share x) (speed x) (order_at past)
@@ -242,28 +196,8 @@ module _ (p : Plan) (dem : JobDemands) (ask : PublishedDemand) (lim : IsWithinLi
   -- a job that gets all it needs completes
   served-completes : (past : List Tick) (x : Tick) → IsNext p dem ask past x → (i : ℕ) → i < count p
       → served (units_left p dem past) (share x) i ≤ one_if (completes_in p dem x past i)
-  served-completes past x next i lt = go (nat_lt 0 (units_left p dem past i) && nat_le (units_left p dem past i) (share x i)) refl
-    where
-      go : (b : Bool) → (nat_lt 0 (units_left p dem past i) && nat_le (units_left p dem past i) (share x i)) ≡ b
-          → served (units_left p dem past) (share x) i ≤ one_if (completes_in p dem x past i)
-      go false e = rw e (omega arith)
-      go true e =
-          let k = latest p i (length past) in
-          let parts = and_parts (nat_lt 0 (units_left p dem past i)) (nat_le (units_left p dem past i) (share x i)) e in
-          let some : 0 < units_left p dem past i = (let h = parts.0 in grind (arith, nat_tests)) in
-          let whole : units_left p dem past i ≤ share x i = (let h = parts.1 in grind (arith, nat_tests)) in
-          let most : share x i ≤ units_left p dem past i =
-          share-most (count p) (key_at past) (speed x) (units_left p dem past) (share x) next.legal i lt in
-          let had : exec p (x ∷ past) i k ≡ exec p past i k + share x i =
-          exec-legal p dem x past i (every_period p lim i) (needless i) most in
-          let undone : is_done p dem past i k ≡ false = grind (arith, nat_tests, some) in
-          let done : is_done p dem (x ∷ past) i k ≡ true =
-          all-had (exec p (x ∷ past) i k) (omega (arith, had, whole)) in
-          let one : one_if (completes_in p dem x past i) ≡ 1 = ap₂ (λ (a b : Bool). one_if (not a && b)) undone done in
-          rw e (omega (arith, one))
-        where
-          all-had : (n : ℕ) → dem i (latest p i (length past)) ≤ n → nat_le (dem i (latest p i (length past))) n ≡ true
-          all-had n le = grind (arith, nat_tests)
+  served-completes past x next i lt =
+      grind (arith, share-most (count p) (key_at past) (speed x) (units_left p dem past) (share x) next.legal i lt, exec-legal)
 
   -- the segments of a tick are at most one more than the jobs that complete in it
   tick-few : (past : List Tick) (x : Tick) → IsNext p dem ask past x
@@ -363,9 +297,4 @@ module _ (p : Plan) (dem : JobDemands) (ask : PublishedDemand) (lim : IsWithinLi
   pub last-few : (x : Tick) (past : List Tick) → IsScheduleBy p dem ask (x ∷ past)
       → LastHasFew x past (spans_of p dem (x ∷ past))
   last-few x [] h = opened-few [] x h.1
-  last-few x (y ∷ past) h = go (is_decision p dem (y ∷ past)) refl (last-few y past h.0)
-    where
-      go : (b : Bool) → is_decision p dem (y ∷ past) ≡ b → LastHasFew y past (spans_of p dem (y ∷ past))
-          → LastHasFew x (y ∷ past) (spans_of p dem (x ∷ y ∷ past))
-      go true e ih = rw e (opened-few (y ∷ past) x h.1)
-      go false e ih = rw e (longer-few x y past (spans_of p dem (y ∷ past)) h.1 e ih)
+  last-few x (y ∷ past) h = grind (arith, opened-few (y ∷ past) x h.1, longer-few, last-few y past h.0)

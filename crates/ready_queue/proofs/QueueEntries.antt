@@ -1,5 +1,5 @@
 -- What each call of a queue makes of the entries in its heap.
-use Rattle.std.proofs.Common.{◌≡◌, ◌≢◌, ℕ, zero, suc, ◌+◌, ◌^◌, ◌<◌, ◌≤◌, Bool, true, false, ◌⊎◌, inl, inr, refl, sym, ap, ap₂, subst, ◌∙◌, arith, List, [], ◌∷◌, ◌++◌, length, take, drop, IsPermutation, slice_get, slice_set, IfSome, if◌then◌else◌}
+use Rattle.std.proofs.Common.{◌≡◌, ◌≢◌, ℕ, zero, suc, ◌+◌, ◌^◌, ◌<◌, ◌≤◌, Bool, true, ◌⊎◌, inl, inr, refl, sym, ap, ap₂, subst, ◌∙◌, arith, List, [], ◌∷◌, ◌++◌, length, take, drop, IsPermutation, slice_get, slice_set, IfSome}
 use Rattle.std.specs.List.{slice_index_or, AllByRecursion, swap_remove}
 use Rattle.std.proofs.lemmas.List.{length_push, get_or_append_left, take_at}
 use Rattle.std.proofs.lemmas.List.Sorted.{IsPermutation-sym, IsPermutation-trans, IsPermutation-to_front, IsPermutation-cons, IsPermutation-swap_remove, length_permutation}
@@ -8,7 +8,7 @@ use Rattle.ready_queue.specs.Orders.{OrderLaws}
 use Rattle.ready_queue.specs.Entries.{QueueView, IsAbsent, IsOfFirst, AreApart, with_entry, ordered_entries, ComesFirst}
 use Rattle.ready_queue.specs.Heaps.{entry_at, IsHeap, IsRising, CanSink, HoldsQueue}
 use Rattle.ready_queue.proofs.Apart.{AreApart-permutation, length-apart}
-use Rattle.ready_queue.proofs.EntryOrder.{Has, All-at, All-of, Has-permutation, Contains-has, placed-first, sorted-All, Has-in_order, sorted-permutation}
+use Rattle.ready_queue.proofs.EntryOrder.{Has, All-at, All-of, Has-permutation, placed-first, sorted-All, Has-in_order, sorted-permutation}
 use Rattle.ready_queue.proofs.HeapSteps.{heap_first}
 
 pub All-permuted : (P : Entry → Type 0) (xs ys : List Entry) → IsPermutation xs ys → AllByRecursion P xs → AllByRecursion P ys
@@ -21,12 +21,7 @@ whole n from ws l e s = take_at ws (drop (length ws) l) n (length_permutation fr
 module _ (before : Entry → Entry → Bool) where
   length-placed : (e : Entry) (xs : List Entry) → length (with_entry before e xs) ≡ suc (length xs)
   length-placed e [] = refl
-  length-placed e (x ∷ xs) = go (before e x) (length-placed e xs)
-    where
-      go : (b : Bool) → length (with_entry before e xs) ≡ suc (length xs)
-          → length (if b then e ∷ x ∷ xs else x ∷ with_entry before e xs) ≡ suc (suc (length xs))
-      go true ih = refl
-      go false ih = ap suc ih
+  length-placed e (x ∷ xs) = grind (arith, length-placed e xs)
 
   pub length-in_order : (xs : List Entry) → length (ordered_entries before xs) ≡ length xs
   length-in_order [] = refl
@@ -37,20 +32,12 @@ module _ (before : Entry → Entry → Bool) where
 
   pub holds_none : (limit : ℕ) (xs : List Entry) → limit < 2 ^ 32 → xs ≡ [] → HoldsQueue before limit xs
   unfolding IsHeap
-  holds_none limit xs low e = subst (HoldsQueue before limit) (sym e) (record {
-    heap = λ p k child in'. absurd (omega (arith, in'));
-    apart = tt;
-    below = tt;
-    low_limit = low;
-  })
+  holds_none limit xs low e = grind arith
 
   -- what `insert` requires of the queue's entries holds of the heap's
   pub asked : (limit : ℕ) (e : Entry) (xs : List Entry) (q : QueueView) → record { limit = limit; entries = ordered_entries before xs } ≡ q
       → e.task < q.limit → IsAbsent e.task q.entries → (e.task < limit) × IsAbsent e.task xs
-  asked limit e xs q view lt a = (
-    omega (arith, ap (λ (r : QueueView). r.limit) view),
-    absent_held e.task xs (subst (IsAbsent e.task) (sym (ap (λ (r : QueueView). r.entries) view)) a),
-  )
+  asked limit e xs q view lt a = grind (arith, absent_held)
 
   -- there is room for an entry of a task that is not in the queue
   pub room : (limit : ℕ) (e : Entry) (xs : List Entry) → HoldsQueue before limit xs → e.task < limit → IsAbsent e.task xs → length xs < limit
@@ -61,16 +48,7 @@ module _ (before : Entry → Entry → Bool) where
 
   pub pushed_rises : (e : Entry) (xs : List Entry) (j : ℕ) → j ≡ length xs → IsHeap before xs → IsRising before (xs ++ e ∷ []) j
   unfolding IsHeap
-  pushed_rises e xs j is h = record {
-    others = λ p k child in' ne.
-        let long : length (xs ++ e ∷ []) ≡ length xs + 1 = length_push xs e in
-        let kl : k < length xs = omega arith in
-        let pl : p < length xs = omega arith in
-        ap₂ before (get_or_append_left xs (e ∷ []) (record { task = 0; due = 0; period = 0 }) p pl)
-        (get_or_append_left xs (e ∷ []) (record { task = 0; due = 0; period = 0 }) k kl)
-        ∙ h p k child kl;
-    around = record { over = λ p k up child in'. absurd (omega (arith, length_push xs e)) };
-  }
+  pushed_rises e xs j is h = grind (arith, length_push xs e, get_or_append_left)
 
   -- after an entry is pushed and has risen, the heap is a queue with one more entry
   pub holds_more : (limit : ℕ) (e : Entry) (xs ys : List Entry) → HoldsQueue before limit xs → e.task < limit → IsAbsent e.task xs
@@ -118,15 +96,7 @@ module _ (before : Entry → Entry → Bool) where
     first_entry limit (x ∷ xs) h = ap (λ (l : List Entry). slice_get l 0) (sym (top_entries limit x xs h))
 
     comes_first : (limit : ℕ) (x : Entry) (xs : List Entry) → HoldsQueue before limit (x ∷ xs) → ComesFirst before x (ordered_entries before (x ∷ xs))
-    comes_first limit x xs h = subst (ComesFirst before x) (sym (top_entries limit x xs h)) (record {
-      among = Contains-has (x ∷ ordered_entries before xs) x (inl refl);
-      others = (
-        λ ne. absurd (ne refl),
-        sorted-All before (λ z. z.task ≢ x.task → before x z ≡ true) xs
-            (All-of (λ z. z.task ≢ x.task → before x z ≡ true) xs
-            (λ z g ne. All-at (λ y. before x y ≡ true) xs z (heap_first before laws x xs h.apart h.heap) g)),
-      );
-    })
+    comes_first limit x xs h = grind (arith, top_entries limit x xs h, sorted-All, All-of, All-at, heap_first before laws x xs h.apart h.heap)
 
     pub first_comes : (limit : ℕ) (xs : List Entry) → HoldsQueue before limit xs
         → IfSome (slice_get xs 0) (λ e. ComesFirst before e (ordered_entries before xs))
@@ -184,22 +154,13 @@ module _ (before : Entry → Entry → Bool) where
             go z g (inr t) = t
 
         pub entries_less : ordered_entries before xs ≡ x ∷ ordered_entries before ys
-        entries_less =
-            sorted-permutation before laws xs (x ∷ ys) h.apart with_top
-            ∙ placed-first before x (ordered_entries before ys) (sorted-All before (λ z. before x z ≡ true) ys first_left)
+        entries_less = grind (arith, sorted-permutation before laws xs (x ∷ ys) h.apart with_top, placed-first, sorted-All, first_left)
 
         pub taken_out : IsAbsent x.task (ordered_entries before ys)
         taken_out = sorted-All before (λ z. z.task ≢ x.task) ys apart_top.0
 
         pub taken_first : ComesFirst before x (ordered_entries before xs)
-        taken_first = subst (ComesFirst before x) (sym entries_less) (record {
-          among = Contains-has (x ∷ ordered_entries before ys) x (inl refl);
-          others = (
-            λ ne. absurd (ne refl),
-            sorted-All before (λ z. z.task ≢ x.task → before x z ≡ true) ys
-                (All-of (λ z. z.task ≢ x.task → before x z ≡ true) ys (λ z g ne. All-at (λ y. before x y ≡ true) ys z first_left g)),
-          );
-        })
+        taken_first = grind (arith, entries_less, sorted-All, All-of, All-at, first_left)
 
         -- the queue after `take_first`
         pub taken : (more n : ℕ) (lent l : List Entry) (q : QueueView) → record { limit = limit; entries = ordered_entries before xs } ≡ q
@@ -208,14 +169,7 @@ module _ (before : Entry → Entry → Bool) where
             × (q.entries ≡ x ∷ ordered_entries before (take n (ys ++ drop (length ys) l)))
             × ComesFirst before x q.entries
             × IsAbsent x.task (ordered_entries before (take n (ys ++ drop (length ys) l)))
-        taken more n lent l q view is long heap room =
-            let same : take n (ys ++ drop (length ys) l) ≡ ys = whole n lent ys l long (subst (λ (zs : List Entry). IsPermutation zs ys) (sym is) s) in (
-              subst (λ (m : ℕ). HoldsQueue before m (take n (ys ++ drop (length ys) l))) (sym room)
-                  (subst (HoldsQueue before limit) (sym same) (holds_less heap)),
-              sym (ap (λ (r : QueueView). r.entries) view) ∙ entries_less ∙ ap (λ (zs : List Entry). x ∷ ordered_entries before zs) (sym same),
-              subst (ComesFirst before x) (ap (λ (r : QueueView). r.entries) view) taken_first,
-              subst (λ (zs : List Entry). IsAbsent x.task (ordered_entries before zs)) (sym same) taken_out,
-            )
+        taken more n lent l q view is long heap room = grind (arith, whole, holds_less, entries_less, taken_first, taken_out)
 
     -- the entry at the top is replaced by another of its task
     module _ (limit : ℕ) (e : Entry) where
@@ -228,10 +182,6 @@ module _ (before : Entry → Entry → Bool) where
       below_top : (x y : Entry) (xs : List Entry) (k : ℕ) → k ≢ 0 → entry_at (y ∷ xs) k ≡ entry_at (x ∷ xs) k
       below_top x y xs zero ne = absurd (ne refl)
       below_top x y xs (suc k) ne = refl
-
-      pub some_held : (xs : List Entry) → HoldsQueue before limit xs → IsOfFirst e.task (ordered_entries before xs) → 0 < length xs
-      some_held [] h f = absurd f
-      some_held (x ∷ xs) h f = omega arith
 
       pub replaced_sinks : (xs : List Entry) → HoldsQueue before limit xs → IsOfFirst e.task (ordered_entries before xs) → CanSink before (slice_set xs 0 e) 0
       unfolding IsHeap
@@ -262,15 +212,12 @@ module _ (before : Entry → Entry → Bool) where
           → ordered_entries before ys ≡ with_entry before e (drop 1 (ordered_entries before xs))
       entries_after [] ys h f s = absurd f
       entries_after (x ∷ xs) ys h f s =
-          sym (sorted-permutation before laws (e ∷ xs) ys (apart_top_replaced x xs (first_is x xs h f) h.apart) s)
-          ∙ ap (λ (zs : List Entry). with_entry before e (drop 1 zs)) (sym (top_entries limit x xs h))
+          grind (arith, sorted-permutation before laws (e ∷ xs) ys (apart_top_replaced x xs (first_is x xs h f) h.apart) s, top_entries limit x xs h)
 
       absent_after : (xs : List Entry) → HoldsQueue before limit xs → IsOfFirst e.task (ordered_entries before xs)
           → IsAbsent e.task (drop 1 (ordered_entries before xs))
       absent_after [] h f = absurd f
-      absent_after (x ∷ xs) h f =
-          subst (λ (zs : List Entry). IsAbsent e.task (drop 1 zs)) (sym (top_entries limit x xs h))
-          (sorted-All before (λ z. z.task ≢ e.task) xs (subst (λ (t : ℕ). IsAbsent t xs) (first_is x xs h f) h.apart.0))
+      absent_after (x ∷ xs) h f = grind (arith, top_entries, sorted-All)
 
       pub replaced : (n : ℕ) (xs ys l : List Entry) (q : QueueView) → HoldsQueue before limit xs
           → record { limit = limit; entries = ordered_entries before xs } ≡ q
@@ -278,11 +225,4 @@ module _ (before : Entry → Entry → Bool) where
           → HoldsQueue before limit (take n (ys ++ drop (length ys) l))
           × (ordered_entries before (take n (ys ++ drop (length ys) l)) ≡ with_entry before e (drop 1 q.entries))
           × IsAbsent e.task (drop 1 q.entries)
-      replaced n xs ys l q h view f long s heap =
-          let same = whole n (slice_set xs 0 e) ys l long s in
-          let entries = ap (λ (r : QueueView). r.entries) view in
-          let f' : IsOfFirst e.task (ordered_entries before xs) = subst (IsOfFirst e.task) (sym entries) f in (
-            subst (HoldsQueue before limit) (sym same) (held_after xs ys h f' s heap),
-            ap (ordered_entries before) same ∙ entries_after xs ys h f' s ∙ ap (λ (zs : List Entry). with_entry before e (drop 1 zs)) entries,
-            subst (λ (zs : List Entry). IsAbsent e.task (drop 1 zs)) entries (absent_after xs h f'),
-          )
+      replaced n xs ys l q h view f long s heap = grind (arith, whole, held_after, entries_after, absent_after)
