@@ -2,6 +2,7 @@
 use Rattle.std.proofs.Common.{◌≡◌, ℕ, List, [], ◌∷◌, ◌++◌, refl, codes}
 use Rattle.std.specs.Prelude.{flat_map}
 use Rattle.std.specs.Fmt.{digits}
+use Rattle.dvs_base.specs.declared.kind.Scheduler.{Scheduler}
 use Rattle.dvs_base.specs.declared.kind.Scheduler.TheVariants.{Edf, Rm}
 use Rattle.dvs_base.specs.declared.kind.GovernorKind.{GovernorKind}
 use Rattle.dvs_base.specs.declared.kind.GovernorKind.TheVariants.{Plain, Cycle, Ahead}
@@ -315,35 +316,16 @@ edf_cc_with_an_offset : HasLines late_second Cycle [] 8 (
 unfolding digits least_common_multiple published in_order release due latest schedule_by notes_before_end note_text
 edf_cc_with_an_offset = refl
 
--- a run that ends before the first release idles throughout
-edf_cc_before_all_releases : HasLines (late_alone Edf) Cycle [] 3 (
-    codes "plan edf cc 3" ∷
-    codes "speed 0 2 0/4" ∷
-    codes "idle 0:0 3:0 6 0" ∷
-    codes "end 3 0 0" ∷
-    [])
-unfolding digits least_common_multiple published in_order release due latest schedule_by notes_before_end note_text
-edf_cc_before_all_releases = refl
+-- a run that ends before the first release idles throughout, under any governor that looks at the jobs
+abbrev Idles : Scheduler → GovernorKind → List ℕ → List ℕ → Type 0
+Idles s g plan speed = HasLines (late_alone s) g [] 3 (plan ∷ speed ∷ codes "idle 0:0 3:0 6 0" ∷ codes "end 3 0 0" ∷ [])
 
--- a run under look-ahead that ends before the first release idles throughout
-edf_la_before_all_releases : HasLines (late_alone Edf) Ahead [] 3 (
-    codes "plan edf la 3" ∷
-    codes "speed 0 2 0/5" ∷
-    codes "idle 0:0 3:0 6 0" ∷
-    codes "end 3 0 0" ∷
-    [])
+before_all_releases :
+    Idles Edf Cycle (codes "plan edf cc 3") (codes "speed 0 2 0/4")
+    × Idles Edf Ahead (codes "plan edf la 3") (codes "speed 0 2 0/5")
+    × Idles Rm Cycle (codes "plan rm cc 3") (codes "speed 0 2 0/5")
 unfolding digits least_common_multiple published in_order release due latest schedule_by notes_before_end note_text
-edf_la_before_all_releases = refl
-
--- a run under cycle-conserving RM that ends before the first release idles throughout
-rm_cc_before_all_releases : HasLines (late_alone Rm) Cycle [] 3 (
-    codes "plan rm cc 3" ∷
-    codes "speed 0 2 0/5" ∷
-    codes "idle 0:0 3:0 6 0" ∷
-    codes "end 3 0 0" ∷
-    [])
-unfolding digits least_common_multiple published in_order release due latest schedule_by notes_before_end note_text
-rm_cc_before_all_releases = refl
+before_all_releases = (refl, refl, refl)
 
 -- under EDF the earlier deadline runs first, for any periods; of equal deadlines the earlier place
 earliest_deadline_first : HasLines early_and_late Plain [] 6 (
