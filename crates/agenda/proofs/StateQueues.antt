@@ -191,7 +191,8 @@ module _ (p : Plan) (s : StateView) (ready : ReadyView) (calendar : QueueView) (
       → StandFor p (after_finish s i) (record ready { entries = rest }) calendar
   stand-finish x rest i is apart own lt =
       stand-with (ready-closed p s i r lt rest refl (subst (λ (j : ℕ). HoldsTasks p s (without j (is_open s)) rest) own
-      (holds-drop p s (is_open s) x rest apart (subst (HoldsReady p s) is h.ready_jobs)))) (entries-kept p s i r lt (λ k. true) calendar.entries refl h.releases)
+      (holds-drop p s (is_open s) x rest apart (subst (HoldsReady p s) is h.ready_jobs))))
+      (entries-kept p s i r lt (λ k. true) calendar.entries refl h.releases)
     where
       r : Row
       r = record (row_at s i) { done = true }
