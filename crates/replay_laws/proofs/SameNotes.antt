@@ -183,12 +183,10 @@ shares-alike n key room need other given h alike i lt = go (cases_lt (sum_up_to 
     go (inl more) = omega (arith, h i lt, more, before, whole i lt more)
       where
         before : sum_before n key need i ≡ sum_before n key other i
-        before = sum_below-same n _ _ (λ j l. by j l (stands_before key j i) refl)
-          where
-            by : (j : ℕ) → j < n → (b : Bool) → stands_before key j i ≡ b
-                → (if stands_before key j i then need j else 0) ≡ (if stands_before key j i then other j else 0)
-            by j l true e = ap (λ (v : ℕ). if stands_before key j i then v else 0) (whole j l (omega (arith, more, up_to-before n key given j i l e)))
-            by j l false e = rw e refl
+        before = sum_below-same n _ _ (λ j l. elim (cases_Bool (stands_before key j i)) [
+          | inl e ↦ ap (λ (v : ℕ). if stands_before key j i then v else 0) (whole j l (omega (arith, more, up_to-before n key given j i l e)))
+          | inr e ↦ rw e refl
+        ])
 
 module _ (p : Plan) (lim : IsWithinLimits p) (dem other : JobDemands) (none : (i : ℕ) → dem i 0 ≡ 0) (ask : Asking) (blind : IsBlind p ask) where
   -- the latest jobs need the same by both demands, or were given less than they need and no more than the other need
@@ -263,7 +261,8 @@ module _ (p : Plan) (lim : IsWithinLimits p) (dem other : JobDemands) where
       → all_release_notes p dem (length past) ≡ all_release_notes p other (length past)
   releases-same past h = flat_map-same (count p) (release_notes p dem t) (release_notes p other t) (λ i lt.
       let k = latest p i t in
-      let same : nat_eq (dem i k) 0 ≡ nat_eq (other i k) 0 = grind (arith, nat_tests, equal-or-more p dem other past i k (latest-alike p lim dem other past t h i k lt refl)) in
+      let needs = equal-or-more p dem other past i k (latest-alike p lim dem other past t h i k lt refl) in
+      let same : nat_eq (dem i k) 0 ≡ nat_eq (other i k) 0 = grind (arith, nat_tests, needs) in
       ap (λ (b : Bool). if releases_at p i t then Release t i k ∷ (if b then Done (record { tick = t; offset = 0 }) i k 0 ∷ [] else []) else []) same)
     where
       t : ℕ
@@ -293,13 +292,9 @@ module _ (p : Plan) (lim : IsWithinLimits p) (dem other : JobDemands) where
       ends-alike : ((i : ℕ) → dem i 0 ≡ other i 0) → (holder : Holder) → IsNow p dem (length past) holder → EndsAlike p dem other s holder
       ends-alike none Nobody now = tt
       ends-alike none (Held i k) now =
-          go (equal-or-more p dem other (x ∷ past) i k (latest-alike p lim dem other (x ∷ past) (length past) h i k now.0 now.1)) (had-now i k now.0 (none i))
-        where
-          go : (dem i k ≡ other i k) ⊎ ((exec p (x ∷ past) i k < dem i k) × (exec p (x ∷ past) i k < other i k))
-              → (dem i k ≡ other i k) ⊎ (had_in p s i k ≡ exec p (x ∷ past) i k) → EndsAlike p dem other s (Held i k)
-          go (inr more) (inr had) = inr (omega (arith, had, more.0), omega (arith, had, more.1))
-          go (inl same) had = inl same
-          go more (inl same) = inl same
+          ⊎_elim (λ same. inl same) (λ had. ⊎_map (λ same. same) (λ more. (omega (arith, had, more.0), omega (arith, had, more.1)))
+          (equal-or-more p dem other (x ∷ past) i k (latest-alike p lim dem other (x ∷ past) (length past) h i k now.0 now.1)))
+          (had-now i k now.0 (none i))
 
       units-alike : ((i : ℕ) → dem i 0 ≡ other i 0) → AllByRecursion (EndsAlike p dem other s) s.units
       units-alike none = each-weaker (IsNow p dem (length past)) (EndsAlike p dem other s) (ends-alike none) s.units (l.now lim)
