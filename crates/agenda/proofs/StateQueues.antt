@@ -1,14 +1,14 @@
 -- What a ready queue and a calendar say about the state that they represent, and how they follow its changes.
 use Rattle.std.proofs.Common.{◌≡◌, ◌≢◌, ℕ, ◌+◌, ◌<◌, ◌≤◌, Bool, true, false, not, nat_eq, nat_lt, ◌⊎◌, inl, inr, refl, sym, ap, ap₂, subst, ◌∙◌, arith, if◌then◌else◌, List, [], ◌∷◌, length, true≢false, Option, Some, None, MatchOption, IfSome, drop, slice_get, set, get_or-set_same, get_or-set_other}
 use Rattle.std.specs.Prelude.{Contains}
-use Rattle.std.proofs.lemmas.Bool.{cases_eq, not-true}
+use Rattle.std.proofs.lemmas.Bool.{cases_eq, not-true, true_from_ne_false, false_from_ne_true}
 use Rattle.std.proofs.lemmas.Bool.Decides.{nat_tests}
 use Rattle.dvs_base.specs.declared.kind.Scheduler.{Scheduler}
 use Rattle.dvs_base.specs.declared.kind.Scheduler.TheVariants.{Edf, Rm}
-use Rattle.grid_fraction.specs.Numbers.{sum_below, any_below}
-use Rattle.grid_fraction.proofs.Least.{least-below, least-above}
-use Rattle.grid_fraction.proofs.Searches.{any_below-none, any_below-false}
-use Rattle.grid_fraction.proofs.Sums.{sum_below-same, sum_below-add, sum_below-own}
+use Rattle.grid_fraction.specs.Numbers.{any_below}
+use Rattle.grid_fraction.proofs.Least.{least-below, least-above, least-found}
+use Rattle.grid_fraction.proofs.Searches.{any_below-none, any_below-found}
+use Rattle.grid_fraction.proofs.Sums.{sum_below-change}
 use Rattle.sched_model.specs.declared.state.Row.{Row}
 use Rattle.sched_model.specs.Plan.{Plan, count, period, offset, worst}
 use Rattle.sched_model.specs.Priority.{stands_before}
@@ -22,7 +22,7 @@ use Rattle.ready_queue.proofs.EntryOrder.{All-at, Has-contains}
 use Rattle.agenda.specs.declared.agenda.Agenda.{Agenda}
 use Rattle.agenda.specs.Stands.{Stands}
 use Rattle.agenda.specs.Agenda.{before_of, task_entry, HoldsTasks, is_open, HoldsReady, HoldsCalendar, ReadyView, StandFor, IsFirstUndone, IsFirstDue, NonePast, next_job_row, with_next_job, due_left}
-use Rattle.agenda.proofs.Tasks.{without, without-other, without-apart, held, absent, holds-keep, holds-drop, holds-without, holds-add}
+use Rattle.agenda.proofs.Tasks.{without, without-apart, IsHeld, held, absent, holds-keep, holds-drop, holds-without, holds-add}
 
 -- the entries of two tasks are ordered as the tasks are
 entries-before : (sch : Scheduler) (p : Plan) (s : StateView) (i k : ℕ) → before_of sch (task_entry p s i) (task_entry p s k)
@@ -31,28 +31,23 @@ entries-before Edf p s i k = refl
 entries-before Rm p s i k = refl
 
 module _ (p : Plan) (s : StateView) where
-  is-open : (i : ℕ) → is_open s i ≡ true → (row_at s i).done ≡ false
-  is-open i h = not-true (row_at s i).done h
-
   -- the first entry of a ready queue is that of the first task with an incomplete job
   pub first-undone : (xs : List Entry) (x : Entry) → HoldsReady p s xs → ComesFirst (before_of p.scheduler) x xs → IsFirstUndone p s (count p) x.task
-  first-undone xs x h f = record { below = own.0; open_job = is-open x.task own.1; first = λ k lt b. go k lt b (row_at s k).done refl (cases_eq k x.task) }
+  first-undone xs x h f = record {
+    below = own.0;
+    open_job = not-true (row_at s x.task).done own.1;
+    first = λ k lt b. true_from_ne_false (row_at s k).done (λ e. true≢false (sym b ∙ behind k lt e (cases_eq k x.task)));
+  }
     where
-      own : (x.task < count p) × (is_open s x.task ≡ true) × (x ≡ task_entry p s x.task)
+      own : IsHeld p s (is_open s) x
       own = held p s (is_open s) xs h x (Has-contains xs x f.among)
 
-      go : (k : ℕ) → k < count p → stands_before (key_in p.scheduler p s) k x.task ≡ true → (d : Bool) → (row_at s k).done ≡ d
-          → (k ≡ x.task) ⊎ (k ≢ x.task) → (row_at s k).done ≡ true
-      go k lt b true e c = e
-      go k lt b false e (inl same) =
-          absurd (true≢false (sym b ∙ ap (λ (j : ℕ). stands_before (key_in p.scheduler p s) j x.task) same ∙ before-self (key_in p.scheduler p s) x.task))
-      go k lt b false e (inr ne) =
-          let there : before_of p.scheduler x (task_entry p s k) ≡ true =
-          All-at (λ z. z.task ≢ x.task → before_of p.scheduler x z ≡ true) xs (task_entry p s k) f.others
-          (Has-contains xs (task_entry p s k) (h.all k lt (ap not e))) ne in
-          let ahead : stands_before (key_in p.scheduler p s) x.task k ≡ true =
-          sym (entries-before p.scheduler p s x.task k) ∙ ap (λ (z : Entry). before_of p.scheduler z (task_entry p s k)) (sym own.2) ∙ there in
-          absurd (true≢false (sym b ∙ before-not (key_in p.scheduler p s) x.task k ahead))
+      behind : (k : ℕ) → k < count p → (row_at s k).done ≡ false → (k ≡ x.task) ⊎ (k ≢ x.task) → stands_before (key_in p.scheduler p s) k x.task ≡ false
+      behind k lt e (inl same) = ap (λ (j : ℕ). stands_before (key_in p.scheduler p s) j x.task) same ∙ before-self (key_in p.scheduler p s) x.task
+      behind k lt e (inr ne) = before-not (key_in p.scheduler p s) x.task k (sym (entries-before p.scheduler p s x.task k)
+          ∙ ap (λ (z : Entry). before_of p.scheduler z (task_entry p s k)) (sym own.2)
+          ∙ All-at (λ z. z.task ≢ x.task → before_of p.scheduler x z ≡ true) xs (task_entry p s k) f.others
+          (Has-contains xs (task_entry p s k) (h.all k lt (ap not e))) ne)
 
   -- there is only one first task with an incomplete job
   pub first-undone-own : (xs : List Entry) (x : Entry) (i : ℕ) → HoldsReady p s xs → ComesFirst (before_of p.scheduler) x xs
@@ -64,14 +59,12 @@ module _ (p : Plan) (s : StateView) where
 
       go : (x.task ≡ i) ⊎ (x.task ≢ i) → x.task ≡ i
       go (inl e) = e
-      go (inr ne) = by_order (stands_before (key_in p.scheduler p s) x.task i) refl
-        where
-          by_order : (b : Bool) → stands_before (key_in p.scheduler p s) x.task i ≡ b → x.task ≡ i
-          by_order true b = absurd (true≢false (sym (o.first x.task u.below b) ∙ u.open_job))
-          by_order false b = absurd (true≢false (sym (u.first i o.below (before-total (key_in p.scheduler p s) x.task i ne b)) ∙ o.open_job))
+      go (inr ne) =
+          let later = false_from_ne_true (stands_before (key_in p.scheduler p s) x.task i) (λ b. true≢false (sym (o.first x.task u.below b) ∙ u.open_job)) in
+          absurd (true≢false (sym (u.first i o.below (before-total (key_in p.scheduler p s) x.task i ne later)) ∙ o.open_job))
 
   module _ (xs : List Entry) (x : Entry) (h : HoldsCalendar p s xs) (f : ComesFirst due_before x xs) where
-    next-own : (x.task < count p) × (true ≡ true) × (x ≡ task_entry p s x.task)
+    next-own : IsHeld p s (λ i. true) x
     next-own = held p s (λ i. true) xs h x (Has-contains xs x f.among)
 
     next-due : x.due ≡ (row_at s x.task).deadline
@@ -82,11 +75,7 @@ module _ (p : Plan) (s : StateView) where
         (Has-contains xs (task_entry p s k) (h.all k lt refl)) ne
 
     next-least : (k : ℕ) → k < count p → x.due ≤ (row_at s k).deadline
-    next-least k lt = go (cases_eq k x.task)
-      where
-        go : (k ≡ x.task) ⊎ (k ≢ x.task) → x.due ≤ (row_at s k).deadline
-        go (inl e) = let same : (row_at s k).deadline ≡ (row_at s x.task).deadline = ap (λ (j : ℕ). (row_at s j).deadline) e in omega (arith, next-due, same)
-        go (inr ne) = let b = next-before k lt ne in grind (arith, nat_tests)
+    next-least k lt = grind (arith, nat_tests, cases_eq k x.task, next-due, next-before k lt)
 
     -- the first entry of a calendar has the next release
     pub next-release : x.due ≡ earliest_in p s
@@ -95,17 +84,17 @@ module _ (p : Plan) (s : StateView) where
         let high : x.due ≤ earliest_in p s = least-above (count p) (λ i. (row_at s i).deadline) x.due (omega (arith, next-own.0)) next-least in
         omega (arith, low, high, next-due)
 
+    -- of the tasks with the next release, the first entry of a calendar is that of the first
+    earlier : (k : ℕ) → k < count p → k ≢ x.task → x.due ≡ (row_at s k).deadline → x.task < k
+    earlier k lt ne same = let b = next-before k lt ne in grind (arith, nat_tests, b)
+
     -- where a task is released now, the first entry of a calendar is that of the first such task
     pub first-due : x.due ≡ s.now → IsFirstDue p s x.task
     first-due e = record {
       below = next-own.0;
       due = sym next-due ∙ e;
-      first = λ k lt same. let b = next-before k (omega (arith, lt, next-own.0)) (omega (arith, lt)) in
-          absurd (omega (arith, lt, order k b, same, e));
+      first = λ k lt same. absurd (omega (arith, lt, e, same, earlier k (omega (arith, lt, next-own.0)) (omega (arith, lt)) (e ∙ sym same)));
     }
-      where
-        order : (k : ℕ) → due_before x (task_entry p s k) ≡ true → (x.due ≡ (row_at s k).deadline) → x.task < k
-        order k b is = grind (arith, nat_tests)
 
     -- there is only one first task that is released now
     pub first-due-own : (i : ℕ) → NonePast p s → IsFirstDue p s i → x.task ≡ i
@@ -114,96 +103,82 @@ module _ (p : Plan) (s : StateView) where
         go : (i ≡ x.task) ⊎ (i ≢ x.task) → x.task ≡ i
         go (inl e) = sym e
         go (inr ne) =
-            let b : due_before x (task_entry p s i) ≡ true = next-before i d.below ne in
             let now : x.due ≡ s.now = omega (arith, next-least i d.below, d.due, next-due, past x.task next-own.0) in
-            let low : x.task < i = earlier b (now ∙ sym d.due) in
-            absurd (d.first x.task low (sym next-due ∙ now))
-          where
-            earlier : due_before x (task_entry p s i) ≡ true → x.due ≡ (row_at s i).deadline → x.task < i
-            earlier b e = grind (arith, nat_tests)
+            absurd (d.first x.task (earlier i d.below ne (now ∙ sym d.due)) (sym next-due ∙ now))
 
     pub none-due : NonePast p s → x.due ≢ s.now → (k : ℕ) → k < count p → (row_at s k).deadline ≢ s.now
     none-due past ne k lt is = omega (arith, next-least k lt, is, past x.task next-own.0, next-due, ne)
 
 -- the state with another row of task i
-abbrev with_row : StateView → ℕ → Row → StateView
+abbrev pub with_row : StateView → ℕ → Row → StateView
 with_row s i r = record s { rows = set s.rows i r }
 
-row-here : (s : StateView) (i : ℕ) (r : Row) → i < length s.rows → row_at (with_row s i r) i ≡ r
+pub row-here : (s : StateView) (i : ℕ) (r : Row) → i < length s.rows → row_at (with_row s i r) i ≡ r
 row-here s i r lt = get_or-set_same s.rows i r no_row lt
 
 row-there : (s : StateView) (i : ℕ) (r : Row) (k : ℕ) → k ≢ i → row_at (with_row s i r) k ≡ row_at s k
 row-there s i r k ne = get_or-set_other s.rows i k r no_row ne
 
-module _ (p : Plan) (s : StateView) (i : ℕ) (r : Row) where
-  entry-there : (k : ℕ) → k ≢ i → task_entry p s k ≡ task_entry p (with_row s i r) k
-  entry-there k ne = ap (λ (q : Row). record { task = k; due = q.deadline; period = period p k }) (sym (row-there s i r k ne))
+-- what holds of the new row, and of the rows of the other tasks, holds of each row
+pub by-row : (s : StateView) (i : ℕ) (r : Row) → i < length s.rows → (P : ℕ → Row → Type 0) → P i r → ((k : ℕ) → k ≢ i → P k (row_at s k))
+    → (k : ℕ) → P k (row_at (with_row s i r) k)
+by-row s i r lt P here there k = go (cases_eq k i)
+  where
+    go : (k ≡ i) ⊎ (k ≢ i) → P k (row_at (with_row s i r) k)
+    go (inl e) = subst (λ (j : ℕ). P j (row_at (with_row s i r) j)) (sym e) (subst (P i) (sym (row-here s i r lt)) here)
+    go (inr ne) = subst (P k) (sym (row-there s i r k ne)) (there k ne)
 
-  open-there : (k : ℕ) → k ≢ i → is_open s k ≡ is_open (with_row s i r) k
-  open-there k ne = ap (λ (q : Row). not q.done) (sym (row-there s i r k ne))
-
+module _ (p : Plan) (s : StateView) (i : ℕ) (r : Row) (lt : i < length s.rows) where
   -- the entries of other tasks stay right
-  others-kept : (test : ℕ → Bool) (xs : List Entry) → HoldsTasks p s (without i test) xs → HoldsTasks p (with_row s i r) (without i test) xs
-  others-kept test xs h = holds-keep p s (without i test) (with_row s i r) (without i test) xs (λ k lt. refl)
-      (λ k lt t. entry-there k (without-apart i test k t)) h
+  others-kept : (test test' : ℕ → Bool) (xs : List Entry) → ((k : ℕ) → without i test k ≡ without i test' k) → HoldsTasks p s (without i test) xs
+      → HoldsTasks p (with_row s i r) (without i test') xs
+  others-kept test test' xs same h = holds-keep p s (without i test) (with_row s i r) (without i test') xs (λ k lt. same k)
+      (λ k lt t. ap (λ (q : Row). record { task = k; due = q.deadline; period = period p k }) (sym (row-there s i r k (without-apart i test k t)))) h
 
   -- where the row of task i keeps its deadline, all entries stay right
-  entries-kept : (test : ℕ → Bool) (xs : List Entry) → i < length s.rows → r.deadline ≡ (row_at s i).deadline → HoldsTasks p s test xs
+  entries-kept : (test : ℕ → Bool) (xs : List Entry) → r.deadline ≡ (row_at s i).deadline → HoldsTasks p s test xs
       → HoldsTasks p (with_row s i r) test xs
-  entries-kept test xs lt same h = holds-keep p s test (with_row s i r) test xs (λ k lk. refl) (λ k lk t. go k (cases_eq k i)) h
-    where
-      go : (k : ℕ) → (k ≡ i) ⊎ (k ≢ i) → task_entry p s k ≡ task_entry p (with_row s i r) k
-      go k (inl e) = ap (λ (d : ℕ). record { task = k; due = d; period = period p k })
-          (ap (λ (j : ℕ). (row_at s j).deadline) e ∙ sym same ∙ ap (λ (q : Row). q.deadline) (sym (row-here s i r lt))
-          ∙ ap (λ (j : ℕ). (row_at (with_row s i r) j).deadline) (sym e))
-      go k (inr ne) = entry-there k ne
+  entries-kept test xs same h = holds-keep p s test (with_row s i r) test xs (λ k lk. refl)
+      (λ k lk t. by-row s i r lt (λ k q. task_entry p s k ≡ record { task = k; due = q.deadline; period = period p k })
+      (ap (λ (d : ℕ). record { task = i; due = d; period = period p i }) (sym same)) (λ k ne. refl) k) h
 
   -- the tasks with incomplete jobs, without task i, stay the same
-  open-without : (k : ℕ) → without i (is_open s) k ≡ without i (is_open (with_row s i r)) k
-  open-without k = go (cases_eq k i)
-    where
-      none : (test : ℕ → Bool) → k ≡ i → without i test k ≡ false
-      none test e = ap (λ (b : Bool). if b then false else test k) (let h : nat_eq k i ≡ true = grind (arith, nat_tests) in h)
-
-      go : (k ≡ i) ⊎ (k ≢ i) → without i (is_open s) k ≡ without i (is_open (with_row s i r)) k
-      go (inl e) = none (is_open s) e ∙ sym (none (is_open (with_row s i r)) e)
-      go (inr ne) = without-other i (is_open s) k ne ∙ open-there k ne ∙ sym (without-other i (is_open (with_row s i r)) k ne)
-
   ready-others : (xs : List Entry) → HoldsTasks p s (without i (is_open s)) xs → HoldsTasks p (with_row s i r) (without i (is_open (with_row s i r))) xs
-  ready-others xs h =
-      holds-keep p (with_row s i r) (without i (is_open s)) (with_row s i r) (without i (is_open (with_row s i r))) xs
-      (λ k lt. open-without k) (λ k lt t. refl) (others-kept (is_open s) xs h)
+  ready-others xs = others-kept (is_open s) (is_open (with_row s i r)) xs
+      (by-row s i r lt (λ k q. without i (is_open s) k ≡ (if nat_eq k i then false else not q.done)) (grind (arith, nat_tests)) (λ k ne. refl))
 
   -- where the job of task i is now complete, a ready queue without its entry is right
-  ready-closed : (xs : List Entry) → i < length s.rows → r.done ≡ true → HoldsTasks p s (without i (is_open s)) xs → HoldsReady p (with_row s i r) xs
-  ready-closed xs lt done h =
+  ready-closed : (xs : List Entry) → r.done ≡ true → HoldsTasks p s (without i (is_open s)) xs → HoldsReady p (with_row s i r) xs
+  ready-closed xs done h =
       holds-keep p (with_row s i r) (without i (is_open (with_row s i r))) (with_row s i r) (is_open (with_row s i r)) xs
-      (λ k lk. go k (cases_eq k i)) (λ k lk t. refl) (ready-others xs h)
-    where
-      go : (k : ℕ) → (k ≡ i) ⊎ (k ≢ i) → without i (is_open (with_row s i r)) k ≡ is_open (with_row s i r) k
-      go k (inl e) =
-          ap (λ (b : Bool). if b then false else is_open (with_row s i r) k) (let t : nat_eq k i ≡ true = grind (arith, nat_tests) in t)
-          ∙ sym (ap (λ (q : Row). not q.done) (ap (row_at (with_row s i r)) e ∙ row-here s i r lt) ∙ ap not done)
-      go k (inr ne) = without-other i (is_open (with_row s i r)) k ne
+      (λ k lk. by-row s i r lt (λ k q. (if nat_eq k i then false else not q.done) ≡ not q.done) (grind (arith, nat_tests, done))
+      (λ k ne. grind (arith, nat_tests, ne)) k) (λ k lk t. refl) (ready-others xs h)
 
   -- where the job of task i is now incomplete, a ready queue with its entry is right
-  ready-opened : (xs : List Entry) → i < count p → i < length s.rows → r.done ≡ false → HoldsTasks p s (without i (is_open s)) xs
+  ready-opened : (xs : List Entry) → i < count p → r.done ≡ false → HoldsTasks p s (without i (is_open s)) xs
       → HoldsReady p (with_row s i r) (with_entry (before_of p.scheduler) (task_entry p (with_row s i r) i) xs)
-  ready-opened xs lp lt unfinished h =
+  ready-opened xs lp unfinished h =
       holds-add p (with_row s i r) (is_open (with_row s i r)) (before_of p.scheduler) i xs lp
       (ap (λ (q : Row). not q.done) (row-here s i r lt) ∙ ap not unfinished) (ready-others xs h)
 
 module _ (p : Plan) (s : StateView) (ready : ReadyView) (calendar : QueueView) (h : StandFor p s ready calendar) where
-  -- `State::run` changes neither the ready queue nor the calendar
-  pub stand-run : (i units : ℕ) → i < length s.rows → StandFor p (after_run s i units) ready calendar
-  stand-run i units lt = record {
+  -- with other entries that are right for another state, the queues represent that state
+  stand-with : {after : StateView} {jobs releases : List Entry} → HoldsReady p after jobs → HoldsCalendar p after releases
+      → StandFor p after (record ready { entries = jobs }) (record calendar { entries = releases })
+  stand-with jobs releases = record {
     scheduler = h.scheduler;
     ready_limit = h.ready_limit;
-    ready_jobs = holds-keep p s' (is_open s) s' (is_open s') ready.entries (λ k lk. go k (cases_eq k i)) (λ k lk t. refl)
-        (entries-kept p s i r (is_open s) ready.entries lt refl h.ready_jobs);
+    ready_jobs = jobs;
     calendar_limit = h.calendar_limit;
-    releases = entries-kept p s i r (λ k. true) calendar.entries lt refl h.releases;
+    releases = releases;
   }
+
+  -- `State::run` changes neither the ready queue nor the calendar
+  pub stand-run : (i units : ℕ) → i < length s.rows → StandFor p (after_run s i units) ready calendar
+  stand-run i units lt =
+      stand-with (holds-keep p s' (is_open s) s' (is_open s') ready.entries
+      (λ k lk. by-row s i r lt (λ k q. is_open s k ≡ not q.done) refl (λ k ne. refl) k) (λ k lk t. refl)
+      (entries-kept p s i r lt (is_open s) ready.entries refl h.ready_jobs)) (entries-kept p s i r lt (λ k. true) calendar.entries refl h.releases)
     where
       r : Row
       r = record (row_at s i) { used = (row_at s i).used + units }
@@ -211,62 +186,16 @@ module _ (p : Plan) (s : StateView) (ready : ReadyView) (calendar : QueueView) (
       s' : StateView
       s' = after_run s i units
 
-      go : (k : ℕ) → (k ≡ i) ⊎ (k ≢ i) → is_open s k ≡ is_open s' k
-      go k (inl e) = ap (is_open s) e ∙ ap (λ (q : Row). not q.done) (sym (row-here s i r lt)) ∙ ap (is_open s') (sym e)
-      go k (inr ne) = open-there p s i r k ne
-
   -- after `State::finish` of the first ready job, the ready queue without it is right
   pub stand-finish : (x : Entry) (rest : List Entry) (i : ℕ) → ready.entries ≡ x ∷ rest → IsAbsent x.task rest → x.task ≡ i → i < length s.rows
       → StandFor p (after_finish s i) (record ready { entries = rest }) calendar
-  stand-finish x rest i is apart own lt = record {
-    scheduler = h.scheduler;
-    ready_limit = h.ready_limit;
-    ready_jobs = ready-closed p s i r rest lt refl (subst (λ (j : ℕ). HoldsTasks p s (without j (is_open s)) rest) own
-        (holds-drop p s (is_open s) x rest apart (subst (HoldsReady p s) is h.ready_jobs)));
-    calendar_limit = h.calendar_limit;
-    releases = entries-kept p s i r (λ k. true) calendar.entries lt refl h.releases;
-  }
+  stand-finish x rest i is apart own lt =
+      stand-with (ready-closed p s i r lt rest refl (subst (λ (j : ℕ). HoldsTasks p s (without j (is_open s)) rest) own
+      (holds-drop p s (is_open s) x rest apart (subst (HoldsReady p s) is h.ready_jobs))))
+      (entries-kept p s i r lt (λ k. true) calendar.entries refl h.releases)
     where
       r : Row
       r = record (row_at s i) { done = true }
-
-  -- the first release of the calendar takes place
-  module _ (x : Entry) (rest : List Entry) (i : ℕ) (is : calendar.entries ≡ x ∷ rest) (apart : IsAbsent x.task rest) (own : x.task ≡ i)
-      (lp : i < count p) (lt : i < length s.rows) (done : (row_at s i).done ≡ true) where
-    opened-releases : (r : Row) → HoldsCalendar p (with_row s i r) (with_entry due_before (task_entry p (with_row s i r) i) rest)
-    opened-releases r =
-        holds-add p (with_row s i r) (λ k. true) due_before i rest lp refl
-        (others-kept p s i r (λ k. true) rest
-        (subst (λ (j : ℕ). HoldsTasks p s (without j (λ k. true)) rest) own
-        (holds-drop p s (λ k. true) x rest apart (subst (HoldsCalendar p s) is h.releases))))
-
-    ready-absent : HoldsTasks p s (without i (is_open s)) ready.entries
-    ready-absent = holds-without p s (is_open s) i ready.entries (absent p s (is_open s) i ready.entries h.ready_jobs (ap not done)) h.ready_jobs
-
-    -- the job that is released needs some units: the ready queue and the calendar have its entry
-    pub stand-opened : StandFor p (with_next_job p s i false)
-        (record ready { entries = with_entry (before_of p.scheduler) (task_entry p (with_next_job p s i false) i) ready.entries })
-        (record calendar { entries = with_entry due_before (task_entry p (with_next_job p s i false) i) rest })
-    stand-opened = record {
-      scheduler = h.scheduler;
-      ready_limit = h.ready_limit;
-      ready_jobs = ready-opened p s i (next_job_row (period p i) false (row_at s i)) ready.entries lp lt refl ready-absent;
-      calendar_limit = h.calendar_limit;
-      releases = opened-releases (next_job_row (period p i) false (row_at s i));
-    }
-
-    -- the job that is released needs no units: the calendar alone has its entry
-    pub stand-closed : StandFor p (with_next_job p s i true) ready (record calendar {
-      entries =
-          with_entry due_before (task_entry p (with_next_job p s i true) i) rest;
-    })
-    stand-closed = record {
-      scheduler = h.scheduler;
-      ready_limit = h.ready_limit;
-      ready_jobs = ready-closed p s i (next_job_row (period p i) true (row_at s i)) ready.entries lt refl ready-absent;
-      calendar_limit = h.calendar_limit;
-      releases = opened-releases (next_job_row (period p i) true (row_at s i));
-    }
 
 -- an agenda represents each state with the same rows: `State::advance` and `State::mark` change none
 pub stands-rows : (p : Plan) (s after : StateView) (a : Agenda) → after.rows ≡ s.rows → Stands p s a → Stands p after a
@@ -335,34 +264,44 @@ module _ (p : Plan) (s : StateView) (ready : ReadyView) (calendar : QueueView) (
 
   -- after a release the new ready queue and the new calendar represent the new state
   module _ (i : ℕ) (d : IsFirstDue p s i) (lt : i < length s.rows) (done : (row_at s i).done ≡ true)
-      (first : IsOfFirst i calendar.entries) (out : IsAbsent i (drop 1 calendar.entries)) where
-    taken : TakesDue p s i calendar.entries (drop 1 calendar.entries)
-    taken = takes-due p s i calendar.entries first out
+      (first : IsOfFirst i calendar.entries) (out : IsAbsent i (drop 1 calendar.entries)) (next : Entry) (calendar' : QueueView)
+      (limit : calendar'.limit ≡ calendar.limit) (entries : calendar'.entries ≡ with_entry due_before next (drop 1 calendar.entries)) where
+    -- the new calendar has the new entry of the task in place of its first
+    renewed : (b : Bool) → next ≡ task_entry p (with_next_job p s i b) i → HoldsCalendar p (with_next_job p s i b) calendar'.entries
+    renewed b is =
+        let t = takes-due p s i calendar.entries first out in
+        subst (HoldsCalendar p (with_next_job p s i b)) (sym (entries ∙ ap (λ (x : Entry). with_entry due_before x (drop 1 calendar.entries)) is))
+        (holds-add p (with_next_job p s i b) (λ k. true) due_before i (drop 1 calendar.entries) d.below refl
+        (others-kept p s i (next_job_row (period p i) b (row_at s i)) lt (λ k. true) (λ k. true) (drop 1 calendar.entries) (λ k. refl)
+        (subst (λ (j : ℕ). HoldsTasks p s (without j (λ k. true)) (drop 1 calendar.entries)) t.own
+        (holds-drop p s (λ k. true) t.entry (drop 1 calendar.entries) t.out (subst (HoldsCalendar p s) t.is h.releases)))))
 
-    module _ (next : Entry) (calendar' : QueueView) (limit : calendar'.limit ≡ calendar.limit)
-        (entries : calendar'.entries ≡ with_entry due_before next (drop 1 calendar.entries)) where
-      as_calendar : (e : Entry) → next ≡ e → calendar' ≡ record calendar { entries = with_entry due_before e (drop 1 calendar.entries) }
-      as_calendar e is = ap₂ (λ (l : ℕ) (xs : List Entry). record { limit = l; entries = xs }) limit
-          (entries ∙ ap (λ (x : Entry). with_entry due_before x (drop 1 calendar.entries)) is)
+    ready-absent : HoldsTasks p s (without i (is_open s)) ready.entries
+    ready-absent = holds-without p s (is_open s) i ready.entries (absent p s (is_open s) i ready.entries h.ready_jobs (ap not done)) h.ready_jobs
 
-      pub after-open : (ready' : ReadyView) → next ≡ task_entry p (with_next_job p s i false) i
-          → ready' ≡ record ready { entries = with_entry (before_of ready.scheduler) next ready.entries }
-          → StandFor p (with_next_job p s i false) ready' calendar'
-      after-open ready' is put =
-          let all : StandFor p (with_next_job p s i false)
-          (record ready { entries = with_entry (before_of p.scheduler) (task_entry p (with_next_job p s i false) i) ready.entries })
-          (record calendar { entries = with_entry due_before (task_entry p (with_next_job p s i false) i) (drop 1 calendar.entries) }) =
-          stand-opened p s ready calendar h taken.entry (drop 1 calendar.entries) i taken.is taken.out taken.own d.below lt done in
-          subst (λ (q : ReadyView). StandFor p (with_next_job p s i false) q calendar')
-          (ap₂ (λ (c : Scheduler) (x : Entry). record ready { entries = with_entry (before_of c) x ready.entries }) (sym h.scheduler) (sym is) ∙ sym put)
-          (subst (λ (q : QueueView). StandFor p (with_next_job p s i false)
-          (record ready { entries = with_entry (before_of p.scheduler) (task_entry p (with_next_job p s i false) i) ready.entries }) q)
-          (sym (as_calendar (task_entry p (with_next_job p s i false) i) is)) all)
+    -- the job that is released needs some units: the ready queue has its entry too
+    pub after-open : (ready' : ReadyView) → next ≡ task_entry p (with_next_job p s i false) i
+        → ready' ≡ record ready { entries = with_entry (before_of ready.scheduler) next ready.entries }
+        → StandFor p (with_next_job p s i false) ready' calendar'
+    after-open ready' is put = record {
+      scheduler = ap (λ (q : ReadyView). q.scheduler) put ∙ h.scheduler;
+      ready_limit = ap (λ (q : ReadyView). q.limit) put ∙ h.ready_limit;
+      ready_jobs = subst (HoldsReady p (with_next_job p s i false)) (sym (ap (λ (q : ReadyView). q.entries) put
+          ∙ ap₂ (λ (c : Scheduler) (x : Entry). with_entry (before_of c) x ready.entries) h.scheduler is))
+          (ready-opened p s i (next_job_row (period p i) false (row_at s i)) lt ready.entries d.below refl ready-absent);
+      calendar_limit = limit ∙ h.calendar_limit;
+      releases = renewed false is;
+    }
 
-      pub after-closed : next ≡ task_entry p (with_next_job p s i true) i → StandFor p (with_next_job p s i true) ready calendar'
-      after-closed is =
-          subst (λ (q : QueueView). StandFor p (with_next_job p s i true) ready q) (sym (as_calendar (task_entry p (with_next_job p s i true) i) is))
-          (stand-closed p s ready calendar h taken.entry (drop 1 calendar.entries) i taken.is taken.out taken.own d.below lt done)
+    -- the job that is released needs no units: the ready queue stays
+    pub after-closed : next ≡ task_entry p (with_next_job p s i true) i → StandFor p (with_next_job p s i true) ready calendar'
+    after-closed is = record {
+      scheduler = h.scheduler;
+      ready_limit = h.ready_limit;
+      ready_jobs = ready-closed p s i (next_job_row (period p i) true (row_at s i)) lt ready.entries refl ready-absent;
+      calendar_limit = limit ∙ h.calendar_limit;
+      releases = renewed true is;
+    }
 
 -- the entry that `renew` puts in is that of the task after its release
 pub opened-entry : (p : Plan) (s : StateView) (i : ℕ) (done : Bool) (per due : ℕ) → i < length s.rows → per ≡ period p i → due ≡ (row_at s i).deadline
@@ -377,11 +316,7 @@ pub more-held : (p : Plan) (s : StateView) (m : ℕ) (e : Entry) (xs ys : List E
 more-held p s m e xs ys lt h is put =
     subst (HoldsTasks p s (λ i. nat_lt i (m + 1))) (sym (put ∙ ap (λ (z : Entry). with_entry due_before z xs) is))
     (holds-add p s (λ i. nat_lt i (m + 1)) due_before m xs lt (grind (arith, nat_tests))
-    (holds-keep p s (λ i. nat_lt i m) s (without m (λ i. nat_lt i (m + 1))) xs (λ k lk. go k (cases_eq k m)) (λ k lk t. refl) h))
-  where
-    go : (k : ℕ) → (k ≡ m) ⊎ (k ≢ m) → nat_lt k m ≡ without m (λ i. nat_lt i (m + 1)) k
-    go k (inl q) = grind (arith, nat_tests)
-    go k (inr ne) = (let same : nat_lt k m ≡ nat_lt k (m + 1) = grind (arith, nat_tests) in same) ∙ sym (without-other m (λ i. nat_lt i (m + 1)) k ne)
+    (holds-keep p s (λ i. nat_lt i m) s (without m (λ i. nat_lt i (m + 1))) xs (λ k lk. grind (arith, nat_tests)) (λ k lk t. refl) h))
 
 pub all-held : (p : Plan) (s : StateView) (n : ℕ) (xs : List Entry) → count p ≤ n → HoldsTasks p s (λ i. nat_lt i n) xs → HoldsCalendar p s xs
 all-held p s n xs le h = holds-keep p s (λ i. nat_lt i n) s (λ i. true) xs (λ k lt. grind (arith, nat_tests)) (λ k lt t. refl) h
@@ -403,67 +338,42 @@ opening-entry p m first per lt begins is =
 pub due-falls : (p : Plan) (s : StateView) (i : ℕ) (done : Bool) → i < length s.rows → 0 < period p i → IsFirstDue p s i
     → due_left p (with_next_job p s i done) < due_left p s
 due-falls p s i done lt some d =
-    let n : due_left p s ≡ sum_below (count p) (λ k. after k + own k) = sum_below-same (count p) before (λ k. after k + own k)
-    (λ k lk. split k (cases_eq k i)) in
-    omega (arith, n, sum_below-add (count p) after own, sum_below-own (count p) i (λ k. 1) d.below)
+    let now : nat_eq (row_at s i).deadline s.now ≡ true = grind (arith, nat_tests, d.due) in
+    let past : nat_eq (row_at s' i).deadline s.now ≡ false = ap (λ (r : Row). nat_eq r.deadline s.now) (row-here s i r lt) ∙ later in
+    omega (
+      arith,
+      rw (now, past) at (sum_below-change (count p) (left_of s) (left_of s') i d.below
+          (λ k lk ne. ap (λ (r : Row). if nat_eq r.deadline s.now then 1 else 0) (row-there s i r k ne))),
+    )
   where
+    r : Row
+    r = next_job_row (period p i) done (row_at s i)
+
     s' : StateView
     s' = with_next_job p s i done
 
-    before : ℕ → ℕ
-    before k = if nat_eq (row_at s k).deadline s.now then 1 else 0
+    left_of : StateView → ℕ → ℕ
+    left_of v k = if nat_eq (row_at v k).deadline s.now then 1 else 0
 
-    after : ℕ → ℕ
-    after k = if nat_eq (row_at s' k).deadline s.now then 1 else 0
-
-    own : ℕ → ℕ
-    own k = if nat_eq k i then 1 else 0
-
-    here : row_at s' i ≡ next_job_row (period p i) done (row_at s i)
-    here = row-here s i (next_job_row (period p i) done (row_at s i)) lt
-
-    split : (k : ℕ) → (k ≡ i) ⊎ (k ≢ i) → before k ≡ after k + own k
-    split k (inl e) =
-        let past : nat_eq (row_at s' i).deadline s.now ≡ false = ap (λ (r : Row). nat_eq r.deadline s.now) here ∙ later in
-        let now : nat_eq (row_at s i).deadline s.now ≡ true = grind (arith, nat_tests, d.due) in
-        let same : nat_eq i i ≡ true = grind (arith, nat_tests) in
-        subst (λ (j : ℕ). before j ≡ after j + own j) (sym e) (rw (now, past, same) refl)
-      where
-        later : nat_eq ((row_at s i).deadline + period p i) s.now ≡ false
-        later = let is : (row_at s i).deadline ≡ s.now = d.due in grind (arith, nat_tests)
-    split k (inr ne) =
-        let other : nat_eq k i ≡ false = grind (arith, nat_tests) in
-        rw (row-there s i (next_job_row (period p i) done (row_at s i)) k ne, other) (omega arith)
+    later : nat_eq ((row_at s i).deadline + period p i) s.now ≡ false
+    later = let is : (row_at s i).deadline ≡ s.now = d.due in grind (arith, nat_tests)
 
 -- the next release is now exactly where some task is to be released now
 pub release-now : (p : Plan) (s : StateView) → 0 < count p → NonePast p s
     → nat_eq (earliest_in p s) s.now ≡ any_below (count p) (λ i. nat_eq (row_at s i).deadline s.now)
-release-now p s some past = go (any_below (count p) (λ i. nat_eq (row_at s i).deadline s.now)) refl
+release-now p s some past = go (nat_eq (earliest_in p s) s.now) refl
   where
-    low : s.now ≤ earliest_in p s
-    low = least-above (count p) (λ i. (row_at s i).deadline) s.now some past
-
     test : ℕ → Bool
     test i = nat_eq (row_at s i).deadline s.now
 
-    later : any_below (count p) test ≡ false → (i : ℕ) → i < count p → s.now + 1 ≤ (row_at s i).deadline
-    later e i lt =
-        let off : nat_eq (row_at s i).deadline s.now ≡ false = any_below-false (count p) test e i lt in
-        let le : s.now ≤ (row_at s i).deadline = past i lt in
-        grind (arith, nat_tests)
-
-    here : earliest_in p s ≢ s.now → (i : ℕ) → i < count p → test i ≡ false
-    here ne i lt =
+    none : nat_eq (earliest_in p s) s.now ≡ false → (i : ℕ) → i < count p → test i ≡ false
+    none e i lt =
+        let low : s.now ≤ earliest_in p s = least-above (count p) (λ i. (row_at s i).deadline) s.now some past in
         let le : earliest_in p s ≤ (row_at s i).deadline = least-below (count p) (λ j. (row_at s j).deadline) i lt in
-        let lo : s.now ≤ earliest_in p s = low in
         grind (arith, nat_tests)
 
-    go : (b : Bool) → any_below (count p) test ≡ b → nat_eq (earliest_in p s) s.now ≡ any_below (count p) test
-    go false e =
-        let high : s.now + 1 ≤ earliest_in p s = least-above (count p) (λ i. (row_at s i).deadline) (s.now + 1) some (later e) in
-        (let off : nat_eq (earliest_in p s) s.now ≡ false = grind (arith, nat_tests) in off) ∙ sym e
-    go true e = by_eq (cases_eq (earliest_in p s) s.now)
-      where
-        by_eq : (earliest_in p s ≡ s.now) ⊎ (earliest_in p s ≢ s.now) → nat_eq (earliest_in p s) s.now ≡ any_below (count p) test
-        by_eq (inl q) = (let on : nat_eq (earliest_in p s) s.now ≡ true = grind (arith, nat_tests) in on) ∙ sym e
-        by_eq (inr ne) = absurd (true≢false (sym e ∙ any_below-none (count p) test (here ne)))
+    go : (b : Bool) → nat_eq (earliest_in p s) s.now ≡ b → nat_eq (earliest_in p s) s.now ≡ any_below (count p) test
+    go false e = e ∙ sym (any_below-none (count p) test (none e))
+    go true e =
+        let f = least-found (count p) (λ i. (row_at s i).deadline) some in
+        e ∙ sym (any_below-found (count p) test f.0 f.1 (ap (λ d. nat_eq d s.now) f.2 ∙ e))

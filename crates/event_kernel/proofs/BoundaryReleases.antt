@@ -1,6 +1,7 @@
 -- The releases of one boundary.
 use Rattle.std.proofs.Common.{eq-eqb, ◌≡◌, ◌≢◌, ◌⊎◌, inl, inr, ℕ, zero, suc, ◌+◌, ◌-◌, ◌<◌, ◌≤◌, Bool, true, false, ◌||◌, List, [], ◌∷◌, ◌++◌, length, refl, arith, if◌then◌else◌, ap, ap₂, ◌∙◌, sym, append-nil, nat_eq, nat_lt, add-one, set, get_or-set_same}
 use Rattle.std.specs.Prelude.{flat_map}
+use Rattle.std.proofs.Math.Logic.{⊎_elim}
 use Rattle.std.proofs.Math.Bool.{or-true, or-false}
 use Rattle.std.proofs.lemmas.Bool.{cases_lt}
 use Rattle.std.proofs.lemmas.Bool.Decides.{nat_tests}
@@ -124,13 +125,12 @@ module _ {p : Plan} {dem : JobDemands} {past : List Tick} (periods : (i : ℕ) �
 
     -- no row's next release is before the state's tick
     pub none-past : NonePast p st
-    none-past i lt = go (cases_lt i m)
-      where
-        go : (i < m) ⊎ (m ≤ i) → st.now ≤ (row_at st i).deadline
-        go (inl l) =
-            let row = ap (λ (q : Row). q.deadline) (row-at i lt ∙ mixed-done p dem past m i l) in
-            omega (arith, now-is, row, lt-due p i (length past) (periods i))
-        go (inr ge) = omega (arith, now-is, ap (λ (q : Row). q.deadline) (row-there i lt ge), prior-due p dem periods past i)
+    none-past i lt = elim (cases_lt i m) [
+      | inl l ↦
+          let row = ap (λ (q : Row). q.deadline) (row-at i lt ∙ mixed-done p dem past m i l) in
+          omega (arith, now-is, row, lt-due p i (length past) (periods i))
+      | inr ge ↦ omega (arith, now-is, ap (λ (q : Row). q.deadline) (row-there i lt ge), prior-due p dem periods past i)
+    ]
 
     -- rows that are not due may be counted as released
     pub skips : (i : ℕ) → ((i : ℕ) → dem i 0 ≡ 0) → m ≤ i → i ≤ count p → ((k : ℕ) → m ≤ k → k < i → (row_at st k).deadline ≢ st.now)
@@ -156,17 +156,13 @@ module _ {p : Plan} {dem : JobDemands} {past : List Tick} (periods : (i : ℕ) �
     -- the rows before the first one that is due may be counted as released
     pub at-due : ((i : ℕ) → dem i 0 ≡ 0) → {i : ℕ} → IsFirstDue p st i
         → HasReleased p dem past i any st × (notes_upto p dem past m ≡ notes_upto p dem past i)
-    at-due unneeded {i} d = skips i unneeded (go (cases_lt i m)) (omega (arith, d.below)) (λ k lo hi. d.first k hi)
-      where
-        go : (i < m) ⊎ (m ≤ i) → m ≤ i
-        go (inr ge) = ge
-        go (inl l) = absurd (omega (
-          arith,
-          now-is,
-          d.due,
-          ap (λ (q : Row). q.deadline) (row-at i d.below ∙ mixed-done p dem past m i l),
-          lt-due p i (length past) (periods i),
-        ))
+    at-due unneeded {i} d = skips i unneeded (⊎_elim (λ l. absurd (omega (
+      arith,
+      now-is,
+      d.due,
+      ap (λ (q : Row). q.deadline) (row-at i d.below ∙ mixed-done p dem past m i l),
+      lt-due p i (length past) (periods i),
+    ))) (λ ge. ge) (cases_lt i m)) (omega (arith, d.below)) (λ k lo hi. d.first k hi)
 
     pub at-end : ((i : ℕ) → dem i 0 ≡ 0) → m ≤ count p → ((k : ℕ) → k < count p → (row_at st k).deadline ≢ st.now)
         → HasReleased p dem past (count p) any st × (notes_upto p dem past m ≡ notes_upto p dem past (count p))
@@ -207,12 +203,10 @@ module _ {p : Plan} {dem : JobDemands} {past : List Tick} (periods : (i : ℕ) �
               ∙ mixed-here p dem past m m (omega arith))))
 
           there : (k : ℕ) → k < count p → k ≢ m → mixed p dem past (m + 1) k ≡ mixed p dem past m k
-          there k low ne = go (cases_lt k m)
-            where
-              go : (k < m) ⊎ (m ≤ k) → mixed p dem past (m + 1) k ≡ mixed p dem past m k
-              go (inl l) = mixed-done p dem past (m + 1) k (omega (arith, l)) ∙ sym (mixed-done p dem past m k l)
-              go (inr ge) =
-                  mixed-here p dem past (m + 1) k (omega (arith, ge, ne)) ∙ sym (mixed-here p dem past m k ge)
+          there k low ne = elim (cases_lt k m) [
+            | inl l ↦ mixed-done p dem past (m + 1) k (omega (arith, l)) ∙ sym (mixed-done p dem past m k l)
+            | inr ge ↦ mixed-here p dem past (m + 1) k (omega (arith, ge, ne)) ∙ sym (mixed-here p dem past m k ge)
+          ]
 
       pub opens-trace : (trace0 : SpanTrace) {trace trace' : SpanTrace} → trace ≡ with_notes trace0 (notes_upto p dem past m)
           → trace' ≡ with_notes trace (opening_notes dem st m) → trace' ≡ with_notes trace0 (notes_upto p dem past (m + 1))

@@ -1,18 +1,23 @@
 -- The state of a schedule's ticks is a state of the plan at a decision: what `choose` may ask for.
-use Rattle.std.proofs.Common.{◌≡◌, ℕ, ◌+◌, ◌-◌, ◌<◌, ◌≤◌, Bool, true, false, List, length, length-drop, refl, arith, ap, ◌∙◌, sym, subst, true≢false}
+use Rattle.std.proofs.Common.{◌≡◌, ℕ, ◌+◌, ◌-◌, ◌<◌, ◌≤◌, List, length, length-drop, arith, ap, ◌∙◌, sym, subst, if◌then◌else◌, nat_le}
 use Rattle.std.proofs.lemmas.Bool.Decides.{nat_tests}
 use Rattle.task_model.specs.declared.limits.TheConstants.{LONGEST_PERIOD}
 use Rattle.sched_model.specs.declared.state.Row.{Row}
 use Rattle.event_kernel.proofs.Bounds.{Bounds}
-use Rattle.sched_model.specs.Plan.{Plan, count}
+use Rattle.sched_model.specs.Plan.{Plan, count, worst}
 use Rattle.sched_model.specs.Jobs.{JobDemands, latest, due, last_release}
-use Rattle.sched_model.specs.Ticks.{Tick, at, exec, is_complete, wleft}
+use Rattle.sched_model.specs.Ticks.{Tick, at, exec, wleft}
 use Rattle.sched_model.proofs.JobLaws.{lt-due, due-within, last_release-le, latest_since-le, latest-marked}
 use Rattle.sched_model.proofs.Limits.{every_period}
 use Rattle.sched_model.specs.States.{no_row, row_at, row_wleft, row_of, state_of}
 use Rattle.sched_model.proofs.Tables.{get-table}
 use Rattle.sched_model.proofs.Schedules.{exec-drop}
 use Rattle.governor.specs.Steps.{IsAtDecision, release_of}
+
+-- a job that has had more units may still need fewer of its worst case
+less-left : (worst needs had more : ℕ) → had ≤ more
+    → (if nat_le needs more then 0 else worst - more) ≤ (if nat_le needs had then 0 else worst - had)
+less-left worst needs had more le = grind (arith, nat_tests, le)
 
 module _ (p : Plan) (adm : Bounds p) where
   pub before-due : (i t : ℕ) → (t < due p i (latest p i t)) × (due p i (latest p i t) ≤ t + LONGEST_PERIOD)
@@ -22,7 +27,10 @@ module _ (p : Plan) (adm : Bounds p) where
 
   -- each base is at least what the job may still need
   pub base-high : (dem : JobDemands) (past : List Tick) (i : ℕ) → i < count p → wleft p dem past i ≤ wleft p dem (at (last_release p (length past)) past) i
-  base-high dem past i lt = go (is_complete p dem past i) refl (is_complete p dem earlier i) refl
+  base-high dem past i lt =
+      subst (λ k. wleft p dem past i ≤ (if nat_le (dem i k) (exec p earlier i k) then 0 else worst p i - exec p earlier i k)) (sym job)
+      (less-left (worst p i) (dem i (latest p i (length past))) (exec p earlier i (latest p i (length past))) _
+      (exec-drop p i (latest p i (length past)) (length past - last_release p (length past)) past))
     where
       earlier : List Tick
       earlier = at (last_release p (length past)) past
@@ -32,26 +40,6 @@ module _ (p : Plan) (adm : Bounds p) where
 
       job : latest p i (length earlier) ≡ latest p i (length past)
       job = ap (latest p i) long ∙ latest-marked p i (length past) (every_period p adm.limits i) lt
-
-      had : exec p earlier i (latest p i (length earlier)) ≤ exec p past i (latest p i (length past))
-      had = omega (arith, ap (exec p earlier i) job, exec-drop p i (latest p i (length past)) (length past - last_release p (length past)) past)
-
-      go : (a : Bool) → is_complete p dem past i ≡ a → (b : Bool) → is_complete p dem earlier i ≡ b → wleft p dem past i ≤ wleft p dem earlier i
-      go true e b f = rw e (omega arith)
-      go false e false f = rw (e, f) (omega (arith, had))
-      go false e true f = absurd (true≢false (sym still ∙ e))
-        where
-          met : dem i (latest p i (length earlier)) ≤ exec p earlier i (latest p i (length earlier))
-          met = grind (arith, nat_tests)
-
-          needs : dem i (latest p i (length earlier)) ≡ dem i (latest p i (length past))
-          needs = ap (dem i) job
-
-          enough : dem i (latest p i (length past)) ≤ exec p past i (latest p i (length past))
-          enough = omega (arith, met, needs, had)
-
-          still : is_complete p dem past i ≡ true
-          still = grind (arith, nat_tests, enough)
 
   pub at-decision : (dem : JobDemands) (past : List Tick) → IsAtDecision p (state_of p dem past)
   at-decision dem past = record {

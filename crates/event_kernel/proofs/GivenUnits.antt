@@ -2,6 +2,8 @@
 use Rattle.std.proofs.Common.{◌≡◌, ◌≢◌, ℕ, ◌+◌, ◌-◌, ◌*◌, ◌<◌, ◌≤◌, min, Bool, true, false, not, eqb, ◌&&◌, ◌||◌, List, [], ◌∷◌, ◌++◌, length, replicate, refl, arith, if◌then◌else◌, ap, ap₂, ◌∙◌, sym, subst, append-nil, append_assoc, nat_eq, nat_le, nat_lt, true≢false}
 use Rattle.std.specs.Prelude.{count_by}
 use Rattle.std.proofs.Math.Bool.{or-true, or-false, not-and_self}
+use Rattle.std.proofs.Math.Logic.{⊎_elim}
+use Rattle.std.proofs.lemmas.Bool.{cases_eq}
 use Rattle.std.proofs.lemmas.Bool.Decides.{nat_tests}
 use Rattle.std.proofs.lemmas.List.Folds.{sum_by-replicate}
 use Rattle.dvs_base.specs.declared.kind.Scheduler.{Scheduler}
@@ -17,7 +19,7 @@ use Rattle.sched_model.specs.Priority.{in_order, key_of, stands_before, sum_befo
 use Rattle.sched_model.specs.Greedy.{IsFirstOpen}
 use Rattle.sched_model.specs.Notes.{same_holder, given_units}
 use Rattle.sched_model.specs.States.{no_row, row_at, StateView, row_of, state_of, key_in}
-use Rattle.grid_fraction.proofs.Sums.{sum_below-zero, sum_below-same, sum_below-add, sum_below-own}
+use Rattle.grid_fraction.proofs.Sums.{sum_below-zero, sum_below-change}
 use Rattle.sched_model.proofs.Tables.{get-table, table-same, set-table}
 use Rattle.sched_model.proofs.Orders.{before-self, IsAhead, IsOrdered, AreBelow, Stands, first_ahead, stands-in_order, in_order-below, in_order-ordered}
 use Rattle.sched_model.proofs.Allotments.{IsHandedOut, handed-start, handed-step, handed_before, up_to-before}
@@ -71,23 +73,11 @@ raised-there given i share k ne = let other : eqb k i ≡ false = grind (arith, 
 
 pub sum-raised : (n : ℕ) (given : ℕ → ℕ) (i share : ℕ) → i < n → sum_below n (raised given i share) ≡ sum_below n given + share
 sum-raised n given i share lt =
-    let own : ℕ → ℕ = λ k. if eqb k i then share else 0 in
-    sum_below-same n (raised given i share) (λ k. given k + own k) (λ k l. split (eqb k i) (given k))
-    ∙ (sum_below-add n given own
-    ∙ ap (λ a. sum_below n given + a) (sum_below-own n i (λ _. share) lt))
-  where
-    split : (b : Bool) (x : ℕ) → (if b then x + share else x) ≡ x + (if b then share else 0)
-    split true x = refl
-    split false x = omega arith
-
-count_run : (i k j l m : ℕ) → (b : Bool) → (nat_eq i j && nat_eq k l) ≡ b → count_by (same_holder (Held i k)) (replicate m (Held j l)) ≡ (if b then m else 0)
-count_run i k j l m b e =
-    sum_by-replicate (λ h. if same_holder (Held i k) h then 1 else 0) m (Held j l)
-    ∙ (ap (λ c. m * (if c then 1 else 0)) e ∙ go b)
-  where
-    go : (b : Bool) → m * (if b then 1 else 0) ≡ (if b then m else 0)
-    go true = omega arith
-    go false = omega arith
+    omega (
+      arith,
+      sum_below-change n given (raised given i share) i lt (λ k l ne. raised-there given i share k ne),
+      raised-here given i share,
+    )
 
 pub count_idle : (i k m : ℕ) → count_by (same_holder (Held i k)) (replicate m Nobody) ≡ 0
 count_idle i k m = sum_by-replicate (λ h. if same_holder (Held i k) h then 1 else 0) m Nobody ∙ omega arith
@@ -218,15 +208,9 @@ module _ (p : Plan) (dem : JobDemands) (past : List Tick) where
         needs : had i + given i < dem i (job i)
         needs = omega (arith, o.needs)
 
-        is_whole : (b : Bool) → nat_eq share (dem i (job i) - (had i + given i)) ≡ b → nat_le (dem i (job i)) (had i + given i + share) ≡ b
-        is_whole true e =
-            let all : share ≡ dem i (job i) - (had i + given i) = grind (arith, nat_tests) in
-            let le : dem i (job i) ≤ had i + given i + share = omega (arith, all, needs) in
-            grind (arith, nat_tests, le)
-        is_whole false e =
-            let part : share ≢ dem i (job i) - (had i + given i) = grind (arith, nat_tests) in
-            let lt : had i + given i + share < dem i (job i) = omega (arith, part, needs, se) in
-            grind (arith, nat_tests, lt)
+        -- the job has all its units exactly where the share is what it lacks
+        is_whole : nat_le (dem i (job i)) (had i + given i + share) ≡ nat_eq share (dem i (job i) - (had i + given i))
+        is_whole = let low : share ≤ dem i (job i) - (had i + given i) = omega (arith, se) in grind (arith, nat_tests, needs, low)
 
         raised_is : had i + raised given i share i ≡ had i + given i + share
         raised_is = omega (arith, raised-here given i share)
@@ -235,7 +219,7 @@ module _ (p : Plan) (dem : JobDemands) (past : List Tick) where
             ((row_at (given_state given) i).used + share) whole (row_at (given_state given) i).worst
         here =
             ap (λ u. row_by (due p i (job i)) (job i) u (nat_le (dem i (job i)) u) (worst p i)) raised_is
-            ∙ (ap (λ b. row_by (due p i (job i)) (job i) (had i + given i + share) b (worst p i)) (is_whole whole (sym we))
+            ∙ (ap (λ b. row_by (due p i (job i)) (job i) (had i + given i + share) b (worst p i)) (is_whole ∙ sym we)
             ∙ ap (λ (r : Row). row_by r.deadline r.job (r.used + share) whole r.worst) (sym (get-table (count p) (given_row given) i no_row o.below)))
 
         there : (k : ℕ) → k < count p → k ≢ i → given_row (raised given i share) k ≡ given_row given k
@@ -249,7 +233,7 @@ module _ (p : Plan) (dem : JobDemands) (past : List Tick) where
             → (completed || b) ≡ any_below (count p) (ends_in (raised given i share))
         by_whole true e =
             or-true completed ∙ sym (any_below-found (count p) (ends_in (raised given i share)) i o.below
-            (ap₂ (λ a b. not a && b) not_before (ap (λ u. nat_le (dem i (job i)) u) raised_is ∙ is_whole true e)))
+            (ap₂ (λ a b. not a && b) not_before (ap (λ u. nat_le (dem i (job i)) u) raised_is ∙ (is_whole ∙ e))))
         by_whole false e =
             or-false completed ∙ h.ends ∙ any_below-same (count p) (ends_in given) (ends_in (raised given i share)) (λ k lt. same k (eqb k i) refl)
           where
@@ -261,7 +245,7 @@ module _ (p : Plan) (dem : JobDemands) (past : List Tick) where
                 let is_i : i ≡ k = grind (arith, nat_tests) in
                 subst (λ m. ends_in given m ≡ ends_in (raised given i share) m) is_i
                 (ap (λ b. not (nat_le (dem i (job i)) (had i)) && b)
-                (still_open ∙ (sym (is_whole false e) ∙ ap (λ u. nat_le (dem i (job i)) u) (sym raised_is))))
+                (still_open ∙ (sym (is_whole ∙ e) ∙ ap (λ u. nat_le (dem i (job i)) u) (sym raised_is))))
             same k false q =
                 let other : k ≢ i = grind (arith, nat_tests) in
                 ap (λ g. not (nat_le (dem k (job k)) (had k)) && nat_le (dem k (job k)) (had k + g)) (sym (raised-there given i share k other))
@@ -287,15 +271,16 @@ module _ (p : Plan) (dem : JobDemands) (past : List Tick) where
   -- what each task has had after the share
   pub gives-had : (given : ℕ → ℕ) (i share k : ℕ)
       → (had k + given k) + count_by (same_holder (Held k (job k))) (replicate share (Held i (job i))) ≡ had k + raised given i share k
-  gives-had given i share k = go (eqb k i) refl
+  gives-had given i share k =
+      ⊎_elim (λ e. (let same : k ≡ i = e in let jobs : job k ≡ job i = ap job same in
+      let here : eqb k i ≡ true = grind (arith, nat_tests) in
+      let now : raised given i share k ≡ given k + share = rw here refl in
+      omega (arith, now, units true (grind (arith, nat_tests)))))
+      (λ ne. (let other : nat_eq k i ≡ false = grind (arith, nat_tests, ne) in
+      omega (arith, raised-there given i share k ne, units false (ap (λ b. b && nat_eq (job k) (job i)) other)))) (cases_eq k i)
     where
-      go : (b : Bool) → eqb k i ≡ b
-          → (had k + given k) + count_by (same_holder (Held k (job k))) (replicate share (Held i (job i))) ≡ had k + (if b then given k + share else given k)
-      go true e =
-          let same : k ≡ i = grind (arith, nat_tests) in
-          let jobs : job k ≡ job i = ap job same in
-          let both : (nat_eq k i && nat_eq (job k) (job i)) ≡ true = grind (arith, nat_tests) in
-          omega (arith, count_run k (job k) i (job i) share true both)
-      go false e =
-          let both : (nat_eq k i && nat_eq (job k) (job i)) ≡ false = ap (λ b. b && nat_eq (job k) (job i)) e in
-          omega (arith, count_run k (job k) i (job i) share false both)
+      units : (b : Bool) → (nat_eq k i && nat_eq (job k) (job i)) ≡ b
+          → count_by (same_holder (Held k (job k))) (replicate share (Held i (job i))) ≡ share * (if b then 1 else 0)
+      units b e =
+          sum_by-replicate (λ h. if same_holder (Held k (job k)) h then 1 else 0) share (Held i (job i))
+          ∙ ap (λ c. share * (if c then 1 else 0)) e

@@ -16,7 +16,7 @@ use Rattle.sched_model.specs.States.{row_at, StateView}
 use Rattle.sched_model.proofs.PieceLemmas.{piece, same_holder-eq, pieces_of-run, total, total-pieces}
 use Rattle.event_kernel.specs.declared.segment.Segment.{Segment}
 use Rattle.event_kernel.specs.declared.span_trace.SpanTrace.{SpanTrace}
-use Rattle.event_kernel.specs.Segment.{span_with, notes_with, IsOpen, holder_notes, written_notes, after_segment, is_turn, with_units, after_units}
+use Rattle.event_kernel.specs.Segment.{span_with, notes_with, IsOpen, holder_notes, written_notes, after_segment, is_turn, with_units, after_units, HeldIn}
 use Rattle.event_kernel.specs.SpanNotes.{kept_notes}
 use Rattle.event_kernel.proofs.SpanBuffer.{kept_notes-then}
 use Rattle.grid_fraction.proofs.Counts.{count-append}
@@ -31,6 +31,11 @@ pub record Shows (p : Plan) (dem : JobDemands) (t : ℕ) (st : StateView) (used 
 
 test_same : (d u : ℕ) → u ≤ d → nat_le d u ≡ nat_eq u d
 test_same d u le = grind (arith, nat_tests, le)
+
+-- the holder of a tick's units is nobody, or has a row
+pub held-in : (p : Plan) (t : ℕ) {n : ℕ} → n ≡ count p → (h : Holder) → HeldNow p t h → HeldIn n h
+held-in p t same Nobody now = tt
+held-in p t same (Held i k) now = omega (arith, same, now.0)
 
 module _ (p : Plan) (dem : JobDemands) (ask : PublishedDemand) (t : ℕ) where
   -- the last segment's notes are those that the state's rows show

@@ -1,6 +1,7 @@
 -- The number of ticks before a span's last one, and the end of the span after it.
 use Rattle.std.proofs.Common.{◌≡◌, ℕ, ◌+◌, ◌-◌, ◌*◌, ◌/◌, ◌<◌, ◌≤◌, min, Bool, true, false, not, ◌&&◌, List, ◌∷◌, length, refl, arith, ap, ap₂, ◌∙◌, sym, subst, ◌⊎◌, inl, inr, nat_eq, nat_le, mul-le-mul_left}
 use Rattle.std.specs.Prelude.{Option, None, Some, IfSome, IfNone}
+use Rattle.std.proofs.Math.Logic.{⊎_elim}
 use Rattle.std.proofs.Math.Nat.{div-mul-le_self, lt-div-mul-add, mul-le-mul_right}
 use Rattle.std.proofs.lemmas.Bool.{cases_lt}
 use Rattle.std.proofs.lemmas.Bool.Decides.{nat_tests}
@@ -37,7 +38,7 @@ use Rattle.event_kernel.proofs.DecisionStates.{at-decision}
 use Rattle.event_kernel.proofs.Courses.{course-next, course-len, low-exec}
 use Rattle.event_kernel.proofs.UnitLoop.{HoldsHanded, entry-there, begin, can-enter, ready}
 use Rattle.event_kernel.proofs.SpanSteps.{ends-span}
-use Rattle.event_kernel.proofs.QuietStep.{run_on, row-served, due-served, first-served}
+use Rattle.event_kernel.proofs.QuietStep.{first-row, due-on, first-on}
 
 -- the first row that is not done, from the two clauses of the search for it
 pub is-first : (p : Plan) (s : StateView) (r : Option ℕ) → IfNone r ((k : ℕ) → k < count p → (row_at s k).done ≡ true)
@@ -108,14 +109,10 @@ module _ {set : Setting} (ok : IsSetting set) where
 
     -- after `most` ticks the next tick is the last of the span
     at-event : (first : Option ℕ) (n : ℕ) → n ≡ most → IsLastAfter set force st first n
-    at-event first n is = go (cases_lt (earliest_in p st) set.ticks)
-      where
-        found : (i : ℕ) × (i < count p) × ((row_at st i).deadline ≡ earliest_in p st)
-        found = least-found (count p) (λ i. (row_at st i).deadline) adm.some_task
-
-        go : (earliest_in p st < set.ticks) ⊎ (set.ticks ≤ earliest_in p st) → IsLastAfter set force st first n
-        go (inl lt) = inr (inl (found.0, found.1, (let q = found.2 in omega (arith, q, lt, is, first-event))))
-        go (inr le) = inl (omega (arith, le, is, first-event))
+    at-event first n is =
+        let found = least-found (count p) (λ i. (row_at st i).deadline) adm.some_task in
+        ⊎_elim (λ lt. inr (inl (found.0, found.1, (let q = found.2 in omega (arith, q, lt, is, first-event)))))
+        (λ le. inl (omega (arith, le, is, first-event))) (cases_lt (earliest_in p st) set.ticks)
 
     pub quiet-idle : (n : ℕ) → n ≡ most → AreQuiet set force st None n
     quiet-idle n is = record {
@@ -146,7 +143,8 @@ module _ {set : Setting} (ok : IsSetting set) where
         before_end = within-end n (omega (arith, ne));
         no_release = within-releases n (omega (arith, ne));
         not_done = λ k q. (let same : i ≡ k = cc q in subst (λ j. (row_at st j).used + n * f < dem j (row_at st j).job) same short);
-        last = go (cases_lt ((lacks - 1) / f) most);
+        last = ⊎_elim (λ lt. inr (inr (i, refl, last-done (omega (arith, ne, lt))))) (λ le. at-event (Some i) n (omega (arith, ne, le)))
+            (cases_lt ((lacks - 1) / f) most);
       }
         where
           short : (row_at st i).used + n * f < dem i (row_at st i).job
@@ -158,10 +156,6 @@ module _ {set : Setting} (ok : IsSetting set) where
           last-done : n ≡ (lacks - 1) / f → dem i (row_at st i).job ≤ (row_at st i).used + n * f + f
           last-done is = omega (arith, lt-div-mul-add {a = lacks - 1} {b = f} some-speed, oe, needs, ap (λ m. m * f) is)
 
-          go : ((lacks - 1) / f < most) ⊎ (most ≤ (lacks - 1) / f) → IsLastAfter set force st (Some i) n
-          go (inl lt) = inr (inr (i, refl, last-done (omega (arith, ne, lt))))
-          go (inr le) = at-event (Some i) n (omega (arith, ne, le))
-
     -- the units of the quiet ticks can be run
     pub can-run-first : (first : Option ℕ) {n : ℕ} → IsFirst p st first → AreQuiet set force st first n → IfSome first (λ i. CanRun st i (n * f))
     can-run-first None is quiet = tt
@@ -170,28 +164,20 @@ module _ {set : Setting} (ok : IsSetting set) where
     -- the tick after the quiet ticks is the last of the span
     pub last-then : (first : Option ℕ) {n : ℕ} → IsFirst p st first → AreQuiet set force st first n
         → IsLastTick set force (after_advance (gives st first (n * f)) (st.now + n))
-    last-then None {n} is quiet = go quiet.last
+    last-then first {n} is quiet = go quiet.last
       where
-        go : IsLastAfter set force st None n → IsLastTick set force (after_advance st (st.now + n))
+        go : IsLastAfter set force st first n → IsLastTick set force (after_advance (gives st first (n * f)) (st.now + n))
         go (inl q) = inl q
-        go (inr (inl q)) = inr (inl q)
-        go (inr (inr q)) = absurd (let r = q.1 in cc r)
-    last-then (Some i) {n} is quiet = go quiet.last
-      where
-        in_rows : i < length st.rows
-        in_rows = omega (arith, is.below, of-plan.rows)
-
-        go : IsLastAfter set force st (Some i) n → IsLastTick set force (run_on st i (n * f) (st.now + n))
-        go (inl q) = inl q
-        go (inr (inl q)) = inr (inl (q.0, q.1, (let d = q.2 in omega (arith, d, due-served st i in_rows (n * f) q.0))))
-        go (inr (inr q)) = inr (inr (
-          i,
-          first-served st i in_rows (n * f) p (st.now + n) is,
-          (let same : q.0 ≡ i = (let r = q.1 in cc r) in
-              let enough : dem i (row_at st i).job ≤ (row_at st i).used + n * f + f =
-              subst (λ k. dem k (row_at st k).job ≤ (row_at st k).used + n * f + f) same q.2 in
-              subst (λ (r : Row). dem i r.job ≤ r.used + f) (sym (row-served st i in_rows (n * f))) enough),
-        ))
+        go (inr (inl q)) = inr (inl (q.0, q.1, due-on st (n * f) p of-plan.rows first is q.0 ∙ q.2))
+        go (inr (inr q)) =
+            let undone : IsFirstUndone p (after_advance (gives st first (n * f)) (st.now + n)) (count p) q.0 =
+            subst (IsFirst p (after_advance (gives st first (n * f)) (st.now + n))) q.1 (first-on st (n * f) p of-plan.rows first is (st.now + n)) in
+            inr (inr (
+              q.0,
+              undone,
+              subst (λ (r : Row). dem q.0 r.job ≤ r.used + f)
+                  (sym (first-row st (n * f) p of-plan.rows q.1 undone.below)) q.2,
+            ))
 
   -- after the last tick the span ends
   module _ {demand : OwnDemand} {force : InForce} {s0 s : StateView} {trace0 trace : SpanTrace} {completed : Bool}
@@ -264,9 +250,5 @@ module _ {set : Setting} (ok : IsSetting set) where
         whole-after = grind (arith, nat_tests, whole)
 
     pub last-ends : IsLastTick set force s0 → HasWalked set demand force s0.now s trace
-    last-ends last = ends-span ok here h (go last)
-      where
-        go : IsLastTick set force s0 → (completed ≡ true) ⊎ ((s0.now + 1 ≡ set.ticks) ⊎ (some_due p s ≡ true))
-        go (inl q) = inr (inl (q))
-        go (inr (inl q)) = inr (inr (is-due q.0 q.1 (let d = q.2 in d)))
-        go (inr (inr q)) = inl (is-complete q.0 q.1 q.2)
+    last-ends last =
+        ends-span ok here h (⊎_elim (λ q. inr (inl q)) (⊎_elim (λ q. inr (inr (is-due q.0 q.1 q.2))) (λ q. inl (is-complete q.0 q.1 q.2))) last)

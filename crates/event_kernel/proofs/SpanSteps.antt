@@ -1,7 +1,7 @@
 -- From one decision to the next.
 use Rattle.std.proofs.Common.{◌≡◌, ℕ, zero, suc, ◌+◌, ◌-◌, ◌<◌, ◌≤◌, Bool, true, false, ◌||◌, List, [], ◌∷◌, ◌++◌, length, refl, arith, if◌then◌else◌, ap, ap₂, ◌∙◌, sym, subst, ◌⊎◌, inl, inr, nat_eq, nat_lt, nat_le, add-one, drop, true≢false}
 use Rattle.std.specs.Prelude.{count_by}
-use Rattle.std.proofs.Math.Logic.{⊎_map}
+use Rattle.std.proofs.Math.Logic.{⊎_elim, ⊎_map}
 use Rattle.std.proofs.lemmas.Bool.{cases_lt, or_cases, or_parts, or_left, or_right}
 use Rattle.std.proofs.lemmas.Bool.Decides.{nat_tests}
 use Rattle.dvs_base.specs.declared.note.Note.{Note}
@@ -37,7 +37,7 @@ use Rattle.event_kernel.specs.declared.progress.Setting.{Setting}
 use Rattle.event_kernel.specs.declared.in_force.InForce.{InForce}
 use Rattle.event_kernel.specs.Runs.{demands_of}
 use Rattle.event_kernel.specs.Settings.{IsSetting, IsAtBoundary, IsBetween, IsInSpan, HasWorked, HasWalked}
-use Rattle.event_kernel.proofs.OpenSegment.{Shows, tells, notes-more, open-start}
+use Rattle.event_kernel.proofs.OpenSegment.{Shows, held-in, tells, notes-more, open-start}
 use Rattle.event_kernel.proofs.Courses.{course-next, course-len, exec-within}
 use Rattle.agenda.specs.Agenda.{NonePast}
 use Rattle.event_kernel.proofs.BoundaryReleases.{prior-past}
@@ -105,13 +105,12 @@ module _ (demand : OwnDemand) (p : Plan) (dem : JobDemands) where
         go false d ih = subst (λ (s : Span). P (notes_to s.past)) (sym (span-on (t + n) d)) ih
 
     pub all-keeps : (ticks : ℕ) → t ≤ ticks → (t < ticks → is_decision p dem (course demand p dem t) ≡ true) → P (notes_to (course demand p dem ticks))
-    all-keeps ticks le decision = go (cases_lt t ticks)
-      where
-        go : (t < ticks) ⊎ (ticks ≤ t) → P (notes_to (course demand p dem ticks))
-        go (inr ge) = let e : t ≡ ticks = omega (arith, le, ge) in subst (λ m. P (notes_to (course demand p dem m))) e here
-        go (inl lt) =
-            let e : t + (ticks - t - 1) + 1 ≡ ticks = omega (arith, lt) in
-            subst (λ m. P (notes_to (course demand p dem m))) e (next-keeps (ticks - t - 1) (past-keeps (ticks - t - 1) (decision lt)))
+    all-keeps ticks le decision = elim (cases_lt t ticks) [
+      | inr ge ↦ let e : t ≡ ticks = omega (arith, le, ge) in subst (λ m. P (notes_to (course demand p dem m))) e here
+      | inl lt ↦
+          let e : t + (ticks - t - 1) + 1 ≡ ticks = omega (arith, lt) in
+          subst (λ m. P (notes_to (course demand p dem m))) e (next-keeps (ticks - t - 1) (past-keeps (ticks - t - 1) (decision lt)))
+    ]
 
   -- whether a decision follows a tick
   module _ (periods : (i : ℕ) → 0 < period p i) where
@@ -310,13 +309,9 @@ module _ {set : Setting} (ok : IsSetting set) where
       entry = i.entry;
       completed = completed;
       worked = h;
-      decision = λ lt. decision-is h ∙ go why lt;
+      decision = λ lt. decision-is h ∙ ⊎_elim (or_right (some_due p s) completed)
+          (⊎_elim (λ q. absurd (omega (arith, q, lt))) (or_left (some_due p s) completed)) why;
     }
-      where
-        go : (completed ≡ true) ⊎ ((t + 1 ≡ set.ticks) ⊎ (some_due p s ≡ true)) → t + 1 < set.ticks → (some_due p s || completed) ≡ true
-        go (inl q) lt = or_right (some_due p s) completed q
-        go (inr (inl q)) lt = absurd (omega (arith, q))
-        go (inr (inr q)) lt = or_left (some_due p s) completed q
 
     -- whether the span ends, as the functions of the code compute it
     module _ {force : InForce} {t : ℕ} {s0 s : StateView} {trace0 trace : SpanTrace} {completed : Bool} (i : IsInSpan set demand force t s0 trace0)
@@ -415,12 +410,8 @@ module _ {set : Setting} (ok : IsSetting set) where
       closing-can there = record {
         entry = there;
         place = omega (arith, w.place, w.few, h.later, h.before_end, ok.low_ticks);
-        task = held trace.segment.holder w.taken;
+        task = held-in p last rows trace.segment.holder w.taken;
       }
         where
           rows : length s.rows ≡ count p
           rows = ap (λ (v : StateView). length v.rows) h.worked.state ∙ length-list_below (count p) (prior_row p dem (course demand p dem (last + 1)))
-
-          held : (k : Holder) → HeldNow p last k → HeldIn (length s.rows) k
-          held Nobody q = tt
-          held (Held k j) q = omega (arith, q.0, rows)

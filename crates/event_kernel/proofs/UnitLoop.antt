@@ -1,6 +1,7 @@
 -- The loop over the units of one tick.
 use Rattle.std.proofs.Common.{◌≡◌, ℕ, ◌+◌, ◌-◌, ◌<◌, ◌≤◌, min, Bool, true, false, not, ◌&&◌, ◌||◌, List, [], ◌∷◌, ◌++◌, length, replicate, refl, arith, ap, ap₂, ◌∙◌, sym, subst, ◌⊎◌, inl, inr, append-nil, append_assoc, nat_eq, nat_le}
 use Rattle.std.specs.Prelude.{count_by}
+use Rattle.std.proofs.Math.Logic.{⊎_map}
 use Rattle.freq_table.specs.declared.machine.Point.{Point}
 use Rattle.freq_table.specs.Tables.{Table, point_at, speed_at}
 use Rattle.grid_fraction.specs.Numbers.{sum_below, any_below}
@@ -39,7 +40,7 @@ use Rattle.event_kernel.specs.Runs.{demands_of}
 use Rattle.event_kernel.specs.Settings.{IsSetting, IsInSpan, HasWorked}
 use Rattle.event_kernel.proofs.Bounds.{Bounds, bounds}
 use Rattle.event_kernel.proofs.Courses.{course-next, course-len, exec-within}
-use Rattle.event_kernel.proofs.OpenSegment.{Shows, enters}
+use Rattle.event_kernel.proofs.OpenSegment.{Shows, held-in, enters}
 use Rattle.event_kernel.proofs.GivenUnits.{raised, sum-raised, key, job, had, units_by, given_units-same, given_row, ends_in, HasHanded, start, start-units, row-is, shows, first-open, none-open, gives, gives-units, gives-had, count_idle}
 
 module _ (demand : OwnDemand) (p : Plan) (dem : JobDemands) (t : ℕ) where
@@ -154,14 +155,10 @@ module _ {demand : OwnDemand} {set : Setting} (ok : IsSetting set) {force : InFo
       can = record {
         entry = entry-there;
         place = omega (arith, w.writing.place, w.writing.few, w.hand.sum, slow, long, at.before_end, ok.low_ticks, at.later);
-        task = held trace.segment.holder w.writing.taken;
+        task = held-in p (length so_far) rows-there trace.segment.holder w.writing.taken;
       };
       fits = omega (arith, w.writing.place, w.writing.few, w.hand.sum, slow, long, at.before_end, ok.low_ticks, le);
     }
-      where
-        held : (h : Holder) → HeldNow p (length so_far) h → HeldIn (length st.rows) h
-        held Nobody now = tt
-        held (Held i k) now = omega (arith, now.0, rows-there)
 
     sh : Shows p dem (length so_far) st (λ i. had p dem so_far i + w.given i)
     sh = shows p dem so_far w.hand within
@@ -240,11 +237,8 @@ module _ {demand : OwnDemand} {set : Setting} (ok : IsSetting set) {force : InFo
 
       same : (i : ℕ) → i < count p → w.given i ≡ share x i
       same i lt =
-          handed-end (count p) (key p dem so_far) (fast demand p dem t) (units_left p dem so_far) w.given rest w.hand.handed (go ends) i lt ∙ sym (gets i lt)
-        where
-          go : (rest ≡ 0) ⊎ ((k : ℕ) → k < count p → (row_at st k).done ≡ true) → (rest ≡ 0) ⊎ ((k : ℕ) → k < count p → units_left p dem so_far k ≤ w.given k)
-          go (inl z) = inl z
-          go (inr d) = inr (none-open p dem so_far w.hand d)
+          handed-end (count p) (key p dem so_far) (fast demand p dem t) (units_left p dem so_far) w.given rest w.hand.handed
+          (⊎_map (λ z. z) (none-open p dem so_far w.hand) ends) i lt ∙ sym (gets i lt)
 
       own : (i : ℕ) → i < count p → share x i ≤ units_left p dem so_far i
       own i lt = omega (arith, gets i lt)

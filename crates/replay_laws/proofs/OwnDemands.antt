@@ -3,6 +3,7 @@
 use Rattle.std.proofs.Common.{◌≡◌, max, ◌*◌, ◌-◌, ◌+◌, ◌≤◌, ℕ, zero, suc, Bool, true, false, ◌&&◌, List, [], ◌∷◌, refl, if◌then◌else◌, ap, ◌∙◌, nat_eq, arith, ◌<◌, length, sym, subst, ◌⊎◌, inl, inr}
 use Rattle.std.specs.Prelude.{Option, Some, None, unwrap_or, option_map, count_by}
 use Rattle.std.specs.Option.{option_or}
+use Rattle.std.proofs.Math.Logic.{⊎_elim}
 use Rattle.std.proofs.lemmas.Bool.Decides.{nat_tests}
 use Rattle.std.specs.List.{AllByRecursion}
 use Rattle.dvs_base.specs.declared.note.Note.{Note}
@@ -209,27 +210,16 @@ module _ (p : Plan) (lim : IsWithinLimits p) (ask : Asking) (blind : IsBlind p a
   -- the list that the notes fix and the demands are two demands for the same notes
   pub tell-same : TellSame p dem own ticks
   tell-same = record {
-    finished = λ i k lt some early done. finished i k some (told-finished i k lt some early done) (told i k lt some);
-    unfinished = λ i k lt some early open_job. unfinished i k lt some open_job (told i k lt some);
+    finished = λ i k lt some early done.
+        let once = told-finished i k lt some early done in
+        ⊎_elim (λ a. absurd (omega (arith, once, a.1))) (λ b. sym (own-told i k some b.0)) (told i k lt some);
+    unfinished = λ i k lt some early open_job.
+        let more : exec p ticks i k < dem i k = grind (arith, nat_tests, open_job) in
+        ⊎_elim (λ a. omega (arith, more, within.most i k lt, demand-none p (fixed_of p all_notes) i k some a.0))
+        (λ b. absurd (omega (arith, more, b.1))) (told i k lt some);
     none = λ i. refl;
     other_none = λ i. refl;
   }
-    where
-      finished : (i k : ℕ) → 1 ≤ k → count_by (tells_done i k) all_notes ≡ 1
-          → Fixes p dem i k (exec p ticks i k) (named_units (fixed_of p all_notes) i k) (count_by (tells_done i k) all_notes)
-          → dem i k ≡ own i k
-      finished i k some once (inl a) = absurd (omega (arith, once, a.1))
-      finished i k some once (inr b) = sym (own-told i k some b.0)
-
-      unfinished : (i k : ℕ) → i < count p → 1 ≤ k → is_done p dem ticks i k ≡ false
-          → Fixes p dem i k (exec p ticks i k) (named_units (fixed_of p all_notes) i k) (count_by (tells_done i k) all_notes)
-          → exec p ticks i k < own i k
-      unfinished i k lt some open_job (inl a) =
-          let more : exec p ticks i k < dem i k = grind (arith, nat_tests, open_job) in
-          omega (arith, more, within.most i k lt, demand-none p (fixed_of p all_notes) i k some a.0)
-      unfinished i k lt some open_job (inr b) =
-          let more : exec p ticks i k < dem i k = grind (arith, nat_tests, open_job) in
-          absurd (omega (arith, more, b.1))
 
   -- the list that the notes fix has the same notes
   pub own-notes : all_notes ≡ notes_by p ask own t

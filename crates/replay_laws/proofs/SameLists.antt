@@ -6,6 +6,8 @@ use Rattle.std.proofs.lemmas.Bool.Decides.{nat_tests}
 use Rattle.std.specs.List.{AllByRecursion}
 use Rattle.dvs_base.specs.declared.note.Note.{Note}
 use Rattle.task_model.specs.DemandRows.{DemandRow, named_units}
+use Rattle.std.proofs.Math.Logic.{⊎_elim}
+use Rattle.std.proofs.lemmas.Bool.{cases_Bool}
 use Rattle.sched_model.specs.Plan.{Plan, count}
 use Rattle.sched_model.specs.Jobs.{JobDemands, release, demand_of, IsWithin}
 use Rattle.sched_model.specs.Ticks.{Tick, exec, is_done}
@@ -33,12 +35,9 @@ module _ (p : Plan) (lim : IsWithinLimits p) (ask : Asking) (blind : IsBlind p a
 
   completed : (i k : ℕ) → i < count p → 1 ≤ k → count_by (tells_done i k) notes ≡ 1
       → (demand_of p (fixed_of p notes) i k ≡ demand_of p rows i k) × (demand_of p rows i k ≤ exec p ticks i k)
-  completed i k lt some once = go (told p lim ask blind rows within t i k lt some)
-    where
-      go : Fixes p (demand_of p rows) i k (exec p ticks i k) (named_units (fixed_of p notes) i k) (count_by (tells_done i k) notes)
-          → (demand_of p (fixed_of p notes) i k ≡ demand_of p rows i k) × (demand_of p rows i k ≤ exec p ticks i k)
-      go (inl a) = absurd (omega (arith, once, a.1))
-      go (inr b) = (own-told p lim ask blind rows within t i k some b.0, b.1)
+  completed i k lt some once =
+      ⊎_elim (λ a. absurd (omega (arith, once, a.1))) (λ b. (own-told p lim ask blind rows within t i k some b.0, b.1))
+      (told p lim ask blind rows within t i k lt some)
 
 module _ (p : Plan) (lim : IsWithinLimits p) (ask : Asking) (blind : IsBlind p ask) (rows others : List DemandRow)
     (t : ℕ) (within : IsWithin p (demand_of p rows)) (within_others : IsWithin p (demand_of p others))
@@ -69,18 +68,17 @@ module _ (p : Plan) (lim : IsWithinLimits p) (ask : Asking) (blind : IsBlind p a
 
   same-unfinished : (i k : ℕ) → i < count p → 1 ≤ k → release p i k < length (ticks_by p ask dem t)
       → is_done p dem (ticks_by p ask dem t) i k ≡ false → exec p (ticks_by p ask dem t) i k < other i k
-  same-unfinished i k lt some early open_job = go (is_done p other (ticks_by p ask dem t) i k) refl
-    where
-      go : (b : Bool) → is_done p other (ticks_by p ask dem t) i k ≡ b → exec p (ticks_by p ask dem t) i k < other i k
-      go false e = grind (arith, nat_tests, e)
-      go true e =
-          let back = sym same-ticks in
-          let done = subst (λ (x : List Tick). is_done p other x i k ≡ true) back e in
-          let released = subst (λ (x : List Tick). release p i k < length x) back early in
-          let also = told-finished p lim ask blind others within_others t i k lt some released done in
-          let once = ap (λ (ns : List Note). count_by (tells_done i k) ns) (sym same) ∙ also in
-          let had = (completed p lim ask blind rows within t i k lt some once).1 in
-          absurd (grind (arith, nat_tests, open_job, had))
+  same-unfinished i k lt some early open_job = elim (cases_Bool (is_done p other (ticks_by p ask dem t) i k)) [
+    | inr e ↦ (let open_by : is_done p other (ticks_by p ask dem t) i k ≡ false = e in grind (arith, nat_tests))
+    | inl e ↦
+        let back = sym same-ticks in
+        let done = subst (λ (x : List Tick). is_done p other x i k ≡ true) back e in
+        let released = subst (λ (x : List Tick). release p i k < length x) back early in
+        let also = told-finished p lim ask blind others within_others t i k lt some released done in
+        let once = ap (λ (ns : List Note). count_by (tells_done i k) ns) (sym same) ∙ also in
+        let had = (completed p lim ask blind rows within t i k lt some once).1 in
+        absurd (grind (arith, nat_tests, open_job, had))
+  ]
 
   pub same-told : TellSame p dem other (ticks_by p ask dem t)
   same-told = record {

@@ -2,7 +2,8 @@
 -- same notes.
 use Rattle.std.proofs.Common.{◌≡◌, ◌<◌, ◌≤◌, ℕ, suc, Bool, true, false, List, ◌∷◌, length, refl, ap, ◌∙◌, nat_le, sym, arith, ◌-◌, [], if◌then◌else◌, ap₂, not, ◌&&◌, ◌||◌, length-drop, ◌+◌, min, ◌⊎◌, inl, inr, zero, ◌++◌, take, drop, flat_map, nat_eq}
 use Rattle.std.proofs.lemmas.Bool.Decides.{nat_tests}
-use Rattle.std.proofs.lemmas.Bool.{cases_lt}
+use Rattle.std.proofs.Math.Logic.{⊎_elim, ⊎_map}
+use Rattle.std.proofs.lemmas.Bool.{cases_lt, cases_Bool}
 use Rattle.std.specs.Prelude.{count_by, sum_by}
 use Rattle.std.specs.List.{AllByRecursion}
 use Rattle.std.proofs.lemmas.List.{take-append-drop}
@@ -53,32 +54,26 @@ Alike p dem other ticks t = (i k : ℕ) → i < count p → latest_since p i k <
 abbrev pub IsBlind : Plan → Asking → Type 0
 IsBlind p ask = (dem other : JobDemands) (past : List Tick) → Alike p dem other past (suc (length past)) → ask dem past ≡ ask other past
 
+-- a job whose demands are not distinguished needs the same by both, or by both more than it has had
+equal-or-more : (p : Plan) (dem other : JobDemands) (ticks : List Tick) (i k : ℕ) → Indistinct p dem other ticks i k
+    → (dem i k ≡ other i k) ⊎ ((exec p ticks i k < dem i k) × (exec p ticks i k < other i k))
+equal-or-more p dem other ticks i k h = elim (cases_Bool (is_done p dem ticks i k)) [
+  | inl e ↦ inl (h.0 e)
+  | inr e ↦ inr ((let open_job : is_done p dem ticks i k ≡ false = e in grind (arith, nat_tests)), h.1 e)
+]
+
 -- the same jobs are finished by both demands
 pub same-done : (p : Plan) (dem other : JobDemands) (past : List Tick) (i k : ℕ) → Indistinct p dem other past i k
     → is_done p dem past i k ≡ is_done p other past i k
-same-done p dem other past i k h = go (is_done p dem past i k) refl
-  where
-    go : (c : Bool) → is_done p dem past i k ≡ c → is_done p dem past i k ≡ is_done p other past i k
-    go true e = ap (λ n. nat_le n (exec p past i k)) (h.0 e)
-    go false e =
-        let more : exec p past i k < other i k = h.1 e in
-        let off : nat_le (other i k) (exec p past i k) ≡ false = grind (arith, nat_tests, more) in
-        e ∙ sym off
+same-done p dem other past i k h = grind (arith, nat_tests, equal-or-more p dem other past i k h)
 
 -- earlier ticks, in which a job had had no more, don't distinguish its demands either
 pub indistinct-before : (p : Plan) (dem other : JobDemands) (now past : List Tick) (i k : ℕ) → exec p past i k ≤ exec p now i k → Indistinct p dem other now i k
     → Indistinct p dem other past i k
-indistinct-before p dem other now past i k grows h = (done, open_job)
-  where
-    done : is_done p dem past i k ≡ true → dem i k ≡ other i k
-    done e = let still : is_done p dem now i k ≡ true = grind (arith, nat_tests, e, grows) in h.0 still
-
-    open_job : is_done p dem past i k ≡ false → exec p past i k < other i k
-    open_job e = go (is_done p dem now i k) refl
-      where
-        go : (c : Bool) → is_done p dem now i k ≡ c → exec p past i k < other i k
-        go true d = let same : dem i k ≡ other i k = h.0 d in grind (arith, nat_tests, e, same)
-        go false d = let more : exec p now i k < other i k = h.1 d in omega (arith, grows, more)
+indistinct-before p dem other now past i k grows h = (
+  λ done. let still : is_done p dem now i k ≡ true = grind (arith, nat_tests, done, grows) in h.0 still,
+  λ open_job. grind (arith, nat_tests, open_job, grows, equal-or-more p dem other now i k h),
+)
 
 -- earlier ticks don't distinguish the demands of the jobs that were released by then
 pub alike-before : (p : Plan) (dem other : JobDemands) (now past : List Tick) (t s : ℕ) → s ≤ t → ((i k : ℕ) → i < count p → exec p past i k ≤ exec p now i k)
@@ -172,59 +167,37 @@ pub shares-alike : (n : ℕ) (key : ℕ → ℕ) (room : ℕ) (need other given 
 shares-alike n key room need other given h alike i lt = go (cases_lt (sum_up_to n key given i) room)
   where
     fits : (j : ℕ) → j < n → given j ≤ other j
-    fits j l = by (alike j l)
-      where
-        by : NeedsAlike need other given j → given j ≤ other j
-        by (inl e) = omega (arith, e, share-most n key room need given h j l)
-        by (inr c) = c.1
+    fits j l = ⊎_elim (λ e. omega (arith, e, share-most n key room need given h j l)) (λ c. c.1) (alike j l)
 
     least : sum_up_to n key given i ≤ sum_up_to n key other i
     least = omega (arith, sum_where-mono n (λ j. stands_before key j i) given other (λ j l b. fits j l), fits i lt)
 
     -- where some room is left after task j, it needs the same by both
     whole : (j : ℕ) → j < n → sum_up_to n key given j < room → need j ≡ other j
-    whole j l more = by (alike j l)
-      where
-        all : given j ≡ need j
-        all = omega (arith, more, h j l, allotment_of n key room need given h j l)
-
-        by : NeedsAlike need other given j → need j ≡ other j
-        by (inl e) = e
-        by (inr c) = absurd (omega (arith, all, c.0))
+    whole j l more =
+        let all : given j ≡ need j = omega (arith, more, h j l, allotment_of n key room need given h j l) in
+        ⊎_elim (λ e. e) (λ c. absurd (omega (arith, all, c.0))) (alike j l)
 
     go : (sum_up_to n key given i < room) ⊎ (room ≤ sum_up_to n key given i) → sum_up_to n key given i ≡ min room (sum_up_to n key other i)
     go (inr full) = omega (arith, full, least, h i lt)
     go (inl more) = omega (arith, h i lt, more, before, whole i lt more)
       where
         before : sum_before n key need i ≡ sum_before n key other i
-        before = sum_below-same n _ _ (λ j l. by j l (stands_before key j i) refl)
-          where
-            by : (j : ℕ) → j < n → (b : Bool) → stands_before key j i ≡ b
-                → (if stands_before key j i then need j else 0) ≡ (if stands_before key j i then other j else 0)
-            by j l true e = ap (λ (v : ℕ). if stands_before key j i then v else 0) (whole j l (omega (arith, more, up_to-before n key given j i l e)))
-            by j l false e = rw e refl
+        before = sum_below-same n _ _ (λ j l. elim (cases_Bool (stands_before key j i)) [
+          | inl e ↦ ap (λ (v : ℕ). if stands_before key j i then v else 0) (whole j l (omega (arith, more, up_to-before n key given j i l e)))
+          | inr e ↦ rw e refl
+        ])
 
 module _ (p : Plan) (lim : IsWithinLimits p) (dem other : JobDemands) (none : (i : ℕ) → dem i 0 ≡ 0) (ask : Asking) (blind : IsBlind p ask) where
   -- the latest jobs need the same by both demands, or were given less than they need and no more than the other need
   needs-alike : (x : Tick) (past : List Tick) (f : ℕ) → SharesOut (count p) (key_of p.scheduler p (length past)) f (units_left p dem past) (share x)
       → Alike p dem other (x ∷ past) (length (x ∷ past)) → (i : ℕ) → i < count p → NeedsAlike (units_left p dem past) (units_left p other past) (share x) i
   needs-alike x past f legal h i lt =
-      go (is_done p dem (x ∷ past) i k) refl (latest-alike p lim dem other (x ∷ past) (length past) h i k lt refl)
-    where
-      k : ℕ
-      k = latest p i (length past)
-
-      had : exec p (x ∷ past) i k ≡ exec p past i k + share x i
-      had = exec-legal p dem x past i (every_period p lim i) (none i)
-          (share-legal p dem past f x legal i lt)
-
-      go : (b : Bool) → is_done p dem (x ∷ past) i k ≡ b → Indistinct p dem other (x ∷ past) i k
-          → NeedsAlike (units_left p dem past) (units_left p other past) (share x) i
-      go true e now = inl (ap (λ n. n - exec p past i k) (now.0 e))
-      go false e now =
-          let more : exec p (x ∷ past) i k < dem i k = grind (arith, nat_tests, e) in
-          let more_other : exec p (x ∷ past) i k < other i k = now.1 e in
-          inr (omega (arith, had, more), omega (arith, had, more_other))
+      let k = latest p i (length past) in
+      let had : exec p (x ∷ past) i k ≡ exec p past i k + share x i =
+      exec-legal p dem x past i (every_period p lim i) (none i) (share-legal p dem past f x legal i lt) in
+      ⊎_map (λ e. ap (λ n. n - exec p past i k) e) (λ more. (omega (arith, had, more.0), omega (arith, had, more.1)))
+      (equal-or-more p dem other (x ∷ past) i k (latest-alike p lim dem other (x ∷ past) (length past) h i k lt refl))
 
   -- the tick may come next for the other demand too
   pub same-next : (x : Tick) (past : List Tick) → Alike p dem other (x ∷ past) (length (x ∷ past))
@@ -275,12 +248,9 @@ module _ (p : Plan) (dem other : JobDemands) (s : Span) where
       ∷ (if nat_eq (had_by p s (q + u) i k) n then Done (at_unit (q + u)) i k n ∷ [] else [])) e
   segment-same q u (Held i k) (inr more) =
       let most : had_by p s (q + u) i k ≤ had_in p s i k = had-most p s (q + u) i k in
-      let off : nat_eq (had_by p s (q + u) i k) (dem i k) ≡ false = unequal (had_by p s (q + u) i k) (dem i k) (omega (arith, most, more.0)) in
-      let off_other : nat_eq (had_by p s (q + u) i k) (other i k) ≡ false = unequal (had_by p s (q + u) i k) (other i k) (omega (arith, most, more.1)) in
+      let off : nat_eq (had_by p s (q + u) i k) (dem i k) ≡ false = grind (arith, nat_tests, most, more.0) in
+      let off_other : nat_eq (had_by p s (q + u) i k) (other i k) ≡ false = grind (arith, nat_tests, most, more.1) in
       rw (off, off_other) refl
-    where
-      unequal : (a b : ℕ) → a < b → nat_eq a b ≡ false
-      unequal a b lt = grind (arith, nat_tests, lt)
 
   pub pieces-same : (q : ℕ) (rs : List Piece) → AllByRecursion (λ (r : Piece). EndsAlike r.holder) rs → pieces_notes p dem s q rs ≡ pieces_notes p other s q rs
   pieces-same q [] all = refl
@@ -289,27 +259,14 @@ module _ (p : Plan) (dem other : JobDemands) (s : Span) where
 module _ (p : Plan) (lim : IsWithinLimits p) (dem other : JobDemands) where
   releases-same : (past : List Tick) → Alike p dem other past (suc (length past))
       → all_release_notes p dem (length past) ≡ all_release_notes p other (length past)
-  releases-same past h = flat_map-same (count p) (release_notes p dem t) (release_notes p other t) each
+  releases-same past h = flat_map-same (count p) (release_notes p dem t) (release_notes p other t) (λ i lt.
+      let k = latest p i t in
+      let needs = equal-or-more p dem other past i k (latest-alike p lim dem other past t h i k lt refl) in
+      let same : nat_eq (dem i k) 0 ≡ nat_eq (other i k) 0 = grind (arith, nat_tests, needs) in
+      ap (λ (b : Bool). if releases_at p i t then Release t i k ∷ (if b then Done (record { tick = t; offset = 0 }) i k 0 ∷ [] else []) else []) same)
     where
       t : ℕ
       t = length past
-
-      each : (i : ℕ) → i < count p → release_notes p dem t i ≡ release_notes p other t i
-      each i lt = ap (λ (b : Bool). if releases_at p i t then Release t i k
-          ∷ (if b then Done (record { tick = t; offset = 0 }) i k 0 ∷ [] else []) else [])
-          (go (is_done p dem past i k) refl (latest-alike p lim dem other past t h i k lt refl))
-        where
-          k : ℕ
-          k = latest p i t
-
-          go : (b : Bool) → is_done p dem past i k ≡ b → Indistinct p dem other past i k
-              → nat_eq (dem i k) 0 ≡ nat_eq (other i k) 0
-          go true e now = ap (λ n. nat_eq n 0) (now.0 e)
-          go false e now =
-              let more : exec p past i k < other i k = now.1 e in
-              let off : nat_eq (dem i k) 0 ≡ false = grind (arith, nat_tests, e) in
-              let off_other : nat_eq (other i k) 0 ≡ false = grind (arith, nat_tests, more) in
-              off ∙ sym off_other
 
   -- both demands have the same spans
   pub spans-same : (ticks : List Tick) → Alike p dem other ticks (length ticks) → spans_of p dem ticks ≡ spans_of p other ticks
@@ -335,17 +292,9 @@ module _ (p : Plan) (lim : IsWithinLimits p) (dem other : JobDemands) where
       ends-alike : ((i : ℕ) → dem i 0 ≡ other i 0) → (holder : Holder) → IsNow p dem (length past) holder → EndsAlike p dem other s holder
       ends-alike none Nobody now = tt
       ends-alike none (Held i k) now =
-          go (is_done p dem (x ∷ past) i k) refl (latest-alike p lim dem other (x ∷ past) (length past) h i k now.0 now.1)
+          ⊎_elim (λ same. inl same) (λ had. ⊎_map (λ same. same) (λ more. (omega (arith, had, more.0), omega (arith, had, more.1)))
+          (equal-or-more p dem other (x ∷ past) i k (latest-alike p lim dem other (x ∷ past) (length past) h i k now.0 now.1)))
           (had-now i k now.0 (none i))
-        where
-          go : (b : Bool) → is_done p dem (x ∷ past) i k ≡ b → Indistinct p dem other (x ∷ past) i k
-              → (dem i k ≡ other i k) ⊎ (had_in p s i k ≡ exec p (x ∷ past) i k) → EndsAlike p dem other s (Held i k)
-          go true e alike had = inl (alike.0 e)
-          go false e alike (inl same) = inl same
-          go false e alike (inr had) =
-              let more : exec p (x ∷ past) i k < dem i k = grind (arith, nat_tests, e) in
-              let more_other : exec p (x ∷ past) i k < other i k = alike.1 e in
-              inr (omega (arith, had, more), omega (arith, had, more_other))
 
       units-alike : ((i : ℕ) → dem i 0 ≡ other i 0) → AllByRecursion (EndsAlike p dem other s) s.units
       units-alike none = each-weaker (IsNow p dem (length past)) (EndsAlike p dem other s) (ends-alike none) s.units (l.now lim)

@@ -2,6 +2,7 @@
 use Rattle.std.proofs.Common.{◌≡◌, ℕ, List, [], ◌∷◌, ◌++◌, refl, codes}
 use Rattle.std.specs.Prelude.{flat_map}
 use Rattle.std.specs.Fmt.{digits}
+use Rattle.dvs_base.specs.declared.kind.Scheduler.{Scheduler}
 use Rattle.dvs_base.specs.declared.kind.Scheduler.TheVariants.{Edf, Rm}
 use Rattle.dvs_base.specs.declared.kind.GovernorKind.{GovernorKind}
 use Rattle.dvs_base.specs.declared.kind.GovernorKind.TheVariants.{Plain, Cycle, Ahead}
@@ -18,18 +19,13 @@ use Rattle.dvs_base.specs.declared.kind.Version.TheVariants.{One}
 use Rattle.trace_writer.specs.RunText.{run_text_in}
 use Rattle.sched_model.proofs.Examples.{row, paper_example, paper_demands, heavy_set, two_tasks, late_second, late_alone, controller, controller_demands, early_and_late, due_together, due_together_demands, equal_periods, long_and_short, freed_units, freed_units_demands}
 
--- the text of a run under a list of demands
-abbrev text : Plan → GovernorKind → List DemandRow → ℕ → List ℕ
-text p g rows ticks = run_text_in One p g (demand_of p rows) ticks
-
--- lines, each ended by a line feed
-abbrev lines : List (List ℕ) → List ℕ
-lines ls = flat_map (λ l. l ++ 10 ∷ []) ls
+-- the text of a run under a list of demands is the first line of a trace and these lines, each ended by a line feed
+abbrev HasLines : Plan → GovernorKind → List DemandRow → ℕ → List (List ℕ) → Type 0
+HasLines p g rows ticks lines =
+    run_text_in One p g (demand_of p rows) ticks ≡ flat_map (λ l. l ++ 10 ∷ []) (codes "trace 1" ∷ lines)
 
 -- the example of Pillai and Shin 2001 under EDF with no governor: always the highest speed
-paper_example_edf_none : text (paper_example Edf) Plain [] 16 ≡
-    lines (
-    codes "trace 1" ∷
+paper_example_edf_none : HasLines (paper_example Edf) Plain [] 16 (
     codes "plan edf none 16" ∷
     codes "release 0 t1 1" ∷
     codes "release 0 t2 1" ∷
@@ -68,9 +64,7 @@ paper_example_edf_none = refl
 
 -- the example of Pillai and Shin 2001 under cycle-conserving EDF:
 -- tick 2 is shared, and the completion inside it is seen at tick 3
-paper_example_edf_cc : text (paper_example Edf) Cycle paper_demands 16 ≡
-    lines (
-    codes "trace 1" ∷
+paper_example_edf_cc : HasLines (paper_example Edf) Cycle paper_demands 16 (
     codes "plan edf cc 16" ∷
     codes "release 0 t1 1" ∷
     codes "release 0 t2 1" ∷
@@ -108,9 +102,7 @@ unfolding digits least_common_multiple published in_order release due latest sch
 paper_example_edf_cc = refl
 
 -- the example of Pillai and Shin 2001 under look-ahead EDF
-paper_example_edf_la : text (paper_example Edf) Ahead paper_demands 16 ≡
-    lines (
-    codes "trace 1" ∷
+paper_example_edf_la : HasLines (paper_example Edf) Ahead paper_demands 16 (
     codes "plan edf la 16" ∷
     codes "release 0 t1 1" ∷
     codes "release 0 t2 1" ∷
@@ -149,9 +141,7 @@ unfolding digits least_common_multiple published in_order release due latest sch
 paper_example_edf_la = refl
 
 -- the example of Pillai and Shin 2001 under cycle-conserving RM
-paper_example_rm_cc : text (paper_example Rm) Cycle paper_demands 16 ≡
-    lines (
-    codes "trace 1" ∷
+paper_example_rm_cc : HasLines (paper_example Rm) Cycle paper_demands 16 (
     codes "plan rm cc 16" ∷
     codes "release 0 t1 1" ∷
     codes "release 0 t2 1" ∷
@@ -191,9 +181,7 @@ unfolding digits least_common_multiple published in_order release due latest sch
 paper_example_rm_cc = refl
 
 -- a look-ahead demand that no entry meets: the highest speed is used
-look_ahead_demand_above_table : text heavy_set Ahead [] 3 ≡
-    lines (
-    codes "trace 1" ∷
+look_ahead_demand_above_table : HasLines heavy_set Ahead [] 3 (
     codes "plan edf la 3" ∷
     codes "release 0 a 1" ∷
     codes "release 0 b 1" ∷
@@ -212,9 +200,7 @@ unfolding digits least_common_multiple published in_order release due latest sch
 look_ahead_demand_above_table = refl
 
 -- a job of demand 0 is done at its release
-zero_demand_done_at_release : text (paper_example Edf) Cycle (row 0 1 0 ∷ []) 1 ≡
-    lines (
-    codes "trace 1" ∷
+zero_demand_done_at_release : HasLines (paper_example Edf) Cycle (row 0 1 0 ∷ []) 1 (
     codes "plan edf cc 1" ∷
     codes "release 0 t1 1" ∷
     codes "done 0:0 t1 1 0" ∷
@@ -228,9 +214,7 @@ unfolding digits least_common_multiple published in_order release due latest sch
 zero_demand_done_at_release = refl
 
 -- a job of demand 0 with no governor is done at its release
-zero_demand_with_no_governor : text (paper_example Edf) Plain (row 0 1 0 ∷ []) 1 ≡
-    lines (
-    codes "trace 1" ∷
+zero_demand_with_no_governor : HasLines (paper_example Edf) Plain (row 0 1 0 ∷ []) 1 (
     codes "plan edf none 1" ∷
     codes "release 0 t1 1" ∷
     codes "done 0:0 t1 1 0" ∷
@@ -244,9 +228,7 @@ unfolding digits least_common_multiple published in_order release due latest sch
 zero_demand_with_no_governor = refl
 
 -- six tasks, a charge for each switch of speed, and idle units that cost a tenth
-realistic_controller : text controller Cycle controller_demands 100 ≡
-    lines (
-    codes "trace 1" ∷
+realistic_controller : HasLines controller Cycle controller_demands 100 (
     codes "plan edf cc 100" ∷
     codes "release 0 imu 1" ∷
     codes "release 0 radio 1" ∷
@@ -290,9 +272,7 @@ unfolding digits least_common_multiple published in_order release due latest sch
 realistic_controller = refl
 
 -- under RM the shorter period runs first, at any place in the file
-rm_shorter_period_first : text two_tasks Plain [] 6 ≡
-    lines (
-    codes "trace 1" ∷
+rm_shorter_period_first : HasLines two_tasks Plain [] 6 (
     codes "plan rm none 6" ∷
     codes "release 0 a 1" ∷
     codes "release 0 b 1" ∷
@@ -313,9 +293,7 @@ unfolding digits least_common_multiple published in_order release due latest sch
 rm_shorter_period_first = refl
 
 -- before its first release at tick 2 the second task is complete and charged with nothing
-edf_cc_with_an_offset : text late_second Cycle [] 8 ≡
-    lines (
-    codes "trace 1" ∷
+edf_cc_with_an_offset : HasLines late_second Cycle [] 8 (
     codes "plan edf cc 8" ∷
     codes "release 0 x 1" ∷
     codes "speed 0 2 12/12" ∷
@@ -338,46 +316,19 @@ edf_cc_with_an_offset : text late_second Cycle [] 8 ≡
 unfolding digits least_common_multiple published in_order release due latest schedule_by notes_before_end note_text
 edf_cc_with_an_offset = refl
 
--- a run that ends before the first release idles throughout
-edf_cc_before_all_releases : text (late_alone Edf) Cycle [] 3 ≡
-    lines (
-    codes "trace 1" ∷
-    codes "plan edf cc 3" ∷
-    codes "speed 0 2 0/4" ∷
-    codes "idle 0:0 3:0 6 0" ∷
-    codes "end 3 0 0" ∷
-    [])
-unfolding digits least_common_multiple published in_order release due latest schedule_by notes_before_end note_text
-edf_cc_before_all_releases = refl
+-- a run that ends before the first release idles throughout, under any governor that looks at the jobs
+abbrev Idles : Scheduler → GovernorKind → List ℕ → List ℕ → Type 0
+Idles s g plan speed = HasLines (late_alone s) g [] 3 (plan ∷ speed ∷ codes "idle 0:0 3:0 6 0" ∷ codes "end 3 0 0" ∷ [])
 
--- a run under look-ahead that ends before the first release idles throughout
-edf_la_before_all_releases : text (late_alone Edf) Ahead [] 3 ≡
-    lines (
-    codes "trace 1" ∷
-    codes "plan edf la 3" ∷
-    codes "speed 0 2 0/5" ∷
-    codes "idle 0:0 3:0 6 0" ∷
-    codes "end 3 0 0" ∷
-    [])
+before_all_releases :
+    Idles Edf Cycle (codes "plan edf cc 3") (codes "speed 0 2 0/4")
+    × Idles Edf Ahead (codes "plan edf la 3") (codes "speed 0 2 0/5")
+    × Idles Rm Cycle (codes "plan rm cc 3") (codes "speed 0 2 0/5")
 unfolding digits least_common_multiple published in_order release due latest schedule_by notes_before_end note_text
-edf_la_before_all_releases = refl
-
--- a run under cycle-conserving RM that ends before the first release idles throughout
-rm_cc_before_all_releases : text (late_alone Rm) Cycle [] 3 ≡
-    lines (
-    codes "trace 1" ∷
-    codes "plan rm cc 3" ∷
-    codes "speed 0 2 0/5" ∷
-    codes "idle 0:0 3:0 6 0" ∷
-    codes "end 3 0 0" ∷
-    [])
-unfolding digits least_common_multiple published in_order release due latest schedule_by notes_before_end note_text
-rm_cc_before_all_releases = refl
+before_all_releases = (refl, refl, refl)
 
 -- under EDF the earlier deadline runs first, for any periods; of equal deadlines the earlier place
-earliest_deadline_first : text early_and_late Plain [] 6 ≡
-    lines (
-    codes "trace 1" ∷
+earliest_deadline_first : HasLines early_and_late Plain [] 6 (
     codes "plan edf none 6" ∷
     codes "release 0 a 1" ∷
     codes "release 0 b 1" ∷
@@ -396,9 +347,7 @@ unfolding digits least_common_multiple published in_order release due latest sch
 earliest_deadline_first = refl
 
 -- under look-ahead EDF, of two tasks that are due together the later puts off first, and its rate is rounded up
-edf_la_of_equal_deadlines : text due_together Ahead due_together_demands 6 ≡
-    lines (
-    codes "trace 1" ∷
+edf_la_of_equal_deadlines : HasLines due_together Ahead due_together_demands 6 (
     codes "plan edf la 6" ∷
     codes "release 0 a 1" ∷
     codes "release 0 b 1" ∷
@@ -422,9 +371,7 @@ unfolding digits least_common_multiple published in_order release due latest sch
 edf_la_of_equal_deadlines = refl
 
 -- under cycle-conserving RM the shorter period is served and allotted first, and equal periods by their places
-rm_cc_of_equal_periods : text equal_periods Cycle [] 6 ≡
-    lines (
-    codes "trace 1" ∷
+rm_cc_of_equal_periods : HasLines equal_periods Cycle [] 6 (
     codes "plan rm cc 6" ∷
     codes "release 0 a 1" ∷
     codes "release 0 b 1" ∷
@@ -449,9 +396,7 @@ unfolding digits least_common_multiple published in_order release due latest sch
 rm_cc_of_equal_periods = refl
 
 -- cycle-conserving RM allots by period at tick 5 too, where by deadline the first task would get 6 units in place of 5
-rm_cc_allots_in_rm_order : text long_and_short Cycle [] 8 ≡
-    lines (
-    codes "trace 1" ∷
+rm_cc_allots_in_rm_order : HasLines long_and_short Cycle [] 8 (
     codes "plan rm cc 8" ∷
     codes "release 0 a 1" ∷
     codes "release 0 b 1" ∷
@@ -476,9 +421,7 @@ unfolding digits least_common_multiple published in_order release due latest sch
 rm_cc_allots_in_rm_order = refl
 
 -- a job that has had more than its allotment has none left of it: at tick 1 the second task has had 3 units of 2
-rm_cc_of_more_than_an_allotment : text freed_units Cycle freed_units_demands 2 ≡
-    lines (
-    codes "trace 1" ∷
+rm_cc_of_more_than_an_allotment : HasLines freed_units Cycle freed_units_demands 2 (
     codes "plan rm cc 2" ∷
     codes "release 0 a 1" ∷
     codes "release 0 b 1" ∷
