@@ -2,10 +2,11 @@
 
 from collections import defaultdict
 from fractions import Fraction
-from itertools import combinations
+from itertools import combinations, pairwise
 from pathlib import Path
 
 import pytest
+from examples import DATA, Captured, Lines, files
 from hypothesis import given, settings
 from hypothesis import strategies as st
 
@@ -37,42 +38,25 @@ rm static 700000000000 1.0000 1.7778 0 0.5625 6.0000 3.0000 0.0000 0.0000 1.0000
 rm cc 514000000000 0.7343 1.0397 6 0.4167 6.0000 3.0000 0.5625 0.2500 0.1875
 """
 
+HEADING = "scheduler governor energy of_none above_bound switches idle least_laxity jitter"
+
+
+def alike(speed: str, edf: str, rm: str) -> str:
+    """A table whose rows of one scheduler are alike."""
+    rows = (f"{scheduler} {governor} {edf if scheduler == 'edf' else rm}" for scheduler, governor in PAIRS)
+    return "\n".join([f"{HEADING} {speed}", *rows])
+
+
 # At full load every tick runs 2 units, of 10^9 each. In 3 ticks RM has 2 * 2 + 3 units of both tasks. The
 # jobs of x are complete at 1, 7/2 and 5, those of y at 5/2 and 6.
-FULL = """
-scheduler governor energy of_none above_bound switches idle least_laxity jitter at_2
-edf none 12000000000 1.0000 0.0000 0 0.0000 0.0000 0.5000 1.0000
-edf static 12000000000 1.0000 0.0000 0 0.0000 0.0000 0.5000 1.0000
-edf cc 12000000000 1.0000 0.0000 0 0.0000 0.0000 0.5000 1.0000
-edf la 12000000000 1.0000 0.0000 0 0.0000 0.0000 0.5000 1.0000
-rm none denied rm y 7 6
-rm static denied rm y 7 6
-rm cc denied rm y 7 6
-"""
-
+FULL = alike("at_2", "12000000000 1.0000 0.0000 0 0.0000 0.0000 0.5000 1.0000", "denied rm y 7 6")
 # Each tick asks for a unit more than it has: 15 units in 6 ticks under EDF, 3 in 2 under RM.
-DENIED = """
-scheduler governor energy of_none above_bound switches idle least_laxity jitter
-edf none denied edf 15 6
-edf static denied edf 15 6
-edf cc denied edf 15 6
-edf la denied edf 15 6
-rm none denied rm x 3 2
-rm static denied rm x 3 2
-rm cc denied rm x 3 2
-"""
-
+DENIED = alike("", "denied edf 15 6", "denied rm x 3 2")
 # Each second tick runs 999983 units at 399880009000, and the other idles as many at 399880009 * 999. Together
 # 1000 of each cost 999983 * 1000 * 399880009 * 1999.
-LARGE = "\n".join([
-    "scheduler governor energy of_none above_bound switches idle least_laxity jitter at_999983",
-    *(f"{' '.join(pair)} 799346548868654153000 1.0000 0.0000 0 0.5000 1.0000 0.0000 1.0000"
-      for pair in PAIRS)])
-
+LARGE = alike("at_999983", *2 * ["799346548868654153000 1.0000 0.0000 0 0.5000 1.0000 0.0000 1.0000"])
 # One job of 5 units, in half of the time, at 1210000000 each.
-SMALL = "\n".join([
-    "scheduler governor energy of_none above_bound switches idle least_laxity jitter at_1",
-    *(f"{' '.join(pair)} 6050000000 1.0000 0.0000 0 0.5000 5.0000 0.0000 1.0000" for pair in PAIRS)])
+SMALL = alike("at_1", *2 * ["6050000000 1.0000 0.0000 0 0.5000 5.0000 0.0000 1.0000"])
 
 
 @pytest.mark.parametrize(("tasks", "machine", "ticks", "wanted"), [
@@ -87,22 +71,22 @@ def test_by_hand(engine: Engine, tasks: list[tuple[int, int]], machine: Machine,
     assert words(table(compare(engine, named, machine, ticks))) == words(wanted)
 
 
-def options(data: Path, example: str, program: Path) -> list[str]:
-    folder = data / example
+def options(example: str, program: Path) -> list[str]:
+    folder = DATA / example
     return ["compare", "--program", str(program), "--tasks", str(folder / "tasks.toml"), "--machine",
             str(folder / "machine.toml"), "--ticks"]
 
 
-def test_the_paper_by_hand(program: Path, data: Path, capsys: pytest.CaptureFixture[str]) -> None:
-    call = options(data, "paper", program)
-    assert main([*call, "16", "--demands", str(data / "paper" / "demands.csv"), "--jobs", "2"]) == 0
+def test_the_paper_by_hand(program: Path, capsys: Captured) -> None:
+    call = options("paper", program)
+    assert main([*call, "16", "--demands", str(DATA / "paper" / "demands.csv"), "--jobs", "2"]) == 0
     assert words(capsys.readouterr().out) == words(PAPER)
 
 
-def test_finer_ticks_of_the_paper(program: Path, data: Path, capsys: pytest.CaptureFixture[str]) -> None:
+def test_finer_ticks_of_the_paper(program: Path, capsys: Captured) -> None:
     """In ticks 3 times finer EDF la needs 308 of the 700 and RM cc 500, in the natural ones 315 and 514."""
-    call = options(data, "paper", program)
-    assert main([*call, "16", "--demands", str(data / "paper" / "demands.csv"), "--finer", "1", "3"]) == 0
+    call = options("paper", program)
+    assert main([*call, "16", "--demands", str(DATA / "paper" / "demands.csv"), "--finer", "1", "3"]) == 0
     _, _, second = capsys.readouterr().out.partition("\n\n")
     shares = [row[3] for row in words(second)[1:]]
     assert words(second)[0] == ["scheduler", "governor", "finer_1", "finer_3"]
@@ -119,50 +103,35 @@ def bound(machine: Machine, units: int, ticks: int) -> Fraction:
                        for slow, fast in combinations(corners, 2) if slow[0] <= need <= fast[0])
 
 
-def speeds(lines: list[list[str]], ticks: int) -> list[int]:
-    """The speed of each tick."""
-    decisions = [(int(line[1]), int(line[2])) for line in lines if line[0] == "speed"]
-    ends = [tick for tick, _ in decisions[1:]] + [ticks]
-    return [speed for (tick, speed), end in zip(decisions, ends) for _ in range(tick, end)]
-
-
-def responses(lines: list[list[str]], at: list[int]) -> dict[str, list[Fraction]]:
-    """By task each complete job's response."""
-    released = {(line[2], line[3]): int(line[1]) for line in lines if line[0] == "release"}
-    found = defaultdict(list)
-    for line in lines:
-        if line[0] == "done":
-            tick, offset = map(int, line[1].split(":"))
-            release = released[line[2], line[3]]
-            found[line[2]].append(tick + (Fraction(offset, at[tick]) if offset else Fraction(0)) - release)
-    return found
-
-
-def recounted(text: str, tasks: TaskSet, machine: Machine, ticks: int, base: int) -> Result:
+def recounted(text: str, tasks: TaskSet, machine: Machine, base: int) -> Result:
     """What the lines of a trace come to: from units and speeds, not from its energies."""
-    lines = words(text)
-    at = speeds(lines, ticks)
+    lines = Lines(text)
     square = {point.speed: point.millivolts**2 for point in machine.points}
-    parts = {word: [(int(line[-2]), at[int(line[1].split(":")[0])]) for line in lines if line[0] == word]
-             for word in ("run", "idle")}
-    energy = sum(units * square[speed] * factor for word, factor in (("run", 1000), ("idle", machine.idle))
-                 for units, speed in parts[word])
-    least = bound(machine, sum(units for units, _ in parts["run"]), ticks)
+    energy = sum(each.units * square[each.speed] * (1000 if each.task else machine.idle)
+                 for each in lines.segments)
+    idle = sum((each.end - each.begin for each in lines.segments if not each.task), Fraction(0))
+    least = bound(machine, sum(each.units for each in lines.segments if each.task), lines.ticks)
     periods = {task.name: task.period for task in tasks}
-    times = responses(lines, at)
+    times: defaultdict[str, list[Fraction]] = defaultdict(list)
+    for job, end in lines.ends.items():
+        times[job[0]].append(end - lines.releases[job])
+    residency: defaultdict[int, Fraction] = defaultdict(Fraction)
+    for ticks, speed, _ in lines.spans():
+        residency[speed] += Fraction(ticks, lines.ticks)
     return Result(
         energy=energy,
         share=Fraction(energy, base) if base else None,
         above_bound=energy / least - 1 if least else None,
-        switches=sum(a != b for a, b in zip(at, at[1:])),
-        idle=sum((Fraction(units, speed) for units, speed in parts["idle"]), Fraction(0)) / ticks,
+        switches=sum(one[1] != two[1] for one, two in pairwise(lines.decisions)),
+        idle=idle / lines.ticks,
         least_laxity=min((periods[task] - max(jobs) for task, jobs in times.items()), default=None),
         jitter=max((max(jobs) - min(jobs) for jobs in times.values()), default=None),
-        residency={speed: Fraction(at.count(speed), ticks) for speed in set(at)},
+        residency=residency,
     )
 
 
-def check(engine: Engine, tasks: TaskSet, machine: Machine, ticks: int, demands: Demands | None) -> None:
+def check(engine: Engine, tasks: TaskSet, machine: Machine, ticks: int,
+          demands: Demands | None) -> None:
     base = 0
     for row, pair in zip(compare(engine, tasks, machine, ticks, demands), PAIRS, strict=True):
         assert (row.scheduler, row.governor) == pair
@@ -172,17 +141,15 @@ def check(engine: Engine, tasks: TaskSet, machine: Machine, ticks: int, demands:
             assert (row.result, row.refusal) == (None, str(denied))
             continue
         if pair == PAIRS[0]:
-            base = recounted(text, tasks, machine, ticks, 0).energy
-        assert row.result == recounted(text, tasks, machine, ticks, base)
+            base = recounted(text, tasks, machine, 0).energy
+        assert row.result == recounted(text, tasks, machine, base)
 
 
 @pytest.mark.parametrize(("example", "ticks"), [
     ("paper", 32), ("ahead", 60), ("offsets", 50), ("controller", 2000)])
-def test_examples(engine: Engine, data: Path, example: str, ticks: int) -> None:
-    folder = data / example
-    tasks, machine = TaskSet.read(folder / "tasks.toml"), Machine.read(folder / "machine.toml")
-    demands = Demands.read(folder / "demands.csv", tasks) if example == "controller" else None
-    check(engine, tasks, machine, ticks, demands)
+def test_examples(engine: Engine, example: str, ticks: int) -> None:
+    tasks, machine, demands = files(example)
+    check(engine, tasks, machine, ticks, demands if example == "controller" else None)
 
 
 @st.composite
@@ -245,16 +212,16 @@ def test_other_refusals_end_it(engine: Engine) -> None:
 
 
 @pytest.mark.parametrize("name", ["absent", "."])
-def test_a_file_that_is_not_there(program: Path, data: Path, tmp_path: Path, name: str,
-                                  capsys: pytest.CaptureFixture[str]) -> None:
-    call = options(data, "paper", program)
+def test_a_file_that_is_not_there(program: Path, tmp_path: Path, name: str,
+                                  capsys: Captured) -> None:
+    call = options("paper", program)
     call[call.index("--tasks") + 1] = str(tmp_path / name)
     assert main([*call, "16"]) == 2
     out, notes = capsys.readouterr()
     assert out == "" and notes.count("\n") == 1
 
 
-def test_a_trace_that_is_none(program: Path, data: Path, capsys: pytest.CaptureFixture[str]) -> None:
-    demands = data / "paper" / "demands.csv"
-    assert main([*options(data, "paper", program), "16", "--trace", str(demands)]) == 2
+def test_a_trace_that_is_none(program: Path, capsys: Captured) -> None:
+    demands = DATA / "paper" / "demands.csv"
+    assert main([*options("paper", program), "16", "--trace", str(demands)]) == 2
     assert capsys.readouterr() == ("", f"rtdvs: {demands}: line 1: neither trace 1 nor trace 2\n")

@@ -8,11 +8,13 @@ import tomllib
 from pathlib import Path
 
 import pytest
+from examples import TOP
 
 import rtdvs
 
 SOURCE = Path(rtdvs.__file__).parent
 MODULES = sorted(SOURCE.glob("*.py"))
+TESTS = sorted(Path(__file__).parent.glob("*.py"))
 LAYERS = [
     {"files", "errors", "decimals"},
     {"answers"},
@@ -37,10 +39,10 @@ def imports(module: Path) -> set[str]:
     return direct | {name.name for node in nodes if node.module == "rtdvs" for name in node.names}
 
 
-def test_version(top: Path) -> None:
+def test_version() -> None:
     """It is the first version of CHANGELOG.md."""
-    found = re.search(r"^## ([0-9.]+) \(", (top / "CHANGELOG.md").read_text(), re.MULTILINE)
-    project = tomllib.loads((top / "python" / "pyproject.toml").read_text())["project"]
+    found = re.search(r"^## ([0-9.]+) \(", (TOP / "CHANGELOG.md").read_text(), re.MULTILINE)
+    project = tomllib.loads((TOP / "python" / "pyproject.toml").read_text())["project"]
     assert found is not None and project["version"] == found[1]
 
 
@@ -58,7 +60,7 @@ def test_layers(module: Path) -> None:
         assert own is None or other is None or other <= own, f"{module.stem} imports {name}"
 
 
-@pytest.mark.parametrize("module", MODULES, ids=[module.stem for module in MODULES])
+@pytest.mark.parametrize("module", [*MODULES, *TESTS], ids=[module.stem for module in [*MODULES, *TESTS]])
 def test_functions_are_short(module: Path) -> None:
     for node in ast.walk(ast.parse(module.read_text())):
         if isinstance(node, ast.FunctionDef):

@@ -4,7 +4,7 @@ import os
 import re
 import shutil
 import signal
-from collections.abc import Iterable, Iterator, Sequence
+from collections.abc import Iterable, Iterator, Mapping, Sequence
 from concurrent.futures import Executor
 from dataclasses import dataclass
 from math import ceil
@@ -13,37 +13,12 @@ from subprocess import DEVNULL, PIPE, Popen, TimeoutExpired
 from tempfile import TemporaryDirectory
 
 from rtdvs.answers import (
-    Admitted,
-    Constrained,
-    GovernorTotals,
-    Least,
-    Polled,
-    Replayed,
-    Service,
-    parse_admitted,
-    parse_constrained,
-    parse_least,
-    parse_polled,
-    parse_replayed,
-    parse_responses,
-    parse_workload,
+    Admitted, Constrained, GovernorTotals, Least, Polled, Replayed, Service, parse_admitted,
+    parse_constrained, parse_least, parse_polled, parse_replayed, parse_responses, parse_workload,
 )
 from rtdvs.errors import (
-    Crashed,
-    Denied,
-    Differs,
-    EngineError,
-    FileRefused,
-    LoadFailed,
-    NoEngine,
-    NoText,
-    OutOfMemory,
-    OverWorst,
-    TimedOut,
-    TooManyJobs,
-    WordsRefused,
-    WriteFailed,
-    error_of,
+    Crashed, Denied, Differs, EngineError, FileRefused, LoadFailed, NoEngine, NoText, OutOfMemory,
+    OverWorst, TimedOut, TooManyJobs, WordsRefused, WriteFailed, error_of,
 )
 from rtdvs.files import Deadlines, Demands, Machine, Requests, TaskSet
 
@@ -112,7 +87,7 @@ def _content(source: Source) -> str | bytes | Path:
     return source if isinstance(source, str | bytes) else source.text()
 
 
-def _call(command: str, options: dict[str, str | int], **files: Source | None) -> Call:
+def _call(command: str, options: Mapping[str, object], **files: Source | None) -> Call:
     pairs = tuple((f"--{name}", str(value)) for name, value in options.items())
     given = ((f"--{name}", source) for name, source in files.items() if source is not None)
     return Call(command, pairs, tuple((name, _content(source)) for name, source in given))
@@ -125,9 +100,7 @@ def run_call(tasks: Source, machine: Source, scheduler: str, governor: str, tick
     >>> run_call(Path("/t.toml"), Path("/m.toml"), "edf", "cc", ticks=16).options[2]
     ('--ticks', '16')
     """
-    options: dict[str, str | int] = {
-        "scheduler": scheduler, "governor": governor, "ticks": ticks, "format": version,
-    }
+    options = {"scheduler": scheduler, "governor": governor, "ticks": ticks, "format": version}
     return _call("run", options, tasks=tasks, machine=machine, demands=demands)
 
 
@@ -165,9 +138,7 @@ def poll_call(tasks: Source, machine: Source, requests: Source, server: str, sch
     >>> poll_call(Path("/t"), Path("/m"), Path("/r"), "s", "edf", "none", ticks=15).options[0]
     ('--server', 's')
     """
-    options: dict[str, str | int] = {
-        "server": server, "scheduler": scheduler, "governor": governor, "ticks": ticks,
-    }
+    options = {"server": server, "scheduler": scheduler, "governor": governor, "ticks": ticks}
     return _call("poll", options, tasks=tasks, machine=machine, requests=requests)
 
 
