@@ -41,19 +41,9 @@ module _ (tasks : List Task) (i : ℕ) (name : List ℕ) (known : IsTaskSet task
 abbrev pub job_cmp : ℕ × ℕ → ℕ × ℕ → Ordering
 job_cmp a b = ordering_then (nat_cmp a.0 b.0) (nat_cmp a.1 b.1)
 
-both_ways : (a b : ℕ) → ((a == b) ≡ true) × (a ≡ b) ⊎ ((a == b) ≡ false) × (a ≢ b)
-    → ((b == a) ≡ true) × (b ≡ a) ⊎ ((b == a) ≡ false) × (b ≢ a) → (a == b) ≡ (b == a)
-both_ways a b (inl p) (inl q) = p.0 ∙ sym q.0
-both_ways a b (inl p) (inr q) = absurd (q.1 (sym p.1))
-both_ways a b (inr p) (inl q) = absurd (p.1 (sym q.1))
-both_ways a b (inr p) (inr q) = p.0 ∙ sym q.0
-
-eq-comm : (a b : ℕ) → (a == b) ≡ (b == a)
-eq-comm a b = both_ways a b (eqb_tells a b) (eqb_tells b a)
-
 -- the map's keys are equal where the row's task and job are
 is_eq-job_cmp : (i k a b : ℕ) → is_eq (job_cmp (i, k) (a, b)) ≡ (nat_eq a i && nat_eq b k)
-is_eq-job_cmp i k a b = sym (tied_then (nat_cmp i a) (nat_cmp k b)) ∙ rw (unsigned_tied i a, unsigned_tied k b, eq-comm i a, eq-comm k b) refl
+is_eq-job_cmp i k a b = grind (arith, nat_tests)
 
 pub named-rows_of : (es : List ((ℕ × ℕ) × ℕ)) (i k : ℕ) → named_units (rows_of es) i k ≡ lookup (is_at (job_cmp (i, k))) es
 named-rows_of [] i k = refl
@@ -76,17 +66,9 @@ named-within worsts (r ∷ rows) i k h = one-within worsts r i (named_units rows
 pub IsWithinWorsts-rows : (d : DemandsView) → AllByRecursion (IsRow d.worsts) d.rows → IsWithinWorsts d
 IsWithinWorsts-rows d h i k _ = named-within d.worsts d.rows i k h
 
-is_lt-job_cmp_by : (p q s t : Bool) → is_lt (ordering_then (if p then order.Less else (if q then order.Equal else order.Greater))
-    (if s then order.Less else (if t then order.Equal else order.Greater))) ≡ (p || (q && s))
-is_lt-job_cmp_by true q s t = refl
-is_lt-job_cmp_by false false s t = refl
-is_lt-job_cmp_by false true true t = refl
-is_lt-job_cmp_by false true false true = refl
-is_lt-job_cmp_by false true false false = refl
-
 -- the map's key of a row is less than another's where the row comes before it
 is_lt-job_cmp : (r s : DemandRow) → is_lt (job_cmp (r.task, r.job) (s.task, s.job)) ≡ precedes r s
-is_lt-job_cmp r s = is_lt-job_cmp_by (nat_lt r.task s.task) (r.task == s.task) (nat_lt r.job s.job) (r.job == s.job)
+is_lt-job_cmp r s = grind (arith, nat_tests)
 
 absent : {X : Type 0} (b : Bool) (v : X) (rest : Option X) → (if b then Some v else rest) ≡ None → (b ≡ false) × (rest ≡ None)
 absent true v rest h = absurd (cc)
