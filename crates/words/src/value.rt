@@ -1,7 +1,7 @@
 // The value that a word gives an option.
 ghost use Rattle.std.specs.Prelude.{◌≡◌, option_map};
 ghost use Rattle.dvs_base.specs.PlanWords.{ticks_of};
-ghost use Rattle.words.specs.Table.{some_text, version_of, number_of, nothing_given, has, with_value};
+ghost use Rattle.words.specs.Table.{some_text, version_of, number_of, has, with_value};
 ghost use Rattle.words.specs.Shown.{shown_given};
 
 use crate::given::Given;
@@ -39,27 +39,6 @@ fn number_of(word: &str) -> Option<u64>
 }
 
 impl<'a> Given<'a> {
-    pub fn nothing() -> Given<'a>
-        ensures { shown_given result ≡ nothing_given }
-    {
-        Given {
-            tasks: None,
-            machine: None,
-            demands: None,
-            trace: None,
-            deadlines: None,
-            requests: None,
-            server: None,
-            scheduler: None,
-            governor: None,
-            ticks: None,
-            seed: None,
-            units: None,
-            probes: None,
-            format: None,
-        }
-    }
-
     /// Whether the option was given.
     pub fn has(&self, key: Key) -> bool
         ensures { result ≡ has (shown_given self.now) key }
