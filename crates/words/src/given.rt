@@ -3,7 +3,7 @@ use crate::ticks::Ticks;
 use dvs_base::{GovernorKind, Scheduler, Version};
 
 /// The value of each option that was given, within its rule.
-#[derive(Clone, Copy, Debug, PartialEq, Eq)]
+#[derive(Clone, Copy, Debug, Default, PartialEq, Eq)]
 pub struct Given<'a> {
     pub tasks: Option<&'a str>,
     pub machine: Option<&'a str>,

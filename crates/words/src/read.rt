@@ -98,7 +98,7 @@ fn read_options<'a>(verb: Verb, words: &'a [String]) -> Result<Command<'a>, Word
     ensures ready { IfOk result (λ c. IsReadyCommand (shown_command c)) }
 {
     let mut reading = Reading {
-        given: Given::nothing(),
+        given: Given::default(),
         waits: None,
     };
     let mut place = 1;

@@ -1,6 +1,5 @@
 // The table of the commands: their words, and which options each takes.
 ghost use Rattle.std.specs.Prelude.{◌≡◌, ◌≤◌, length};
-ghost use Rattle.std.specs.Str.{bytes_eq};
 ghost use Rattle.words.specs.Table.{verb_of, options_of, option_word, word_of, option_named, takes_value};
 
 use crate::command::Opt;
@@ -139,18 +138,12 @@ pub fn takes_value(key: Key) -> bool
     !matches!(key, Key::Probes)
 }
 
-fn is_word_of(key: Key, word: &[u8]) -> bool
-    ensures { result ≡ bytes_eq word.now (word_of key) }
-{
-    word == word_of(key)
-}
-
 /// The first of these options that the word names.
 pub fn option_named(keys: &[Key], word: &[u8]) -> Option<Key>
     ensures { result ≡ option_named keys.now word.now }
 {
     for key in keys {
-        if is_word_of(*key, word) {
+        if word == word_of(*key) {
             return Some(*key);
         }
     }

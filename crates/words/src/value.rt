@@ -1,7 +1,7 @@
 // The value that a word gives an option.
 ghost use Rattle.std.specs.Prelude.{◌≡◌, option_map};
 ghost use Rattle.dvs_base.specs.PlanWords.{ticks_of};
-ghost use Rattle.words.specs.Table.{some_text, version_of, number_of, nothing_given, has, with_value};
+ghost use Rattle.words.specs.Table.{some_text, version_of, has, with_value};
 ghost use Rattle.words.specs.Shown.{shown_given};
 
 use crate::given::Given;
@@ -32,34 +32,7 @@ fn ticks_of(word: &str) -> Option<Ticks>
     Some(Ticks { number })
 }
 
-fn number_of(word: &str) -> Option<u64>
-    ensures { result ≡ number_of word.now }
-{
-    whole(word.as_bytes())
-}
-
 impl<'a> Given<'a> {
-    pub fn nothing() -> Given<'a>
-        ensures { shown_given result ≡ nothing_given }
-    {
-        Given {
-            tasks: None,
-            machine: None,
-            demands: None,
-            trace: None,
-            deadlines: None,
-            requests: None,
-            server: None,
-            scheduler: None,
-            governor: None,
-            ticks: None,
-            seed: None,
-            units: None,
-            probes: None,
-            format: None,
-        }
-    }
-
     /// Whether the option was given.
     pub fn has(&self, key: Key) -> bool
         ensures { result ≡ has (shown_given self.now) key }
@@ -95,11 +68,11 @@ pub fn with_value<'a>(mut given: Given<'a>, key: Key, word: &'a str) -> Option<G
         Key::Governor => given.governor = Some(governor_of(word.as_bytes())?),
         Key::Ticks => given.ticks = Some(ticks_of(word)?),
         Key::Trace => given.trace = Some(some_text(word)?),
-        Key::Seed => given.seed = Some(number_of(word)?),
+        Key::Seed => given.seed = Some(whole(word.as_bytes())?),
         Key::Deadlines => given.deadlines = Some(some_text(word)?),
         Key::Requests => given.requests = Some(some_text(word)?),
         Key::Server => given.server = Some(some_text(word)?),
-        Key::Units => given.units = Some(number_of(word)?),
+        Key::Units => given.units = Some(whole(word.as_bytes())?),
         Key::Probes => given.probes = Some(true),
         Key::Format => given.format = Some(version_of(word)?),
     }
