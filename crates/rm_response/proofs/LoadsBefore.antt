@@ -12,14 +12,13 @@ use Rattle.sched_model.specs.Priority.{sum_before, in_order}
 use Rattle.sched_model.specs.Admission.{IsWithinLimits}
 use Rattle.sched_model.proofs.Limits.{period_divides}
 use Rattle.sched_model.proofs.Orders.{sum_list, sum_list-snoc, sum_before-prefix, length-in_order}
-use Rattle.governor.specs.Worst.{level_work_in}
 use Rattle.rm_response_laws.specs.Responses.{response, HasResponse, IsUnserved}
 use Rattle.rm_response_laws.specs.HeldWork.{held_work}
 use Rattle.rm_response_laws.proofs.Ceilings.{ceil-after}
-use Rattle.rm_response_laws.proofs.ResponseSearch.{response-bound}
+use Rattle.rm_response_laws.proofs.ResponseSearch.{response-bound, response-is, response-none}
 use Rattle.rm_response.specs.declared.loads.Load.{Load}
 use Rattle.rm_response.specs.Loads.{held, work_of, load_of, IsLoad, HasRate, AreInTurn, AreBefore, IsPutAfter}
-use Rattle.rm_response.specs.Fits.{Fits, NoneFits}
+use Rattle.rm_response.specs.Fits.{IsFirstFit}
 use Rattle.rm_response.proofs.Places.{at-below}
 use Rattle.rm_response.proofs.LoadFits.{put-in_turn}
 
@@ -96,19 +95,23 @@ module _ (p : Plan) (i : ℕ) (xs : List Load) (before : AreBefore p i xs) where
       let one : ceil_div t (period p i) ≡ 1 = ap (λ u. ceil_div u (period p i)) (omega arith) ∙ ceil-after 0 (period p i) t pos le in
       ap (λ n. n * worst p i) one ∙ omega arith
 
-  -- ticks up to the period into which one job of task i fits serve its level
-  pub serves-fit : (low most t : ℕ) → 1 ≤ low → most ≤ period p i → Fits (top_speed p) xs (worst p i) low most t
-      → level_work_in p t i ≤ top_speed p * t
-  serves-fit low most t some within fit =
-      let own = own-work t (omega (arith, some, fit.from)) (omega (arith, within, fit.within)) in
-      omega (arith, own, fit.done, before.work t)
-
-  -- where ticks below `low` don't serve the level of task i, and one job of it fits into none of the ticks from there
-  -- on and below `end`, none of the ticks below `end` serve
-  pub unserved-none : (low end : ℕ) → end ≤ period p i + 1 → IsUnserved p i low → NoneFits (top_speed p) xs (worst p i) low end
-      → IsUnserved p i end
-  unserved-none low end within un none t pos lt =
-      elim (cases_lt t low) [
-        | inl early ↦ un t pos early
-        | inr after ↦ omega (arith, own-work t pos (omega arith), none t after lt, before.work t)
+  -- where fewer ticks don't serve the level of task i, the first ticks from there on into which one job of it fits are its
+  -- response
+  pub first-is : (from job last first : ℕ) → job ≡ worst p i → last ≡ period p i → 1 ≤ from → IsUnserved p i from
+      → IsFirstFit (top_speed p) xs job from last first → first ≡ response p i
+  first-is from job last first own long some un fit =
+      elim (cases_lt (period p i) first) [
+        | inl past ↦ omega (arith, response-none p i (λ t pos lt. unserved t pos (omega (arith, lt, past))), past, fit.within, long)
+        | inr within ↦
+            let pos : 1 ≤ first = omega (arith, some, fit.from) in
+            let served = fit.fit (omega (arith, within, long)) in
+            sym (response-is p i first pos within unserved (omega (arith, own-work first pos within, own, served, before.work first)))
       ]
+    where
+      unserved : IsUnserved p i first
+      unserved t pos lt =
+          elim (cases_lt t from) [
+            | inl early ↦ un t pos early
+            | inr after ↦
+                omega (arith, own-work t pos (omega (arith, lt, fit.within, long)), own, fit.none t after lt, before.work t)
+          ]

@@ -30,3 +30,10 @@ abbrev pub EndsDecide : ℕ → List Load → ℕ → ℕ → ℕ → Ends → T
 EndsDecide f xs rest low most (Fit t) = Fits f xs rest low most t
 EndsDecide f xs rest low most NoFit = NoneFits f xs rest low (most + 1)
 EndsDecide f xs rest low most (From least) = IsFrom f xs rest low most least
+
+-- `first` is the first of the ticks `low` to `most` into which `rest` units fit; one more than the last where there is none
+pub record IsFirstFit (f : ℕ) (xs : List Load) (rest low most first : ℕ) : Type 0 where
+  pub from : low ≤ first
+  pub within : first ≤ most + 1
+  pub none : NoneFits f xs rest low first
+  pub fit : first ≤ most → rest + work_of xs first ≤ f * first

@@ -3,12 +3,12 @@ ghost use Rattle.std.specs.Prelude.{◌≡◌, ◌≤◌, ◌<◌, ◌+◌, ◌-
 ghost use Rattle.dvs_base.specs.declared.kind.Scheduler.TheVariants.{Rm};
 ghost use Rattle.dvs_base.specs.declared.limits.TheConstants.{MOST_TASKS};
 ghost use Rattle.task_model.specs.declared.limits.TheConstants.{LONGEST_PERIOD};
-ghost use Rattle.task_model.specs.Tasks.{task_at, hyper_of};
+ghost use Rattle.task_model.specs.Tasks.{hyper_of};
 ghost use Rattle.freq_table.specs.Tables.{highest_speed};
 ghost use Rattle.sched_model.specs.Plan.{plan_of};
 ghost use Rattle.rm_response_laws.specs.Responses.{response, IsUnserved};
 ghost use Rattle.rm_response.specs.Loads.{IsLoad, AreLoads, AreBefore, HasRate, work_of};
-ghost use Rattle.rm_response.specs.Fits.{NoneFits, FindsFit, EndsDecide};
+ghost use Rattle.rm_response.specs.Fits.{NoneFits, FindsFit, EndsDecide, IsFirstFit};
 
 use crate::loads::{Load, held, rates_of, work_of};
 use freq_table::Machine;
@@ -179,35 +179,27 @@ fn fitting(
     fitting(tasks, machine, others, rest + held(*load, release), ended)
 }
 
-// The response of task i in ticks; one more than its period where it has none. `from` is a number of ticks up to its
-// period, and fewer ticks don't serve its level. The loads are the tasks before it.
-fn searched(tasks: &TaskSet, machine: &Machine, loads: &[Load], from: u64, i: u32) -> u64
-    requires task { i < length tasks.now }
-    requires before { AreBefore (plan_of tasks.now machine.now Rm) i loads.now }
-    requires some { 1 ≤ from }
-    requires within { from ≤ (task_at tasks.now i).period }
-    requires unserved { IsUnserved (plan_of tasks.now machine.now Rm) i from }
-    ensures { result ≡ response (plan_of tasks.now machine.now Rm) i }
+// The first of the ticks of the span into which `rest` units fit beside the work of the loads; one more than the last
+// where there is none.
+fn first_fitting(tasks: &TaskSet, machine: &Machine, loads: &[Load], rest: u128, span: Span) -> u64
+    requires loads { AreLoads (highest_speed machine.now) (hyper_of tasks.now) loads.now }
+    requires low_rest { rest ≤ 2 ^ 102 }
+    requires some_ticks { 1 ≤ span.first }
+    requires in_span { span.first ≤ span.last }
+    requires low_ticks { span.last ≤ LONGEST_PERIOD }
+    ensures { IsFirstFit (highest_speed machine.now) loads.now rest span.first span.last result }
 {
-    let _task_limits = tasks.as_slice();
-    let _machine_limits = machine.as_slice();
-    let period = tasks.task(i).period;
-    let job = u128::from(worst(tasks, machine, i));
-    let whole = Span {
-        first: from,
-        last: period,
+    let Some(mut high) = fitting(tasks, machine, loads, rest, span) else {
+        return span.last + 1;
     };
-    let Some(mut high) = fitting(tasks, machine, loads, job, whole) else {
-        return period + 1;
-    };
-    let mut low = from;
+    let mut low = span.first;
     while low < high {
         let middle = low + (high - low) / 2;
         let half = Span {
             first: low,
             last: middle,
         };
-        match fitting(tasks, machine, loads, job, half) {
+        match fitting(tasks, machine, loads, rest, half) {
             Some(ticks) => high = ticks,
             None => low = middle + 1,
         }
@@ -231,21 +223,14 @@ pub(crate) fn response_of(
     ensures { result ≡ response (plan_of tasks.now machine.now Rm) i }
 {
     let _task_limits = tasks.as_slice();
-    let period = tasks.task(i).period;
-    if from > period {
-        return period + 1;
+    let last = tasks.task(i).period;
+    if from > last {
+        return last + 1;
     }
     let job = u128::from(worst(tasks, machine, i));
-    let span = Span {
-        first: from,
-        last: period,
-    };
-    let at = raised(machine, loads, job, span, MOST_STEPS);
-    if at > period {
-        return period + 1;
+    let first = raised(machine, loads, job, Span { first: from, last }, MOST_STEPS);
+    if first > last || fits(machine, loads, job, first) {
+        return first;
     }
-    if fits(machine, loads, job, at) {
-        return at;
-    }
-    searched(tasks, machine, loads, at, i)
+    first_fitting(tasks, machine, loads, job, Span { first, last })
 }
