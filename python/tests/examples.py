@@ -1,8 +1,10 @@
-"""What the tests share: the example folders, the example of Pillai and Shin (2001), a trace in version 1."""
+"""What the tests share: the example folders, the example of Pillai and Shin (2001), a trace's lines."""
 
+from fractions import Fraction
 from pathlib import Path
+from typing import NamedTuple
 
-from rtdvs.files import Machine, Point, Task, TaskSet
+from rtdvs.files import Demands, Machine, Point, Task, TaskSet
 
 TOP = Path(__file__).resolve().parents[2]
 DATA = TOP / "crates" / "example_runs" / "data"
@@ -10,6 +12,14 @@ TRACES = sorted(DATA.glob("*/*.trace"))
 SHORT = [path for path in TRACES if path.parent.name != "long"]
 PAPER = TaskSet((Task("t1", 8, 12), Task("t2", 10, 12), Task("t3", 14, 4)))
 BOARD = Machine((Point(2, 3000), Point(3, 4000), Point(4, 5000)))
+
+
+def files(name: str) -> tuple[TaskSet, Machine, Demands | None]:
+    """The files of an example."""
+    folder = DATA / name
+    tasks, demands = TaskSet.read(folder / "tasks.toml"), folder / "demands.csv"
+    named = Demands.read(demands, tasks) if demands.exists() else None
+    return tasks, Machine.read(folder / "machine.toml"), named
 
 
 def version_1(text: str) -> str:
@@ -20,3 +30,54 @@ def version_1(text: str) -> str:
 
 def path_id(path: Path) -> str:
     return f"{path.parent.name}/{path.stem}"
+
+
+class Segment(NamedTuple):
+    """A run of a job, or idle time, which has no task and no job; begin and end are in ticks."""
+
+    task: str
+    job: str
+    begin: Fraction
+    end: Fraction
+    units: int
+    energy: int
+    speed: int
+
+
+class Lines:
+    """A trace as its lines say it, read apart from the package. A job is its task's name and its number."""
+
+    def __init__(self, text: str) -> None:
+        self.lines = [line.split() for line in text.splitlines()]
+        self.ticks, self.run_energy, self.idle_energy = map(int, self.lines[-1][1:])
+        self.period = {name: int(period) for name, period, *_ in self.of("task")}
+        self.releases = {(task, job): int(tick) for tick, task, job in self.of("release")}
+        self.used = {(task, job): used for _, task, job, used in self.of("done")}
+        self.decisions = [(int(tick), int(speed), Fraction(demand)) for tick, speed, demand in self.of("speed")]
+        self.segments: list[Segment] = []
+        self.ends: dict[tuple[str, str], Fraction] = {}
+        speed = 1
+        for word, *fields in self.lines:
+            if word == "speed":
+                speed = int(fields[1])
+            elif word == "done":
+                self.ends[fields[1], fields[2]] = time(fields[0], speed)
+            elif word in ("run", "idle"):
+                task, job = fields[2:-2] or ("", "")
+                begin, end = time(fields[0], speed), time(fields[1], speed)
+                units, energy = map(int, fields[-2:])
+                self.segments.append(Segment(task, job, begin, end, units, energy, speed))
+
+    def of(self, word: str) -> list[list[str]]:
+        """The fields of the lines that begin with a word."""
+        return [line[1:] for line in self.lines if line[0] == word]
+
+    def spans(self) -> list[tuple[int, int, Fraction]]:
+        """The ticks for which each decision holds, its speed and its demand."""
+        ends = [*(tick for tick, _, _ in self.decisions[1:]), self.ticks]
+        return [(end - tick, speed, demand) for (tick, speed, demand), end in zip(self.decisions, ends)]
+
+
+def time(position: str, speed: int) -> Fraction:
+    tick, units = map(int, position.split(":"))
+    return tick + Fraction(units, speed)

@@ -3,12 +3,11 @@
 from collections.abc import Iterator
 from pathlib import Path
 
-from examples import DATA, TOP
+from examples import TOP, files
 
 from rtdvs.compare import PAIRS, compare
 from rtdvs.engine import Engine, find_engine
 from rtdvs.figures import parse_means, save_compare, save_means
-from rtdvs.files import Demands, Machine, TaskSet
 from rtdvs.plot import View, save_trace
 from rtdvs.trace import Trace
 
@@ -20,13 +19,6 @@ TRACES = {  # a picture's name: the folder, the pair, the ticks, the view and th
     "controller": ("controller", ("edf", "cc"), 100, View(top=100, charge=2), 1000),
 }
 FIGURES = {"demands": 2, "idle": 2, "machines": 3, "tasks": 3}     # the evaluation's, and their columns
-
-
-def files(folder: str) -> tuple[TaskSet, Machine, Demands | None]:
-    """The files of an example."""
-    tasks, machine = TaskSet.read(DATA / folder / "tasks.toml"), Machine.read(DATA / folder / "machine.toml")
-    demands = DATA / folder / "demands.csv"
-    return tasks, machine, Demands.read(demands, tasks) if demands.exists() else None
 
 
 def draw_traces(engine: Engine, target: Path) -> Iterator[Path]:

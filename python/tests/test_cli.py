@@ -10,6 +10,7 @@ from fractions import Fraction
 from pathlib import Path
 
 import pytest
+from examples import DATA
 
 from rtdvs import cli, commandline
 from rtdvs.engine import Crashed, Engine, NoEngine, OverWorst
@@ -139,6 +140,7 @@ READERS_OF_FILES = [
     "explain --tasks BAD --machine machine.toml --trace edf_none.trace",
     "explain --tasks tasks.toml --machine BAD --trace edf_none.trace",
     "explain --tasks tasks.toml --machine machine.toml --trace edf_none.trace --demands BAD",
+    "explain --quiet --any --tasks tasks.toml --machine BAD --trace edf_none.trace",
     "simulate --tasks BAD --machine machine.toml --scheduler edf --governor cc --ticks 4",
     "statistics --tasks tasks.toml --trace BAD",
     "statistics --tasks BAD --trace edf_none.trace",
@@ -175,6 +177,8 @@ def test_bad_files(
 
 # Standard streams
 
+EXPLAIN = "explain --tasks tasks.toml --machine machine.toml --trace"
+PRINTING = ["--help", f"{EXPLAIN} edf_none.trace", f"{EXPLAIN} - --quiet < edf_none.trace"]
 STREAMS = [
     (">&-", 2, "rtdvs: standard output is closed\n"),
     ("> /dev/full", 2, "rtdvs: input or output: No space left on device\n"),
@@ -183,9 +187,10 @@ STREAMS = [
 ]
 
 
+@pytest.mark.parametrize("words", PRINTING)
 @pytest.mark.parametrize(("streams", "status", "line"), STREAMS)
-def test_streams(streams: str, status: int, line: str) -> None:
-    ran = in_shell(f'"$0" -m rtdvs --help {streams}')
+def test_streams(words: str, streams: str, status: int, line: str) -> None:
+    ran = in_shell(f'"$0" -m rtdvs {words} {streams}')
     assert (ran.returncode, ran.stdout, ran.stderr) == (status, "", line)
 
 
@@ -197,7 +202,8 @@ def test_a_reader_that_leaves() -> None:
 def in_shell(line: str) -> "subprocess.CompletedProcess[str]":
     source = str(Path(cli.__file__).parents[1])
     words = ["sh", "-c", line, sys.executable]
-    return subprocess.run(words, env={"PYTHONPATH": source}, capture_output=True, text=True, timeout=60)
+    return subprocess.run(words, cwd=DATA / "paper", env={"PYTHONPATH": source}, capture_output=True,
+                          text=True, timeout=60)
 
 
 # What commands share

@@ -2,10 +2,11 @@
 
 from collections import defaultdict
 from fractions import Fraction
-from itertools import combinations
+from itertools import combinations, pairwise
 from pathlib import Path
 
 import pytest
+from examples import Lines, files
 from hypothesis import given, settings
 from hypothesis import strategies as st
 
@@ -119,46 +120,29 @@ def bound(machine: Machine, units: int, ticks: int) -> Fraction:
                        for slow, fast in combinations(corners, 2) if slow[0] <= need <= fast[0])
 
 
-def speeds(lines: list[list[str]], ticks: int) -> list[int]:
-    """The speed of each tick."""
-    decisions = [(int(line[1]), int(line[2])) for line in lines if line[0] == "speed"]
-    ends = [tick for tick, _ in decisions[1:]] + [ticks]
-    return [speed for (tick, speed), end in zip(decisions, ends) for _ in range(tick, end)]
-
-
-def responses(lines: list[list[str]], at: list[int]) -> dict[str, list[Fraction]]:
-    """By task each complete job's response."""
-    released = {(line[2], line[3]): int(line[1]) for line in lines if line[0] == "release"}
-    found = defaultdict(list)
-    for line in lines:
-        if line[0] == "done":
-            tick, offset = map(int, line[1].split(":"))
-            release = released[line[2], line[3]]
-            found[line[2]].append(tick + (Fraction(offset, at[tick]) if offset else Fraction(0)) - release)
-    return found
-
-
-def recounted(text: str, tasks: TaskSet, machine: Machine, ticks: int, base: int) -> Result:
+def recounted(text: str, tasks: TaskSet, machine: Machine, base: int) -> Result:
     """What the lines of a trace come to: from units and speeds, not from its energies."""
-    lines = words(text)
-    at = speeds(lines, ticks)
+    lines = Lines(text)
     square = {point.speed: point.millivolts**2 for point in machine.points}
-    parts = {word: [(int(line[-2]), at[int(line[1].split(":")[0])]) for line in lines if line[0] == word]
-             for word in ("run", "idle")}
-    energy = sum(units * square[speed] * factor for word, factor in (("run", 1000), ("idle", machine.idle))
-                 for units, speed in parts[word])
-    least = bound(machine, sum(units for units, _ in parts["run"]), ticks)
-    periods = {task.name: task.period for task in tasks}
-    times = responses(lines, at)
+    energy = sum(each.units * square[each.speed] * (1000 if each.task else machine.idle)
+                 for each in lines.segments)
+    idle = sum((each.end - each.begin for each in lines.segments if not each.task), Fraction(0))
+    least = bound(machine, sum(each.units for each in lines.segments if each.task), lines.ticks)
+    times: defaultdict[str, list[Fraction]] = defaultdict(list)
+    for job, end in lines.ends.items():
+        times[job[0]].append(end - lines.releases[job])
+    residency: defaultdict[int, Fraction] = defaultdict(Fraction)
+    for ticks, speed, _ in lines.spans():
+        residency[speed] += Fraction(ticks, lines.ticks)
     return Result(
         energy=energy,
         share=Fraction(energy, base) if base else None,
         above_bound=energy / least - 1 if least else None,
-        switches=sum(a != b for a, b in zip(at, at[1:])),
-        idle=sum((Fraction(units, speed) for units, speed in parts["idle"]), Fraction(0)) / ticks,
-        least_laxity=min((periods[task] - max(jobs) for task, jobs in times.items()), default=None),
+        switches=sum(one[1] != two[1] for one, two in pairwise(lines.decisions)),
+        idle=idle / lines.ticks,
+        least_laxity=min((tasks.named(task).period - max(jobs) for task, jobs in times.items()), default=None),
         jitter=max((max(jobs) - min(jobs) for jobs in times.values()), default=None),
-        residency={speed: Fraction(at.count(speed), ticks) for speed in set(at)},
+        residency=residency,
     )
 
 
@@ -172,17 +156,15 @@ def check(engine: Engine, tasks: TaskSet, machine: Machine, ticks: int, demands:
             assert (row.result, row.refusal) == (None, str(denied))
             continue
         if pair == PAIRS[0]:
-            base = recounted(text, tasks, machine, ticks, 0).energy
-        assert row.result == recounted(text, tasks, machine, ticks, base)
+            base = recounted(text, tasks, machine, 0).energy
+        assert row.result == recounted(text, tasks, machine, base)
 
 
 @pytest.mark.parametrize(("example", "ticks"), [
     ("paper", 32), ("ahead", 60), ("offsets", 50), ("controller", 2000)])
-def test_examples(engine: Engine, data: Path, example: str, ticks: int) -> None:
-    folder = data / example
-    tasks, machine = TaskSet.read(folder / "tasks.toml"), Machine.read(folder / "machine.toml")
-    demands = Demands.read(folder / "demands.csv", tasks) if example == "controller" else None
-    check(engine, tasks, machine, ticks, demands)
+def test_examples(engine: Engine, example: str, ticks: int) -> None:
+    tasks, machine, demands = files(example)
+    check(engine, tasks, machine, ticks, demands if example == "controller" else None)
 
 
 @st.composite

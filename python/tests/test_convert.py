@@ -6,13 +6,13 @@ import json
 import locale
 import shutil
 import subprocess
-from collections import defaultdict
+from collections.abc import Iterable
 from fractions import Fraction
 from pathlib import Path
 from typing import Any
 
 import pytest
-from examples import SHORT, TRACES, path_id, version_1
+from examples import SHORT, TRACES, Lines, path_id, version_1
 from hypothesis import given
 from hypothesis import strategies as st
 
@@ -28,74 +28,59 @@ STEP = Fraction(1, 10**6)
 Waves = dict[tuple[str, ...], list[tuple[int, Fraction]]]
 
 
-class Lines:
-    """A trace as its lines say it, read apart from the package."""
-
-    def __init__(self, text: str) -> None:
-        self.lines = [line.split() for line in text.splitlines()]
-        self.ticks, self.run_energy, self.idle_energy = map(int, self.lines[-1][1:])
-        self.period = {line[1]: int(line[2]) for line in self.lines if line[0] == "task"}
-        self.releases = {(line[2], line[3]): int(line[1]) for line in self.lines if line[0] == "release"}
-        self.used = {(line[2], line[3]): line[4] for line in self.lines if line[0] == "done"}
-        self.decisions = [(int(line[1]), int(line[2]), Fraction(line[3])) for line in self.lines
-                          if line[0] == "speed"]
-        self.ran: defaultdict[str, Fraction] = defaultdict(Fraction)    # ticks; idle time is ""
-        self.segments: list[tuple[str, str, Fraction, Fraction, int, int]] = []
-        self.ends: dict[tuple[str, str], Fraction] = {}
-        speed = 1
-
-        def at(position: str) -> Fraction:
-            tick, units = map(int, position.split(":"))
-            return tick + Fraction(units, speed)
-
-        for line in self.lines:
-            if line[0] == "speed":
-                speed = int(line[2])
-            elif line[0] == "run":
-                self.segments.append((line[3], line[4], at(line[1]), at(line[2]), int(line[5]), int(line[6])))
-            elif line[0] == "idle":
-                self.segments.append(("", "", at(line[1]), at(line[2]), int(line[3]), int(line[4])))
-            elif line[0] == "done":
-                self.ends[line[2], line[3]] = at(line[1])
-        for task, _, begin, end, _, _ in self.segments:
-            self.ran[task] += end - begin
-
-    def due(self, task: str, job: str) -> int | None:
-        """A job's deadline; in version 1 the next release."""
-        if self.period:
-            return self.releases[task, job] + self.period[task]
-        return self.releases.get((task, str(int(job) + 1)))
+def due(lines: Lines, task: str, job: str) -> int | None:
+    """A job's deadline; in version 1 the next release."""
+    if lines.period:
+        return lines.releases[task, job] + lines.period[task]
+    return lines.releases.get((task, str(int(job) + 1)))
 
 
-def near(found: str | Fraction | None, wanted: Fraction) -> bool:
-    return found not in (None, "") and abs(Fraction(str(found)) - wanted) <= STEP / 2
+def near(found: str | Fraction, wanted: Fraction) -> bool:
+    return found != "" and abs(Fraction(found) - wanted) <= STEP / 2
 
 
-def check_tables(text: str) -> None:
-    trace, lines = Trace.parse(text), Lines(text)
-    segments = list(csv.DictReader(io.StringIO(csv_text(trace))))
-    assert [(row["task"], row["job"], int(row["units"]), int(row["energy"])) for row in segments] == [
-        (task, job, units, energy) for task, job, _, _, units, energy in lines.segments]
-    for row, (_, _, begin, end, _, _) in zip(segments, lines.segments):
-        assert near(row["start"], begin) and near(row["stop"], end)
-        assert row["kind"] == ("run" if row["task"] else "idle")
-    jobs = {(row["task"], row["job"]): row for row in csv.DictReader(io.StringIO(csv_text(trace, "jobs")))}
-    assert {key: int(row["release"]) for key, row in jobs.items()} == lines.releases
-    assert {key: row["used"] for key, row in jobs.items() if row["used"]} == lines.used
-    for key, row in jobs.items():
-        due, done = lines.due(*key), lines.ends.get(key)
-        assert row["deadline"] == ("" if due is None else str(due))
-        assert row["done"] == row["response"] == "" if done is None else near(row["done"], done)
-        if done is not None:
-            assert Fraction(row["response"]) == Fraction(row["done"]) - lines.releases[key]
-        is_known = due is not None and done is not None
-        assert row["laxity"] == ("" if not is_known else row["laxity"])
-        assert not is_known or Fraction(row["laxity"]) == (due or 0) - Fraction(row["done"])
-    decisions = list(csv.DictReader(io.StringIO(csv_text(trace, "decisions"))))
+def table(text: str, name: str) -> list[dict[str, str]]:
+    return list(csv.DictReader(io.StringIO(csv_text(Trace.parse(text), name))))
+
+
+def check_segments(text: str) -> None:
+    for row, segment in zip(table(text, "segments"), Lines(text).segments, strict=True):
+        assert (row["task"], row["job"], int(row["units"]), int(row["energy"]), int(row["speed"])) == (
+            segment.task, segment.job, segment.units, segment.energy, segment.speed)
+        assert near(row["start"], segment.begin) and near(row["stop"], segment.end)
+        assert row["kind"] == ("run" if segment.task else "idle")
+
+
+def check_jobs(text: str) -> None:
+    lines, rows = Lines(text), table(text, "jobs")
+    assert {(row["task"], row["job"]): int(row["release"]) for row in rows} == lines.releases
+    assert {(row["task"], row["job"]): row["used"] for row in rows if row["used"]} == lines.used
+    for row in rows:
+        key = row["task"], row["job"]
+        deadline, done = due(lines, *key), lines.ends.get(key)
+        assert row["deadline"] == ("" if deadline is None else str(deadline))
+        if done is None:
+            assert row["done"] == row["response"] == row["laxity"] == ""
+            continue
+        assert near(row["done"], done)
+        assert Fraction(row["response"]) == Fraction(row["done"]) - lines.releases[key]
+        if deadline is None:
+            assert row["laxity"] == ""
+        else:
+            assert Fraction(row["laxity"]) == deadline - Fraction(row["done"])
+
+
+def same_demands(found: Iterable[str | Fraction], lines: Lines) -> bool:
+    """To nine digits."""
+    return all(abs(Fraction(one) - demand) <= demand / 10**8
+               for one, (_, _, demand) in zip(found, lines.decisions, strict=True))
+
+
+def check_decisions(text: str) -> None:
+    lines, rows = Lines(text), table(text, "decisions")
     assert [(int(row["tick"]), int(row["speed"]), Fraction(int(row["num"]), int(row["den"])))
-            for row in decisions] == lines.decisions
-    demands = [(Fraction(row["quotient"]), demand) for row, (_, _, demand) in zip(decisions, lines.decisions)]
-    assert all(abs(found - demand) <= demand / 10**8 for found, demand in demands)
+            for row in rows] == lines.decisions
+    assert same_demands((row["quotient"] for row in rows), lines)
 
 
 def check_events(text: str) -> None:
@@ -104,23 +89,19 @@ def check_events(text: str) -> None:
     kinds = {kind: [event for event in events if event["ph"] == kind] for kind in "MXiC"}
     tracks = {event["tid"]: event["args"]["name"] for event in kinds["M"] if event["name"] == "thread_name"}
     assert tracks.pop(65) == "idle"
-    slices = [(tracks.get(event["tid"], ""), event["name"], event["args"]["units"],
-               int(event["args"]["energy"])) for event in kinds["X"]]
-    assert slices == [(task, f"{task} {job}" if task else "idle", units, energy) for task, job, _, _, units,
-                      energy in lines.segments]
-    for event, (_, _, begin, end, _, _) in zip(kinds["X"], lines.segments):
-        assert near(event["ts"], begin) and near(event["dur"], end - begin)
-    marks = {(tracks[event["tid"]], *event["name"].split()): Fraction(event["ts"]) for event in kinds["i"]}
-    assert {(task, job): int(at) for (task, kind, job), at in marks.items()
-            if kind == "release"} == lines.releases
-    ends = {(task, job): at for (task, kind, job), at in marks.items() if kind == "done"}
-    assert ends.keys() == lines.ends.keys() and all(near(at, lines.ends[key]) for key, at in ends.items())
-    speeds = [(event["ts"], event["args"]["units per tick"]) for event in kinds["C"]
-              if event["name"] == "speed"]
-    assert speeds == [(tick, speed) for tick, speed, _ in lines.decisions]
-    demands = [Fraction(event["args"]["units per tick"]) for event in kinds["C"] if event["name"] == "demand"]
-    assert all(abs(found - demand) <= demand / 10**8
-               for found, (_, _, demand) in zip(demands, lines.decisions, strict=True))
+    for event, each in zip(kinds["X"], lines.segments, strict=True):
+        args = event["args"]
+        assert (tracks.get(event["tid"], ""), event["name"], args["units"], int(args["energy"])) == (
+            each.task, f"{each.task} {each.job}" if each.task else "idle", each.units, each.energy)
+        assert near(event["ts"], each.begin) and near(event["dur"], each.end - each.begin)
+    marks = {(event["name"], tracks[event["tid"]]): Fraction(event["ts"]) for event in kinds["i"]}
+    wanted = {(f"release {job}", task): Fraction(tick) for (task, job), tick in lines.releases.items()}
+    wanted |= {(f"done {job}", task): end for (task, job), end in lines.ends.items()}
+    assert marks.keys() == wanted.keys() and all(near(at, wanted[mark]) for mark, at in marks.items())
+    counts = {name: [(event["ts"], event["args"]["units per tick"]) for event in kinds["C"]
+                     if event["name"] == name] for name in ("speed", "demand")}
+    assert counts["speed"] == [(tick, speed) for tick, speed, _ in lines.decisions]
+    assert same_demands((demand for _, demand in counts["demand"]), lines)
 
 
 def read_waves(text: str) -> Waves:
@@ -160,15 +141,15 @@ def check_waves(text: str, vcd: str) -> None:
     assert waves["idle",][-1][0] == lines.ticks * 10**6
     energy = lines.run_energy + lines.idle_energy
     assert abs(waves["energy",][-1][1] - energy) <= Fraction(energy, 10**14)
-    assert area(waves["speed",]) == sum(units for *_, units, _ in lines.segments)
-    spans = zip(lines.decisions, [*(tick for tick, _, _ in lines.decisions[1:]), lines.ticks])
-    wanted = sum(demand * (end - tick) for (tick, _, demand), end in spans)
+    assert area(waves["speed",]) == sum(each.units for each in lines.segments)
+    wanted = sum(demand * ticks for ticks, _, demand in lines.spans())
     assert abs(area(waves["demand",]) - wanted) <= wanted / 10**8
-    jobs = [(end - begin, int(job or 0)) for _, job, begin, end, _, _ in lines.segments]
-    wanted = sum((time * job for time, job in jobs), Fraction(0))
-    assert abs(area(waves["job",]) - wanted) <= STEP * sum(job for _, job in jobs)
+    jobs = [int(each.job or 0) for each in lines.segments]
+    wanted = sum((job * (each.end - each.begin) for job, each in zip(jobs, lines.segments)), Fraction(0))
+    assert abs(area(waves["job",]) - wanted) <= STEP * sum(jobs)
     for task, wire in [("", ("idle",)), *((task, ("tasks", task)) for task in tasks)]:
-        assert abs(area(waves[wire]) - lines.ran[task]) <= STEP * len(lines.segments)
+        ran = sum((each.end - each.begin for each in lines.segments if each.task == task), Fraction(0))
+        assert abs(area(waves[wire]) - ran) <= STEP * len(lines.segments)
     for task in tasks:
         spent = [lines.ends.get(key, Fraction(lines.ticks)) - at for key, at in lines.releases.items()
                  if key[0] == task]
@@ -176,7 +157,9 @@ def check_waves(text: str, vcd: str) -> None:
 
 
 def check_all(text: str) -> None:
-    check_tables(text)
+    check_segments(text)
+    check_jobs(text)
+    check_decisions(text)
     check_events(text)
     check_waves(text, vcd_text(Trace.parse(text)))
 
@@ -286,13 +269,13 @@ def test_frames(data: Path) -> None:
     text = (data / "controller" / "edf_cc_with_demands.trace").read_text()
     trace, lines = Trace.parse(text), Lines(text)
     segments = frame(trace, "segments", joule=Fraction(1, 10**12))
-    assert list(segments["energy"]) == [energy for *_, energy in lines.segments]
+    assert list(segments["energy"]) == [each.energy for each in lines.segments]
     assert all(type(energy) is int for energy in segments["energy"])
-    assert list(segments["joules"]) == [energy / 10**12 for *_, energy in lines.segments]
-    assert list(segments["start"]) == [float(begin) for _, _, begin, _, _, _ in lines.segments]
+    assert list(segments["joules"]) == [each.energy / 10**12 for each in lines.segments]
+    assert list(segments["start"]) == [float(each.begin) for each in lines.segments]
     jobs = frame(trace, "jobs")
     assert len(jobs) == len(lines.releases) and jobs["laxity"].isna().sum() == sum(
-        lines.due(*key) is None or key not in lines.ends for key in lines.releases)
+        due(lines, *key) is None or key not in lines.ends for key in lines.releases)
     decisions = frame(trace, "decisions")
     assert [*zip(decisions["tick"], decisions["speed"],
                  map(Fraction, decisions["num"], decisions["den"]))] == lines.decisions

@@ -8,9 +8,10 @@ from hypothesis import given
 from hypothesis import strategies as st
 
 from rtdvs.cli import main
-from rtdvs.design import (Board, BoardPoint, BoardTask, Scale, choose_scale, choose_tick, design, plain,
-                          rounded, settle,
-                          usual_demands)
+from rtdvs.design import (
+    Board, BoardPoint, BoardTask, Scale, choose_scale, choose_tick, design, plain, rounded, settle,
+    usual_demands,
+)
 from rtdvs.files import Demands, FileFault, Machine, Point, Task, TaskSet
 
 # The controller and the decoder of the page on units, on five operating points of the XScale.

@@ -11,14 +11,7 @@ from hypothesis import strategies as st
 
 from rtdvs.files import TaskSet
 from rtdvs.draws import (
-    DrawFault,
-    Listed,
-    LogUniform,
-    SetName,
-    published_sets,
-    taken,
-    taken_uniform,
-    uunifast,
+    DrawFault, Listed, LogUniform, SetName, published_sets, taken, taken_uniform, uunifast,
     uunifast_sets,
 )
 

@@ -13,21 +13,8 @@ from rtdvs.cli import main
 from rtdvs.draws import SetName, published_sets
 from rtdvs.engine import Engine
 from rtdvs.evaluate import (
-    CURVES,
-    FIGURES,
-    MACHINES,
-    Record,
-    Sweep,
-    evaluate,
-    faults,
-    figure_table,
-    mean,
-    panels_of,
-    point,
-    read_records,
-    recount,
-    shares,
-    summary,
+    CURVES, FIGURES, MACHINES, Record, Sweep, evaluate, faults, figure_table, mean, panels_of,
+    point, read_records, recount, shares, summary,
 )
 from rtdvs.files import FileFault, Machine, Point
 

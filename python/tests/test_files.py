@@ -9,15 +9,7 @@ import pytest
 from hypothesis import given
 from hypothesis import strategies as st
 
-from rtdvs.engine import (
-    Call,
-    Engine,
-    admit_call,
-    constrain_call,
-    least_call,
-    poll_call,
-    run_call,
-)
+from rtdvs.engine import Call, Engine, admit_call, constrain_call, least_call, poll_call, run_call
 from rtdvs.files import Deadlines, Demands, FileFault, Machine, Point, Request, Requests, Task, TaskSet
 
 TASKS = """[[task]]

@@ -2,15 +2,7 @@
 
 from rtdvs.engine import Engine, EngineError, find_engine
 from rtdvs.files import (
-    Deadlines,
-    Demands,
-    FileFault,
-    Machine,
-    Point,
-    Request,
-    Requests,
-    Task,
-    TaskSet,
+    Deadlines, Demands, FileFault, Machine, Point, Request, Requests, Task, TaskSet,
 )
 
 __all__ = [

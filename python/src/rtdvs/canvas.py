@@ -1,17 +1,21 @@
 """What all pictures share: lengths, a colour for white and for dark, and files of the same bytes."""
 
+from collections.abc import Sequence
 from pathlib import Path
-from typing import TYPE_CHECKING, Any
+from typing import TYPE_CHECKING, Any, Union
 
 from rtdvs.files import FileFault
 
 if TYPE_CHECKING:
+    from matplotlib.axes import Axes
     from matplotlib.figure import Figure
 
 PIXEL = 1 / 96          # inches
 POINT = 0.75            # points in a pixel, for texts and lines
 SMALL, TEXT, TITLE = 10 * POINT, 12 * POINT, 15 * POINT
 INK = "#797979"
+UNDATED: dict[str, dict[str, None]] = {
+    "svg": {"Date": None, "Creator": None}, "pdf": {"CreationDate": None}, "png": {"Software": None}}
 
 
 def settings() -> Any:
@@ -19,8 +23,8 @@ def settings() -> Any:
     import matplotlib
 
     own = {"svg.hashsalt": "rtdvs", "svg.fonttype": "none", "pdf.fonttype": 42,
-           "axes.formatter.use_locale": False,
-           "font.sans-serif": ["DejaVu Sans"], "font.monospace": ["DejaVu Sans Mono"]}
+           "axes.formatter.use_locale": False, "font.sans-serif": ["DejaVu Sans"],
+           "font.monospace": ["DejaVu Sans Mono"]}
     kept = {key: value for key, value in matplotlib.rcParamsDefault.items()
             if key not in ("backend", "interactive", "toolbar")}
     return matplotlib.rc_context({**kept, **own})
@@ -34,9 +38,48 @@ def new_figure(width: float, height: float) -> "Figure":
 
 def save(figure: "Figure", path: Path, background: str) -> None:
     kind = path.suffix.lower().lstrip(".")
-    undated: dict[str, dict[str, None]] = {
-        "svg": {"Date": None, "Creator": None}, "pdf": {"CreationDate": None}, "png": {"Software": None}}
-    if kind not in undated:
+    if kind not in UNDATED:
         raise FileFault(f"a picture is a file .svg, .pdf or .png, and not {path.name}")
     figure.savefig(path, format=kind, facecolor=background, dpi=96 if kind == "svg" else 192,
-                   metadata=undated[kind])
+                   metadata=UNDATED[kind])
+
+
+def bare(axes: "Axes", grid: str) -> None:
+    """Leaves nothing of the axes' frame but faint lines at the ticks of x or of y."""
+    axes.set_facecolor("none")
+    axes.tick_params(length=0, colors=INK)
+    axes.grid(axis=grid, color=INK, alpha=0.35, linewidth=POINT)
+    axes.set_axisbelow(True)
+    for spine in axes.spines.values():
+        spine.set_visible(False)
+
+
+def words(axes: "Axes", x: float, y: float, text: str, **style: Any) -> None:
+    """A text at a place of the axes, small unless the style says otherwise."""
+    axes.text(x, y, text, **{"fontsize": SMALL, "color": INK, **style})
+
+
+def beside(axes: "Axes", place: tuple[float, float], offset: tuple[float, float], text: str,
+           **style: Any) -> None:
+    """A text outside of the axes, some pixels from a place."""
+    away = offset[0] * POINT, offset[1] * POINT
+    axes.annotate(text, place, xytext=away, textcoords="offset points", annotation_clip=False,
+                  **{"fontsize": SMALL, "color": INK, **style})
+
+
+def sign(label: str, colour: str, **style: Any) -> Any:
+    """A line or a mark for a legend."""
+    from matplotlib.lines import Line2D
+
+    return Line2D([], [], label=label, color=colour, **style)
+
+
+def patch(label: str, colour: str, alpha: float = 1) -> Any:
+    """A rectangle for a legend."""
+    from matplotlib.patches import Patch
+
+    return Patch(facecolor=colour, alpha=alpha, label=label)
+
+
+def legend(of: Union["Axes", "Figure"], handles: Sequence[Any], columns: int, **style: Any) -> None:
+    of.legend(handles=handles, ncol=columns, frameon=False, fontsize=SMALL, labelcolor=INK, **style)

@@ -7,16 +7,7 @@ from collections.abc import Sequence
 from types import ModuleType
 
 from rtdvs import (
-    compare,
-    convert,
-    design,
-    evaluate,
-    explain,
-    generate,
-    paper_table,
-    plot,
-    sensitivity,
-    simulate,
+    compare, convert, design, evaluate, explain, generate, paper_table, plot, sensitivity, simulate,
     statistics,
 )
 from rtdvs.engine import EngineError

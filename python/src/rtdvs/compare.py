@@ -20,21 +20,8 @@ from dataclasses import dataclass, replace
 from fractions import Fraction
 
 from rtdvs.commandline import (
-    Commands,
-    Input,
-    add_engine_options,
-    add_files,
-    add_parser,
-    add_ticks,
-    engine_of,
-    executor_of,
-    input_path,
-    progress,
-    read_demands,
-    read_machine,
-    read_tasks,
-    read_text,
-    whole_number,
+    Commands, Input, add_engine_options, add_files, add_parser, add_ticks, engine_of, executor_of,
+    input_path, progress, read_demands, read_machine, read_tasks, read_text, whole_number,
 )
 from rtdvs.decimals import aligned, decimal
 from rtdvs.engine import Answer, Denied, Engine, Least, least_call, parse_least, run_call

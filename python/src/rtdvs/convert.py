@@ -14,14 +14,7 @@ from fractions import Fraction
 from typing import TYPE_CHECKING
 
 from rtdvs.commandline import (
-    Commands,
-    add_files,
-    add_output,
-    add_parser,
-    note_charge,
-    read_text,
-    whole_number,
-    write_output,
+    Commands, add_files, add_output, add_parser, note_charge, read_text, whole_number, write_output,
 )
 from rtdvs.decimals import decimal
 from rtdvs.files import FileFault

@@ -32,29 +32,13 @@ from pathlib import Path
 from typing import Any
 
 from rtdvs.commandline import (
-    Commands,
-    add_engine_options,
-    add_output,
-    add_pair,
-    add_parser,
-    engine_of,
-    exact_fraction,
-    input_path,
-    read_text,
-    whole_number,
-    write_output,
+    Commands, add_engine_options, add_output, add_pair, add_parser, engine_of, exact_fraction,
+    input_path, read_text, whole_number, write_output,
 )
 from rtdvs.device_tree import Choice, OperatingPoint, operating_points
 from rtdvs.draws import jobs_of
 from rtdvs.files import (
-    LONGEST_HYPERPERIOD,
-    MOST_MILLIVOLTS,
-    MOST_SPEED,
-    Demands,
-    FileFault,
-    Machine,
-    Point,
-    Task,
+    LONGEST_HYPERPERIOD, MOST_MILLIVOLTS, MOST_SPEED, Demands, FileFault, Machine, Point, Task,
     TaskSet,
 )
 from rtdvs.trace import Trace

@@ -15,28 +15,15 @@ from fractions import Fraction
 from pathlib import Path
 
 from rtdvs.commandline import (
-    Commands,
-    add_engine_options,
-    add_parser,
-    engine_of,
-    exact_fraction,
-    progress,
-    whole_number,
+    Commands, add_engine_options, add_parser, engine_of, exact_fraction, progress, whole_number,
 )
 from rtdvs.compare import PAIRS, Case, energy_of, runs
 from rtdvs.decimals import decimal
 from rtdvs.engine import Denied, Engine
 from rtdvs.files import Demands, FileFault, Machine, Point, TaskSet
 from rtdvs.draws import (
-    PUBLISHED_COUNTS,
-    PUBLISHED_SEED,
-    PUBLISHED_TICKS,
-    PUBLISHED_TOP,
-    SetName,
-    published_sets,
-    taken,
-    taken_uniform,
-    uunifast_sets,
+    PUBLISHED_COUNTS, PUBLISHED_SEED, PUBLISHED_TICKS, PUBLISHED_TOP, SetName, published_sets,
+    taken, taken_uniform, uunifast_sets,
 )
 from rtdvs.trace import Done, Idle, Release, Run, Trace
 

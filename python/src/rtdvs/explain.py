@@ -19,44 +19,15 @@ from collections.abc import Callable, Iterable, Iterator, Sequence
 from dataclasses import astuple, dataclass
 
 from rtdvs.commandline import (
-    Commands,
-    add_files,
-    add_parser,
-    open_input,
-    read_demands,
-    read_machine,
-    read_tasks,
+    Commands, add_files, add_parser, open_input, read_demands, read_machine, read_tasks,
 )
 from rtdvs.files import Demands, Machine, Point, Task, TaskSet
 from rtdvs.rules import (
-    GOVERNORS,
-    Checker,
-    Governor,
-    Latest,
-    Plan,
-    State,
-    Wrong,
-    WrongDemand,
-    WrongSpeed,
-    ceiling,
-    edf_ahead,
-    edf_cycle,
-    full,
-    rm_cycle,
-    static,
+    GOVERNORS, Checker, Governor, Latest, Plan, State, Wrong, WrongDemand, WrongSpeed, ceiling,
+    edf_ahead, edf_cycle, full, rm_cycle, static,
 )
 from rtdvs.trace import (
-    Decision,
-    Done,
-    Head,
-    Item,
-    Note,
-    Order,
-    Position,
-    Release,
-    TraceFault,
-    lines_of,
-    spelled_lines,
+    Decision, Done, Head, Item, Note, Order, Position, Release, TraceFault, lines_of, spelled_lines,
 )
 
 

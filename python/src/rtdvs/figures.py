@@ -7,7 +7,9 @@ from fractions import Fraction
 from pathlib import Path
 from typing import TYPE_CHECKING, Any
 
-from rtdvs.canvas import INK, PIXEL, POINT, SMALL, TEXT, new_figure, save, settings
+from rtdvs.canvas import (
+    INK, PIXEL, POINT, SMALL, TEXT, bare, beside, legend, new_figure, patch, save, settings, sign, words,
+)
 from rtdvs.compare import Row
 from rtdvs.decimals import decimal
 from rtdvs.files import FileFault
@@ -20,29 +22,27 @@ ENERGY, BOUND, TIME = "#d55e00", "#009e73", "#0072b2"
 
 
 def plot_compare(rows: Sequence[Row], energy: "Axes", time: "Axes") -> None:
-    """Draws a comparison into two axes: each energy as a share of EDF with `none`, and the time at each
-    speed.
+    """Draws a comparison into two axes: each energy as a share of EDF with `none`, and the time at each speed.
 
     A mark is at the bound for the row's units. A pair that is denied has its line in place of a bar.
     """
     for axes in (energy, time):
-        axes.set_xlim(0, 1)
-        axes.set_ylim(len(rows) - 0.5, -0.5)
-        _plain_axes(axes)
+        bare(axes, "x")
+        axes.set(xlim=(0, 1), ylim=(len(rows) - 0.5, -0.5), yticks=[])
         axes.set_xticks([0, 0.25, 0.5, 0.75, 1], ["0.00", "0.25", "0.50", "0.75", "1.00"], fontsize=SMALL)
-        axes.set_yticks([])
     energy.set_yticks(range(len(rows)), [f"{row.scheduler.upper()} {row.governor}" for row in rows],
                       fontsize=TEXT)
-    energy.set_title("energy, as a share of EDF none; the mark is the bound", loc="left", fontsize=SMALL,
-                     color=INK)
-    time.set_title("time at speed", loc="left", fontsize=SMALL, color=INK)
+    for axes, title in ((energy, "energy, as a share of EDF none; the mark is the bound"),
+                        (time, "time at speed")):
+        axes.set_title(title, loc="left", fontsize=SMALL, color=INK)
     speeds = sorted({speed for row in rows if row.result for speed in row.result.residency})
     shades = {speed: 0.7 if len(speeds) == 1 else 0.3 + 0.6 * place / (len(speeds) - 1)
               for place, speed in enumerate(speeds)}
     for place, row in enumerate(rows):
         _draw_energy(energy, place, row)
         _draw_times(time, place, row, shades)
-    _draw_shades(time, shades)
+    legend(time, [patch(str(speed), TIME, shade) for speed, shade in shades.items()], max(1, len(shades)),
+           loc="lower right", bbox_to_anchor=(1, 1), handlelength=1, columnspacing=1, borderpad=0)
 
 
 def save_compare(rows: Sequence[Row], path: Path, background: str = "none") -> None:
@@ -51,52 +51,33 @@ def save_compare(rows: Sequence[Row], path: Path, background: str = "none") -> N
         high = 24 * len(rows) + 70
         figure = new_figure(810, high)
         low, tall = 30 / high, 24 * len(rows) / high
-        plot_compare(rows, figure.add_axes((90 / 810, low, 300 / 810, tall)),
-                     figure.add_axes((480 / 810, low, 300 / 810, tall)))
+        plot_compare(rows, *(figure.add_axes((left / 810, low, 300 / 810, tall)) for left in (90, 480)))
         save(figure, path, background)
-
-
-def _plain_axes(axes: "Axes") -> None:
-    axes.set_facecolor("none")
-    axes.tick_params(length=0, colors=INK)
-    axes.grid(axis="x", color=INK, alpha=0.35, linewidth=POINT)
-    axes.set_axisbelow(True)
-    for spine in axes.spines.values():
-        spine.set_visible(False)
 
 
 def _draw_energy(axes: "Axes", place: int, row: Row) -> None:
     if row.result is None or row.result.share is None:
-        axes.text(0.02, place, row.refusal or "no share", va="center", fontsize=SMALL, color=INK)
+        words(axes, 0.02, place, row.refusal or "no share", va="center")
         return
-    share = row.result.share
-    axes.barh(place, float(share), height=2 / 3, color=ENERGY, alpha=0.75,
-              gid=f"energy-{row.scheduler}-{row.governor}")
-    axes.text(float(share) + 0.013, place, decimal(share, 3), va="center", fontsize=SMALL, color=INK)
+    share, pair = row.result.share, f"{row.scheduler}-{row.governor}"
+    axes.barh(place, float(share), height=2 / 3, color=ENERGY, alpha=0.75, gid=f"energy-{pair}")
+    words(axes, float(share) + 0.013, place, decimal(share, 3), va="center")
     if row.result.above_bound is not None:
-        bound = float(share / (1 + row.result.above_bound))
-        axes.vlines(bound, place - 0.42, place + 0.42, color=BOUND, linewidth=3 * POINT, zorder=3,
-                    gid=f"bound-{row.scheduler}-{row.governor}")
+        axes.vlines(float(share / (1 + row.result.above_bound)), place - 0.42, place + 0.42, color=BOUND,
+                    linewidth=3 * POINT, zorder=3, gid=f"bound-{pair}")
 
 
 def _draw_times(axes: "Axes", place: int, row: Row, shades: Mapping[int, float]) -> None:
     begin = Fraction(0)
-    for speed in shades:
+    for speed, shade in shades.items():
         time = row.result.residency.get(speed, Fraction(0)) if row.result else Fraction(0)
         if time:
-            axes.barh(place, float(time), left=float(begin), height=2 / 3, color=TIME, alpha=shades[speed],
+            axes.barh(place, float(time), left=float(begin), height=2 / 3, color=TIME, alpha=shade,
                       linewidth=0)
         begin += time
 
 
-def _draw_shades(axes: "Axes", shades: Mapping[int, float]) -> None:
-    from matplotlib.patches import Patch
-
-    axes.legend(handles=[Patch(color=TIME, alpha=shade, linewidth=0, label=str(speed))
-                         for speed, shade in shades.items()],
-                loc="lower right", bbox_to_anchor=(1, 1), ncol=max(1, len(shades)), frameon=False,
-                fontsize=SMALL,
-                labelcolor=INK, handlelength=1, columnspacing=1, borderpad=0)
+# The evaluation
 
 
 @dataclass(frozen=True, slots=True)
@@ -118,7 +99,7 @@ def parse_means(text: str) -> tuple[Mean, ...]:
     100
     """
     rows = list(csv.reader(text.splitlines(), delimiter="\t"))
-    if rows[:1] != [["panel", "curve", "utilisation", "sets", "mean", "low", "high"]]:
+    if not rows or rows[0] != ["panel", "curve", "utilisation", "sets", "mean", "low", "high"]:
         raise FileFault("table: wrong header")
     try:
         return tuple(Mean(panel, curve, Fraction(utilisation), int(sets),
@@ -140,43 +121,37 @@ CURVES = {
 
 
 def plot_means(means: Sequence[Mean], axes: "Axes") -> None:
-    """Draws a panel of the evaluation: mean energies over utilisation, the middle 80 % as bars, the sets that
-    RM admits.
+    """Draws a panel of the evaluation: mean energies over utilisation, the middle 80 % as bars, the sets
+    that RM admits.
 
     A curve has no point if fewer than a tenth of the sets are admitted.
     """
-    axes.set_xlim(0, 1.03)
-    axes.set_ylim(0, 1)
-    _plain_axes(axes)
-    axes.grid(axis="x", visible=False)
-    axes.grid(axis="y", color=INK, alpha=0.35, linewidth=POINT)
-    admitted = {mean.utilisation: mean.sets for mean in means if mean.curve == "rm none"}
+    bare(axes, "y")
+    axes.set(xlim=(0, 1.03), ylim=(0, 1))
+    admitted, sets = ({mean.utilisation: mean.sets for mean in means if mean.curve == curve}
+                      for curve in ("rm none", "edf none"))
     tenths = [Fraction(place, 10) for place in range(1, 11)]
     axes.set_xticks([float(tenth) for tenth in tenths],
                     [f"{decimal(tenth, 1)}\n{admitted.get(tenth, 0)}" for tenth in tenths], fontsize=SMALL)
     axes.set_yticks([0, 0.2, 0.4, 0.6, 0.8, 1], ["0.0", "0.2", "0.4", "0.6", "0.8", "1.0"], fontsize=SMALL)
-    axes.annotate("RM", (0, 0), xytext=(-6 * POINT, -24 * POINT), textcoords="offset points", ha="right",
-                  fontsize=SMALL,
-                  color=INK, annotation_clip=False)
+    beside(axes, (0, 0), (-6, -24), "RM", ha="right")
     axes.set_title(means[0].panel if means else "", fontsize=TEXT, color=INK)
     axes.hlines(1, 0.1, 1, color=INK, linewidth=1.5 * POINT, clip_on=False)
-    all_sets = {mean.utilisation: mean.sets for mean in means if mean.curve == "edf none"}
     for curve in CURVES:
         _draw_curve(axes, curve, [mean for mean in means if mean.curve == curve and mean.energies
-                                  and 10 * mean.sets >= all_sets.get(mean.utilisation, 0)])
+                                  and 10 * mean.sets >= sets.get(mean.utilisation, 0)])
 
 
 def _draw_curve(axes: "Axes", curve: str, means: Sequence[Mean]) -> None:
     colour, _, _, shift = CURVES[curve]
     width = axes.get_position().width * axes.figure.get_figwidth() / PIXEL / 1.03
     places = [float(mean.utilisation) + shift / width for mean in means]
-    spread = [(place, mean) for place, mean in zip(places, means)
-              if curve != "bound" and mean.energies[2] - mean.energies[1] >= Fraction(1, 230)]
-    axes.vlines([place for place, _ in spread], [float(mean.energies[1]) for _, mean in spread],
-                [float(mean.energies[2]) for _, mean in spread], color=colour, alpha=0.75,
-                linewidth=1.2 * POINT, clip_on=False)
-    axes.plot(places, [float(mean.energies[0]) for mean in means], clip_on=False, gid=curve.replace(" ", "-"),
-              **_style(curve), color=colour)
+    bars = [(place, *map(float, mean.energies[1:])) for place, mean in zip(places, means)
+            if curve != "bound" and mean.energies[2] - mean.energies[1] >= Fraction(1, 230)]
+    axes.vlines(*(zip(*bars) if bars else ([], [], [])), color=colour, alpha=0.75, linewidth=1.2 * POINT,
+                clip_on=False)
+    axes.plot(places, [float(mean.energies[0]) for mean in means], color=colour, clip_on=False,
+              gid=curve.replace(" ", "-"), **_style(curve))
 
 
 def _style(curve: str) -> dict[str, Any]:
@@ -184,8 +159,7 @@ def _style(curve: str) -> dict[str, Any]:
     dashes = (0, (1, 1.5)) if curve == "bound" else (0, (3, 2)) if is_dashed else "-"
     return {"linestyle": dashes, "linewidth": (2 if curve == "bound" else 1.6) * POINT, "marker": marker,
             "markersize": 6 * POINT, "markerfacecolor": "none" if is_dashed else colour,
-            "markeredgecolor": colour,
-            "markeredgewidth": 1.6 * POINT}
+            "markeredgecolor": colour, "markeredgewidth": 1.6 * POINT}
 
 
 def save_means(means: Sequence[Mean], path: Path, columns: int = 3, background: str = "none") -> None:
@@ -199,20 +173,14 @@ def save_means(means: Sequence[Mean], path: Path, columns: int = 3, background: 
             left, top = 44 + place % columns * 314, 52 + place // columns * 290
             axes = figure.add_axes((left / wide, 1 - (top + 230) / high, 270 / wide, 230 / high))
             plot_means([mean for mean in means if mean.panel == panel], axes)
-        figure.text(14 / wide, 1 - 16 / high,
-                    "energy, as a share of EDF with none, over worst-case utilisation; "
-                    "numbers at RM: sets that it admits", fontsize=SMALL, color=INK)
+        figure.text(14 / wide, 1 - 16 / high, "energy, as a share of EDF with none, over worst-case "
+                    "utilisation; numbers at RM: sets that it admits", fontsize=SMALL, color=INK)
         _draw_curve_legend(figure, columns)
         save(figure, path, background)
 
 
 def _draw_curve_legend(figure: "Figure", columns: int) -> None:
-    from matplotlib.lines import Line2D
-
-    shown = [Line2D([], [], color=INK, linewidth=1.5 * POINT, label="none")]
-    shown += [Line2D([], [], color=CURVES[curve][0], label=curve.replace("edf", "EDF").replace("rm", "RM"),
-                     **_style(curve))
+    signs = [sign("none", INK, linewidth=1.5 * POINT)]
+    signs += [sign(curve.replace("edf", "EDF").replace("rm", "RM"), CURVES[curve][0], **_style(curve))
               for curve in CURVES]
-    figure.legend(handles=shown, loc="lower left", ncol=4 if columns < 3 else 7, frameon=False,
-                  fontsize=SMALL,
-                  labelcolor=INK, handlelength=3, borderaxespad=0.3)
+    legend(figure, signs, 4 if columns < 3 else 7, loc="lower left", handlelength=3, borderaxespad=0.3)

@@ -9,48 +9,18 @@ from math import lcm
 from pathlib import Path
 
 from rtdvs.commandline import (
-    Commands,
-    add_engine_options,
-    add_files,
-    add_output,
-    add_pair,
-    add_parser,
-    add_ticks,
-    engine_of,
-    exact_fraction,
-    read_tasks,
-    whole_number,
-    write_output,
+    Commands, add_engine_options, add_files, add_output, add_pair, add_parser, add_ticks, engine_of,
+    exact_fraction, read_tasks, whole_number, write_output,
 )
 from rtdvs.draws import (
-    MOST_SEED,
-    PUBLISHED_COUNTS,
-    PUBLISHED_SEED,
-    PUBLISHED_TICKS,
-    Listed,
-    LogUniform,
-    SetName,
-    drawn,
-    jobs_of,
-    numbered,
-    published_sets,
-    require,
-    taken,
-    taken_uniform,
-    unrelated_states,
+    MOST_SEED, PUBLISHED_COUNTS, PUBLISHED_SEED, PUBLISHED_TICKS, Listed, LogUniform, SetName,
+    drawn, jobs_of, numbered, published_sets, require, taken, taken_uniform, unrelated_states,
     uunifast,
 )
 from rtdvs.engine import Denied, Engine
 from rtdvs.explain import Walk, explain, last_line
 from rtdvs.files import (
-    LONGEST_HYPERPERIOD,
-    LONGEST_TIME,
-    MOST_SPEED,
-    MOST_TASKS,
-    Demands,
-    Machine,
-    Point,
-    Task,
+    LONGEST_HYPERPERIOD, LONGEST_TIME, MOST_SPEED, MOST_TASKS, Demands, Machine, Point, Task,
     TaskSet,
 )
 

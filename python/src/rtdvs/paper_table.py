@@ -10,13 +10,7 @@ from concurrent.futures import Executor
 from fractions import Fraction
 
 from rtdvs.commandline import (
-    Commands,
-    add_engine_options,
-    add_parser,
-    engine_of,
-    executor_of,
-    progress,
-    whole_number,
+    Commands, add_engine_options, add_parser, engine_of, executor_of, progress, whole_number,
 )
 from rtdvs.compare import Case, energy_of, runs
 from rtdvs.decimals import decimal

@@ -7,34 +7,28 @@ background, and colours that can be read on white and on dark.
 import argparse
 import math
 import sys
-from collections.abc import Callable, Iterator, Mapping, Sequence
+from collections.abc import Callable, Iterable, Sequence
 from dataclasses import dataclass
 from fractions import Fraction
+from functools import cached_property, partial
 from pathlib import Path
 from typing import TYPE_CHECKING, Any
 
-from rtdvs.canvas import INK, PIXEL, POINT, SMALL, TEXT, TITLE, new_figure, save, settings
+from rtdvs.canvas import (
+    INK, PIXEL, POINT, SMALL, TEXT, TITLE, bare, beside, legend, new_figure, patch, save, settings, sign,
+    words,
+)
 from rtdvs.commandline import (
-    Commands,
-    add_engine_options,
-    add_files,
-    add_parser,
-    add_ticks,
-    engine_of,
-    input_path,
-    note_charge,
-    read_demands,
-    read_machine,
-    read_tasks,
-    read_text,
-    whole_number,
+    Commands, add_engine_options, add_files, add_parser, add_ticks, engine_of, input_path,
+    note_charge, read_demands, read_machine, read_tasks, read_text, whole_number,
 )
 from rtdvs.compare import compare
 from rtdvs.figures import parse_means, save_compare, save_means
 from rtdvs.files import FileFault
-from rtdvs.marks import (Bar, Completion, bars, completions, join_narrow, periods, readable,
-                         releases, round_step,
-                         short, steps, thin)
+from rtdvs.marks import (
+    Bar, Completion, bars, completions, join_narrow, periods, readable, releases, round_step, short,
+    steps, thin,
+)
 from rtdvs.trace import Decision, Trace
 
 if TYPE_CHECKING:
@@ -101,33 +95,46 @@ def settled(trace: Trace, view: View) -> View:
 # The picture of a trace
 
 
-@dataclass(frozen=True, slots=True)
+@dataclass(frozen=True)
 class _Frame:
-    """Where things are: y in pixels above the speed row's floor, x in ticks, `scale` pixels each."""
+    """A trace in its axes: y in pixels above the speed row's floor, x in ticks, `scale` pixels each."""
 
+    trace: Trace
+    axes: "Axes"
     view: View
-    names: tuple[str, ...]
-    peak: float
-    scale: float
+    first: int
+    last: int
+    top: int
 
-    @property
-    def ticks(self) -> tuple[int, int]:
-        return self.view.first, self.view.last or 0
+    @cached_property
+    def names(self) -> tuple[str, ...]:
+        return self.trace.names
 
-    @property
-    def top(self) -> int:
-        return self.view.top or 1
+    @cached_property
+    def width(self) -> float:
+        """The pixels of all ticks in view."""
+        return float(self.axes.get_position().width * self.axes.figure.get_figwidth() / PIXEL)
+
+    @cached_property
+    def scale(self) -> float:
+        return self.width / (self.last - self.first)
+
+    @cached_property
+    def spans(self) -> list[tuple[float, float, Decision]]:
+        """The decisions with the ticks in view for which they hold."""
+        decisions = self.trace.decisions
+        ends = [*(each.tick for each in decisions[1:]), self.trace.ticks]
+        held = ((max(each.tick, self.first), min(end, self.last), each) for each, end in zip(decisions, ends))
+        return [span for span in held if span[0] < span[1]]
+
+    @cached_property
+    def speed_row(self) -> float:
+        """The height of the speed row, with the demands' lines."""
+        peak = max(decision.num / decision.den for decision in self.trace.decisions)
+        return self.speed_height(max(self.top, peak))
 
     def floor(self, row: int) -> float:
-        return self.speed_height(max(self.top, self.peak)) + DEMANDS + (len(self.names) - 1 - row) * ROW
-
-    @property
-    def demand_base(self) -> float:
-        return self.speed_height(max(self.top, self.peak)) + 11
-
-    @property
-    def ceiling(self) -> float:
-        return self.floor(0) + ROW
+        return self.speed_row + DEMANDS + (len(self.names) - 1 - row) * ROW
 
     def bar_height(self, speed: float) -> float:
         return BAR * speed / self.top
@@ -136,14 +143,20 @@ class _Frame:
         return SPEED * min(speed / self.top, CAP)
 
     def is_shown(self, tick: float) -> bool:
-        return self.view.first <= tick <= self.ticks[1]
+        return self.first <= tick <= self.last
 
     def overlaps(self, bar: Bar) -> bool:
-        return bar.begin < self.ticks[1] and bar.end > self.view.first
+        return bar.begin < self.last and bar.end > self.first
 
     def room(self, begin: float, end: float) -> float:
         """The pixels between two ticks, of which only those in the view count."""
-        return (min(end, self.ticks[1]) - max(begin, self.view.first)) * self.scale
+        return (min(end, self.last) - max(begin, self.first)) * self.scale
+
+
+def _frame(trace: Trace, axes: Any, view: View) -> _Frame:
+    view = settled(trace, view)
+    assert view.last is not None and view.top is not None
+    return _Frame(trace, axes, view, view.first, view.last, view.top)
 
 
 def plot_trace(trace: Trace, axes: "Axes", view: View = View()) -> None:
@@ -161,20 +174,20 @@ def plot_trace(trace: Trace, axes: "Axes", view: View = View()) -> None:
     >>> axes.get_title(loc="left").splitlines()[0]
     'edf, mine: 2 ticks'
     """
-    view = settled(trace, view)
-    width = axes.get_position().width * axes.figure.get_figwidth() / PIXEL
-    peak = max(decision.num / decision.den for decision in trace.decisions)
-    frame = _Frame(view, trace.names, peak, width / ((view.last or 0) - view.first))
-    runs = bars(trace)
-    _draw_frame(trace, axes, frame)
-    _draw_rows(trace, axes, frame)
+    frame, runs = _frame(trace, axes, view), bars(trace)
+    idle = list(filter(frame.overlaps, runs.get("", [])))
+    _draw_axes(frame)
+    _draw_head(frame)
+    _draw_rows(frame)
     for row, name in enumerate(frame.names):
-        _draw_bars(axes, frame, runs.get(name, []), row)
-    _draw_bars(axes, frame, runs.get("", []), None)
-    _draw_scale(trace, axes, frame)
-    _draw_speeds(trace, axes, frame)
-    _draw_decisions(trace, axes, frame)
-    _draw_legend(trace, axes, frame, has_idle=any(map(frame.overlaps, runs.get("", []))))
+        shown = filter(frame.overlaps, runs.get(name, []))
+        _draw_bars(frame, shown, frame.floor(row), BAR / frame.top, f"run-{name}",
+                   facecolor=COLOURS[row % len(COLOURS)])
+    _draw_bars(frame, idle, 0, SPEED / frame.top, "idle", facecolor=INK, alpha=0.3)
+    _draw_scale(frame)
+    _draw_speeds(frame)
+    _draw_decisions(frame)
+    _draw_legend(frame, has_idle=bool(idle))
 
 
 def trace_height(trace: Trace, view: View = View()) -> float:
@@ -184,9 +197,7 @@ def trace_height(trace: Trace, view: View = View()) -> float:
     >>> trace_height(Trace.parse(SAMPLE))
     158.0
     """
-    view = settled(trace, view)
-    peak = max(decision.num / decision.den for decision in trace.decisions)
-    return _Frame(view, trace.names, peak, 1.0).ceiling
+    return _frame(trace, None, view).floor(0) + ROW
 
 
 def save_trace(trace: Trace, path: Path, view: View = View(), width: int = 1000,
@@ -205,42 +216,37 @@ def save_trace(trace: Trace, path: Path, view: View = View(), width: int = 1000,
         axes = figure.add_axes((left / width, 0, 1 - (left + 20) / width, 1))
         plot_trace(trace, axes, view)
         below = 26 + 15 * _legend_rows(axes)
-        figure.set_size_inches(width * PIXEL, (above + high + below) * PIXEL)
-        axes.set_position((left / width, below / (above + high + below), 1 - (left + 20) / width,
-                           high / (above + high + below)))
+        tall = above + high + below
+        figure.set_size_inches(width * PIXEL, tall * PIXEL)
+        axes.set_position((left / width, below / tall, 1 - (left + 20) / width, high / tall))
         save(figure, path, background)
 
 
-def _draw_frame(trace: Trace, axes: "Axes", frame: _Frame) -> None:
-    first, last = frame.ticks
-    axes.set_xlim(first, last)
-    axes.set_ylim(-TICKS, frame.ceiling)
-    axes.set_facecolor("none")
-    for spine in axes.spines.values():
-        spine.set_visible(False)
-    step = round_step(last - first, max(1, int((last - first) * frame.scale / (12 + 7 * len(str(last))))))
+def _draw_axes(frame: _Frame) -> None:
+    axes, first, last = frame.axes, frame.first, frame.last
+    bare(axes, "x")
+    axes.set(xlim=(first, last), ylim=(-TICKS, frame.floor(0) + ROW), yticks=[])
+    step = round_step(last - first, max(1, int(frame.width / (12 + 7 * len(str(last))))))
     ticks = range(-(-first // step) * step, last + 1, step)
     axes.set_xticks(list(ticks), [str(tick) for tick in ticks], fontsize=SMALL)
-    axes.set_yticks([])
-    axes.tick_params(axis="x", length=0, colors=INK)
     axes.grid(axis="x", color=INK, alpha=0.4, linewidth=0.5 * POINT)
-    axes.set_axisbelow(True)
+
+
+def _draw_head(frame: _Frame) -> None:
+    """The title and the energies."""
+    axes, trace, first, last = frame.axes, frame.trace, frame.first, frame.last
     is_whole = (first, last) == (0, trace.ticks)
-    whole = f"{last} ticks" if is_whole else f"ticks {first} to {last} of {trace.ticks}"
-    lines = _energy_lines(trace, (last - first) * frame.scale)
-    axes.set_title(f"{trace.scheduler}, {trace.governor}: {whole}", loc="left", fontsize=TITLE, color=INK,
+    ticks = f"{last} ticks" if is_whole else f"ticks {first} to {last} of {trace.ticks}"
+    lines = _energy_lines(trace, frame.width)
+    axes.set_title(f"{trace.scheduler}, {trace.governor}: {ticks}", loc="left", fontsize=TITLE, color=INK,
                    pad=(8 + LINE * len(lines)) * POINT)
-    axes.annotate("\n".join(lines), (0, 1), xycoords="axes fraction", xytext=(0, 5 * POINT),
-                  textcoords="offset points",
-                  va="bottom", fontsize=TEXT, color=INK, annotation_clip=False)
+    beside(axes, (0, 1), (0, 5), "\n".join(lines), xycoords="axes fraction", va="bottom", fontsize=TEXT)
 
 
 def _energy_lines(trace: Trace, width: float) -> list[str]:
-    parts = ["energy of the run:", f"{readable(trace.run_energy)} running,",
-             f"{readable(trace.idle_energy)} idle,",
-             "in units × mV² × 1000"]
-    lines = [parts[0]]
-    for part in parts[1:]:
+    lines = ["energy of the run:"]
+    for part in (f"{readable(trace.run_energy)} running,", f"{readable(trace.idle_energy)} idle,",
+                 "in units × mV² × 1000"):
         if (len(lines[-1]) + 1 + len(part)) * 6.9 > width:
             lines.append(part)
         else:
@@ -256,199 +262,157 @@ def _facts(trace: Trace, name: str, charge: int) -> str:
     return f"period {task.period}{offset}, worst {task.worst}" + (f"+{2 * charge}" if charge else "")
 
 
-def _beside(axes: "Axes", y: float, text: str, margin: float = 8, **style: Any) -> None:
+def _beside(frame: _Frame, y: float, text: str, margin: float = 8, **style: Any) -> None:
     """A text on the left of the axes."""
-    axes.annotate(text, (0, y), xycoords=("axes fraction", "data"), xytext=(-margin * POINT, 0),
-                  textcoords="offset points", ha="right", annotation_clip=False,
-                  **{"color": INK, "fontsize": SMALL, **style})
+    beside(frame.axes, (0, y), (-margin, 0), text, xycoords=("axes fraction", "data"), ha="right", **style)
 
 
-def _draw_rows(trace: Trace, axes: "Axes", frame: _Frame) -> None:
+def _draw_rows(frame: _Frame) -> None:
     """The rows of the tasks, but for their bars."""
+    trace, charge = frame.trace, frame.view.charge
     released, period, complete = releases(trace), periods(trace), completions(trace)
-    worst = {task.name: f"/{task.worst + 2 * frame.view.charge}" for task in trace.tasks}
+    worst = {task.name: f"/{task.worst + 2 * charge}" for task in trace.tasks}
     for row, name in enumerate(frame.names):
-        floor, facts = frame.floor(row), _facts(trace, name, frame.view.charge)
-        axes.hlines(floor, *frame.ticks, color=INK, linewidth=POINT)
-        _beside(axes, floor + (24 if facts else 16), name, fontsize=TEXT, family="monospace")
-        _beside(axes, floor + 10, facts)
+        floor, facts = frame.floor(row), _facts(trace, name, charge)
+        frame.axes.hlines(floor, frame.first, frame.last, color=INK, linewidth=POINT)
+        _beside(frame, floor + (24 if facts else 16), name, fontsize=TEXT, family="monospace")
+        _beside(frame, floor + 10, facts)
         ticks = released.get(name, [])
-        _draw_arrows(axes, frame, row, ticks, is_due=False)
-        _draw_arrows(axes, frame, row, [tick + period[name] for tick in ticks if name in period], is_due=True)
-        _draw_completions(axes, frame, row, complete.get(name, []),
-                          _Said(worst.get(name, ""), period.get(name)))
+        _draw_arrows(frame, row, ticks, is_due=False)
+        _draw_arrows(frame, row, [tick + period[name] for tick in ticks if name in period], is_due=True)
+        shown = [done for done in complete.get(name, []) if frame.is_shown(done.at)]
+        places = set(thin((done.at for done in shown), NEAR / frame.scale))
+        kept = [done for done in shown if done.at in places]
+        _draw_completions(frame, row, kept)
+        for done in kept:
+            due = done.release + period[name] if name in period else frame.last
+            _label_completion(frame, floor, done, due, f"{done.used}{worst.get(name, '')}")
 
 
-@dataclass(frozen=True, slots=True)
-class _Said:
-    """What is said of a task's completions: the worst case; the period, for the room that there is."""
-
-    worst: str
-    period: int | None
-
-
-def _draw_arrows(axes: "Axes", frame: _Frame, row: int, ticks: Sequence[int], is_due: bool) -> None:
+def _draw_arrows(frame: _Frame, row: int, ticks: Sequence[int], is_due: bool) -> None:
     """Draws a task's releases, or its deadlines."""
     floor, high = frame.floor(row), 28 if is_due else 48
     style: dict[str, Any] = {"color": DEADLINE if is_due else INK, "zorder": 2.2, "clip_on": False}
     kept = thin(filter(frame.is_shown, ticks), NEAR / frame.scale)
-    axes.vlines(kept, floor, floor + high, linewidth=1.6 * POINT, **style)
-    axes.plot(kept, [floor if is_due else floor + high] * len(kept), linestyle="none", fillstyle="none",
-              marker=TIP_BELOW if is_due else TIP_ABOVE, markersize=6 * POINT, markeredgewidth=1.6 * POINT,
-              gid=f"{'deadline' if is_due else 'release'}-{frame.names[row]}", **style)
+    frame.axes.vlines(kept, floor, floor + high, linewidth=1.6 * POINT, **style)
+    frame.axes.plot(kept, [floor if is_due else floor + high] * len(kept), linestyle="none", fillstyle="none",
+                    marker=TIP_BELOW if is_due else TIP_ABOVE, markersize=6 * POINT,
+                    markeredgewidth=1.6 * POINT,
+                    gid=f"{'deadline' if is_due else 'release'}-{frame.names[row]}", **style)
 
 
-def _draw_bars(axes: "Axes", frame: _Frame, row: Sequence[Bar], place: int | None) -> None:
-    """Draws the bars of a task's row, or idle time in the speed row."""
-    first, last = frame.ticks
-    shown = (Bar(max(bar.begin, first), min(bar.end, last), bar.speed) for bar in filter(frame.overlaps, row))
-    joined = list(join_narrow(shown, NARROW / frame.scale, GAP / frame.scale))
-    floor = 0 if place is None else frame.floor(place)
-    colour = INK if place is None else COLOURS[place % len(COLOURS)]
-    name = "idle" if place is None else f"run-{frame.names[place]}"
-    for is_narrow in (False, True):
-        corners = [_corners(frame, bar, floor, place is None) for bar in joined
-                   if ((bar.end - bar.begin) * frame.scale < NARROW) == is_narrow]
-        if corners:
-            axes.add_collection(_polygons(
-                corners, facecolor=colour, alpha=0.3 if place is None else 1, linewidth=0,
-                zorder=2.4 if is_narrow else 2, gid=f"{name}-narrow" if is_narrow else name), autolim=False)
-
-
-def _polygons(corners: Sequence[Sequence[tuple[float, float]]], **style: Any) -> Any:
+def _draw_bars(frame: _Frame, shown: Iterable[Bar], floor: float, unit: float, name: str, **style: Any) -> None:
+    """Draws bars on a floor, so high for each unit of speed; narrow ones over the arrows, others below."""
     from matplotlib.collections import PolyCollection
 
-    return PolyCollection(corners, **style)
+    cut = (Bar(max(bar.begin, frame.first), min(bar.end, frame.last), bar.speed) for bar in shown)
+    corners: dict[bool, list[list[tuple[float, float]]]] = {False: [], True: []}
+    for bar in join_narrow(cut, NARROW / frame.scale, GAP / frame.scale):
+        is_narrow = (bar.end - bar.begin) * frame.scale < NARROW
+        begin, end = bar.begin, max(bar.end, bar.begin + LEAST / frame.scale)
+        high = floor + unit * bar.speed
+        corners[is_narrow].append([(begin, floor), (begin, high), (end, high), (end, floor)])
+    for is_narrow, polygons in corners.items():
+        if polygons:
+            made = PolyCollection(polygons, linewidth=0, zorder=2.4 if is_narrow else 2,
+                                  gid=f"{name}-narrow" if is_narrow else name, **style)
+            frame.axes.add_collection(made, autolim=False)
 
 
-def _corners(frame: _Frame, bar: Bar, floor: float, is_idle: bool) -> list[tuple[float, float]]:
-    high = floor + (frame.speed_height(bar.speed) if is_idle else frame.bar_height(bar.speed))
-    end = max(bar.end, bar.begin + LEAST / frame.scale)
-    return [(bar.begin, floor), (bar.begin, high), (end, high), (end, floor)]
+def _draw_completions(frame: _Frame, row: int, kept: Sequence[Completion]) -> None:
+    heights = [frame.floor(row) + frame.bar_height(done.speed) for done in kept]
+    frame.axes.plot([done.at for done in kept], heights, linestyle="none", marker="o",
+                    markersize=5.2 * POINT, color="white", markeredgecolor=RIM, markeredgewidth=1.2 * POINT,
+                    zorder=2.6, clip_on=False, gid=f"done-{frame.names[row]}")
 
 
-def _draw_completions(axes: "Axes", frame: _Frame, row: int, complete: Sequence[Completion],
-                      said: _Said) -> None:
-    floor = frame.floor(row)
-    shown = [done for done in complete if frame.is_shown(done.at)]
-    places = set(thin((done.at for done in shown), NEAR / frame.scale))
-    kept = [done for done in shown if done.at in places]
-    axes.plot([done.at for done in kept], [floor + frame.bar_height(done.speed) for done in kept],
-              linestyle="none",
-              marker="o", markersize=5.2 * POINT, color="white", markeredgecolor=RIM,
-              markeredgewidth=1.2 * POINT,
-              zorder=2.6, clip_on=False, gid=f"done-{frame.names[row]}")
-    for done in kept:
-        _label_completion(axes, frame, done, floor, said)
-
-
-def _label_completion(axes: "Axes", frame: _Frame, done: Completion, floor: float, said: _Said) -> None:
+def _label_completion(frame: _Frame, floor: float, done: Completion, due: float, text: str) -> None:
     """The units, between release and deadline: above the bars before the completion, or after it, or not."""
-    text = f"{done.used}{said.worst}"
     room = LETTER * len(text) + 10
-    due = done.release + said.period if said.period else frame.ticks[1]
     if frame.room(done.release, done.at) >= room:
-        axes.text(done.at - 4 / frame.scale, floor + frame.bar_height(done.highest) + 4, text, ha="right",
-                  fontsize=SMALL,
-                  color=INK)
+        words(frame.axes, done.at - 4 / frame.scale, floor + frame.bar_height(done.highest) + 4, text,
+              ha="right")
     elif frame.room(done.at, due) >= room:
-        axes.text(done.at + 5 / frame.scale, floor + frame.bar_height(done.speed) + 4, text, fontsize=SMALL,
-                  color=INK)
+        words(frame.axes, done.at + 5 / frame.scale, floor + frame.bar_height(done.speed) + 4, text)
 
 
-def _spans(trace: Trace, frame: _Frame) -> Iterator[tuple[float, float, Decision]]:
-    """The decisions with the ticks in view for which they hold."""
-    decisions = trace.decisions
-    for decision, end in zip(decisions, [*(each.tick for each in decisions[1:]), trace.ticks]):
-        if max(decision.tick, frame.view.first) < min(end, frame.ticks[1]):
-            yield max(decision.tick, frame.view.first), min(end, frame.ticks[1]), decision
-
-
-def _draw_scale(trace: Trace, axes: "Axes", frame: _Frame) -> None:
+def _draw_scale(frame: _Frame) -> None:
     """The scale of speeds: 0, the top, and each speed of the trace that has room beside those before it."""
-    axes.hlines(0, *frame.ticks, color=INK, linewidth=POINT)
+    line = partial(frame.axes.hlines, xmin=frame.first, xmax=frame.last, color=INK)
+    line(0, linewidth=POINT)
     heights: list[float] = []
-    for speed in dict.fromkeys([0, frame.top, *(decision.speed for decision in trace.decisions)]):
+    for speed in dict.fromkeys([0, frame.top, *(decision.speed for decision in frame.trace.decisions)]):
         height = frame.speed_height(speed)
         if all(abs(height - other) >= 11 for other in heights):
             heights.append(height)
-            axes.hlines(height, *frame.ticks, color=INK, alpha=0.4, linewidth=0.5 * POINT)
-            _beside(axes, height, str(speed), va="center")
+            line(height, alpha=0.4, linewidth=0.5 * POINT)
+            _beside(frame, height, str(speed), va="center")
     margin = LETTER * len(str(frame.top)) + 14
-    _beside(axes, 36, "speed", margin, fontsize=TEXT)
-    _beside(axes, 22, "units/tick", margin)
-    _beside(axes, frame.demand_base, "demand", color=DEMAND)
-    _beside(axes, -TICKS, "ticks", va="top")
+    _beside(frame, 36, "speed", margin, fontsize=TEXT)
+    _beside(frame, 22, "units/tick", margin)
+    _beside(frame, frame.speed_row + 11, "demand", color=DEMAND)
+    _beside(frame, -TICKS, "ticks", va="top")
 
 
-def _draw_speeds(trace: Trace, axes: "Axes", frame: _Frame) -> None:
-    lines: tuple[tuple[str, Callable[[Decision], float], Mapping[str, Any]], ...] = (
-        ("speed", lambda decision: decision.speed, {"color": INK, "linewidth": 1.8 * POINT}),
-        ("demand", lambda decision: decision.num / decision.den,
-         {"color": DEMAND, "linewidth": 1.6 * POINT, "linestyle": DOTS}))
-    for name, value_of, style in lines:
-        corners = steps(((begin, end, frame.speed_height(value_of(each))) for begin, end,
-                         each in _spans(trace, frame)),
-                        GAP / frame.scale)
-        axes.plot(*zip(*corners), clip_on=False, zorder=2.5, gid=name, **style)
+def _draw_speeds(frame: _Frame) -> None:
+    """The lines of the speeds and of the demands."""
+    speeds = [(begin, end, frame.speed_height(each.speed)) for begin, end, each in frame.spans]
+    demands = [(begin, end, frame.speed_height(each.num / each.den)) for begin, end, each in frame.spans]
+    draw = partial(frame.axes.plot, clip_on=False, zorder=2.5)
+    near = GAP / frame.scale
+    draw(*zip(*steps(speeds, near)), gid="speed", color=INK, linewidth=1.8 * POINT)
+    draw(*zip(*steps(demands, near)), gid="demand", color=DEMAND, linewidth=1.6 * POINT, linestyle=DOTS)
 
 
-def _draw_decisions(trace: Trace, axes: "Axes", frame: _Frame) -> None:
-    low: list[tuple[float, float]] = []
-    high: list[tuple[float, float]] = []
+def _draw_decisions(frame: _Frame) -> None:
+    """A dot for each demand, or a triangle if it is above the picture; and its value, if there is room."""
+    places: dict[str, list[tuple[float, float]]] = {"decision": [], "over": []}
     latest: dict[int, float] = {}
-    for begin, end, decision in _spans(trace, frame):
+    for begin, end, decision in frame.spans:
         value = Fraction(decision.num, decision.den)
         y = frame.speed_height(float(value))
         if (begin - latest.get(int(y / NEAR), -math.inf)) * frame.scale < NEAR or begin != decision.tick:
             continue
         latest[int(y / NEAR)] = begin
-        (high if value > Fraction(CAP) * frame.top else low).append((begin, y))
-        text = short(value)
-        if (end - begin) * frame.scale >= LETTER * len(text) + 6:
-            axes.text(begin + 2 / frame.scale, frame.demand_base, text, fontsize=SMALL, color=DEMAND)
-    for name, marker, places in (("decision", "o", low), ("over", "^", high)):
-        axes.plot([x for x, _ in places], [y for _, y in places], linestyle="none", marker=marker,
-                  color=DEMAND,
-                  markersize=(4.4 if marker == "o" else 7) * POINT, markeredgewidth=0, zorder=2.7,
-                  clip_on=False, gid=name)
+        places["over" if value > Fraction(CAP) * frame.top else "decision"].append((begin, y))
+        if (end - begin) * frame.scale >= LETTER * len(short(value)) + 6:
+            words(frame.axes, begin + 2 / frame.scale, frame.speed_row + 11, short(value), color=DEMAND)
+    for name, marker, size in (("decision", "o", 4.4), ("over", "^", 7)):
+        frame.axes.plot([x for x, _ in places[name]], [y for _, y in places[name]], linestyle="none",
+                        marker=marker, color=DEMAND, markersize=size * POINT, markeredgewidth=0, zorder=2.7,
+                        clip_on=False, gid=name)
 
 
-def _draw_legend(trace: Trace, axes: "Axes", frame: _Frame, has_idle: bool) -> None:
-    from matplotlib.patches import Patch
-
-    what = ("used/worst case" if trace.tasks else "used") + (", with the charge" if frame.view.charge else "")
+def _draw_legend(frame: _Frame, has_idle: bool) -> None:
+    what = "used/worst case" if frame.trace.tasks else "used"
     handles = [
         _sign("release", INK, TIP_ABOVE), _sign("deadline", DEADLINE, TIP_BELOW),
-        Patch(facecolor=COLOURS[0], label=f"run (full height: {frame.top})"),
-        _sign(f"done: {what}", "white", "o", markeredgecolor=RIM),
+        patch(f"run (full height: {frame.top})", COLOURS[0]),
+        _sign(f"done: {what}" + (", with the charge" if frame.view.charge else ""), "white", "o",
+              markeredgecolor=RIM),
         _sign("speed", INK, "", linestyle="-"), _sign("demand (dot: decision)", DEMAND, "o", linestyle=DOTS)]
     if has_idle:
-        handles.append(Patch(facecolor=INK, alpha=0.3, label="idle"))
-    if any(each.num > Fraction(CAP) * frame.top * each.den for _, _, each in _spans(trace, frame)):
+        handles.append(patch("idle", INK, 0.3))
+    if any(each.num > Fraction(CAP) * frame.top * each.den for _, _, each in frame.spans):
         handles.append(_sign("demand above the picture", DEMAND, "^"))
-    if any(len(thin(ticks, NEAR / frame.scale)) < len(ticks) for ticks in releases(trace).values()):
+    if any(len(thin(ticks, NEAR / frame.scale)) < len(ticks) for ticks in releases(frame.trace).values()):
         handles.append(_sign(f"near marks (less than {NEAR} pixels) once", "none", ""))
     longest = max(len(handle.get_label()) for handle in handles)
-    columns = max(1, int((frame.ticks[1] - frame.view.first) * frame.scale / (longest * 5.5 + 38)))
-    axes.legend(handles=handles, loc="upper left", bbox_to_anchor=(0, -20 / (frame.ceiling + TICKS)),
-                borderaxespad=0,
-                frameon=False, fontsize=SMALL, labelcolor=INK, ncol=columns, handlelength=1.5,
-                columnspacing=1.5,
-                handletextpad=0.5, borderpad=0)
+    high = frame.floor(0) + ROW + TICKS
+    legend(frame.axes, handles, max(1, int(frame.width / (longest * 5.5 + 38))), loc="upper left",
+           bbox_to_anchor=(0, -20 / high), borderaxespad=0, handlelength=1.5, columnspacing=1.5,
+           handletextpad=0.5, borderpad=0)
 
 
 def _legend_rows(axes: "Axes") -> int:
-    legend = axes.get_legend()
-    return -(-len(legend.get_texts()) // int(legend._ncols))
+    of = axes.get_legend()
+    return -(-len(of.get_texts()) // int(of._ncols))
 
 
 def _sign(label: str, colour: str, marker: object, **style: Any) -> Any:
-    from matplotlib.lines import Line2D
-
-    return Line2D([], [], color=colour, label=label,
-                  **{"linestyle": "none", "marker": marker, "markersize": 5 * POINT,
-                        "fillstyle": "full" if marker == "o" else "none", **style})
+    filled = "full" if marker == "o" else "none"
+    return sign(label, colour, **{"linestyle": "none", "marker": marker, "markersize": 5 * POINT,
+                                  "fillstyle": filled, **style})
 
 
 # The command

@@ -13,15 +13,8 @@ from dataclasses import dataclass, replace
 from functools import partial
 
 from rtdvs.commandline import (
-    Commands,
-    add_engine_options,
-    add_files,
-    add_parser,
-    engine_of,
-    executor_of,
-    progress,
-    read_machine,
-    read_tasks,
+    Commands, add_engine_options, add_files, add_parser, engine_of, executor_of, progress,
+    read_machine, read_tasks,
 )
 from rtdvs.engine import Denied, Engine, admit_call, response_call
 from rtdvs.files import MOST_SPEED, Machine, Point, TaskSet

@@ -9,14 +9,7 @@ import argparse
 from collections.abc import Iterator, Mapping
 
 from rtdvs.commandline import (
-    Commands,
-    add_files,
-    add_pair,
-    add_parser,
-    add_ticks,
-    read_demands,
-    read_machine,
-    read_tasks,
+    Commands, add_files, add_pair, add_parser, add_ticks, read_demands, read_machine, read_tasks,
 )
 from rtdvs.files import Demands, FileFault, Machine, TaskSet
 from rtdvs.rules import GOVERNORS, Governor, Latest, Plan, State
