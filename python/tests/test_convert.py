@@ -17,7 +17,8 @@ from hypothesis import given
 from hypothesis import strategies as st
 
 from rtdvs.cli import main
-from rtdvs.convert import csv_text, events_text, frame, millionths, significant, vcd_text
+from rtdvs.convert import csv_text, events_text, frame, millionths, vcd_text
+from rtdvs.decimals import significant
 from rtdvs.engine import Engine
 from rtdvs.files import Machine, Point, Task, TaskSet
 from rtdvs.rules import GOVERNORS

@@ -9,14 +9,13 @@ import argparse
 import json
 from collections.abc import Iterable, Iterator
 from dataclasses import astuple
-from decimal import Context, Decimal
 from fractions import Fraction
 from typing import TYPE_CHECKING
 
 from rtdvs.commandline import (
     Commands, add_files, add_output, add_parser, note_charge, read_text, whole_number, write_output,
 )
-from rtdvs.decimals import decimal
+from rtdvs.decimals import decimal, significant
 from rtdvs.files import FileFault
 from rtdvs.trace import Decision, Done, Idle, Position, Release, Run, Trace
 
@@ -46,24 +45,6 @@ def ticks(time: Fraction) -> str:
     ('9.333333', '9')
     """
     return decimal(time, 6 if time.denominator > 1 else 0)
-
-
-def significant(number: int, by: int, digits: int) -> str:
-    """A quotient of whole numbers, from 0 on, with that many significant digits, in the form of C's `%g`.
-
-    >>> significant(696, 280, 9), significant(10**20, 1, 15), significant(1, 10**5, 9), significant(0, 7, 9)
-    ('2.48571429', '1e+20', '1e-05', '0')
-    """
-    value = Context(prec=digits).divide(Decimal(number), Decimal(by))
-    power = value.adjusted()
-    if -4 <= power < digits or not number:
-        return _trimmed(f"{value:f}")
-    places = f"{value.scaleb(-power, Context(prec=digits)):f}"
-    return f"{_trimmed(places)}e{'-' if power < 0 else '+'}{abs(power):02}"
-
-
-def _trimmed(text: str) -> str:
-    return text.rstrip("0").rstrip(".") if "." in text else text
 
 
 # Tables
@@ -176,8 +157,8 @@ def events_text(trace: Trace) -> str:
 
 
 def _events(trace: Trace) -> Iterator[str]:
-    yield _about("M", "process_name",
-                 0) + f',"args":{{"name":{json.dumps(f"{trace.scheduler} {trace.governor}")}}}'
+    run = json.dumps(f"{trace.scheduler} {trace.governor}")
+    yield _about("M", "process_name", 0) + f',"args":{{"name":{run}}}'
     tracks = {name: number for number, name in enumerate(trace.names, 1)}
     for name, number in ("idle", IDLE_TRACK), *tracks.items():
         yield from _track(name, number)

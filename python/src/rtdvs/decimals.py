@@ -1,6 +1,7 @@
 """Exact numbers as decimals, rounded once; the point is a point in every locale. Tables in columns."""
 
 from collections.abc import Sequence
+from decimal import Context, Decimal
 from fractions import Fraction
 
 
@@ -15,6 +16,29 @@ def decimal(value: Fraction | int | None, places: int) -> str:
     digits = f"{abs(round(value * 10**places)):0{places + 1}}"
     sign = "-" if value < 0 and int(digits) > 0 else ""
     return f"{sign}{digits[:-places]}.{digits[-places:]}" if places else f"{sign}{digits}"
+
+
+def trimmed(text: str) -> str:
+    """A decimal without the zeros at its end.
+
+    >>> trimmed("2.50"), trimmed("15.00"), trimmed("100")
+    ('2.5', '15', '100')
+    """
+    return text.rstrip("0").rstrip(".") if "." in text else text
+
+
+def significant(number: int, by: int, digits: int) -> str:
+    """A quotient of whole numbers, from 0 on, with that many significant digits, in the form of C's `%g`.
+
+    >>> significant(696, 280, 9), significant(10**20, 1, 15), significant(1, 10**5, 9), significant(0, 7, 9)
+    ('2.48571429', '1e+20', '1e-05', '0')
+    """
+    value = Context(prec=digits).divide(Decimal(number), Decimal(by))
+    power = value.adjusted()
+    if -4 <= power < digits or not number:
+        return trimmed(f"{value:f}")
+    places = f"{value.scaleb(-power, Context(prec=digits)):f}"
+    return f"{trimmed(places)}e{'-' if power < 0 else '+'}{abs(power):02}"
 
 
 def aligned(rows: Sequence[Sequence[str]], left: int = 1) -> str:

@@ -16,14 +16,14 @@ import argparse
 import io
 import sys
 from collections.abc import Callable, Iterable, Iterator, Sequence
-from dataclasses import astuple, dataclass
+from dataclasses import dataclass
 
 from rtdvs.commandline import (
     Commands, add_files, add_parser, open_input, read_demands, read_machine, read_tasks,
 )
 from rtdvs.files import Demands, Machine, Point, Task, TaskSet
 from rtdvs.rules import (
-    GOVERNORS, Checker, Governor, Latest, Plan, State, Wrong, WrongDemand, WrongSpeed, ceiling,
+    GOVERNORS, Checker, Governor, Latest, Plan, State, Summary, Wrong, WrongDecision, ceiling,
     edf_ahead, edf_cycle, full, rm_cycle, static,
 )
 from rtdvs.trace import (
@@ -33,27 +33,6 @@ from rtdvs.trace import (
 
 class WrongTrace(TraceFault):
     """The first wrong line of a trace, and why it is wrong."""
-
-
-@dataclass(frozen=True, slots=True)
-class Summary:
-    """What a right trace adds up to: ticks, jobs, decisions and energies.
-
-    >>> Summary(2, 1, 1, 2, 6000, 0).text()
-    '2 ticks, 1 jobs released, 1 complete, 2 decisions, energy 6000 running and 0 idle'
-    """
-
-    ticks: int
-    released: int
-    complete: int
-    decisions: int
-    run_energy: int
-    idle_energy: int
-
-    def text(self) -> str:
-        """The numbers on one line."""
-        jobs = f"{self.released} jobs released, {self.complete} complete, {self.decisions} decisions"
-        return f"{self.ticks} ticks, {jobs}, energy {self.run_energy} running and {self.idle_energy} idle"
 
 
 # The terms of each demand, for the board
@@ -298,11 +277,13 @@ def _check(checker: Checker, note: Note) -> None:
     """Checks a note; for a wrong decision the reason has the terms."""
     try:
         checker.check(note)
-    except WrongDemand as fault:
-        raise Wrong(f"{fault}: {'; '.join(TERMS[fault.governor](checker.state))}") from None
-    except WrongSpeed as fault:
-        points = checker.state.plan.machine.points
-        raise Wrong(f"{fault}: {'; '.join(speeds(points, *fault.demand))}") from None
+    except WrongDecision as fault:
+        state, demand = checker.state, fault.demand
+        if isinstance(note, Decision) and checker.governor and (note.num, note.den) != demand:
+            lines = TERMS[checker.governor](state)
+        else:
+            lines = speeds(state.plan.machine.points, *demand)
+        raise Wrong(f"{fault}: {'; '.join(lines)}") from None
 
 
 def _same_task(found: Item, wanted: list[Task]) -> None:
@@ -330,7 +311,7 @@ def explain(walk: Walk, show: Callable[[str], object] | None = None) -> Summary:
         elif isinstance(item, Decision):
             show(board(number, item, events, checker))
             events.clear()
-    return Summary(checker.ticks, *astuple(checker.account))
+    return checker.summary
 
 
 def check(tasks: TaskSet, machine: Machine, lines: Iterable[str], demands: Demands | None = None,

@@ -5,7 +5,7 @@ from collections.abc import Iterable, Iterator
 from dataclasses import dataclass
 from fractions import Fraction
 
-from rtdvs.decimals import decimal
+from rtdvs.decimals import decimal, significant, trimmed
 from rtdvs.trace import Done, Idle, Release, Run, Trace
 
 
@@ -167,6 +167,8 @@ def round_step(span: int, most: int) -> int:
 
 # Numbers as text
 
+RAISED = str.maketrans("0123456789", "⁰¹²³⁴⁵⁶⁷⁸⁹")
+
 
 def readable(number: int) -> str:
     """A whole number; one of seven digits or more is rounded to six, with a power of ten.
@@ -176,12 +178,8 @@ def readable(number: int) -> str:
     """
     if number < 10**6:
         return str(number)
-    power = len(str(number)) - 1
-    digits = decimal(Fraction(number, 10**power), 5)
-    if digits.startswith("10."):
-        power, digits = power + 1, "1.00000"
-    raised = str(power).translate(str.maketrans("0123456789", "⁰¹²³⁴⁵⁶⁷⁸⁹"))
-    return f"{digits.rstrip('0').rstrip('.')} × 10{raised}"
+    digits, _, power = significant(number, 1, 6).partition("e+")
+    return f"{digits} × 10{power.lstrip('0').translate(RAISED)}"
 
 
 def short(number: Fraction) -> str:
@@ -190,4 +188,4 @@ def short(number: Fraction) -> str:
     >>> short(Fraction(836, 280)), short(Fraction(15))
     ('2.99', '15')
     """
-    return decimal(number, 2).rstrip("0").rstrip(".")
+    return trimmed(decimal(number, 2))

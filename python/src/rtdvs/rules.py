@@ -10,6 +10,7 @@ from dataclasses import dataclass, field
 from fractions import Fraction
 from functools import cached_property
 from operator import mul
+from typing import Any
 
 from rtdvs.files import FileFault, Machine, Point, Task, TaskSet
 from rtdvs.trace import Decision, Done, End, Idle, Note, Release, Run, TaskEnergy
@@ -293,31 +294,33 @@ class Wrong(Exception):
     """The note that is read is wrong; the text is why."""
 
 
-class WrongDemand(Wrong):
-    """The demand of a decision isn't that of the governor."""
+class WrongDecision(Wrong):
+    """The demand of a decision isn't that of its governor, or the speed isn't the lowest that meets it."""
 
-    def __init__(self, demand: Demand, governor: Governor) -> None:
-        super().__init__(f"the demand is {demand[0]}/{demand[1]}")
-        self.governor = governor
-
-
-class WrongSpeed(Wrong):
-    """The speed of a decision isn't the lowest that meets its demand."""
-
-    def __init__(self, demand: Demand, speed: int) -> None:
-        super().__init__(f"speed {speed} is the lowest that meets {demand[0]}/{demand[1]}")
+    def __init__(self, reason: str, demand: Demand) -> None:
+        super().__init__(reason)
         self.demand = demand
 
 
 @dataclass(slots=True)
-class Account:
-    """What the notes add up to."""
+class Summary:
+    """What the notes of a run of some ticks add up to.
 
+    >>> Summary(2, 1, 1, 2, 6000).text()
+    '2 ticks, 1 jobs released, 1 complete, 2 decisions, energy 6000 running and 0 idle'
+    """
+
+    ticks: int
     released: int = 0
     complete: int = 0
     decisions: int = 0
     run_energy: int = 0
     idle_energy: int = 0
+
+    def text(self) -> str:
+        """The numbers on one line."""
+        jobs = f"{self.released} jobs released, {self.complete} complete, {self.decisions} decisions"
+        return f"{self.ticks} ticks, {jobs}, energy {self.run_energy} running and {self.idle_energy} idle"
 
 
 ALL_HAD = "{} has had all of its {} units, and its done line is missing"
@@ -340,9 +343,12 @@ class Checker:
         self.needs = needs
         self.named = {job.task.name: job for job in state.jobs}
         self.points = {point.speed: point for point in state.plan.machine.points}
-        self.account = Account()
+        self.summary = Summary(ticks)
         self.last: Latest | None = None  # whose `done` note may be next
         self.must: tuple[str, int] | None = None  # why it must be
+        self.checks: Mapping[type[Note], Callable[[Any], None]] = {
+            Release: self._release, Decision: self._decision, Run: self._run, Idle: self._idle,
+            TaskEnergy: self._close, End: self._close}
 
     def check(self, note: Note) -> None:
         """Raises Wrong if the note can't be the next one."""
@@ -353,16 +359,7 @@ class Checker:
         if self.must:
             raise Wrong(self.must[0].format(self.last, self.must[1]))
         self.last = None
-        if isinstance(note, Run):
-            self._run(note)
-        elif isinstance(note, Idle):
-            self._idle(note)
-        elif isinstance(note, Release):
-            self._release(note)
-        elif isinstance(note, Decision):
-            self._decision(note)
-        else:
-            self._close(note)
+        self.checks[type(note)](note)
 
     # What holds at a position
 
@@ -412,7 +409,7 @@ class Checker:
         if note.job != job.number + 1:
             raise Wrong(f"wanted job {job.number + 1}")
         state.release(job)
-        self.account.released += 1
+        self.summary.released += 1
         self.last = job
         if self._need(job) == 0:
             self.must = "{} needs nothing, and its done line is missing", 0
@@ -433,15 +430,16 @@ class Checker:
             state.hand_out()
             self._demand(note, self.governor)
         state.decide(point)
-        self.account.decisions += 1
+        self.summary.decisions += 1
 
     def _demand(self, note: Decision, governor: Governor) -> None:
         demand = governor(self.state)
         if (note.num, note.den) != demand:
-            raise WrongDemand(demand, governor)
+            raise WrongDecision(f"the demand is {demand[0]}/{demand[1]}", demand)
         speed = self.state.plan.lowest(*demand).speed
         if note.speed != speed:
-            raise WrongSpeed(demand, speed)
+            lowest = f"speed {speed} is the lowest that meets {demand[0]}/{demand[1]}"
+            raise WrongDecision(lowest, demand)
 
     def _can_run(self) -> Point:
         """The point in force, if the next segment can begin."""
@@ -507,7 +505,7 @@ class Checker:
         if governed and need is not None and note.units != whole:
             raise Wrong(f"{job} gets {whole} units here")
         job.take(note.units)
-        self.account.run_energy += note.energy
+        self.summary.run_energy += note.energy
         self.last = job
         if note.units == left:
             self.must = ALL_HAD, job.used
@@ -523,7 +521,7 @@ class Checker:
         if self.governor is not None and note.units < room:
             raise Wrong(f"{room} units are idle here")
         self._energy(note, point.millivolts, state.plan.machine.idle)
-        self.account.idle_energy += note.energy
+        self.summary.idle_energy += note.energy
 
     def _done(self, note: Done) -> None:
         state, job = self.state, self._job(note.task)
@@ -538,7 +536,7 @@ class Checker:
         if note.used < least:
             raise Wrong(f"{job} needs at least {least} units")
         state.complete(job)
-        self.account.complete += 1
+        self.summary.complete += 1
 
     def _close(self, note: TaskEnergy | End) -> None:
         if isinstance(note, TaskEnergy):
@@ -549,6 +547,6 @@ class Checker:
         self._all_met()
         if note.ticks != self.ticks:
             raise Wrong(f"the run has {self.ticks} ticks")
-        run, idle = self.account.run_energy, self.account.idle_energy
+        run, idle = self.summary.run_energy, self.summary.idle_energy
         if (note.run_energy, note.idle_energy) != (run, idle):
             raise Wrong(f"the lines add up to {run} for runs and {idle} for idle units")

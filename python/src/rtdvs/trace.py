@@ -11,7 +11,7 @@ from collections.abc import Callable, Iterable, Iterator
 from dataclasses import dataclass, replace
 from fractions import Fraction
 from pathlib import Path
-from typing import Self, TextIO
+from typing import NamedTuple, Self, TextIO
 
 from rtdvs.files import MOST_TASKS, Task, TaskSet
 
@@ -36,8 +36,7 @@ class TraceFault(ValueError):
 # The notes
 
 
-@dataclass(frozen=True, slots=True, order=True)
-class Position:
+class Position(NamedTuple):
     """A tick, and the work units of it that have passed.
 
     >>> str(Position(9, 1)), Position(9, 1) < Position(10, 0)
