@@ -5,7 +5,7 @@ import os
 from pathlib import Path
 
 import pytest
-from examples import DATA, TOP
+from examples import TOP
 from hypothesis import HealthCheck, settings
 
 from rtdvs.engine import Engine
@@ -17,18 +17,6 @@ locale.setlocale(locale.LC_MESSAGES, "C")
 settings.register_profile("gate", derandomize=True, deadline=None, max_examples=30, database=None,
                           suppress_health_check=list(HealthCheck))
 settings.load_profile(os.environ.get("RTDVS_PROFILE", "gate"))
-
-
-@pytest.fixture(scope="session")
-def top() -> Path:
-    """The top of the repository."""
-    return TOP
-
-
-@pytest.fixture(scope="session")
-def data() -> Path:
-    """The folders of the examples' files: paper, offsets, controller, deadlines, server and others."""
-    return DATA
 
 
 @pytest.fixture(scope="session")

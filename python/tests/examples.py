@@ -4,8 +4,11 @@ from fractions import Fraction
 from pathlib import Path
 from typing import NamedTuple
 
+import pytest
+
 from rtdvs.files import Demands, Machine, Point, Task, TaskSet
 
+Captured = pytest.CaptureFixture[str]
 TOP = Path(__file__).resolve().parents[2]
 DATA = TOP / "crates" / "example_runs" / "data"
 TRACES = sorted(DATA.glob("*/*.trace"))

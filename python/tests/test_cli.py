@@ -10,7 +10,7 @@ from fractions import Fraction
 from pathlib import Path
 
 import pytest
-from examples import DATA
+from examples import DATA, Captured
 
 from rtdvs import cli, commandline
 from rtdvs.engine import Crashed, Engine, NoEngine, OverWorst
@@ -57,7 +57,7 @@ COMMANDS = [module.__name__.removeprefix("rtdvs.").replace("_", "-") for module 
 
 
 @pytest.mark.parametrize("command", COMMANDS)
-def test_help_of_each_command(command: str, capsys: pytest.CaptureFixture[str]) -> None:
+def test_help_of_each_command(command: str, capsys: Captured) -> None:
     assert cli.main([command, "--help"]) == 0
     out = capsys.readouterr().out
     assert out.startswith(f"usage: python3 -m rtdvs {command}")
@@ -65,21 +65,20 @@ def test_help_of_each_command(command: str, capsys: pytest.CaptureFixture[str]) 
 
 
 @pytest.mark.parametrize("command", COMMANDS)
-def test_unknown_option_of_each_command(command: str, capsys: pytest.CaptureFixture[str]) -> None:
+def test_unknown_option_of_each_command(command: str, capsys: Captured) -> None:
     assert cli.main([command, "--foo"]) == 2
     assert capsys.readouterr().err.startswith("usage: python3 -m rtdvs ")
 
 
 @pytest.mark.parametrize("words", [[], ["--foo"], ["foo"], ["stub"], ["stub", "--tasks"], ["stub", "--foo"]])
-def test_usage(words: list[str], stub: Callable[[Handler], None], capsys: pytest.CaptureFixture[str]) -> None:
+def test_usage(words: list[str], stub: Callable[[Handler], None], capsys: Captured) -> None:
     stub(lambda args: 0)
     assert cli.main(words) == 2
     assert "python3 -m rtdvs" in capsys.readouterr().err
 
 
-def test_two_files_from_one_input(
-    stub: Callable[[Handler], None], capsys: pytest.CaptureFixture[str], monkeypatch: pytest.MonkeyPatch
-) -> None:
+def test_two_files_from_one_input(stub: Callable[[Handler], None], capsys: Captured,
+                                  monkeypatch: pytest.MonkeyPatch) -> None:
     stub(lambda args: 0)
     monkeypatch.setattr(sys, "stdin", standard_input(b"x"))
     assert cli.main(["stub", "--tasks", "-", "--machine", "-"]) == 2
@@ -104,9 +103,8 @@ FAULTS = [
 
 
 @pytest.mark.parametrize(("fault", "line"), FAULTS, ids=[line for _, line in FAULTS])
-def test_faults(
-    fault: Exception, line: str, stub: Callable[[Handler], None], capsys: pytest.CaptureFixture[str]
-) -> None:
+def test_faults(fault: Exception, line: str, stub: Callable[[Handler], None],
+                capsys: Captured) -> None:
     def handler(args: argparse.Namespace) -> int:
         raise fault
 
@@ -115,7 +113,7 @@ def test_faults(
     assert capsys.readouterr() == ("", f"rtdvs: {line}\n")
 
 
-def test_interrupted(stub: Callable[[Handler], None], capsys: pytest.CaptureFixture[str]) -> None:
+def test_interrupted(stub: Callable[[Handler], None], capsys: Captured) -> None:
     def handler(args: argparse.Namespace) -> int:
         raise KeyboardInterrupt
 
@@ -165,11 +163,10 @@ def bad_file(request: pytest.FixtureRequest, tmp_path: Path) -> Path:
 
 
 @pytest.mark.parametrize("words", READERS_OF_FILES)
-def test_bad_files(
-    words: str, bad_file: Path, data: Path, capsys: pytest.CaptureFixture[str], monkeypatch: pytest.MonkeyPatch
-) -> None:
+def test_bad_files(words: str, bad_file: Path, capsys: Captured,
+                   monkeypatch: pytest.MonkeyPatch) -> None:
     """Each is refused in one line, with status 2."""
-    monkeypatch.chdir(data / "paper")
+    monkeypatch.chdir(DATA / "paper")
     assert cli.main([str(bad_file) if word == "BAD" else word for word in words.split()]) == 2
     out, err = capsys.readouterr()
     assert out == "" and err.startswith("rtdvs: ") and err.count("\n") == 1, err
@@ -208,8 +205,8 @@ def in_shell(line: str) -> "subprocess.CompletedProcess[str]":
 
 # What commands share
 
-def test_files_of_options(data: Path) -> None:
-    paper = data / "paper"
+def test_files_of_options() -> None:
+    paper = DATA / "paper"
     words = [f"--{kind}={paper / name}" for kind, name in (
         ("tasks", "tasks.toml"), ("machine", "machine.toml"), ("demands", "demands.csv"),
     )]
@@ -232,7 +229,7 @@ def test_files_from_standard_input(monkeypatch: pytest.MonkeyPatch) -> None:
     assert commandline.read_demands(parsed("--demands", "-"), tasks) == Demands({("a", 1): 0})
 
 
-def test_closed_standard_input(monkeypatch: pytest.MonkeyPatch, capsys: pytest.CaptureFixture[str]) -> None:
+def test_closed_standard_input(monkeypatch: pytest.MonkeyPatch, capsys: Captured) -> None:
     monkeypatch.setattr(sys, "stdin", None)
     with pytest.raises(SystemExit):
         parsed("--tasks", "-")
@@ -306,6 +303,6 @@ def test_progress_on_a_terminal(monkeypatch: pytest.MonkeyPatch) -> None:
     assert bars[3] == "\x1b[K"
 
 
-def test_no_progress_elsewhere(capsys: pytest.CaptureFixture[str]) -> None:
+def test_no_progress_elsewhere(capsys: Captured) -> None:
     assert [*commandline.progress(range(3), 3, "runs")] == [0, 1, 2]
     assert capsys.readouterr().err == ""

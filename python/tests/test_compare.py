@@ -6,7 +6,7 @@ from itertools import combinations, pairwise
 from pathlib import Path
 
 import pytest
-from examples import Lines, files
+from examples import DATA, Captured, Lines, files
 from hypothesis import given, settings
 from hypothesis import strategies as st
 
@@ -88,22 +88,22 @@ def test_by_hand(engine: Engine, tasks: list[tuple[int, int]], machine: Machine,
     assert words(table(compare(engine, named, machine, ticks))) == words(wanted)
 
 
-def options(data: Path, example: str, program: Path) -> list[str]:
-    folder = data / example
+def options(example: str, program: Path) -> list[str]:
+    folder = DATA / example
     return ["compare", "--program", str(program), "--tasks", str(folder / "tasks.toml"), "--machine",
             str(folder / "machine.toml"), "--ticks"]
 
 
-def test_the_paper_by_hand(program: Path, data: Path, capsys: pytest.CaptureFixture[str]) -> None:
-    call = options(data, "paper", program)
-    assert main([*call, "16", "--demands", str(data / "paper" / "demands.csv"), "--jobs", "2"]) == 0
+def test_the_paper_by_hand(program: Path, capsys: Captured) -> None:
+    call = options("paper", program)
+    assert main([*call, "16", "--demands", str(DATA / "paper" / "demands.csv"), "--jobs", "2"]) == 0
     assert words(capsys.readouterr().out) == words(PAPER)
 
 
-def test_finer_ticks_of_the_paper(program: Path, data: Path, capsys: pytest.CaptureFixture[str]) -> None:
+def test_finer_ticks_of_the_paper(program: Path, capsys: Captured) -> None:
     """In ticks 3 times finer EDF la needs 308 of the 700 and RM cc 500, in the natural ones 315 and 514."""
-    call = options(data, "paper", program)
-    assert main([*call, "16", "--demands", str(data / "paper" / "demands.csv"), "--finer", "1", "3"]) == 0
+    call = options("paper", program)
+    assert main([*call, "16", "--demands", str(DATA / "paper" / "demands.csv"), "--finer", "1", "3"]) == 0
     _, _, second = capsys.readouterr().out.partition("\n\n")
     shares = [row[3] for row in words(second)[1:]]
     assert words(second)[0] == ["scheduler", "governor", "finer_1", "finer_3"]
@@ -146,7 +146,8 @@ def recounted(text: str, tasks: TaskSet, machine: Machine, base: int) -> Result:
     )
 
 
-def check(engine: Engine, tasks: TaskSet, machine: Machine, ticks: int, demands: Demands | None) -> None:
+def check(engine: Engine, tasks: TaskSet, machine: Machine, ticks: int,
+          demands: Demands | None) -> None:
     base = 0
     for row, pair in zip(compare(engine, tasks, machine, ticks, demands), PAIRS, strict=True):
         assert (row.scheduler, row.governor) == pair
@@ -227,16 +228,16 @@ def test_other_refusals_end_it(engine: Engine) -> None:
 
 
 @pytest.mark.parametrize("name", ["absent", "."])
-def test_a_file_that_is_not_there(program: Path, data: Path, tmp_path: Path, name: str,
-                                  capsys: pytest.CaptureFixture[str]) -> None:
-    call = options(data, "paper", program)
+def test_a_file_that_is_not_there(program: Path, tmp_path: Path, name: str,
+                                  capsys: Captured) -> None:
+    call = options("paper", program)
     call[call.index("--tasks") + 1] = str(tmp_path / name)
     assert main([*call, "16"]) == 2
     out, notes = capsys.readouterr()
     assert out == "" and notes.count("\n") == 1
 
 
-def test_a_trace_that_is_none(program: Path, data: Path, capsys: pytest.CaptureFixture[str]) -> None:
-    demands = data / "paper" / "demands.csv"
-    assert main([*options(data, "paper", program), "16", "--trace", str(demands)]) == 2
+def test_a_trace_that_is_none(program: Path, capsys: Captured) -> None:
+    demands = DATA / "paper" / "demands.csv"
+    assert main([*options("paper", program), "16", "--trace", str(demands)]) == 2
     assert capsys.readouterr() == ("", f"rtdvs: {demands}: line 1: neither trace 1 nor trace 2\n")

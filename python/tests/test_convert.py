@@ -12,7 +12,7 @@ from pathlib import Path
 from typing import Any
 
 import pytest
-from examples import SHORT, TRACES, Lines, path_id, version_1
+from examples import DATA, SHORT, TRACES, Captured, Lines, path_id, version_1
 from hypothesis import given
 from hypothesis import strategies as st
 
@@ -194,8 +194,8 @@ def test_any_run_is_read_back(text: str) -> None:
     check_all(text)
 
 
-def test_rows_of_the_page(data: Path) -> None:
-    text = (data / "templates" / "edf_cc_with_demands.trace").read_text()
+def test_rows_of_the_page() -> None:
+    text = (DATA / "templates" / "edf_cc_with_demands.trace").read_text()
     assert csv_text(Trace.parse(text), "jobs", charge=1).splitlines()[1:] == [
         "control,1,0,4,1,1,3,3,5", "logger,1,0,8,3.500000,3.500000,4.500000,5,8", "control,2,4,8,6,2,2,4,5"]
 
@@ -225,8 +225,7 @@ def test_any_time_is_rounded_once(tick: int, part: tuple[int, int]) -> None:
                           speed) - (tick + Fraction(offset, speed)) * 10**6) <= Fraction(1, 2)
 
 
-def test_charge_is_in_the_declared_units(data: Path, tmp_path: Path,
-                                         capsys: pytest.CaptureFixture[str]) -> None:
+def test_charge_is_in_the_declared_units(tmp_path: Path, capsys: Captured) -> None:
     (tmp_path / "a").write_text("trace 2\nplan edf mine 2\ntask a 2 0 4\nrelease 0 a 1\nspeed 0 4 1/1\n"
                                 "run 0:0 2:0 a 1 8 8\n"
                                 "done 2:0 a 1 8\nenergy a 8\nend 2 8 0\n")
@@ -247,16 +246,15 @@ def test_charge_is_in_the_declared_units(data: Path, tmp_path: Path,
     (["--to", "csv", "--charge", "-1"], "a whole number from 0 on, not -1"),
     (["--to", "csv", "--charge", "1.5"], "a whole number from 0 on, not 1.5"),
 ])
-def test_usage(words: list[str], line: str, data: Path, capsys: pytest.CaptureFixture[str]) -> None:
-    assert main(["convert", *words, "--trace", str(data / "templates" / "edf_cc_with_demands.trace")]) == 2
+def test_usage(words: list[str], line: str, capsys: Captured) -> None:
+    assert main(["convert", *words, "--trace", str(DATA / "templates" / "edf_cc_with_demands.trace")]) == 2
     said = capsys.readouterr()
     assert said.out == "" and line in said.err
 
 
 @pytest.mark.parametrize("change", ["cut", "no plan", "more"])
-def test_what_is_no_whole_trace_is_refused(change: str, data: Path, tmp_path: Path,
-                                           capsys: pytest.CaptureFixture[str]) -> None:
-    lines = (data / "offsets" / "edf_cc.trace").read_text().splitlines(keepends=True)
+def test_what_is_no_whole_trace_is_refused(change: str, tmp_path: Path, capsys: Captured) -> None:
+    lines = (DATA / "offsets" / "edf_cc.trace").read_text().splitlines(keepends=True)
     broken = {"cut": lines[:-1], "no plan": lines[:1] + lines[2:], "more": [*lines, lines[0]]}[change]
     (tmp_path / "broken").write_text("".join(broken))
     assert main(["convert", "--to", "vcd", "--trace", str(tmp_path / "broken"), "--output",
@@ -265,9 +263,9 @@ def test_what_is_no_whole_trace_is_refused(change: str, data: Path, tmp_path: Pa
     assert said.out == "" and said.err.count("\n") == 1 and not (tmp_path / "out").exists()
 
 
-def test_frames(data: Path) -> None:
+def test_frames() -> None:
     pandas = pytest.importorskip("pandas")
-    text = (data / "controller" / "edf_cc_with_demands.trace").read_text()
+    text = (DATA / "controller" / "edf_cc_with_demands.trace").read_text()
     trace, lines = Trace.parse(text), Lines(text)
     segments = frame(trace, "segments", joule=Fraction(1, 10**12))
     assert list(segments["energy"]) == [each.energy for each in lines.segments]
@@ -290,18 +288,18 @@ def test_long_sums_stay_whole_in_a_frame() -> None:
     assert frame(Trace.parse(text))["energy"].sum() == 2**101
 
 
-def test_waves_through_another_reader(data: Path, tmp_path: Path) -> None:
+def test_waves_through_another_reader(tmp_path: Path) -> None:
     if not shutil.which("vcd2fst") or not shutil.which("fst2vcd"):
         pytest.skip("no vcd2fst and fst2vcd")
-    text = (data / "paper" / "edf_cc_with_demands.trace").read_text()
+    text = (DATA / "paper" / "edf_cc_with_demands.trace").read_text()
     (tmp_path / "a.vcd").write_text(vcd_text(Trace.parse(text)))
     subprocess.run(["vcd2fst", tmp_path / "a.vcd", tmp_path / "a.fst"], check=True, capture_output=True)
     check_waves(text, subprocess.run(["fst2vcd", tmp_path / "a.fst"], check=True, capture_output=True,
                                      text=True).stdout)
 
 
-def test_decimal_comma(data: Path) -> None:
-    text = (data / "paper" / "edf_cc_with_demands.trace").read_text()
+def test_decimal_comma() -> None:
+    text = (DATA / "paper" / "edf_cc_with_demands.trace").read_text()
     before = locale.setlocale(locale.LC_NUMERIC)
     plain = csv_text(Trace.parse(text)), events_text(Trace.parse(text)), vcd_text(Trace.parse(text))
     try:

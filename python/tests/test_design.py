@@ -4,6 +4,7 @@ from fractions import Fraction
 from pathlib import Path
 
 import pytest
+from examples import TOP, Captured
 from hypothesis import given
 from hypothesis import strategies as st
 
@@ -151,7 +152,7 @@ def test_usual_demands() -> None:
     (lambda text: POWER.replace("mhz = 400", "mhz = 150\nmilliwatts = 80\n[[point]]\nmhz = 400"),
      "board: point 150 MHz: a cycle takes more energy than at 400 MHz; leave the point out"),
 ])
-def test_refusals(change: object, line: str, tmp_path: Path, capsys: pytest.CaptureFixture[str]) -> None:
+def test_refusals(change: object, line: str, tmp_path: Path, capsys: Captured) -> None:
     assert callable(change)
     (tmp_path / "board.toml").write_text(change(VOLTS))
     assert main(["design", "--board", str(tmp_path / "board.toml")]) == 2
@@ -159,8 +160,7 @@ def test_refusals(change: object, line: str, tmp_path: Path, capsys: pytest.Capt
     assert said.out == "" and line in said.err and said.err.count("\n") == 1
 
 
-def test_command_writes_files_and_gives_joules_back(tmp_path: Path,
-                                                    capsys: pytest.CaptureFixture[str]) -> None:
+def test_command_writes_files_and_gives_joules_back(tmp_path: Path, capsys: Captured) -> None:
     (tmp_path / "board.toml").write_text("battery_mwh = 3700\n" + VOLTS)
     board = ["design", "--board", str(tmp_path / "board.toml"), "--tick-ms", "1", "--unit-cycles", "1000"]
     assert main([*board, "--folder", str(tmp_path / "made")]) == 0
@@ -185,9 +185,9 @@ def test_command_writes_files_and_gives_joules_back(tmp_path: Path,
     (["--board", "examples/board.dts"], "board: not TOML"),
     (["--board", "examples/board.dts", "--tick-ms", "0"], "--tick-ms has to be above 0"),
 ])
-def test_usage(words: list[str], line: str, top: Path, monkeypatch: pytest.MonkeyPatch,
-               capsys: pytest.CaptureFixture[str]) -> None:
-    monkeypatch.chdir(top)
+def test_usage(words: list[str], line: str, monkeypatch: pytest.MonkeyPatch,
+               capsys: Captured) -> None:
+    monkeypatch.chdir(TOP)
     assert main(["design", *words]) == 2
     assert line in capsys.readouterr().err
 
@@ -196,9 +196,9 @@ def test_usage(words: list[str], line: str, top: Path, monkeypatch: pytest.Monke
     ([], [(500, 825), (747, 900), (1400, 1188)]),
     (["--tick-ms", "0.1", "--unit-cycles", "10000"], [(5, 825), (7, 900), (14, 1188)]),
 ])
-def test_machine_of_a_device_tree(words: list[str], points: list[tuple[int, int]], top: Path,
+def test_machine_of_a_device_tree(words: list[str], points: list[tuple[int, int]],
                                   tmp_path: Path) -> None:
-    tree = ["design", "--device-tree", str(top / "examples" / "board.dts"), "--table", "little"]
+    tree = ["design", "--device-tree", str(TOP / "examples" / "board.dts"), "--table", "little"]
     assert main([*tree, *words, "--output", str(tmp_path / "machine.toml")]) == 0
     assert Machine.read(tmp_path / "machine.toml") == Machine(tuple(Point(*point) for point in points))
     (tmp_path / "board.toml").write_text(TASKS)
@@ -206,8 +206,7 @@ def test_machine_of_a_device_tree(words: list[str], points: list[tuple[int, int]
                  str(tmp_path)]) == 0
 
 
-def test_tick_is_settled_by_the_program(program: Path, tmp_path: Path,
-                                        capsys: pytest.CaptureFixture[str]) -> None:
+def test_tick_is_settled_by_the_program(program: Path, tmp_path: Path, capsys: Captured) -> None:
     (tmp_path / "board.toml").write_text(VOLTS)
     words = ["--settle-ms", "80", "--governor", "la", "--program", str(program)]
     assert main(["design", "--board", str(tmp_path / "board.toml"), *words]) == 0

@@ -3,6 +3,7 @@
 from pathlib import Path
 
 import pytest
+from examples import TOP
 from hypothesis import given
 from hypothesis import strategies as st
 
@@ -48,8 +49,8 @@ def table(*statements: str) -> str:
     (Choice("big", suffix="fast"), [(600000000, 800000), (1800000000, 1050000)]),
     (Choice("soc/opp-table"), [(10**9, 900000), (5 * 10**9, 1100000)]),
 ])
-def test_board(top: Path, choice: Choice, points: list[tuple[int, int]]) -> None:
-    assert pairs((top / "examples" / "board.dts").read_text(), choice) == points
+def test_board(choice: Choice, points: list[tuple[int, int]]) -> None:
+    assert pairs((TOP / "examples" / "board.dts").read_text(), choice) == points
 
 
 @pytest.mark.parametrize(("hardware", "points"), [

@@ -11,7 +11,7 @@ from concurrent.futures import Executor, ProcessPoolExecutor, ThreadPoolExecutor
 from pathlib import Path
 
 import pytest
-from examples import BOARD, PAPER
+from examples import BOARD, DATA, PAPER
 
 from rtdvs import engine as engine_module
 from rtdvs.engine import (
@@ -39,8 +39,8 @@ def test_admitted(engine: Engine) -> None:
     assert engine.admit(PAPER, BOARD, "rm") == Admitted("rm", 52, 14, 4)
 
 
-def test_run(engine: Engine, data: Path) -> None:
-    paper = data / "paper"
+def test_run(engine: Engine) -> None:
+    paper = DATA / "paper"
     demands = Demands.read(paper / "demands.csv", PAPER)
     stored = (paper / "edf_cc_with_demands.trace").read_text()
     assert engine.run(PAPER, BOARD, "edf", "cc", 16, demands, version=1) == stored
@@ -48,8 +48,8 @@ def test_run(engine: Engine, data: Path) -> None:
     assert second.startswith("trace 2\nplan edf cc 16\ntask t1 8 0 12\n")
 
 
-def test_replay_and_migrate(engine: Engine, data: Path) -> None:
-    trace = data / "paper" / "edf_la_with_demands.trace"
+def test_replay_and_migrate(engine: Engine) -> None:
+    trace = DATA / "paper" / "edf_la_with_demands.trace"
     found = engine.replay(PAPER, BOARD, trace)
     assert (found.released, found.finished, found.run_energy, found.idle_energy) == (6, 6, 315_000_000_000, 0)
     assert engine.migrate(PAPER, BOARD, trace).startswith("trace 2\n")
@@ -59,15 +59,15 @@ def test_responses(engine: Engine) -> None:
     assert engine.respond(PAPER, BOARD) == {"t1": 3, "t2": 6, "t3": 7}
 
 
-def test_constrained(engine: Engine, data: Path) -> None:
-    folder = data / "deadlines"
+def test_constrained(engine: Engine) -> None:
+    folder = DATA / "deadlines"
     tasks = TaskSet.read(folder / "tasks.toml")
     deadlines = Deadlines.read(folder / "deadlines.csv", tasks)
     assert engine.constrain(tasks, folder / "machine.toml", deadlines) == Constrained(7, 6, 2)
 
 
-def test_polled(engine: Engine, data: Path) -> None:
-    folder = data / "server"
+def test_polled(engine: Engine) -> None:
+    folder = DATA / "server"
     requests = Requests.read(folder / "requests.csv")
     found = engine.poll(folder / "tasks.toml", folder / "machine.toml", requests, "s", "edf", "none", 15)
     assert found.services[1:] == (Service(2, 1, 6, 3, "10:2"), Service(3, 12, 1))
@@ -126,7 +126,8 @@ LINES: list[tuple[int, str, type[EngineError], dict[str, object]]] = [
 
 
 @pytest.mark.parametrize(("status", "line", "kind", "fields"), LINES, ids=[line for _, line, _, _ in LINES])
-def test_each_status(status: int, line: str, kind: type[EngineError], fields: dict[str, object]) -> None:
+def test_each_status(status: int, line: str, kind: type[EngineError],
+                     fields: dict[str, object]) -> None:
     with pytest.raises(kind) as caught:
         Answer(status, b"", f"{line}\n".encode()).text()
     error = caught.value
@@ -155,7 +156,7 @@ def test_unknown_statuses(status: int) -> None:
         Answer(status, b"", b"no\n").text()
 
 
-def test_refusals_of_the_program(engine: Engine, data: Path, tmp_path: Path) -> None:
+def test_refusals_of_the_program(engine: Engine, tmp_path: Path) -> None:
     with pytest.raises(Denied, match="denied edf"):
         engine.admit(TaskSet((Task("a", 1, 5),)), BOARD, "edf")
     with pytest.raises(WordsRefused, match="rm has no governor la"):
@@ -170,7 +171,7 @@ def test_refusals_of_the_program(engine: Engine, data: Path, tmp_path: Path) -> 
         engine.run(PAPER, BOARD, "edf", "none", 2**40)
     with pytest.raises(OverWorst):
         engine.run(PAPER, BOARD, "edf", "none", 16, Demands({("t1", 1): 13}))
-    trace = (data / "paper" / "edf_la_with_demands.trace").read_text().replace("speed 3 2", "speed 3 3")
+    trace = (DATA / "paper" / "edf_la_with_demands.trace").read_text().replace("speed 3 2", "speed 3 3")
     with pytest.raises(Differs, match="differs: line 10\nwanted: speed 3 2 8/5\nfound: speed 3 3 8/5"):
         engine.replay(PAPER, BOARD, trace)
 
@@ -196,7 +197,8 @@ def test_a_program_that_is_killed(tmp_path: Path) -> None:
 
 
 @pytest.mark.parametrize(("status", "kind"), [(8, WriteFailed), (9, OutOfMemory), (42, Crashed)])
-def test_a_program_that_ends_otherwise(status: int, kind: type[EngineError], tmp_path: Path) -> None:
+def test_a_program_that_ends_otherwise(status: int, kind: type[EngineError],
+                                       tmp_path: Path) -> None:
     with pytest.raises(kind):
         Engine(fake(tmp_path, f"echo workload; exit {status}")).workload(1)
 

@@ -6,6 +6,7 @@ from fractions import Fraction
 from pathlib import Path
 
 import pytest
+from examples import TOP, Captured
 from hypothesis import given
 from hypothesis import strategies as st
 
@@ -76,8 +77,8 @@ def test_ends_of_the_middle(values: list[Fraction]) -> None:
 
 
 @pytest.mark.parametrize("figure", FIGURES)
-def test_stored_tables_have_these_panels(top: Path, figure: str) -> None:
-    stored = (top / "examples" / "evaluation" / f"{figure}.tsv").read_text().splitlines()
+def test_stored_tables_have_these_panels(figure: str) -> None:
+    stored = (TOP / "examples" / "evaluation" / f"{figure}.tsv").read_text().splitlines()
     made = figure_table(FIGURES[figure], {}).splitlines()
     assert [line.split("\t")[:3] for line in stored] == [line.split("\t")[:3] for line in made]
 
@@ -121,7 +122,7 @@ def test_a_folder_has_one_sweep(program: Path, tmp_path: Path) -> None:
         next(evaluate(Engine(program), tmp_path, SMALL, executor))
 
 
-def test_the_command_writes_tables(program: Path, tmp_path: Path, capsys: pytest.CaptureFixture[str]) -> None:
+def test_the_command_writes_tables(program: Path, tmp_path: Path, capsys: Captured) -> None:
     call = ["evaluate", "--program", str(program), "--folder", str(tmp_path), "--sets", "1", "--counts", "5",
             "--utilisations", "0.1", "1", "--jobs", "2"]
     assert main(call) == 0

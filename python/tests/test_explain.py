@@ -8,7 +8,7 @@ from dataclasses import dataclass
 from pathlib import Path
 
 import pytest
-from examples import DATA, TOP, files, version_1
+from examples import DATA, TOP, Captured, files, version_1
 from model import random_case
 
 from rtdvs.cli import main
@@ -374,7 +374,7 @@ TOTALS = "16 ticks, 6 jobs released, 6 complete, 8 decisions, energy 36400000000
 
 
 @pytest.fixture
-def call(capsys: pytest.CaptureFixture[str]) -> Run:
+def call(capsys: Captured) -> Run:
     """Calls `explain` with the files of the paper's example, or others; gives its status and what it says."""
     def run(*words: str, **files: str | None) -> Said:
         chosen = PAPER | {f"--{name}": path for name, path in files.items()}

@@ -6,6 +6,7 @@ from collections.abc import Callable, Iterator
 from pathlib import Path
 
 import pytest
+from examples import DATA
 from hypothesis import given
 from hypothesis import strategies as st
 
@@ -367,10 +368,10 @@ def test_random_bytes_are_refused(content: bytes, kind: str) -> None:
     assert (line_of(kind, content) or f"{kind}: ").startswith(f"{kind}: ")
 
 
-def test_written_and_read(tmp_path: Path, data: Path) -> None:
+def test_written_and_read(tmp_path: Path) -> None:
     for folder in ("paper", "offsets", "controller", "server"):
-        tasks = TaskSet.read(data / folder / "tasks.toml")
-        machine = Machine.read(data / folder / "machine.toml")
+        tasks = TaskSet.read(DATA / folder / "tasks.toml")
+        machine = Machine.read(DATA / folder / "machine.toml")
         tasks.write(tmp_path / "tasks.toml")
         machine.write(tmp_path / "machine.toml")
         assert TaskSet.read(tmp_path / "tasks.toml") == tasks

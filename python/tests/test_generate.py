@@ -5,6 +5,7 @@ from math import lcm
 from pathlib import Path
 
 import pytest
+from examples import Captured
 
 from rtdvs.cli import main
 from rtdvs.draws import Listed, SetName, published_sets, uunifast
@@ -12,9 +13,6 @@ from rtdvs.engine import Denied, Engine
 from rtdvs.explain import check
 from rtdvs.files import Demands, Machine, TaskSet
 from rtdvs.generate import BOARD, exercise
-
-Captured = pytest.CaptureFixture[str]
-
 
 def test_exercises_are_small_and_different(engine: Engine) -> None:
     drawn = [exercise(engine, seed) for seed in range(1, 21)]

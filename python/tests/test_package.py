@@ -8,6 +8,7 @@ import tomllib
 from pathlib import Path
 
 import pytest
+from examples import TOP
 
 import rtdvs
 
@@ -37,10 +38,10 @@ def imports(module: Path) -> set[str]:
     return direct | {name.name for node in nodes if node.module == "rtdvs" for name in node.names}
 
 
-def test_version(top: Path) -> None:
+def test_version() -> None:
     """It is the first version of CHANGELOG.md."""
-    found = re.search(r"^## ([0-9.]+) \(", (top / "CHANGELOG.md").read_text(), re.MULTILINE)
-    project = tomllib.loads((top / "python" / "pyproject.toml").read_text())["project"]
+    found = re.search(r"^## ([0-9.]+) \(", (TOP / "CHANGELOG.md").read_text(), re.MULTILINE)
+    project = tomllib.loads((TOP / "python" / "pyproject.toml").read_text())["project"]
     assert found is not None and project["version"] == found[1]
 
 

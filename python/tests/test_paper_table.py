@@ -17,6 +17,7 @@ from fractions import Fraction
 from pathlib import Path
 
 import pytest
+from examples import DATA, Captured
 
 from rtdvs.cli import main
 from rtdvs.engine import Engine
@@ -39,20 +40,21 @@ def test_by_hand(engine: Engine, times: int) -> None:
 
 
 @pytest.mark.parametrize("pair", PAIRS)
-def test_no_job_is_complete_inside_a_tick_if_there_are_3(engine: Engine, pair: tuple[str, str]) -> None:
+def test_no_job_is_complete_inside_a_tick_if_there_are_3(engine: Engine,
+                                                         pair: tuple[str, str]) -> None:
     case = EXAMPLE.finer(3)
     trace = Trace.parse(engine.run(case.tasks, case.machine, *pair, case.ticks, case.demands))
     assert {note.at.offset for note in trace.notes if isinstance(note, Done)} == {0}
 
 
-def test_the_example_is_that_of_the_files(data: Path) -> None:
-    folder = data / "paper"
+def test_the_example_is_that_of_the_files() -> None:
+    folder = DATA / "paper"
     assert EXAMPLE.tasks == TaskSet.read(folder / "tasks.toml")
     assert EXAMPLE.machine == Machine.read(folder / "machine.toml")
     assert EXAMPLE.demands == Demands.read(folder / "demands.csv", EXAMPLE.tasks)
 
 
-def test_printed(program: Path, capsys: pytest.CaptureFixture[str]) -> None:
+def test_printed(program: Path, capsys: Captured) -> None:
     assert main(["paper-table", "--program", str(program), "--finer", "1", "3", "100"]) == 0
     assert capsys.readouterr().out == (
         "     k        none   RM static  EDF static      EDF cc       RM cc      EDF la\n"

@@ -7,7 +7,7 @@ from pathlib import Path
 
 import pictures
 import pytest
-from examples import SHORT, TOP, path_id
+from examples import DATA, SHORT, TOP, Captured, path_id
 from hypothesis import given
 from hypothesis import strategies as st
 
@@ -81,8 +81,8 @@ def test_stored_figures(tmp_path: Path) -> None:
         same_picture(path, TOP / "examples" / "evaluation" / path.name)
 
 
-def test_same_bytes_each_time(data: Path, tmp_path: Path) -> None:
-    trace = Trace.read(data / "templates" / "edf_cc_with_demands.trace")
+def test_same_bytes_each_time(tmp_path: Path) -> None:
+    trace = Trace.read(DATA / "templates" / "edf_cc_with_demands.trace")
     for kind in "svg", "pdf":
         for name in "a", "b":
             save_trace(trace, tmp_path / f"{name}.{kind}")
@@ -135,11 +135,11 @@ def test_64_tasks_and_a_demand_above_the_picture(tmp_path: Path) -> None:
     assert trace_height(trace) > 64 * 50
 
 
-def test_into_the_axes_of_a_caller(data: Path) -> None:
+def test_into_the_axes_of_a_caller() -> None:
     from matplotlib.figure import Figure
 
     one, two = Figure(figsize=(8, 8)).subplots(2)
-    plot_trace(Trace.read(data / "paper" / "edf_none.trace"), one, View(top=8))
+    plot_trace(Trace.read(DATA / "paper" / "edf_none.trace"), one, View(top=8))
     result = Result(1, None, None, 0, *3 * [one.get_xlim()[0] * 0], residency={})    # type: ignore[misc]
     plot_compare([Row("rm", "cc", None, "denied rm 3 of 2"), Row("edf", "cc", result)], one, two)
     assert "denied rm 3 of 2" in [text.get_text() for text in one.texts]
@@ -151,9 +151,9 @@ def test_into_the_axes_of_a_caller(data: Path) -> None:
     (View(first=3, last=3), "--from has to be below 3"),
     (View(top=2), "--top has to be at least 4, the fastest speed"),
 ])
-def test_views(view: View, line: str, data: Path) -> None:
+def test_views(view: View, line: str) -> None:
     with pytest.raises(FileFault, match=line):
-        settled(Trace.read(data / "paper" / "edf_none.trace"), view)
+        settled(Trace.read(DATA / "paper" / "edf_none.trace"), view)
 
 
 @pytest.mark.parametrize(("words", "line"), [
@@ -164,7 +164,7 @@ def test_views(view: View, line: str, data: Path) -> None:
     (["--output", "/absent/a.svg"], "/absent/a.svg: No such file or directory"),
 ])
 def test_usage(words: list[str], line: str, monkeypatch: pytest.MonkeyPatch, tmp_path: Path,
-               capsys: pytest.CaptureFixture[str]) -> None:
+               capsys: Captured) -> None:
     monkeypatch.chdir(TOP)
     trace = "crates/example_runs/data/paper/edf_none.trace"
     assert main(["plot", "trace", "--trace", trace, "--output", str(tmp_path / "a.svg"), *words]) == 2
@@ -173,23 +173,23 @@ def test_usage(words: list[str], line: str, monkeypatch: pytest.MonkeyPatch, tmp
 
 @pytest.mark.parametrize("table", ["", "a\tb\n",
                                    "panel\tcurve\tutilisation\tsets\tmean\tlow\thigh\na\tb\tx\t1\t1\t1\t1\n"])
-def test_tables_are_refused(table: str, tmp_path: Path, capsys: pytest.CaptureFixture[str]) -> None:
+def test_tables_are_refused(table: str, tmp_path: Path, capsys: Captured) -> None:
     (tmp_path / "t.tsv").write_text(table)
     assert main(["plot", "evaluation", "--table", str(tmp_path / "t.tsv"), "--output",
                  str(tmp_path / "a.svg")]) == 2
     assert "table: " in capsys.readouterr().err
 
 
-def test_without_matplotlib(data: Path, tmp_path: Path, monkeypatch: pytest.MonkeyPatch,
-                            capsys: pytest.CaptureFixture[str]) -> None:
+def test_without_matplotlib(tmp_path: Path, monkeypatch: pytest.MonkeyPatch,
+                            capsys: Captured) -> None:
     modules: dict[str, object] = sys.modules    # type: ignore[assignment]
     monkeypatch.setitem(modules, "matplotlib", None)
-    words = ["--trace", str(data / "paper" / "edf_none.trace"), "--output", str(tmp_path / "a.svg")]
+    words = ["--trace", str(DATA / "paper" / "edf_none.trace"), "--output", str(tmp_path / "a.svg")]
     assert main(["plot", "trace", *words]) == 2
     assert "plot: matplotlib is not installed" in capsys.readouterr().err
 
 
-def test_charge_is_asked_for(capsys: pytest.CaptureFixture[str]) -> None:
+def test_charge_is_asked_for(capsys: Captured) -> None:
     run = "release 0 a 1\nspeed 0 4 1/1\nrun 0:0 2:0 a 1 8 8\ndone 2:0 a 1 8\nenergy a 8\nend 2 8 0\n"
     trace = Trace.parse(head(2, "task a 2 0 4\n") + run)
     note_charge(trace, 1)

@@ -6,7 +6,7 @@ from itertools import pairwise
 from pathlib import Path
 
 import pytest
-from examples import BOARD
+from examples import BOARD, DATA, Captured
 from model import Model, random_case
 
 from rtdvs.cli import main
@@ -187,13 +187,13 @@ def assert_speeds(model: Model, body: list[str], num: int, den: int) -> None:
 
 # The command, against a trace of the program
 
-def test_simulate_command(capsys: pytest.CaptureFixture[str], data: Path) -> None:
+def test_simulate_command(capsys: Captured) -> None:
     names = {"tasks": "tasks.toml", "machine": "machine.toml", "demands": "demands.csv"}
     files = [word for kind, name in names.items()
-             for word in (f"--{kind}", str(data / "templates" / name))]
+             for word in (f"--{kind}", str(DATA / "templates" / name))]
     words = ["simulate", *files, "--ticks", "8", "--governor"]
     assert main([*words, "cc", "--scheduler", "edf"]) == 0
-    assert capsys.readouterr().out == (data / "templates/edf_cc_with_demands.trace").read_text()
+    assert capsys.readouterr().out == (DATA / "templates/edf_cc_with_demands.trace").read_text()
     assert main([*words, "la", "--scheduler", "rm"]) == 2
     assert capsys.readouterr().err == "rtdvs: rm has no governor la\n"
 

@@ -6,7 +6,7 @@ from math import ceil
 from pathlib import Path
 
 import pytest
-from examples import BOARD, PAPER
+from examples import BOARD, PAPER, Captured
 from hypothesis import given, settings
 from hypothesis import strategies as st
 
@@ -14,9 +14,6 @@ from rtdvs.cli import main
 from rtdvs.engine import Denied, Engine
 from rtdvs.files import Machine, Point, Task, TaskSet
 from rtdvs.sensitivity import Limits, sensitivity
-
-Captured = pytest.CaptureFixture[str]
-
 
 @pytest.mark.parametrize(("tasks", "machine", "test", "wanted"), [
     # In 280 ticks the tasks ask for 12 * 35 + 12 * 28 + 4 * 20 = 836 of 1120 units. The 284 left are 8 * 35,
@@ -46,7 +43,8 @@ Captured = pytest.CaptureFixture[str]
     # The highest speed of a machine file does 10^6 units in the one tick.
     (TaskSet((Task("a", 1, 10**6 + 1),)), Machine((Point(7, 1),)), "edf", Limits(None, (7,), None)),
 ])
-def test_by_hand(engine: Engine, tasks: TaskSet, machine: Machine, test: str, wanted: Limits) -> None:
+def test_by_hand(engine: Engine, tasks: TaskSet, machine: Machine, test: str,
+                 wanted: Limits) -> None:
     assert sensitivity(engine, tasks, machine, test) == wanted
 
 
@@ -78,8 +76,8 @@ SETS = st.lists(st.tuples(st.integers(1, 12), st.integers(1, 30)), min_size=1, m
 
 @settings(max_examples=8)
 @given(SETS, st.integers(0, 2), st.integers(1, 9), st.sampled_from(["edf", "rm", "response"]))
-def test_each_limit_is_admitted_and_one_more_is_not(engine: Engine, tasks: TaskSet, charge: int, top: int,
-                                                    test: str) -> None:
+def test_each_limit_is_admitted_and_one_more_is_not(engine: Engine, tasks: TaskSet, charge: int,
+                                                    top: int, test: str) -> None:
     limits = sensitivity(engine, tasks, Machine((Point(top, 1),), charge=charge), test)
     now = [task.worst for task in tasks]
 
@@ -114,8 +112,8 @@ TASK_TEXT = '[[task]]\nname = "a"\nperiod = 10\nworst = 6\n'
     (TASK_TEXT.replace("10", "0"), MACHINE_TEXT, "tasks: task 1: period out of range"),
     (TASK_TEXT.replace("6", "0"), MACHINE_TEXT, "tasks: task 1: worst out of range"),
 ])
-def test_a_file_that_the_program_refuses(program: Path, tmp_path: Path, capsys: Captured, tasks: str,
-                                         machine: str, line: str) -> None:
+def test_a_file_that_the_program_refuses(program: Path, tmp_path: Path, capsys: Captured,
+                                         tasks: str, machine: str, line: str) -> None:
     assert call(program, tmp_path, tasks, machine, "edf") == 2
     assert capsys.readouterr() == ("", f"rtdvs: {line}\n")
 

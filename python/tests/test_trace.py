@@ -3,7 +3,7 @@
 from fractions import Fraction
 
 import pytest
-from examples import DATA, PAPER, TRACES
+from examples import DATA, PAPER, TRACES, Captured
 from hypothesis import given
 from hypothesis import strategies as st
 
@@ -155,7 +155,7 @@ def test_widest_numbers(one: int, two: int, energy: int) -> None:
         list(parse_lines(lines))
 
 
-def test_statistics_command(capsys: pytest.CaptureFixture[str]) -> None:
+def test_statistics_command(capsys: Captured) -> None:
     words = ["statistics", "--tasks", str(DATA / "paper/tasks.toml"), "--trace"]
     assert main([*words, str(WORKED)]) == 0
     # t1: (8/3 + 4/3)/2; t2: (4 + 2)/2; t3: (6 + 2)/2
