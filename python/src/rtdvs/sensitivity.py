@@ -16,6 +16,7 @@ from rtdvs.commandline import (
     Commands, add_engine_options, add_files, add_parser, engine_of, executor_of, progress,
     read_machine, read_tasks,
 )
+from rtdvs.decimals import decimal
 from rtdvs.engine import Denied, Engine, admit_call, response_call
 from rtdvs.files import MOST_SPEED, Machine, Point, TaskSet
 
@@ -140,14 +141,10 @@ def sensitivity(engine: Engine, tasks: TaskSet, machine: Machine, test: str,
 
 def table(question: Question, limits: Limits) -> str:
     """A line for all tasks, for each task and for the speed: what is, and the limit; `-` for None."""
-    worsts = "".join(f"task {task.name} {task.worst} {shown(most)}\n"
+    worsts = "".join(f"task {task.name} {task.worst} {decimal(most, 0)}\n"
                      for task, most in zip(question.tasks, limits.worsts))
-    speed = f"speed {question.machine.top_speed} {shown(limits.speed)}\n"
-    return f"all {shown(limits.thousandths)}\n{worsts}{speed}"
-
-
-def shown(limit: int | None) -> str:
-    return "-" if limit is None else str(limit)
+    speed = f"speed {question.machine.top_speed} {decimal(limits.speed, 0)}\n"
+    return f"all {decimal(limits.thousandths, 0)}\n{worsts}{speed}"
 
 
 def add_command(commands: Commands) -> None:

@@ -437,13 +437,10 @@ class Trace:
         items = parse_lines(lines_of(file))
         head = next(items)
         assert isinstance(head, Head)
-        tasks, notes = [], []
-        for item in items:
-            if isinstance(item, Task):
-                tasks.append(item)
-            elif not isinstance(item, Head):
-                notes.append(item)
-        return cls(head.version, head.scheduler, head.governor, head.ticks, tuple(tasks), tuple(notes))
+        body = [item for item in items if not isinstance(item, Head)]
+        tasks = tuple(item for item in body if isinstance(item, Task))
+        notes = tuple(item for item in body if not isinstance(item, Task))
+        return cls(head.version, head.scheduler, head.governor, head.ticks, tasks, notes)
 
     def text(self) -> str:
         """The text of the trace, with its last line feed."""
