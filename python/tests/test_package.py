@@ -14,6 +14,7 @@ import rtdvs
 
 SOURCE = Path(rtdvs.__file__).parent
 MODULES = sorted(SOURCE.glob("*.py"))
+TESTS = sorted(Path(__file__).parent.glob("*.py"))
 LAYERS = [
     {"files", "errors", "decimals"},
     {"answers"},
@@ -59,7 +60,7 @@ def test_layers(module: Path) -> None:
         assert own is None or other is None or other <= own, f"{module.stem} imports {name}"
 
 
-@pytest.mark.parametrize("module", MODULES, ids=[module.stem for module in MODULES])
+@pytest.mark.parametrize("module", [*MODULES, *TESTS], ids=[module.stem for module in [*MODULES, *TESTS]])
 def test_functions_are_short(module: Path) -> None:
     for node in ast.walk(ast.parse(module.read_text())):
         if isinstance(node, ast.FunctionDef):
