@@ -56,7 +56,8 @@ class Lines:
         self.period = {name: int(period) for name, period, *_ in self.of("task")}
         self.releases = {(task, job): int(tick) for tick, task, job in self.of("release")}
         self.used = {(task, job): used for _, task, job, used in self.of("done")}
-        self.decisions = [(int(tick), int(speed), Fraction(demand)) for tick, speed, demand in self.of("speed")]
+        self.decisions = [(int(tick), int(speed), Fraction(demand))
+                          for tick, speed, demand in self.of("speed")]
         self.segments: list[Segment] = []
         self.ends: dict[tuple[str, str], Fraction] = {}
         speed = 1

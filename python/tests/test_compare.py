@@ -128,6 +128,7 @@ def recounted(text: str, tasks: TaskSet, machine: Machine, base: int) -> Result:
                  for each in lines.segments)
     idle = sum((each.end - each.begin for each in lines.segments if not each.task), Fraction(0))
     least = bound(machine, sum(each.units for each in lines.segments if each.task), lines.ticks)
+    periods = {task.name: task.period for task in tasks}
     times: defaultdict[str, list[Fraction]] = defaultdict(list)
     for job, end in lines.ends.items():
         times[job[0]].append(end - lines.releases[job])
@@ -140,7 +141,7 @@ def recounted(text: str, tasks: TaskSet, machine: Machine, base: int) -> Result:
         above_bound=energy / least - 1 if least else None,
         switches=sum(one[1] != two[1] for one, two in pairwise(lines.decisions)),
         idle=idle / lines.ticks,
-        least_laxity=min((tasks.named(task).period - max(jobs) for task, jobs in times.items()), default=None),
+        least_laxity=min((periods[task] - max(jobs) for task, jobs in times.items()), default=None),
         jitter=max((max(jobs) - min(jobs) for jobs in times.values()), default=None),
         residency=residency,
     )

@@ -1,6 +1,5 @@
 """Device trees: each expected point is read off the text by hand, or is what the text was made of."""
 
-from pathlib import Path
 
 import pytest
 from examples import TOP

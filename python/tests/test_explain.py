@@ -16,7 +16,7 @@ from rtdvs.compare import PAIRS
 from rtdvs.engine import Denied, Engine
 from rtdvs.explain import Walk, WrongTrace, check, explain, last_line
 from rtdvs.files import Demands, FileFault, Machine, Point, Task, TaskSet
-from rtdvs.rules import GOVERNORS, Plan
+from rtdvs.rules import GOVERNORS
 from rtdvs.simulate import simulate
 from rtdvs.trace import Trace
 

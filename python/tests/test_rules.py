@@ -3,7 +3,6 @@
 import re
 from fractions import Fraction
 from itertools import pairwise
-from pathlib import Path
 
 import pytest
 from examples import BOARD, DATA, Captured

@@ -42,7 +42,7 @@ def significant(number: int, by: int, digits: int) -> str:
 
 
 def aligned(rows: Sequence[Sequence[str]], left: int = 1) -> str:
-    """Rows in columns: so many to the left, the others to the right. A row that is shorter isn't aligned.
+    """Rows in columns: the first `left` to the left, the others to the right. A short row isn't aligned.
 
     >>> print(aligned([("of", "energy", "idle"), ("cc", "7", "0"), ("none", "denied")]), end="")
     of    energy  idle

@@ -125,7 +125,7 @@ def response_call(tasks: Source, machine: Source) -> Call:
 
 
 def constrain_call(tasks: Source, machine: Source, deadlines: Source) -> Call:
-    """The call of `constrain`: the lowest speed for deadlines below the periods, under EDF; Denied and others.
+    """The call of `constrain`: the lowest speed for deadlines below the periods under EDF; Denied and others.
 
     >>> constrain_call(Path("/t.toml"), Path("/m.toml"), Deadlines({"a": 3})).files[2]
     ('--deadlines', 'task,deadline\\na,3\\n')

@@ -23,11 +23,11 @@ from rtdvs.commandline import (
 )
 from rtdvs.files import Demands, Machine, Point, Task, TaskSet
 from rtdvs.rules import (
-    GOVERNORS, Checker, Governor, Latest, Plan, State, Summary, Wrong, WrongDecision, ceiling,
+    GOVERNORS, Checker, Demand, Governor, Latest, Plan, State, Summary, Wrong, WrongDecision, ceiling,
     edf_ahead, edf_cycle, full, rm_cycle, static,
 )
 from rtdvs.trace import (
-    Decision, Done, Head, Item, Note, Order, Position, Release, TraceFault, lines_of, spelled_lines,
+    Decision, Done, Head, Item, Order, Position, Release, TraceFault, lines_of, spelled_lines,
 )
 
 
@@ -250,13 +250,16 @@ class Walk:
                 elif isinstance(item, Task):
                     raise Wrong(f"the task {item.name} is not in the task file")
                 else:
-                    _check(checker, item)
+                    checker.check(item)
                 fault = order.fault(item)
                 if fault:
                     raise Wrong(fault)
                 yield number, item, checker
         except TraceFault as spelled:
             raise WrongTrace(spelled.line, _task_line(wanted[-1]) if wanted else spelled.reason) from None
+        except WrongDecision as wrong:
+            reasons = "; ".join(_reasons(checker, item, wrong.demand))
+            raise WrongTrace(number, f"{wrong}: {reasons}") from None
         except Wrong as wrong:
             raise WrongTrace(number, str(wrong)) from None
 
@@ -273,17 +276,11 @@ class Walk:
         return Checker(State.begin(plan), head.ticks, governor, needs)
 
 
-def _check(checker: Checker, note: Note) -> None:
-    """Checks a note; for a wrong decision the reason has the terms."""
-    try:
-        checker.check(note)
-    except WrongDecision as fault:
-        state, demand = checker.state, fault.demand
-        if isinstance(note, Decision) and checker.governor and (note.num, note.den) != demand:
-            lines = TERMS[checker.governor](state)
-        else:
-            lines = speeds(state.plan.machine.points, *demand)
-        raise Wrong(f"{fault}: {'; '.join(lines)}") from None
+def _reasons(checker: Checker, decision: Item, demand: Demand) -> list[str]:
+    """The terms of the demand that is wanted, or its speeds if the decision has this demand."""
+    if checker.governor and isinstance(decision, Decision) and (decision.num, decision.den) != demand:
+        return TERMS[checker.governor](checker.state)
+    return speeds(checker.state.plan.machine.points, *demand)
 
 
 def _same_task(found: Item, wanted: list[Task]) -> None:

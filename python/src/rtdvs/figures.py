@@ -22,7 +22,7 @@ ENERGY, BOUND, TIME = "#d55e00", "#009e73", "#0072b2"
 
 
 def plot_compare(rows: Sequence[Row], energy: "Axes", time: "Axes") -> None:
-    """Draws a comparison into two axes: each energy as a share of EDF with `none`, and the time at each speed.
+    """Draws a comparison into two axes: energies as shares of EDF with `none`, and the time at each speed.
 
     A mark is at the bound for the row's units. A pair that is denied has its line in place of a bar.
     """

@@ -1,8 +1,8 @@
 """The files that the program reads: task sets, machines, demands, deadlines and requests.
 
-Each is parsed by the rules of docs/FORMATS.md, in the order of docs/MESSAGES.md. The text of a FileFault is the line
-that the program prints for the same file. `tomllib` reads TOML 1.0: a file with TOML 1.1's additions (line
-breaks and a last comma in braces, the escapes `\\e` and `\\x`) is "not TOML" here, and the program reads it.
+Each is parsed by the rules of docs/FORMATS.md, in the order of docs/MESSAGES.md. The text of a FileFault is
+the line that the program prints for the same file. `tomllib` reads TOML 1.0: a file with TOML 1.1's additions
+(line breaks and a last comma in braces, the escapes `\\e` and `\\x`) is "not TOML" here, and the program reads it.
 A key of more than 80 parts, arrays more than 80 deep and dates out of the calendar are refused by both, not
 always with the same line.
 """
@@ -447,7 +447,7 @@ class _Row:
 
 
 def _rows(text: str | bytes, kind: str, header: list[str], most: int | None = None) -> Iterator[_Row]:
-    """The rows behind the header, each with as many fields."""
+    """The rows after the header, each with as many fields."""
     records = _records(_bytes(text, kind))
     if not records or records[0] != header:
         raise FileFault(f"{kind}: wrong header")

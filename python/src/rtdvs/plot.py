@@ -301,7 +301,8 @@ def _draw_arrows(frame: _Frame, row: int, ticks: Sequence[int], is_due: bool) ->
                     gid=f"{'deadline' if is_due else 'release'}-{frame.names[row]}", **style)
 
 
-def _draw_bars(frame: _Frame, shown: Iterable[Bar], floor: float, unit: float, name: str, **style: Any) -> None:
+def _draw_bars(frame: _Frame, shown: Iterable[Bar], floor: float, unit: float, name: str,
+               **style: Any) -> None:
     """Draws bars on a floor, so high for each unit of speed; narrow ones over the arrows, others below."""
     from matplotlib.collections import PolyCollection
 

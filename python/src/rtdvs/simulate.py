@@ -112,7 +112,7 @@ def _closing(tasks: TaskSet, notes: list[Note], ticks: int) -> Iterator[Note]:
 
 def simulate(tasks: TaskSet, machine: Machine, scheduler: str, ticks: int, governor: Governor,
              demands: Demands | None = None, name: str = "mine") -> Trace:
-    """The trace, in version 2, of a run of so many ticks under a governor that is a function.
+    """The trace, in version 2, of a run of that many ticks under a governor that is a function.
 
     The scheduler is "edf" or "rm"; a job whose demand isn't named needs its worst case. Raises DeadlineMissed
     if a job isn't complete at its deadline, and ValueError if a demand isn't a fraction from 0 on.
