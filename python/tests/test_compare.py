@@ -38,42 +38,25 @@ rm static 700000000000 1.0000 1.7778 0 0.5625 6.0000 3.0000 0.0000 0.0000 1.0000
 rm cc 514000000000 0.7343 1.0397 6 0.4167 6.0000 3.0000 0.5625 0.2500 0.1875
 """
 
+HEADING = "scheduler governor energy of_none above_bound switches idle least_laxity jitter"
+
+
+def alike(speed: str, edf: str, rm: str) -> str:
+    """A table whose rows of one scheduler are alike."""
+    rows = (f"{scheduler} {governor} {edf if scheduler == 'edf' else rm}" for scheduler, governor in PAIRS)
+    return "\n".join([f"{HEADING} {speed}", *rows])
+
+
 # At full load every tick runs 2 units, of 10^9 each. In 3 ticks RM has 2 * 2 + 3 units of both tasks. The
 # jobs of x are complete at 1, 7/2 and 5, those of y at 5/2 and 6.
-FULL = """
-scheduler governor energy of_none above_bound switches idle least_laxity jitter at_2
-edf none 12000000000 1.0000 0.0000 0 0.0000 0.0000 0.5000 1.0000
-edf static 12000000000 1.0000 0.0000 0 0.0000 0.0000 0.5000 1.0000
-edf cc 12000000000 1.0000 0.0000 0 0.0000 0.0000 0.5000 1.0000
-edf la 12000000000 1.0000 0.0000 0 0.0000 0.0000 0.5000 1.0000
-rm none denied rm y 7 6
-rm static denied rm y 7 6
-rm cc denied rm y 7 6
-"""
-
+FULL = alike("at_2", "12000000000 1.0000 0.0000 0 0.0000 0.0000 0.5000 1.0000", "denied rm y 7 6")
 # Each tick asks for a unit more than it has: 15 units in 6 ticks under EDF, 3 in 2 under RM.
-DENIED = """
-scheduler governor energy of_none above_bound switches idle least_laxity jitter
-edf none denied edf 15 6
-edf static denied edf 15 6
-edf cc denied edf 15 6
-edf la denied edf 15 6
-rm none denied rm x 3 2
-rm static denied rm x 3 2
-rm cc denied rm x 3 2
-"""
-
+DENIED = alike("", "denied edf 15 6", "denied rm x 3 2")
 # Each second tick runs 999983 units at 399880009000, and the other idles as many at 399880009 * 999. Together
 # 1000 of each cost 999983 * 1000 * 399880009 * 1999.
-LARGE = "\n".join([
-    "scheduler governor energy of_none above_bound switches idle least_laxity jitter at_999983",
-    *(f"{' '.join(pair)} 799346548868654153000 1.0000 0.0000 0 0.5000 1.0000 0.0000 1.0000"
-      for pair in PAIRS)])
-
+LARGE = alike("at_999983", *2 * ["799346548868654153000 1.0000 0.0000 0 0.5000 1.0000 0.0000 1.0000"])
 # One job of 5 units, in half of the time, at 1210000000 each.
-SMALL = "\n".join([
-    "scheduler governor energy of_none above_bound switches idle least_laxity jitter at_1",
-    *(f"{' '.join(pair)} 6050000000 1.0000 0.0000 0 0.5000 5.0000 0.0000 1.0000" for pair in PAIRS)])
+SMALL = alike("at_1", *2 * ["6050000000 1.0000 0.0000 0 0.5000 5.0000 0.0000 1.0000"])
 
 
 @pytest.mark.parametrize(("tasks", "machine", "ticks", "wanted"), [
