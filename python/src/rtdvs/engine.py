@@ -4,15 +4,13 @@ import os
 import re
 import shutil
 import signal
-from collections.abc import Callable, Iterable, Iterator, Mapping, Sequence
+from collections.abc import Iterable, Iterator, Mapping, Sequence
 from concurrent.futures import Executor
 from dataclasses import dataclass
-from functools import wraps
 from math import ceil
 from pathlib import Path
 from subprocess import DEVNULL, PIPE, Popen, TimeoutExpired
 from tempfile import TemporaryDirectory
-from typing import Concatenate, ParamSpec, TypeVar
 
 from rtdvs.answers import (
     Admitted, Constrained, GovernorTotals, Least, Polled, Replayed, Service, parse_admitted,
@@ -107,7 +105,7 @@ def run_call(tasks: Source, machine: Source, scheduler: str, governor: str, tick
 
 
 def admit_call(tasks: Source, machine: Source, scheduler: str) -> Call:
-    """The call of `admit`: the static demand, Denied if the scheduler doesn't admit the set.
+    """The call of `admit`; parse_admitted reads its answer's text.
 
     >>> admit_call(Path("/t.toml"), Path("/m.toml"), "edf").options
     (('--scheduler', 'edf'),)
@@ -116,7 +114,7 @@ def admit_call(tasks: Source, machine: Source, scheduler: str) -> Call:
 
 
 def response_call(tasks: Source, machine: Source) -> Call:
-    """The call of `response`: each task's response in ticks under RM at the highest speed; Denied and others.
+    """The call of `response`; parse_responses reads its answer's text.
 
     >>> response_call(Path("/t.toml"), Path("/m.toml")).files
     (('--tasks', PosixPath('/t.toml')), ('--machine', PosixPath('/m.toml')))
@@ -125,7 +123,7 @@ def response_call(tasks: Source, machine: Source) -> Call:
 
 
 def constrain_call(tasks: Source, machine: Source, deadlines: Source) -> Call:
-    """The call of `constrain`: the lowest speed for deadlines below the periods under EDF; Denied and others.
+    """The call of `constrain`; parse_constrained reads its answer's text.
 
     >>> constrain_call(Path("/t.toml"), Path("/m.toml"), Deadlines({"a": 3})).files[2]
     ('--deadlines', 'task,deadline\\na,3\\n')
@@ -135,7 +133,7 @@ def constrain_call(tasks: Source, machine: Source, deadlines: Source) -> Call:
 
 def poll_call(tasks: Source, machine: Source, requests: Source, server: str, scheduler: str,
               governor: str, ticks: int) -> Call:
-    """The call of `poll` for that many ticks: when a polling server serves each request.
+    """The call of `poll` for that many ticks; parse_polled reads its answer's text.
 
     >>> poll_call(Path("/t"), Path("/m"), Path("/r"), "s", "edf", "none", ticks=15).options[0]
     ('--server', 's')
@@ -145,7 +143,7 @@ def poll_call(tasks: Source, machine: Source, requests: Source, server: str, sch
 
 
 def replay_call(tasks: Source, machine: Source, trace: Source) -> Call:
-    """The call of `replay`: the totals of a trace that is that of its run; Differs and others.
+    """The call of `replay`; parse_replayed reads its answer's text.
 
     >>> replay_call(Path("/t.toml"), Path("/m.toml"), "trace 2\\n").files[2]
     ('--trace', 'trace 2\\n')
@@ -154,7 +152,7 @@ def replay_call(tasks: Source, machine: Source, trace: Source) -> Call:
 
 
 def migrate_call(tasks: Source, machine: Source, trace: Source) -> Call:
-    """The call of `migrate`: such a trace's text in version 2; Differs and others.
+    """The call of `migrate`; its answer's text is the trace in version 2.
 
     >>> migrate_call(Path("/t.toml"), Path("/m.toml"), "trace 1\\n").command
     'migrate'
@@ -163,7 +161,7 @@ def migrate_call(tasks: Source, machine: Source, trace: Source) -> Call:
 
 
 def least_call(machine: Source, units: int, ticks: int) -> Call:
-    """The call of `least`: the minimum energy for that many work units in those ticks; Denied and others.
+    """The call of `least` for work units in ticks; parse_least reads its answer's text.
 
     >>> least_call(Path("/m.toml"), units=28, ticks=16).options
     (('--units', '28'), ('--ticks', '16'))
@@ -172,26 +170,12 @@ def least_call(machine: Source, units: int, ticks: int) -> Call:
 
 
 def workload_call(seed: int) -> Call:
-    """The call of `workload`: a generated set's runs under each governor.
+    """The call of `workload`; parse_workload reads its answer's text.
 
     >>> workload_call(1)
     Call(command='workload', options=(('--seed', '1'),), files=())
     """
     return _call("workload", {"seed": seed})
-
-
-Arguments = ParamSpec("Arguments")
-Found = TypeVar("Found")
-
-
-def _asks(make: Callable[Arguments, Call],
-          read: Callable[[str], Found]) -> Callable[Concatenate["Engine", Arguments], Found]:
-    """The method that makes a call and reads its answer's text; it raises EngineError."""
-    @wraps(make)
-    def ask(engine: "Engine", /, *args: Arguments.args, **options: Arguments.kwargs) -> Found:
-        return read(engine.answer(make(*args, **options)).text())
-
-    return ask
 
 
 # Engines
@@ -217,15 +201,44 @@ class Engine:
         """Makes the calls on the executor, or one after the other; answers come in the order of the calls."""
         return map(self.answer, calls) if executor is None else executor.map(self.answer, calls)
 
-    run = _asks(run_call, str)
-    admit = _asks(admit_call, parse_admitted)
-    respond = _asks(response_call, parse_responses)
-    constrain = _asks(constrain_call, parse_constrained)
-    poll = _asks(poll_call, parse_polled)
-    replay = _asks(replay_call, parse_replayed)
-    migrate = _asks(migrate_call, str)
-    least = _asks(least_call, parse_least)
-    workload = _asks(workload_call, parse_workload)
+    def run(self, tasks: Source, machine: Source, scheduler: str, governor: str, ticks: int,
+            demands: Source | None = None, version: int = 2) -> str:
+        """The trace's text of a run of that many ticks; raises EngineError."""
+        return self.answer(run_call(tasks, machine, scheduler, governor, ticks, demands, version)).text()
+
+    def admit(self, tasks: Source, machine: Source, scheduler: str) -> Admitted:
+        """Whether the scheduler admits the set: the static demand; raises Denied and others."""
+        return parse_admitted(self.answer(admit_call(tasks, machine, scheduler)).text())
+
+    def respond(self, tasks: Source, machine: Source) -> dict[str, int]:
+        """Each task's response in ticks under RM at the highest speed; raises Denied and others."""
+        return parse_responses(self.answer(response_call(tasks, machine)).text())
+
+    def constrain(self, tasks: Source, machine: Source, deadlines: Source) -> Constrained:
+        """The lowest speed for deadlines below the periods, under EDF; raises Denied and others."""
+        return parse_constrained(self.answer(constrain_call(tasks, machine, deadlines)).text())
+
+    def poll(self, tasks: Source, machine: Source, requests: Source, server: str, scheduler: str,
+             governor: str, ticks: int) -> Polled:
+        """When a polling server serves each request; raises EngineError."""
+        call = poll_call(tasks, machine, requests, server, scheduler, governor, ticks)
+        return parse_polled(self.answer(call).text())
+
+    def replay(self, tasks: Source, machine: Source, trace: Source) -> Replayed:
+        """The totals of a trace that is that of its run; raises Differs and others."""
+        return parse_replayed(self.answer(replay_call(tasks, machine, trace)).text())
+
+    def migrate(self, tasks: Source, machine: Source, trace: Source) -> str:
+        """Such a trace's text in version 2; raises Differs and others."""
+        return self.answer(migrate_call(tasks, machine, trace)).text()
+
+    def least(self, machine: Source, units: int, ticks: int) -> Least:
+        """The minimum energy for that many work units in those ticks; raises Denied and others."""
+        return parse_least(self.answer(least_call(machine, units, ticks)).text())
+
+    def workload(self, seed: int) -> tuple[GovernorTotals, ...]:
+        """A generated set's runs under each governor; raises EngineError."""
+        return parse_workload(self.answer(workload_call(seed)).text())
 
 
 def _words(call: Call, folder: Path) -> list[str]:
