@@ -1,7 +1,6 @@
 -- The laws of cycle-conserving EDF, and what each call makes of the kept rates and their sum.
-use Rattle.std.proofs.Common.{◌≡◌, ℕ, ◌<◌, ◌≤◌, min, Bool, true, false, List, refl, subst, arith, inl, inr, ◌+◌, ◌-◌, ◌*◌, ◌/◌, ◌^◌, ap, sym, ◌∙◌, ◌≢◌, length, length-set, get_or-set_same, get_or-set_other, ◌⊎◌}
+use Rattle.std.proofs.Common.{◌≡◌, ℕ, ◌<◌, ◌≤◌, min, Bool, true, false, List, refl, subst, arith, inl, inr, ◌+◌, ◌-◌, ◌*◌, ◌/◌, ◌^◌, ap, sym, ◌∙◌, ◌≢◌, length, length-set, get_or-set_same, get_or-set_other, ◌⊎◌, if◌then◌else◌, slice_set, slice_index}
 use Rattle.freq_table.specs.declared.limits.TheConstants.{TOP_SPEED}
-use Rattle.std.specs.Prelude.{if◌then◌else◌, slice_set, slice_index}
 use Rattle.std.proofs.lemmas.Bool.Decides.{nat_tests}
 use Rattle.std.proofs.Math.Nat.{mul-le-mul_right, mul-zero, le_of_mul-le-mul_left}
 use Rattle.std.proofs.lemmas.Bool.{le-leb, cases_lt, cases_eq}

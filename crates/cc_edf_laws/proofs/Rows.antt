@@ -1,6 +1,5 @@
 -- What a boundary and a tick make of the work that a row needs by a tick, and of what its rate gives.
-use Rattle.std.proofs.Common.{◌≡◌, inl, inr, ℕ, ◌+◌, ◌-◌, ◌*◌, ◌<◌, ◌≤◌, min, Bool, true, false, refl, sym, ap, subst, arith}
-use Rattle.std.specs.Prelude.{◌==◌, ◌||◌, nat_le, if◌then◌else◌}
+use Rattle.std.proofs.Common.{◌≡◌, inl, inr, ℕ, ◌+◌, ◌-◌, ◌*◌, ◌<◌, ◌≤◌, min, Bool, true, false, refl, sym, ap, subst, arith, ◌==◌, ◌||◌, nat_le, if◌then◌else◌}
 use Rattle.std.proofs.Math.Nat.{le_trans, mul-le-mul_left, mul-zero, sub-zero}
 use Rattle.std.proofs.lemmas.Bool.{le-leb, lt-leb, cases_lt, cases_Bool, eqb-true}
 use Rattle.std.proofs.lemmas.Bool.Decides.{nat_tests}

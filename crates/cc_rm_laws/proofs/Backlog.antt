@@ -1,11 +1,11 @@
 -- The static schedule with every job at its worst case: what its jobs lack at each release and tick.
-use Rattle.std.proofs.Common.{◌≡◌, ◌≢◌, ℕ, zero, suc, ◌+◌, ◌-◌, ◌*◌, ◌<◌, ◌≤◌, Bool, true, false, List, refl, ◌∙◌, arith, nat_eq}
+use Rattle.std.proofs.Common.{◌≡◌, ℕ, zero, suc, ◌+◌, ◌-◌, ◌*◌, ◌<◌, ◌≤◌, Bool, List, refl, ◌∙◌, arith}
 use Rattle.std.proofs.lemmas.Bool.Decides.{nat_tests}
 use Rattle.dvs_base.specs.declared.kind.Scheduler.TheVariants.{Rm}
 use Rattle.dvs_base.specs.declared.kind.GovernorKind.TheVariants.{Fixed}
 use Rattle.grid_fraction.specs.Numbers.{sum_where}
 use Rattle.sched_model.specs.Plan.{Plan, count, period, worst, point}
-use Rattle.sched_model.specs.Jobs.{due, latest, worst_demand}
+use Rattle.sched_model.specs.Jobs.{due, worst_demand}
 use Rattle.sched_model.specs.Ticks.{PublishedDemand, Tick}
 use Rattle.sched_model.specs.Demand.{published}
 use Rattle.sched_model.specs.Priority.{is_up_to, sum_up_to}
@@ -33,13 +33,11 @@ abbrev pub lack_after : Plan → ℕ → ℕ → ℕ
 lack_after p t i = lack_after_of p (asked p) t i
 
 pub lack-is : (p : Plan) (t i : ℕ) → 0 < t → lack p t i ≡ lacking p (worst_ticks p (asked p) t) i
-lack-is p zero i pos = absurd (omega arith)
-lack-is p (suc t) i pos = refl
+lack-is p t i pos = grind arith
 
 pub backlog-is : (p : Plan) (t i : ℕ) → backlog p t i ≡ sum_up_to (count p) (period p) (lack p t) i
 unfolding backlog
-backlog-is p zero i = grind (arith, sum_where-zero, schedule-none)
-backlog-is p (suc t) i = grind (arith, schedule-suc)
+backlog-is p t i = grind (arith, nat_tests, sum_where-zero, schedule-none, schedule-suc)
 
 pub backlog-where : (p : Plan) (t i : ℕ) → i < count p
     → backlog p t i ≡ sum_where (count p) (is_up_to (period p) i) (lack p t)
@@ -67,16 +65,7 @@ module _ (p : Plan) (adm : IsAdmitted p) where
 
   -- a task lacks at least as much after the releases as before
   pub after-least : (t i : ℕ) → i < count p → lack p t i ≤ lack_after p t i
-  after-least zero i h = omega arith
-  after-least (suc t) i h = go (nat_eq (suc t) (due p i (latest p i t))) refl
-    where
-      go : (b : Bool) → nat_eq (suc t) (due p i (latest p i t)) ≡ b → lack p (suc t) i ≤ lack_after p (suc t) i
-      go true e =
-          let is_due : suc t ≡ due p i (latest p i t) = grind (arith, nat_tests) in
-          omega (arith, lack-none (suc t) i (latest p i t) h is_due)
-      go false e =
-          let other : suc t ≢ due p i (latest p i t) = grind (arith, nat_tests) in
-          omega (arith, lack-same p adm.limits (asked p) t i h other)
+  after-least t i h = grind (arith, nat_tests, lack-none, lack-same)
 
   -- without a release after r, d + 1 ticks take d + 1 times the static speed from what a set lacks that has,
   -- with each task, those before it

@@ -35,8 +35,7 @@ use Rattle.governor.specs.ServedSchedulers.{ServesRm}
 -- what is left still fits into the rest of the time, where it is 0 or fell by the speed
 room_falls : (left_in left' f x y : ℕ) → x ≡ y + 1
     → (left' ≡ 0) ⊎ (left' + f ≤ left_in) → left_in ≤ f * x → left' ≤ f * y
-room_falls left_in left' f x y e (inl z) le = rw z (omega arith)
-room_falls left_in left' f x y e (inr g) le = (let le' = rw e at le in omega arith)
+room_falls left_in left' f x y e b le = grind arith
 
 module _ (plan : Plan) (adm : IsAdmitted plan) (rm : plan.scheduler ≡ Rm) (dem : JobDemands) (s : StateView)
     (bel : Belongs plan dem s) (f : ℕ) (shares : List ℕ)

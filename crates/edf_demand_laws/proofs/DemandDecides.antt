@@ -1,9 +1,8 @@
 -- The constrained demand is the one that its search finds, and decides: a speed that meets it meets every deadline, and
 -- another speed misses one at worst.
-use Rattle.std.proofs.Common.{◌≡◌, inl, inr, ℕ, zero, suc, ◌-◌, ◌*◌, ◌<◌, ◌≤◌, Bool, true, false, not, ◌&&◌, ◌||◌, nat_eq, nat_le, refl, sym, ◌∙◌, ap, subst, arith, true≢false, length}
+use Rattle.std.proofs.Common.{◌≡◌, inl, inr, ℕ, zero, suc, ◌-◌, ◌*◌, ◌<◌, ◌≤◌, Bool, true, false, not, ◌&&◌, ◌||◌, nat_eq, nat_le, refl, sym, ◌∙◌, ap, subst, arith, true≢false, length, mul-le-mul_right, le_of_mul-le-mul_right}
 use Rattle.std.proofs.lemmas.Bool.{cases_lt}
 use Rattle.std.proofs.lemmas.Bool.Decides.{nat_tests}
-use Rattle.std.proofs.Math.Nat.{mul-le-mul_right, le_of_mul-le-mul_right}
 use Rattle.grid_fraction.specs.declared.Frac.{Frac}
 use Rattle.grid_fraction.specs.Numbers.{any_below, all_below, first_from}
 use Rattle.grid_fraction.proofs.Searches.{any_below-found, first_from-found, first_from-most, any-some, all-found}

@@ -1,8 +1,7 @@
 -- Every constrained schedule is met where the processor demand of each span fits into what the speed does in it, and the
 -- schedule of worst cases is met only there.
-use Rattle.std.proofs.Common.{◌≡◌, ℕ, zero, suc, ◌+◌, ◌-◌, ◌*◌, ◌<◌, ◌≤◌, min, Bool, true, false, eqb, List, [], ◌∷◌, length, refl, arith, if◌then◌else◌, inl, inr, ◌/◌, nat_le, ap, ◌∙◌, sym, subst, eq-or-lt_of_le, add-one}
+use Rattle.std.proofs.Common.{◌≡◌, ℕ, zero, suc, ◌+◌, ◌-◌, ◌*◌, ◌<◌, ◌≤◌, min, Bool, true, false, eqb, List, [], ◌∷◌, length, refl, arith, if◌then◌else◌, inl, inr, ◌/◌, nat_le, ap, ◌∙◌, sym, subst, eq-or-lt_of_le, add-one, div-mul-le_self, mul-le-mul_right}
 use Rattle.std.proofs.lemmas.Bool.Decides.{nat_tests}
-use Rattle.std.proofs.Math.Nat.{div-mul-le_self, mul-le-mul_right}
 use Rattle.std.proofs.lemmas.Bool.{le-leb, leb-true, cases_lt}
 use Rattle.grid_fraction.specs.Numbers.{sum_below, sum_where}
 use Rattle.grid_fraction.proofs.Sums.{sum_below-le, sum_below-add, sum_below-own, sum_below-up, sum_below-zero}

@@ -1,8 +1,6 @@
 -- The number of jobs of a task with absolute deadlines up to d.
-use Rattle.std.proofs.Common.{ℕ, ◌+◌, ◌-◌, ◌*◌, ◌<◌, ◌≤◌, arith}
-use Rattle.std.proofs.Math.Nat.{div-mul-le_self, mul-le-mul_right}
+use Rattle.std.proofs.Common.{ℕ, ◌+◌, ◌-◌, ◌*◌, ◌<◌, ◌≤◌, arith, div-mul-le_self, mul-le-mul_right, le-leb, leb-true}
 use Rattle.std.proofs.lemmas.Nat.{le-div}
-use Rattle.std.proofs.lemmas.Bool.{le-leb, leb-true}
 use Rattle.edf_demand_laws.specs.ProcessorDemand.{jobs_due}
 
 -- job q + 1 is among the jobs due by d exactly where its absolute deadline is at most d

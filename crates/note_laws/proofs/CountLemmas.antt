@@ -1,11 +1,9 @@
 -- The counts of a schedule's notes, tick by tick. They say once that a job completes, when it has had its demand, and not
 -- after its deadline.
-use Rattle.std.proofs.Common.{◌≡◌, ◌+◌, Bool, true, false, List, [], ◌∷◌, ◌++◌, refl, arith, ap, ℕ, ◌≤◌, not, ◌&&◌, length, if◌then◌else◌, ◌∙◌, sym, nat_eq, nat_le, ◌-◌, ◌*◌, ◌<◌, inl, nat_lt, div-add-mod'}
-use Rattle.std.specs.Prelude.{count_by, cond}
+use Rattle.std.proofs.Common.{◌≡◌, ◌+◌, Bool, true, false, List, [], ◌∷◌, ◌++◌, refl, arith, ap, ℕ, ◌≤◌, not, ◌&&◌, length, if◌then◌else◌, ◌∙◌, sym, nat_eq, nat_le, ◌-◌, ◌*◌, ◌<◌, inl, nat_lt, div-add-mod', count_by, cond, le_of_mul-le-mul_right}
 use Rattle.std.specs.List.{AllByRecursion}
 use Rattle.std.proofs.lemmas.List.Sums.{sum_by-cons}
 use Rattle.std.proofs.lemmas.Bool.Decides.{nat_tests}
-use Rattle.std.proofs.Math.Nat.{le_of_mul-le-mul_right}
 use Rattle.std.proofs.lemmas.Bool.{cases_lt}
 use Rattle.sched_model.proofs.NoteSums.{one_if, releases, empty_jobs, completions, release-counts, none-sum, with-end, next-sum, Weighs, weights, nothing, none-weighs, all_done, tells-all, all_done-next, release-sum, tells_done, same-numbers, reached-all, reached-none, done_by, tells-job}
 use Rattle.dvs_base.specs.declared.note.Note.{Note}

@@ -1,7 +1,6 @@
 -- A span has few notes, a schedule has few compared with its released jobs, and no sum of energies is large.
-use Rattle.std.proofs.Common.{◌≡◌, ℕ, ◌+◌, ◌-◌, ◌*◌, ◌<◌, ◌≤◌, ◌&&◌, List, [], ◌∷◌, length, refl, arith, ap, subst, nat_eq, length-append, zero, suc, Bool, true, false, ◌∙◌, sym, ◌++◌}
+use Rattle.std.proofs.Common.{◌≡◌, ℕ, ◌+◌, ◌-◌, ◌*◌, ◌<◌, ◌≤◌, ◌&&◌, List, [], ◌∷◌, length, refl, arith, ap, subst, nat_eq, length-append, zero, suc, Bool, true, false, ◌∙◌, sym, ◌++◌, sum_by, count_by, cond}
 use Rattle.freq_table.specs.declared.limits.TheConstants.{TOP_SPEED}
-use Rattle.std.specs.Prelude.{sum_by, count_by, cond}
 use Rattle.std.specs.List.{AllByRecursion}
 use Rattle.std.proofs.lemmas.List.Sums.{sum_by-cons}
 use Rattle.dvs_base.specs.declared.limits.TheConstants.{MOST_TASKS}

@@ -195,28 +195,7 @@ pub record IsHandedOut (n : ℕ) (key : ℕ → ℕ) (room : ℕ) (need given : 
 -- while some units are left, the first open task has none, and as many are handed out as the tasks before it need
 pub handed_before : (n : ℕ) (key : ℕ → ℕ) (room : ℕ) (need given : ℕ → ℕ) (rest : ℕ) → IsHandedOut n key room need given rest → 0 < rest
     → (i : ℕ) → IsFirstOpen n key need given i → (given i ≡ 0) × (room - rest ≡ sum_before n key need i)
-handed_before n key room need given rest h pos i o = go (h.all_or_none pos i o.below)
-  where
-    same : sum_before n key (allotment n key (room - rest) need) i ≡ sum_before n key need i
-    same = sum_below-same n _ _ (λ k l. step k l (stands_before key k i) refl)
-      where
-        step : (k : ℕ) → k < n → (b : Bool) → stands_before key k i ≡ b
-            → (if stands_before key k i then allotment n key (room - rest) need k else 0) ≡ (if stands_before key k i then need k else 0)
-        step k l true e = rw e (omega (arith, h.given_is k l, o.first k l e))
-        step k l false e = rw e refl
-
-    room_is : (given i ≡ 0) → room - rest ≡ sum_before n key need i
-    room_is z = omega (
-      arith,
-      h.given_is i o.below,
-      o.needs,
-      same,
-      before_gets n key (room - rest) need (allotment n key (room - rest) need) (allotment-shares n key (room - rest) need) i,
-    )
-
-    go : (given i ≡ 0) ⊎ (given i ≡ need i) → (given i ≡ 0) × (room - rest ≡ sum_before n key need i)
-    go (inl z) = (z, room_is z)
-    go (inr e) = absurd (omega (arith, e, o.needs))
+handed_before n key room need given rest h pos i o = grind (arith, sum_below-same, before_gets, allotment-shares n key (room - rest) need)
 
 -- at the start nothing is handed out
 pub handed-start : (n : ℕ) (key : ℕ → ℕ) (room : ℕ) (need : ℕ → ℕ) → IsHandedOut n key room need (λ _. 0) room

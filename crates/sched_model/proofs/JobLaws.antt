@@ -76,11 +76,7 @@ due-le p i t pos some = omega (arith, release-le p i t pos some, release-due p i
 
 -- the latest job is due within as many ticks as bound its task's offset and period
 pub due-within : (p : Plan) (i t n : ℕ) → 0 < period p i → offset p i ≤ n → period p i ≤ n → due p i (latest p i t) ≤ t + n
-due-within p i t n pos first often = go (latest p i t) refl
-  where
-    go : (k : ℕ) → latest p i t ≡ k → due p i (latest p i t) ≤ t + n
-    go zero e = omega (arith, ap (due p i) e, due-none p i, first)
-    go (suc k) e = omega (arith, due-le p i t pos (omega (arith, e)), often)
+due-within p i t n pos first often = grind (arith, due-none p i, due-le)
 
 -- the number of the latest job is at most the tick plus 1
 pub latest-small : (p : Plan) (i t : ℕ) → 0 < period p i → latest p i t ≤ t + 1
@@ -93,12 +89,10 @@ latest-small p i t pos = go (latest p i t) refl
         omega (arith, e, here, release-le p i t pos (omega (arith, e)), le-due p i k pos)
 
 pub worst_demand-pos : (p : Plan) (i k : ℕ) → 0 < k → worst_demand p i k ≡ worst p i
-worst_demand-pos p i zero lt = absurd (omega arith)
-worst_demand-pos p i (suc k) lt = refl
+worst_demand-pos p i k lt = grind arith
 
 pub worst_demand-le : (p : Plan) (i k : ℕ) → worst_demand p i k ≤ worst p i
-worst_demand-le p i zero = omega arith
-worst_demand-le p i (suc k) = omega arith
+worst_demand-le p i k = grind arith
 
 pub in_window : (p : Plan) (i t : ℕ) → 0 < period p i → 0 < latest p i t → is_in_window p i (latest p i t) t ≡ true
 in_window p i t pos some = grind (arith, nat_tests, release-le p i t pos some, lt-due p i t pos)
@@ -108,10 +102,7 @@ pub latest-stays : (p : Plan) (i t : ℕ) → 0 < period p i → t + 1 < due p i
 latest-stays p i t pos h = latest-unique p i (latest p i t) (t + 1) (λ some. omega (arith, release-le p i t pos some)) h
 
 pub latest-next : (p : Plan) (i t : ℕ) → 0 < period p i → t + 1 ≡ due p i (latest p i t) → latest p i (t + 1) ≡ latest p i t + 1
-latest-next p i t pos h =
-    latest-unique p i (latest p i t + 1) (t + 1)
-    (λ some. omega (arith, h, release-suc p i (latest p i t)))
-    (omega (arith, h, pos, due-suc p i (latest p i t)))
+latest-next p i t pos h = grind (arith, latest-unique, release-suc p i (latest p i t), due-suc p i (latest p i t))
 
 -- a tick adds the task's share to what the latest job has had
 pub exec-latest : (p : Plan) (x : Tick) (past : List Tick) (i : ℕ) → 0 < period p i → 0 < latest p i (length past)
@@ -121,9 +112,7 @@ exec-latest p x past i pos some = rw (in_window p i (length past) pos some) refl
 -- job 0 has had nothing
 pub exec-none : (p : Plan) (past : List Tick) (i : ℕ) → exec p past i 0 ≡ 0
 exec-none p [] i = refl
-exec-none p (x ∷ past) i =
-    let outside : is_in_window p i 0 (length past) ≡ false = grind (arith, nat_tests, due-none p i, release-none p i) in
-    rw outside (omega (arith, exec-none p past i))
+exec-none p (x ∷ past) i = grind (arith, due-none p i, release-none p i, exec-none p past i)
 
 -- a tick adds the task's share to what the latest job has had, also for job 0 where no task gets more than it needs
 pub exec-legal : (p : Plan) (dem : JobDemands) (x : Tick) (past : List Tick) (i : ℕ) → 0 < period p i → dem i 0 ≡ 0 → share x i ≤ units_left p dem past i
@@ -139,9 +128,7 @@ left-stays p dem x past i pos none stays = grind (arith, nat_tests, exec-latest)
 -- no job has had anything before its release
 pub exec-early : (p : Plan) (past : List Tick) (i k : ℕ) → length past ≤ release p i k → exec p past i k ≡ 0
 exec-early p [] i k h = refl
-exec-early p (x ∷ past) i k h =
-    let outside : is_in_window p i k (length past) ≡ false = grind (arith, nat_tests) in
-    rw outside (omega (arith, exec-early p past i k (omega arith)))
+exec-early p (x ∷ past) i k h = grind (arith, exec-early p past i k (omega arith))
 
 -- the last release is at most the present tick
 pub last_release-le : (p : Plan) (t : ℕ) → last_release p t ≤ t
@@ -163,8 +150,7 @@ released-before p i t pos lt some =
     here = let e : release p i (latest p i (release p i (latest p i t))) ≡ release p i (latest p i t) = ap (release p i) same in grind (arith, nat_tests, e)
 
 pub latest_since-pos : (p : Plan) (i k : ℕ) → 0 < k → latest_since p i k ≡ release p i k
-latest_since-pos p i zero some = absurd (omega arith)
-latest_since-pos p i (suc k) some = refl
+latest_since-pos p i k some = grind arith
 
 pub latest_since-suc : (p : Plan) (i k : ℕ) → latest_since p i (k + 1) ≡ due p i k
 latest_since-suc p i k = latest_since-pos p i (k + 1) (omega arith) ∙ release-suc p i k

@@ -1,5 +1,5 @@
 -- Sums over sets of tasks, term by term, and over the level of a task.
-use Rattle.std.proofs.Common.{◌≡◌, ℕ, zero, suc, ◌+◌, ◌-◌, ◌*◌, ◌<◌, ◌≤◌, min, max, Bool, true, false, eqb, refl, arith, if◌then◌else◌, ◌∙◌, sym, subst, mul-zero}
+use Rattle.std.proofs.Common.{◌≡◌, ℕ, zero, suc, ◌+◌, ◌-◌, ◌*◌, ◌<◌, ◌≤◌, min, Bool, true, refl, arith, if◌then◌else◌, ◌∙◌, sym, subst, mul-zero}
 use Rattle.std.proofs.lemmas.Bool.Decides.{nat_tests}
 use Rattle.grid_fraction.specs.Numbers.{sum_below, sum_where, greatest_below}
 use Rattle.sched_model.specs.Priority.{stands_before, is_up_to, sum_up_to, SharesOut}
@@ -7,16 +7,13 @@ use Rattle.grid_fraction.proofs.Sums.{sum_below-same, sum_below-add, sum_below-z
 use Rattle.sched_model.proofs.Allotments.{allotment_of, sum_where-last, down-set-gets}
 
 if-mono : (b : Bool) (x y : ℕ) → (b ≡ true → x ≤ y) → (if b then x else 0) ≤ (if b then y else 0)
-if-mono true x y h = h refl
-if-mono false x y h = omega arith
+if-mono b x y h = grind arith
 
 if-plus : (b : Bool) (x y : ℕ) → (if b then x + y else 0) ≡ (if b then x else 0) + (if b then y else 0)
-if-plus true x y = refl
-if-plus false x y = omega arith
+if-plus b x y = grind arith
 
 if-times : (b : Bool) (h x : ℕ) → h * (if b then x else 0) ≡ (if b then h * x else 0)
-if-times true h x = refl
-if-times false h x = mul-zero h
+if-times b h x = grind arith
 
 pub sum_where-mono : (n : ℕ) (test : ℕ → Bool) (f g : ℕ → ℕ) → ((k : ℕ) → k < n → test k ≡ true → f k ≤ g k) → sum_where n test f ≤ sum_where n test g
 sum_where-mono n test f g h =
@@ -37,11 +34,7 @@ sum_where-times n h test f = grind (arith, nat_tests, sum_below-times, sum_below
 
 pub sum_below-term : (n : ℕ) (f : ℕ → ℕ) (i : ℕ) → i < n → f i ≤ sum_below n f
 sum_below-term zero f i lt = absurd (omega arith)
-sum_below-term (suc n) f i lt = go (eqb i n) refl (λ below. sum_below-term n f i below)
-  where
-    go : (b : Bool) → eqb i n ≡ b → (i < n → f i ≤ sum_below n f) → f i ≤ sum_below n f + f n
-    go true e ih = let same : i ≡ n = grind (arith, nat_tests) in rw same (omega arith)
-    go false e ih = let other : i < n = grind (arith, nat_tests) in omega (arith, ih other)
+sum_below-term (suc n) f i lt = grind (arith, sum_below-term n f i)
 
 pub sum_where-term : (n : ℕ) (test : ℕ → Bool) (f : ℕ → ℕ) (i : ℕ) → i < n → test i ≡ true → f i ≤ sum_where n test f
 sum_where-term n test f i lt on =
@@ -89,11 +82,7 @@ share-most n key room need given h i lt = omega (arith, allotment_of n key room 
 
 pub greatest-above : (n : ℕ) (f : ℕ → ℕ) (i : ℕ) → i < n → f i ≤ greatest_below n f
 greatest-above zero f i lt = absurd (omega arith)
-greatest-above (suc n) f i lt = go (eqb i n) refl (λ below. greatest-above n f i below)
-  where
-    go : (b : Bool) → eqb i n ≡ b → (i < n → f i ≤ greatest_below n f) → f i ≤ max (greatest_below n f) (f n)
-    go true e ih = let same : i ≡ n = grind (arith, nat_tests) in rw same (omega arith)
-    go false e ih = let other : i < n = grind (arith, nat_tests) in omega (arith, ih other)
+greatest-above (suc n) f i lt = grind (arith, greatest-above n f i)
 
 pub greatest-least : (n : ℕ) (f : ℕ → ℕ) (t : ℕ) → ((k : ℕ) → k < n → f k ≤ t) → greatest_below n f ≤ t
 greatest-least zero f t h = omega arith

@@ -22,14 +22,14 @@ use Rattle.sched_model.specs.Ticks.{PublishedDemand, Tick, exec, is_done}
 use Rattle.sched_model.specs.Decision.{completes_in, is_decision}
 use Rattle.sched_model.specs.Schedule.{IsScheduleBy}
 use Rattle.sched_model.specs.Admission.{IsWithinLimits}
-use Rattle.sched_model.specs.Notes.{same_holder, Span, Piece, pieces_of, run_energy, idle_energy, all_release_notes, had_by, segment_notes, pieces_notes, span_notes, tick_units, run_energy_told, idle_energy_told, notes_before_end, notes_of}
+use Rattle.sched_model.specs.Notes.{same_holder, Span, Piece, pieces_of, run_energy, idle_energy, all_release_notes, had_by, segment_notes, pieces_notes, tick_units, run_energy_told, idle_energy_told, notes_before_end, notes_of}
 use Rattle.sched_model.specs.Totals.{is_finished}
 use Rattle.sched_model.proofs.LevelSums.{sum_below-times}
 use Rattle.sched_model.proofs.Limits.{every_period}
 use Rattle.sched_model.proofs.Spans.{notes-span, IsNow, IsLastSpan, last-span, grows, opened, none-released, stays, had-each}
 use Rattle.sched_model.proofs.PieceLemmas.{HaveUnits, have_units, laid, laid-pieces}
 use Rattle.sched_model.proofs.Schedules.{exec-most}
-use Rattle.sched_model.proofs.Walk.{EachNote, at_unit, segments-each}
+use Rattle.sched_model.proofs.Walk.{EachNote, segments-each}
 
 -- the note says that job k of task i completes
 abbrev pub tells_done : ℕ → ℕ → Note → Bool
@@ -133,48 +133,8 @@ module _ (p : Plan) (dem : JobDemands) (s : Span) (i k : ℕ) where
       → had_of (front ++ replicate u h) ≤ dem i k
       → count_by (tells_done i k) (segment_notes p dem s (length front) u h) + reached (dem i k) (had_of front)
       ≡ reached (dem i k) (had_of (front ++ replicate u h))
-  segment-told front u Nobody some now most =
-      let same : had_of (front ++ replicate u Nobody) ≡ had_of front = omega (arith, had-more front u Nobody) in
-      omega (arith, ap (reached (dem i k)) same)
-  segment-told front u (Held j l) some now most =
-      go (nat_eq i j && nat_eq k l) refl (nat_eq (had_by p s (length front + u) j l) (dem j l)) refl
-    where
-      next : List Holder
-      next = front ++ replicate u (Held j l)
-
-      told : Bool → ℕ
-      told b = count_by (tells_done i k) (if b then Done (at_unit p s (length front + u)) j l (dem j l) ∷ [] else [])
-
-      go : (a : Bool) → (nat_eq i j && nat_eq k l) ≡ a → (b : Bool) → nat_eq (had_by p s (length front + u) j l) (dem j l) ≡ b
-          → told b + reached (dem i k) (had_of front) ≡ reached (dem i k) (had_of next)
-      go true mine b e = at_end b e
-        where
-          rose : had_of next ≡ had_of front + u
-          rose = had-more front u (Held j l) ∙ ap (λ (c : Bool). had_of front + (if c then u else 0)) mine
-
-          before : reached (dem i k) (had_of front) ≡ 0
-          before = reached-none (dem i k) (had_of front) (omega (arith, rose, some, most))
-
-          is : nat_eq (had_of next) (dem i k) ≡ nat_eq (had_by p s (length front + u) j l) (dem j l)
-          is = ap₂ nat_eq (sym now ∙ sym (same-numbers (had_by p s (length front + u)) i j k l mine)) (sym (same-numbers dem i j k l mine))
-
-          at_end : (b : Bool) → nat_eq (had_by p s (length front + u) j l) (dem j l) ≡ b
-              → told b + reached (dem i k) (had_of front) ≡ reached (dem i k) (had_of next)
-          at_end true e =
-              let whole : had_of next ≡ dem i k = (let f = is ∙ e in grind (arith, nat_tests)) in
-              let one : told true ≡ 1 = rw mine refl in
-              omega (arith, one, before, reached-all (dem i k) (had_of next) (omega (arith, whole)))
-          at_end false e =
-              let part : had_of next < dem i k = (let f = is ∙ e in grind (arith, nat_tests, most)) in
-              omega (arith, before, reached-none (dem i k) (had_of next) part)
-      go false other b e = omega (arith, none b, ap (reached (dem i k)) kept)
-        where
-          kept : had_of next ≡ had_of front
-          kept = had-more front u (Held j l) ∙ (ap (λ (c : Bool). had_of front + (if c then u else 0)) other ∙ omega arith)
-
-          none : (b : Bool) → told b ≡ 0
-          none true = rw other refl
-          none false = refl
+  segment-told front u Nobody some now most = grind (arith, had-more)
+  segment-told front u (Held j l) some now most = grind (arith, had-more)
 
   pieces-told : (front : List Holder) (rs : List Piece) → HaveUnits rs → s.units ≡ front ++ laid rs → had_of s.units ≤ dem i k
       → count_by (tells_done i k) (pieces_notes p dem s (length front) rs) + reached (dem i k) (had_of front) ≡ reached (dem i k) (had_of s.units)
@@ -282,16 +242,7 @@ module _ (p : Plan) (dem : JobDemands) (ask : PublishedDemand) where
     pub span-sum : (x : Tick) (past : List Tick) (s : Span) → IsLastSpan p dem ask x past s
         → sum_by f (notes (x ∷ past))
         ≡ sum_by f (notes s.past) + sum_by f (all_release_notes p dem (length s.past)) + decision s + sum_by f (pieces_notes p dem s 0 (pieces_of s.units))
-    span-sum x past s l =
-        let speed : Note = Speed (length s.past) ((point p s.entry).speed) ((ask s.past).num) ((ask s.past).den) in
-        let segments : List Note = pieces_notes p dem s 0 (pieces_of s.units) in
-        ap (sum_by f) (notes-span p dem ask (x ∷ past) s.past s l.spans)
-        ∙ omega (
-          arith,
-          sum_by-append f (notes s.past) (span_notes p dem ask s),
-          sum_by-append f (all_release_notes p dem (length s.past)) (speed ∷ segments),
-          sum_by-cons f speed segments,
-        )
+    span-sum x past s l = grind (arith, notes-span p dem ask (x ∷ past) s.past s l.spans, sum_by-append, sum_by-cons)
 
     -- the measure of the notes at the beginning of tick x: its releases, and a decision
     abbrev pub at_start : List Tick → Tick → ℕ
@@ -345,42 +296,16 @@ module _ (p : Plan) (dem : JobDemands) (ask : PublishedDemand) where
     pub done : (at_end : Pos) (i k used : ℕ) → f (Done at_end i k used) ≡ 0
 
   module _ (f : Note → ℕ) (weight : ℕ → Holder → ℕ) (w : Weighs f weight) (s : Span) where
-    segment-sum : (q units : ℕ) (h : Holder) → sum_by f (segment_notes p dem s q units h) ≡ units * weight s.entry h
-    segment-sum q units h = grind (arith, nat_tests)
-
     pieces-sum : (q : ℕ) (rs : List Piece) → sum_by f (pieces_notes p dem s q rs) ≡ sum_by (weight s.entry) (laid rs)
     pieces-sum q [] = refl
-    pieces-sum q (r ∷ rs) =
-        omega (
-          arith,
-          sum_by-append f (segment_notes p dem s q r.units r.holder) (pieces_notes p dem s (q + r.units) rs),
-          sum_by-append (weight s.entry) (replicate r.units r.holder) (laid rs),
-          sum_by-replicate (weight s.entry) r.units r.holder,
-          segment-sum q r.units r.holder,
-          pieces-sum (q + r.units) rs,
-        )
+    pieces-sum q (r ∷ rs) = grind (arith, sum_by-append, sum_by-replicate, pieces-sum (q + r.units) rs)
 
   -- a sum over the notes of pieces, where a segment adds at most `each`, and a completion at most `done`
   pub pieces-most : (f : Note → ℕ) (each done : ℕ) → ((from to : Pos) (i k units energy : ℕ) → f (Run from to i k units energy) ≤ each)
       → ((from to : Pos) (units energy : ℕ) → f (Idle from to units energy) ≤ each) → ((at_end : Pos) (i k used : ℕ) → f (Done at_end i k used) ≤ done)
       → (s : Span) (q : ℕ) (rs : List Piece) → sum_by f (pieces_notes p dem s q rs) ≤ (each + done) * length rs
   pieces-most f each done run idle end s q [] = omega arith
-  pieces-most f each done run idle end s q (r ∷ rs) =
-      omega (
-        arith,
-        sum_by-append f (segment_notes p dem s q r.units r.holder) (pieces_notes p dem s (q + r.units) rs),
-        segment r.holder,
-        pieces-most f each done run idle end s (q + r.units) rs,
-      )
-    where
-      from : Pos
-      from = at_unit p s q
-
-      to : Pos
-      to = at_unit p s (q + r.units)
-
-      segment : (h : Holder) → sum_by f (segment_notes p dem s q r.units h) ≤ each + done
-      segment h = grind (arith, nat_tests)
+  pieces-most f each done run idle end s q (r ∷ rs) = grind (arith, sum_by-append, pieces-most f each done run idle end s (q + r.units) rs)
 
   pub weights : (f : Note → ℕ) (weight : ℕ → Holder → ℕ) → Weighs f weight → Measures f weight (λ t ticks. 0)
   weights f weight w = record {

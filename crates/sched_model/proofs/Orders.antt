@@ -1,5 +1,5 @@
 -- The order of the tasks: it is strict and total; the list of the tasks in it, and sums over the tasks before one of them.
-use Rattle.std.proofs.Common.{◌≡◌, ◌≢◌, ℕ, ◌+◌, Bool, true, false, eqb, ◌||◌, refl, arith, if◌then◌else◌, ◌⊎◌, inl, inr, eq-or-lt_of_le, le_of_suc-le-suc, zero, suc, ◌<◌, List, [], ◌∷◌, ◌++◌, length, get_or, ap, ap₂, ◌∙◌, sym, subst, nat_eq, nat_lt}
+use Rattle.std.proofs.Common.{◌≡◌, ◌≢◌, ℕ, ◌+◌, Bool, true, false, eqb, ◌||◌, refl, arith, if◌then◌else◌, eq-or-lt_of_le, le_of_suc-le-suc, zero, suc, ◌<◌, List, [], ◌∷◌, ◌++◌, length, get_or, ap, ap₂, ◌∙◌, subst, nat_eq, nat_lt}
 use Rattle.std.proofs.lemmas.Bool.Decides.{nat_tests}
 use Rattle.std.specs.Prelude.{◌&&◌}
 use Rattle.std.specs.List.{AllByRecursion}
@@ -112,9 +112,7 @@ ordered-split key f i (j ∷ pre) post o = rw (first_ahead key j i pre post o.0)
 
 pub sum_before-prefix : (key f : ℕ → ℕ) (n i : ℕ) (pre post : List ℕ) → in_order key n ≡ pre ++ i ∷ post → sum_before n key f i ≡ sum_list f pre
 sum_before-prefix key f n i pre post e =
-    sym (sum_list-in_order (λ k. if stands_before key k i then f k else 0) key n)
-    ∙ (ap (sum_list (λ k. if stands_before key k i then f k else 0)) e
-    ∙ ordered-split key f i pre post (subst (IsOrdered key) e (in_order-ordered key n)))
+    grind (arith, sum_list-in_order, ordered-split key f i pre post (subst (IsOrdered key) e (in_order-ordered key n)), in_order-ordered key n)
 
 length-insert : (key : ℕ → ℕ) (i : ℕ) (js : List ℕ) → length (insert_by key i js) ≡ suc (length js)
 length-insert key i [] = refl
@@ -154,11 +152,8 @@ stands-kept key k i (j ∷ js) at = go (stands_before key i j) at.0 at.1.0 at.1.
 pub stands-in_order : (key : ℕ → ℕ) (n k : ℕ) → k < n → Stands k (in_order key n)
 unfolding in_order
 stands-in_order key zero k lt = absurd (omega arith)
-stands-in_order key (suc n) k lt = go (eq-or-lt_of_le (le_of_suc-le-suc lt)) (stands-in_order key n k)
-  where
-    go : (k ≡ n) ⊎ (k < n) → (k < n → Stands k (in_order key n)) → Stands k (insert_by key n (in_order key n))
-    go (inl e) ih = subst (λ (m : ℕ). Stands m (insert_by key n (in_order key n))) (sym e) (stands-insert key n (in_order key n))
-    go (inr l) ih = stands-kept key k n (in_order key n) (ih l)
+stands-in_order key (suc n) k lt =
+    grind (arith, eq-or-lt_of_le (le_of_suc-le-suc lt), stands-insert key n (in_order key n), stands-kept, stands-in_order key n k)
 
 -- keys that are equal below n give the same order and equal sums
 before-same : (key key' : ℕ → ℕ) (j i : ℕ) → key j ≡ key' j → key i ≡ key' i → stands_before key j i ≡ stands_before key' j i
@@ -171,10 +166,7 @@ insert-same key key' n i (j ∷ js) same lt b = grind (arith, nat_tests, insert-
 pub in_order-same : (key key' : ℕ → ℕ) (n : ℕ) → ((k : ℕ) → k < n → key k ≡ key' k) → in_order key n ≡ in_order key' n
 unfolding in_order
 in_order-same key key' zero same = refl
-in_order-same key key' (suc n) same =
-    let less : in_order key n ≡ in_order key' n = in_order-same key key' n (λ k lt. same k (omega arith)) in
-    ap (insert_by key n) less
-    ∙ insert-same key key' (suc n) n (in_order key' n) same (omega arith) (below-more n (in_order key' n) (in_order-below key' n))
+in_order-same key key' (suc n) same = grind (arith, insert-same, below-more, in_order-below, in_order-same key key' n)
 
 pub sum_before-same : (key key' f : ℕ → ℕ) (n i : ℕ) → ((k : ℕ) → k < n → key k ≡ key' k) → i < n → sum_before n key f i ≡ sum_before n key' f i
 sum_before-same key key' f n i same lt = grind (arith, nat_tests, sum_below-same, before-same)

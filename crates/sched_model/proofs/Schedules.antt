@@ -1,5 +1,5 @@
 -- There is exactly one schedule of each length, with the entry in force on it and what its jobs have had.
-use Rattle.std.proofs.Common.{◌≡◌, ℕ, zero, suc, ◌<◌, true, if◌then◌else◌, List, [], ◌∷◌, length, get_or, refl, arith, ap, ◌∙◌, sym, subst, drop, ◌-◌, ◌≤◌}
+use Rattle.std.proofs.Common.{◌≡◌, ℕ, zero, suc, ◌<◌, true, List, [], ◌∷◌, length, get_or, refl, arith, ap, ◌∙◌, sym, subst, drop, ◌-◌, ◌≤◌}
 use Rattle.std.proofs.lemmas.List.{ext_get_or}
 use Rattle.std.proofs.lemmas.Bool.Decides.{nat_tests}
 use Rattle.freq_table.specs.Tables.{lowest_entry}
@@ -45,9 +45,7 @@ pub schedule_unique : (p : Plan) (dem : JobDemands) (ask : PublishedDemand) (tic
     → IsScheduleBy p dem ask ticks → ticks ≡ schedule_by p dem ask (length ticks)
 unfolding schedule_by
 schedule_unique p dem ask [] h = refl
-schedule_unique p dem ask (x ∷ past) h =
-    let e : past ≡ schedule_by p dem ask (length past) = schedule_unique p dem ask past h.0 in
-    ap (λ y. y ∷ past) (next_unique p dem ask past x h.1) ∙ ap (λ ps. next_tick p dem ask ps ∷ ps) e
+schedule_unique p dem ask (x ∷ past) h = grind (arith, next_unique, schedule_unique p dem ask past h.0)
 
 -- the tick that `next_tick` computes may follow the ticks before it
 pub next_tick-may : (p : Plan) (dem : JobDemands) (ask : PublishedDemand) (past : List Tick)
@@ -71,9 +69,7 @@ pub schedule_exists : (p : Plan) (dem : JobDemands) (ask : PublishedDemand) (t :
     → IsScheduleBy p dem ask (schedule_by p dem ask t) × (length (schedule_by p dem ask t) ≡ t)
 unfolding schedule_by
 schedule_exists p dem ask zero = (tt, refl)
-schedule_exists p dem ask (suc t) =
-    let r = schedule_exists p dem ask t in
-    ((r.0, next_tick-may p dem ask (schedule_by p dem ask t)), omega (arith, r.1))
+schedule_exists p dem ask (suc t) = grind (arith, next_tick-may p dem ask (schedule_by p dem ask t), schedule_exists p dem ask t)
 
 -- the schedule of no ticks is empty, and each longer one is a shorter one with its next tick
 pub schedule-none : (p : Plan) (dem : JobDemands) (ask : PublishedDemand) → schedule_by p dem ask zero ≡ []
@@ -88,8 +84,7 @@ schedule-suc p dem ask t = refl
 -- the entry at a decision is the one that the published demand picks there
 pub force-decided : (p : Plan) (dem : JobDemands) (ask : PublishedDemand) (past : List Tick) → is_decision p dem past ≡ true
     → entry_in_force p dem ask past ≡ lowest_entry p.machine (ask past)
-force-decided p dem ask [] e = refl
-force-decided p dem ask (x ∷ past) e = ap (λ b. if b then lowest_entry p.machine (ask (x ∷ past)) else entry_in_force p dem ask past) e
+force-decided p dem ask past e = grind arith
 
 pub force-within : (p : Plan) (dem : JobDemands) (ask : PublishedDemand) → 0 < length p.machine.points → (past : List Tick)
     → entry_in_force p dem ask past < length p.machine.points

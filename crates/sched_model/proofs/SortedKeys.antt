@@ -62,9 +62,7 @@ rising_unique key (x ∷ xs) [] a b h =
     let self_x : nat_eq x x ≡ true = grind (arith, nat_tests) in
     let none : 1 + times x xs ≡ 0 = rw self_x at (h x) in
     absurd (omega arith)
-rising_unique key (x ∷ xs) (y ∷ ys) a b h =
-    let e : x ≡ y = same_first key x y xs ys a.0 b.0 h in
-    ap₂ (λ u us. u ∷ us) e (rising_unique key xs ys a.1 b.1 (λ v. let head : one v x ≡ one v y = ap (one v) e in omega (arith, h v, head)))
+rising_unique key (x ∷ xs) (y ∷ ys) a b h = grind (arith, same_first, rising_unique key xs ys a.1 b.1)
 
 none_from_ahead : (key : ℕ → ℕ) (i : ℕ) (js : List ℕ) → IsAhead key i js → NoneAhead key i js
 none_from_ahead key i [] a = tt
@@ -76,10 +74,7 @@ rising_from_ordered key (i ∷ js) o = (none_from_ahead key i js o.0, rising_fro
 
 none_trans : (key : ℕ → ℕ) (i j : ℕ) (js : List ℕ) → stands_before key j i ≡ false → NoneAhead key j js → NoneAhead key i js
 none_trans key i j [] h a = tt
-none_trans key i j (k ∷ ks) h a = (late key i j k h a.0, none_trans key i j ks h a.1)
-  where
-    late : (key : ℕ → ℕ) (i j k : ℕ) → stands_before key j i ≡ false → stands_before key k j ≡ false → stands_before key k i ≡ false
-    late key i j k p q = grind (arith, nat_tests)
+none_trans key i j (k ∷ ks) h a = grind (arith, nat_tests, none_trans key i j ks h a.1)
 
 -- how std orders pairs
 abbrev pub pair_cmp : ℕ × ℕ → ℕ × ℕ → Ordering

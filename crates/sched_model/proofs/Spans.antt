@@ -28,10 +28,7 @@ use Rattle.sched_model.proofs.Units.{each-weaker, each-unit, units-had, units-lo
 
 -- lists joined from the last element to the first one end with the list of the first element
 pub flat_map-last : {A B : Type 0} (f : A → List B) (x : A) (xs : List A) → flat_map f (reverse (x ∷ xs)) ≡ flat_map f (reverse xs) ++ f x
-flat_map-last f x xs =
-    ap (flat_map f) (reverse-append (x ∷ []) xs)
-    ∙ (flat_map-append f (reverse xs) (x ∷ [])
-    ∙ ap (λ ns. flat_map f (reverse xs) ++ ns) (append-nil (f x)))
+flat_map-last f x xs = grind (arith, reverse-append (x ∷ []) xs, flat_map-append f (reverse xs) (x ∷ []), append-nil (f x))
 
 pub notes-span : (p : Plan) (dem : JobDemands) (ask : PublishedDemand) (ticks past : List Tick) (s : Span)
     → spans_of p dem ticks ≡ s ∷ spans_of p dem past

@@ -1,10 +1,10 @@
 -- The state of a list of ticks, boundary by boundary and tick by tick, its rows, and the state before the first release.
-use Rattle.std.proofs.Common.{◌≡◌, ℕ, ◌<◌, ◌≤◌, List, ap, sym, ◌∙◌, arith, zero, suc, ◌+◌, ◌-◌, [], ◌∷◌, ◌++◌, length, get_or, take, refl, Bool, true, false, ap₂, nat_eq, nat_le, true≢false}
+use Rattle.std.proofs.Common.{◌≡◌, ℕ, ◌<◌, ◌≤◌, List, ap, sym, ◌∙◌, arith, zero, suc, ◌+◌, ◌-◌, [], ◌∷◌, ◌++◌, length, get_or, take, refl, Bool, true, false, nat_eq, nat_le, true≢false}
 use Rattle.std.specs.Prelude.{map, slice_set}
 use Rattle.std.proofs.Math.ListN.{replicate, get_or-map}
 use Rattle.std.proofs.lemmas.List.{get_or_read, length-map, map-set, replicate_more, take_more, take_more_set}
 use Rattle.std.proofs.lemmas.Bool.Decides.{nat_tests}
-use Rattle.grid_fraction.specs.Numbers.{list_below, last_up_to}
+use Rattle.grid_fraction.specs.Numbers.{list_below}
 use Rattle.grid_fraction.proofs.Searches.{any_below-false}
 use Rattle.sched_model.specs.declared.state.Row.{Row}
 use Rattle.sched_model.specs.Plan.{Plan, count, period, offset, worst}
@@ -12,7 +12,7 @@ use Rattle.sched_model.specs.States.{StateView, no_row, row_at, opening, opening
 use Rattle.sched_model.specs.Admission.{IsWithinLimits}
 use Rattle.sched_model.proofs.Tables.{length-list_below, get-table, map-table, table-same}
 use Rattle.sched_model.specs.Jobs.{JobDemands, release, due, latest, releases_at, is_release, last_release}
-use Rattle.sched_model.specs.Ticks.{Tick, at, exec, is_done, wleft, share, units_left}
+use Rattle.sched_model.specs.Ticks.{Tick, exec, is_done, wleft, share, units_left}
 use Rattle.sched_model.proofs.JobLaws.{due-none, release-none, release-suc, due-suc, lt-due, latest-unique, latest-none, latest-stays, latest-next, release-le, exec-early, exec-legal, last_release-le}
 use Rattle.sched_model.proofs.Schedules.{at-now, at-before}
 
@@ -63,14 +63,7 @@ module _ (s : StateView) (units_left : List ℕ) (is : units_left ≡ map row_wl
   -- `State::run` takes its units from what the job may still need
   pub left-run : (units w : ℕ) → CanRun s i units → w ≡ get_or units_left i w
       → slice_set units_left i (w - units) ≡ map row_wleft (after_run s i units).rows
-  left-run units w can read =
-      let row : Row = record (row_at s i) { used = (row_at s i).used + units } in
-      let long : length units_left ≡ length s.rows = ap (λ (xs : List ℕ). length xs) is ∙ length-map s.rows row_wleft in
-      let was : w ≡ (row_at s i).worst - (row_at s i).used =
-      get_or_read units_left i w (omega (arith, can.task, long)) read 0
-      ∙ (ap (λ (xs : List ℕ). get_or xs i 0) is ∙ (get_or-map row_wleft s.rows i no_row ∙ rw can.open_job refl)) in
-      let now : row_wleft row ≡ (row_at s i).worst - ((row_at s i).used + units) = rw can.open_job refl in
-      left-set row (w - units) (omega (arith, was, now))
+  left-run units w can read = grind (arith, length-map s.rows row_wleft, get_or_read, get_or-map row_wleft s.rows i no_row, left-set)
 
 -- a row by its parts
 abbrev pub row_by : ℕ → ℕ → ℕ → Bool → ℕ → Row
@@ -92,20 +85,15 @@ row_at-prior_state p dem past i lt = get-table (count p) (prior_row p dem past) 
 module _ (p : Plan) (dem : JobDemands) (periods : (i : ℕ) → 0 < period p i) where
   -- the deadline of a row is the deadline of its job
   prior_due-is : (past : List Tick) (i : ℕ) → (prior_row p dem past i).deadline ≡ due p i (prior_row p dem past i).job
-  prior_due-is [] i = sym (due-none p i)
-  prior_due-is (x ∷ past) i = refl
+  prior_due-is past i = grind (arith, due-none)
 
   -- no row is due before the present tick
   pub prior-due : (past : List Tick) (i : ℕ) → length past ≤ (prior_row p dem past i).deadline
-  prior-due [] i = omega arith
-  prior-due (x ∷ past) i = omega (arith, lt-due p i (length past) (periods i))
+  prior-due past i = grind (arith, lt-due)
 
   -- where a row is due, the latest job is the one after the row's job
   pub next_job : (past : List Tick) (i : ℕ) → (prior_row p dem past i).deadline ≡ length past → latest p i (length past) ≡ (prior_row p dem past i).job + 1
-  next_job [] i e =
-      latest-unique p i 1 0
-      (λ some. omega (arith, release-suc p i 0, due-none p i, e))
-      (omega (arith, due-suc p i 0, due-none p i, periods i))
+  next_job [] i e = grind (arith, latest-unique, release-suc p i 0, due-none p i, due-suc p i 0)
   next_job (x ∷ past) i e =
       let now : length (x ∷ past) ≡ length past + 1 = omega arith in
       ap (latest p i) now ∙ latest-next p i (length past) (periods i) (sym now ∙ sym e)
@@ -126,27 +114,10 @@ module _ (p : Plan) (dem : JobDemands) (periods : (i : ℕ) → 0 < period p i) 
 
   -- a row is due exactly where the plan has a release
   pub due_released : (past : List Tick) (i : ℕ) (b : Bool) → nat_eq (prior_row p dem past i).deadline (length past) ≡ b → releases_at p i (length past) ≡ b
-  due_released past i true e =
-      let due_now : (prior_row p dem past i).deadline ≡ length past = grind (arith, nat_tests) in
-      let there : release p i (latest p i (length past)) ≡ length past = ap (release p i) (next_job past i due_now) ∙ (release_next past i ∙ due_now) in
-      grind (arith, nat_tests, there)
-  due_released [] i false e =
-      let late : 0 < offset p i = grind (arith, nat_tests) in
-      let is : release p i (latest p i 0) ≡ release p i 0 = ap (release p i) (latest-none p i 0 late) in
-      grind (arith, nat_tests, is, late, release-none p i)
-  due_released (x ∷ past) i false e = go (latest p i (length past)) refl
-    where
-      is : release p i (latest p i (length (x ∷ past))) ≡ release p i (latest p i (length past))
-      is = ap (release p i) (same_job x past i e)
-
-      go : (k : ℕ) → latest p i (length past) ≡ k → releases_at p i (length (x ∷ past)) ≡ false
-      go zero q =
-          let late : length (x ∷ past) < release p i (latest p i (length past)) = grind
-          (arith, nat_tests, lt-due p i (length past) (periods i), ap (due p i) q, ap (release p i) q, due-none p i, release-none p i) in
-          grind (arith, nat_tests, is, late)
-      go (suc k) q =
-          let early : release p i (latest p i (length past)) ≤ length past = release-le p i (length past) (periods i) (omega (arith, q)) in
-          grind (arith, nat_tests, is, early)
+  due_released past i true e = grind (arith, next_job, release_next past i)
+  due_released [] i false e = grind (arith, latest-none, release-none p i)
+  due_released (x ∷ past) i false e =
+      grind (arith, same_job x past i e, lt-due p i (length past) (periods i), due-none p i, release-none p i, release-le)
 
   -- after the releases a row that is due has its next job
   pub row-opened : (past : List Tick) (i : ℕ) → (prior_row p dem past i).deadline ≡ length past
@@ -156,20 +127,13 @@ module _ (p : Plan) (dem : JobDemands) (periods : (i : ℕ) → 0 < period p i) 
   -- after the releases a row that isn't due is as before
   pub row-kept : (past : List Tick) (i : ℕ) → dem i 0 ≡ 0 → nat_eq (prior_row p dem past i).deadline (length past) ≡ false
       → row_of p dem past i ≡ prior_row p dem past i
-  row-kept [] i none e =
-      let late : 0 < offset p i = grind (arith, nat_tests) in
-      ap (λ k. row_by (due p i k) k 0 (nat_le (dem i k) 0) (worst p i)) (latest-none p i 0 late)
-      ∙ ap₂ (λ d n. row_by d 0 0 (nat_le n 0) (worst p i)) (due-none p i) none
+  row-kept [] i none e = grind (arith, latest-none, due-none p i)
   row-kept (x ∷ past) i none e =
       ap (λ k. row_by (due p i k) k (exec p (x ∷ past) i k) (is_done p dem (x ∷ past) i k) (worst p i)) (same_job x past i e)
 
   -- at a release the mark is the present tick
   pub base_at-marked : (t : ℕ) → is_release p t ≡ true → last_release p t ≡ t
-  base_at-marked zero e = refl
-  base_at-marked (suc t) e = rw (e, last_up_to) refl
-
-  base_at-kept : (t : ℕ) → is_release p (suc t) ≡ false → last_release p (suc t) ≡ last_release p t
-  base_at-kept t e = rw (e, last_up_to) refl
+  base_at-marked t e = grind arith
 
   -- at a release: with all releases done and the mark set, the state is that of the past
   pub state-marked : (past : List Tick) → is_release p (length past) ≡ true
@@ -190,12 +154,7 @@ module _ (p : Plan) (dem : JobDemands) (periods : (i : ℕ) → 0 < period p i) 
 
       nothing : (i : ℕ) → 0 < offset p i → wleft p dem [] i ≡ 0
       nothing i late = grind (arith, nat_tests, latest-none)
-  state-unmarked (x ∷ past) none e =
-      let r : last_release p (length (x ∷ past)) ≡ last_release p (length past) = base_at-kept (length past) e in
-      let back : at (last_release p (length (x ∷ past))) (x ∷ past) ≡ at (last_release p (length past)) past =
-      ap (λ n. at n (x ∷ past)) r ∙ at-before (last_release p (length past)) x past (last_release-le p (length past)) in
-      ap₂ (λ a (ps : List Tick). state_by (length (x ∷ past)) (list_below (count p) (row_of p dem (x ∷ past))) a
-      (list_below (count p) (wleft p dem ps))) (sym r) (sym back)
+  state-unmarked (x ∷ past) none e = grind (arith, at-before, last_release-le)
 
   -- at a tick without a release the state before the boundary is that of the past
   pub state-still : (past : List Tick) → ((i : ℕ) → dem i 0 ≡ 0) → is_release p (length past) ≡ false → prior_state p dem past ≡ state_of p dem past

@@ -107,14 +107,7 @@ module _ (p : Plan) (lim : IsWithinLimits p) where
   Found m = (i : ℕ) × IsHeaviest (level_work p) (period p) m i
 
   some-found : (m : ℕ) → Found (suc m)
-  some-found zero = (
-    0,
-    record {
-      below = omega arith;
-      unbeaten = λ k lt. let z : k ≡ 0 = omega arith in
-          subst (λ j. beats (level_work p) (period p) j 0 ≡ false) (sym z) (beats-self (level_work p) (period p) 0);
-    },
-  )
+  some-found zero = grind (arith, beats-self (level_work p) (period p) 0)
   some-found (suc m) = subst Found (add-one (suc m)) (next (some-found m))
     where
       next : Found (suc m) → Found (suc m + 1)

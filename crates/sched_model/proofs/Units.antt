@@ -11,7 +11,7 @@ use Rattle.grid_fraction.proofs.Sums.{sum_below-one, sum_below-same}
 use Rattle.sched_model.specs.declared.holder.Holder.{Holder}
 use Rattle.sched_model.specs.declared.holder.Holder.TheVariants.{Nobody, Held}
 use Rattle.sched_model.specs.Plan.{Plan, count, point, period}
-use Rattle.sched_model.specs.Jobs.{JobDemands, latest, is_in_window}
+use Rattle.sched_model.specs.Jobs.{JobDemands, latest}
 use Rattle.sched_model.specs.Ticks.{PublishedDemand, Tick, exec, share, units_left}
 use Rattle.sched_model.specs.Priority.{key_of, in_order}
 use Rattle.sched_model.specs.Schedule.{IsNext}
@@ -40,25 +40,13 @@ each-given P given job n (i ∷ tasks) below h =
 
 given-long : (given job : ℕ → ℕ) (tasks : List ℕ) → length (given_units given job tasks) ≡ sum_list given tasks
 given-long given job [] = refl
-given-long given job (i ∷ tasks) =
-    omega (
-      arith,
-      length-append (replicate (given i) (Held i (job i))) (given_units given job tasks),
-      length-replicate (given i) (Held i (job i)),
-      given-long given job tasks,
-    )
+given-long given job (i ∷ tasks) = grind (arith, length-append, length-replicate, given-long given job tasks)
 
 -- each unit of a task's job adds the weight of that job to a sum
 given-sum : (weight : Holder → ℕ) (given job : ℕ → ℕ) (tasks : List ℕ)
     → sum_by weight (given_units given job tasks) ≡ sum_list (λ i. given i * weight (Held i (job i))) tasks
 given-sum weight given job [] = refl
-given-sum weight given job (i ∷ tasks) =
-    omega (
-      arith,
-      sum_by-append weight (replicate (given i) (Held i (job i))) (given_units given job tasks),
-      sum_by-replicate weight (given i) (Held i (job i)),
-      given-sum weight given job tasks,
-    )
+given-sum weight given job (i ∷ tasks) = grind (arith, sum_by-append, sum_by-replicate, given-sum weight given job tasks)
 
 -- a sum over the tasks to which only job k of task i adds
 pub sum-own : (n i k : ℕ) (f job : ℕ → ℕ) → i < n
@@ -126,11 +114,7 @@ module _ (p : Plan) (past : List Tick) (x : Tick) where
   -- a tick adds the job's units in it to what the job has had
   pub units-had : ((i : ℕ) → 0 < period p i) → (i k : ℕ) → i < count p → 1 ≤ k
       → exec p (x ∷ past) i k ≡ exec p past i k + count_by (same_holder (Held i k)) (tick_units p past x)
-  units-had periods i k lt some_job = omega (arith, units-own i k lt, mine (is_in_window p i k (length past)) refl (nat_eq k (job i)) refl)
-    where
-      mine : (b : Bool) → is_in_window p i k (length past) ≡ b → (c : Bool) → nat_eq k (job i) ≡ c
-          → (if is_in_window p i k (length past) then share x i else 0) ≡ (if nat_eq k (job i) then share x i else 0)
-      mine b e c f = grind (arith, nat_tests, latest-is, release-le, lt-due)
+  units-had periods i k lt some_job = grind (arith, units-own i k lt, latest-is, release-le, lt-due)
 
 module _ (p : Plan) (dem : JobDemands) (ask : PublishedDemand) (past : List Tick) (x : Tick) (next : IsNext p dem ask past x) where
   -- a legal tick gives at most its speed
@@ -143,12 +127,4 @@ module _ (p : Plan) (dem : JobDemands) (ask : PublishedDemand) (past : List Tick
 
   -- a legal tick has as many units as its speed
   pub units-long : length (tick_units p past x) ≡ (point p x.entry).speed
-  units-long =
-      omega (
-        arith,
-        length-append (given_units (share x) (job p past x) (in_order (key p past x) (count p))) (replicate (idle p past x) Nobody),
-        length-replicate (idle p past x) Nobody,
-        given-long (share x) (job p past x) (in_order (key p past x) (count p)),
-        sum_list-in_order (share x) (key p past x) (count p),
-        shares-fit,
-      )
+  units-long = grind (arith, length-append, length-replicate, given-long, sum_list-in_order, shares-fit)
