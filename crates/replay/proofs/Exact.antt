@@ -1,5 +1,5 @@
 -- What a replay answers for traces of schedules, and for others.
-use Rattle.std.proofs.Common.{◌≡◌, ◌≢◌, ◌+◌, ◌≤◌, ℕ, Bool, true, false, List, [], ◌∷◌, refl, if◌then◌else◌, ap, ap₂, ◌∙◌, sym, subst, true≢false, arith}
+use Rattle.std.proofs.Common.{◌≡◌, ◌≢◌, ◌+◌, ◌<◌, ◌≤◌, ℕ, Bool, true, false, List, [], ◌∷◌, refl, if◌then◌else◌, ap, ap₂, ◌∙◌, sym, subst, true≢false, arith}
 use Rattle.std.specs.Prelude.{nat_lt, unwrap_or, Option, Some, None, Result, Ok, Err, IfOk, IfErr, IsErrOf}
 use Rattle.std.specs.Option.{option_or}
 use Rattle.std.proofs.lemmas.Bool.Decides.{nat_tests}
@@ -111,46 +111,29 @@ somewhere-first at (v ∷ wanted) [] place w f e = absurd cc
 somewhere-first at (v ∷ wanted) (g ∷ found) place w f e =
     first-by at v g wanted found place w f (same_note g v) refl (somewhere-first (at + 1) wanted found place w f) e
 
--- the refusal of the first end over its worst case isn't a difference
-over-other : (p : Plan) (notes : List Note) (line : ℕ) (w f : Note) → first_over p notes ≡ Some (fault.Differs line w f)
-    → ⊥
-over-other p [] line w f e = cc
-over-other p (Done q i k used ∷ notes) line w f e = go (nat_lt (worst p i) used) (over-other p notes line w f) e
-  where
-    go : (b : Bool) → (first_over p notes ≡ Some (fault.Differs line w f) → ⊥)
-        → option_or (if b then Some (fault.OverWorst i k used (worst p i)) else None) (first_over p notes) ≡ Some (fault.Differs line w f) → ⊥
-    go true rest e = cc
-    go false rest e = rest e
-over-other p (n ∷ notes) line w f e = over-other p notes line w f e
+-- the refusal comes before a comparison, and shows its cause
+abbrev IsEarly : ReplayFault → Type 0
+IsEarly (fault.OverWorst i k used worst) = worst < used
+IsEarly (fault.TooManyJobs jobs) = MOST_JOBS < jobs
+IsEarly _ = ⊥
 
--- the refusal of too many jobs isn't a difference
-many-other : (p : Plan) (ticks line : ℕ) (w f : Note) → too_many p ticks ≡ Some (fault.Differs line w f) → ⊥
-many-other p ticks line w f = go (nat_lt MOST_JOBS (released_jobs p ticks))
+over-early : (p : Plan) (notes : List Note) (why : ReplayFault) → first_over p notes ≡ Some why → IsEarly why
+over-early p [] why e = absurd cc
+over-early p (Done q i k used ∷ notes) why e = go (nat_lt (worst p i) used) refl (over-early p notes why) e
   where
-    go : (b : Bool)
-        → (if b then Some (fault.TooManyJobs (released_jobs p ticks)) else None) ≡ Some (fault.Differs line w f) → ⊥
-    go true e = cc
-    go false e = cc
-
--- the refusal of the first end over its worst case shows its cause
-over-cause : (p : Plan) (notes : List Note) (why : ReplayFault) → first_over p notes ≡ Some why → IsCause why
-over-cause p [] why e = absurd cc
-over-cause p (Done q i k used ∷ notes) why e = go (nat_lt (worst p i) used) refl (over-cause p notes why) e
-  where
-    go : (b : Bool) → nat_lt (worst p i) used ≡ b → (first_over p notes ≡ Some why → IsCause why)
+    go : (b : Bool) → nat_lt (worst p i) used ≡ b → (first_over p notes ≡ Some why → IsEarly why)
         → option_or (if b then Some (fault.OverWorst i k used (worst p i)) else None) (first_over p notes) ≡ Some why
-        → IsCause why
-    go true over rest e = subst IsCause (same_Some _ _ e) (grind (arith, nat_tests, over))
+        → IsEarly why
+    go true over rest e = subst IsEarly (same_Some _ _ e) (grind (arith, nat_tests, over))
     go false low rest e = rest e
-over-cause p (n ∷ notes) why e = over-cause p notes why e
+over-early p (n ∷ notes) why e = over-early p notes why e
 
--- the refusal of too many jobs shows its cause
-many-cause : (p : Plan) (ticks : ℕ) (why : ReplayFault) → too_many p ticks ≡ Some why → IsCause why
-many-cause p ticks why = go (nat_lt MOST_JOBS (released_jobs p ticks)) refl
+many-early : (p : Plan) (ticks : ℕ) (why : ReplayFault) → too_many p ticks ≡ Some why → IsEarly why
+many-early p ticks why = go (nat_lt MOST_JOBS (released_jobs p ticks)) refl
   where
     go : (b : Bool) → nat_lt MOST_JOBS (released_jobs p ticks) ≡ b
-        → (if b then Some (fault.TooManyJobs (released_jobs p ticks)) else None) ≡ Some why → IsCause why
-    go true many e = subst IsCause (same_Some _ _ e) (grind (arith, nat_tests, many))
+        → (if b then Some (fault.TooManyJobs (released_jobs p ticks)) else None) ≡ Some why → IsEarly why
+    go true many e = subst IsEarly (same_Some _ _ e) (grind (arith, nat_tests, many))
     go false few e = absurd cc
 
 -- jobs within the limit are not too many
@@ -162,10 +145,6 @@ few-jobs p ticks few =
 -- a refusal as a result
 abbrev result_of : ReplayFault → Result Totals ReplayFault
 result_of why = Err why
-
--- refusals that are equal as results are equal
-same_Err : (e why : ReplayFault) → result_of e ≡ result_of why → e ≡ why
-same_Err e why h = cc
 
 -- a difference isn't the refusal `NoMemory`
 other-fault : (why : ReplayFault) (line : ℕ) (w f : Note) → IsErrOf (result_of why) (fault.Differs line w f)
@@ -189,72 +168,41 @@ module _ (p : Plan) (lim : IsWithinLimits p) (asked : Asking) (t : TraceView) (e
       rw (h.none_over, h.few)
       (compared-same (count p) t (own_notes p asked t) h.same ∙ ap (λ (l : List Note). Ok (totals_of l)) (sym h.same))
 
-  replayed-by : (o m : Option ReplayFault) (d : Option (ℕ × Note × Note)) (totals : Totals) → first_over p t.notes ≡ o
-      → too_many p t.plan.ticks ≡ m
-      → first_unequal 0 (own_notes p asked t) t.notes ≡ d
-      → unless o (unless m (unless_unequal (count p) t d)) ≡ Ok totals → Passes × (totals ≡ totals_of t.notes)
-  replayed-by (Some why) m d totals e f g h = absurd cc
-  replayed-by None (Some why) d totals e f g h = absurd cc
-  replayed-by None None (Some x) totals e f g h = absurd cc
-  replayed-by None None None totals e f g h =
-      (record { none_over = e; few = f; same = sym (nowhere-same 0 (own_notes p asked t) t.notes once ends g) }, cc)
+  -- what an answer says: a trace that is replayed passes, and the answer is its totals; a difference names the first two
+  -- unequal notes; a refusal shows its cause
+  abbrev Says : Result Totals ReplayFault → Type 0
+  Says (Ok totals) = Passes × (totals ≡ totals_of t.notes)
+  Says (Err (fault.Differs line w f)) = IsFirstDifference p asked t line w f × (w ≢ f)
+  Says (Err why) = IsCause why
 
-  -- a trace that is replayed passes, and the answer is its totals
+  says-early : (why : ReplayFault) → IsEarly why → Says (Err why)
+  says-early (fault.OverWorst i k used worst) h = h
+  says-early (fault.TooManyJobs jobs) h = h
+  says-early _ h = absurd h
+
+  says-by : (o m : Option ReplayFault) (d : Option (ℕ × Note × Note)) → first_over p t.notes ≡ o → too_many p t.plan.ticks ≡ m
+      → first_unequal 0 (own_notes p asked t) t.notes ≡ d → Says (unless o (unless m (unless_unequal (count p) t d)))
+  says-by (Some why) m d over many unequal = says-early why (over-early p t.notes why over)
+  says-by None (Some why) d over many unequal = says-early why (many-early p t.plan.ticks why many)
+  says-by None None None over many unequal =
+      (record { none_over = over; few = many; same = sym (nowhere-same 0 (own_notes p asked t) t.notes once ends unequal) }, refl)
+  says-by None None (Some (place, w, f)) over many unequal =
+      let first = somewhere-first 0 (own_notes p asked t) t.notes place w f unequal in
+      let more : first.0 ≡ place = omega (arith, first.1) in
+      ((place, refl, subst (λ (n : ℕ). FirstUnequal (own_notes p asked t) t.notes n w f) more first.2), first.2.unequal)
+
+  says : (r : Result Totals ReplayFault) → replay_of p asked t ≡ r → Says r
+  says r e = subst Says e (says-by _ _ _ refl refl refl)
+
   pub replayed-passes : (totals : Totals) → replay_of p asked t ≡ Ok totals → Passes × (totals ≡ totals_of t.notes)
-  replayed-passes totals h =
-      replayed-by (first_over p t.notes) (too_many p t.plan.ticks) (first_unequal 0 (own_notes p asked t) t.notes) totals
-      refl refl refl h
-
-  differs-by : (o m : Option ReplayFault) (d : Option (ℕ × Note × Note)) (line : ℕ) (w f : Note)
-      → first_over p t.notes ≡ o → too_many p t.plan.ticks ≡ m
-      → first_unequal 0 (own_notes p asked t) t.notes ≡ d
-      → unless o (unless m (unless_unequal (count p) t d)) ≡ Err (fault.Differs line w f)
-      → IsFirstDifference p asked t line w f
-  differs-by (Some why) m d line w f e g h r = absurd (over-other p t.notes line w f (e ∙ cc))
-  differs-by None (Some why) d line w f e g h r = absurd (many-other p t.plan.ticks line w f (g ∙ cc))
-  differs-by None None None line w f e g h r = absurd cc
-  differs-by None None (Some (place, wanted, found)) line w f e g h r =
-      let want_is : wanted ≡ w = cc in
-      let found_is : found ≡ f = cc in
-      let line_is : line_of t.version (count p) place found ≡ line = cc in
-      let first = somewhere-first 0 (own_notes p asked t) t.notes place wanted found h in
-      let more : first.0 ≡ place = omega (arith, first.1) in (
-        place,
-        sym line_is ∙ ap (line_of t.version (count p) place) found_is,
-        subst (λ (n : ℕ). FirstUnequal (own_notes p asked t) t.notes n w f) more
-            (subst (λ (n : Note). FirstUnequal (own_notes p asked t) t.notes first.0 w n) found_is
-            (subst (λ (n : Note). FirstUnequal (own_notes p asked t) t.notes first.0 n found) want_is first.2)),
-      )
-
-  -- a difference names the first two unequal notes
-  pub differs-first : (line : ℕ) (w f : Note) → replay_of p asked t ≡ Err (fault.Differs line w f)
-      → IsFirstDifference p asked t line w f
-  differs-first line w f h =
-      differs-by (first_over p t.notes) (too_many p t.plan.ticks) (first_unequal 0 (own_notes p asked t) t.notes) line w f
-      refl refl refl h
-
-  cause-by : (o m : Option ReplayFault) (d : Option (ℕ × Note × Note)) (why : ReplayFault) → first_over p t.notes ≡ o
-      → too_many p t.plan.ticks ≡ m → first_unequal 0 (own_notes p asked t) t.notes ≡ d
-      → unless o (unless m (unless_unequal (count p) t d)) ≡ Err why → IsCause why
-  cause-by (Some e) m d why over many unequal h = over-cause p t.notes why (over ∙ ap Some (same_Err e why h))
-  cause-by None (Some e) d why over many unequal h = many-cause p t.plan.ticks why (many ∙ ap Some (same_Err e why h))
-  cause-by None None None why over many unequal h = absurd cc
-  cause-by None None (Some (place, w, f)) why over many unequal h =
-      subst IsCause (same_Err (differs (count p) t place w f) why h)
-      (somewhere-first 0 (own_notes p asked t) t.notes place w f unequal).2.unequal
-
-  -- a refusal shows its cause
-  pub refusal-cause : (why : ReplayFault) → replay_of p asked t ≡ Err why → IsCause why
-  refusal-cause why h =
-      cause-by (first_over p t.notes) (too_many p t.plan.ticks) (first_unequal 0 (own_notes p asked t) t.notes) why
-      refl refl refl h
+  replayed-passes totals = says (Ok totals)
 
   pub err-shown : (r : Result Totals ReplayFault)
       → IsUnlessMemory fault.NoMemory (λ (totals : Totals). totals) r (replay_of p asked t) → IfErr r IsCause
   err-shown (Ok totals) h = tt
-  err-shown (Err (fault.OverWorst i k used worst)) h = refusal-cause (fault.OverWorst i k used worst) (h (λ no. absurd cc))
-  err-shown (Err (fault.TooManyJobs jobs)) h = refusal-cause (fault.TooManyJobs jobs) (h (λ no. absurd cc))
-  err-shown (Err (fault.Differs line w f)) h = refusal-cause (fault.Differs line w f) (h (λ no. absurd cc))
+  err-shown (Err (fault.OverWorst i k used worst)) h = says _ (h (λ no. absurd cc))
+  err-shown (Err (fault.TooManyJobs jobs)) h = says _ (h (λ no. absurd cc))
+  err-shown (Err (fault.Differs line w f)) h = (says (Err (fault.Differs line w f)) (h (λ no. absurd cc))).1
   err-shown (Err fault.NoMemory) h = tt
 
   module _ (law : HasOwnList p asked) where
@@ -296,4 +244,4 @@ module _ (p : Plan) (lim : IsWithinLimits p) (asked : Asking) (t : TraceView) (e
       → IsUnlessMemory fault.NoMemory (λ (totals : Totals). totals) r (replay_of p asked t)
       → (line : ℕ) (w f : Note) → IsErrOf r (fault.Differs line w f) → IsFirstDifference p asked t line w f
   err-differs (Ok totals) h line w f is = absurd cc
-  err-differs (Err why) h line w f is = differs-first line w f (h (other-fault why line w f is) ∙ is)
+  err-differs (Err why) h line w f is = (says (Err (fault.Differs line w f)) (h (other-fault why line w f is) ∙ is)).0
