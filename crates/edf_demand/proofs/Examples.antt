@@ -1,14 +1,16 @@
 -- Answers of the test for deadlines up to the periods, by evaluation.
-use Rattle.std.proofs.Common.{◌≡◌, ℕ, List, [], ◌∷◌, slice_index, Ok, Err, codes, refl}
+use Rattle.std.proofs.Common.{◌≡◌, ℕ, List, [], ◌∷◌, slice_index, Ok, Err, codes, refl, arith}
 use Rattle.dvs_base.specs.declared.kind.Scheduler.TheVariants.{Edf}
 use Rattle.grid_fraction.specs.Fraction as fraction
 use Rattle.freq_table.specs.declared.machine.Point.{Point}
+use Rattle.freq_table.specs.Tables.{last_entry}
 use Rattle.task_model.specs.declared.task.Task.{Task}
 use Rattle.sched_model.specs.Plan.{Plan, plan_of}
 use Rattle.sched_model.specs.Jobs.{release}
 use Rattle.edf_demand_laws.specs.ProcessorDemand.{constrained_demand}
+use Rattle.edf_demand_laws.specs.MetOrMissed.{MissesAtWorst}
 use Rattle.edf_demand.specs.declared.lowest_speed.ConstrainFault.TheVariants.{Offset, Denied}
-use Rattle.edf_demand.specs.Answers.{tested_answer}
+use Rattle.edf_demand.specs.Answers.{tested_answer, IsLowestSpeed, IsOverload}
 
 -- tasks under EDF on a machine with these entries
 abbrev plan : List Task → List Point → Plan
@@ -45,3 +47,9 @@ offset_in_file_order :
     (slice_index (5 ∷ 2 ∷ []))
     ≡ Err (Offset 0)
 offset_in_file_order = refl
+
+-- the entry below the lowest one misses a deadline by the tick of the demand, and so does the highest of an overload
+missed_by_tick_6 :
+    (p : Plan) (relative : ℕ → ℕ) → (IsLowestSpeed p relative (record { demand = record { num = 14; den = 6 }; point = 1 }) → MissesAtWorst p relative 0 6)
+    × (IsOverload p relative 6 14 12 → MissesAtWorst p relative (last_entry p.machine) 6)
+missed_by_tick_6 p relative = (λ lowest. lowest.lower 0 (omega arith), λ over. over.misses)

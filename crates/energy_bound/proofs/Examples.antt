@@ -2,6 +2,7 @@
 use Rattle.std.proofs.Common.{◌≡◌, ℕ, true, false, [], ◌∷◌, List, Ok, Err, refl, codes, arith}
 use Rattle.std.proofs.lemmas.List.Elements.{All-from_recursion}
 use Rattle.dvs_base.specs.declared.kind.Scheduler.TheVariants.{Edf}
+use Rattle.dvs_base.specs.declared.note.Note.TheVariants.{Run}
 use Rattle.freq_table.specs.Tables.{Table}
 use Rattle.sched_model.specs.Plan.{Plan}
 use Rattle.sched_model.specs.Jobs.{release, due, latest, worst_demand}
@@ -13,8 +14,8 @@ use Rattle.sched_model.proofs.Schedules.{schedule_exists}
 use Rattle.sched_model.proofs.Examples.{entry_of, three_speeds, task_of}
 use Rattle.energy_bound.specs.declared.least.Least.{Least}
 use Rattle.energy_bound.specs.Choices.{Choice, IsChoice}
-use Rattle.energy_bound.specs.Bounds.{BoundsChoices}
-use Rattle.energy_bound.specs.Schedules.{energy_spent, BoundsSchedules}
+use Rattle.energy_bound.specs.Bounds.{BoundsChoices, IsReachedAt}
+use Rattle.energy_bound.specs.Schedules.{energy_spent, BoundsSchedules, CostsItsTicks}
 use Rattle.energy_bound.specs.FirstPairs.{least_energy_of}
 
 -- a full tick costs 18, 48 or 100, times 1000000000; 40 units in 16 ticks take 8 ticks at speed 2 and 8 at speed 3, which
@@ -130,3 +131,24 @@ one_above_a_schedule bounds =
     let exists = schedule_exists two_a_tick dem highest 1 in
     let spent : energy_spent (notes_of two_a_tick dem highest one_tick) ≡ 8000000000 = refl in
     omega (arith, bounds two_a_tick dem highest one_tick refl exists.0 exists.1 refl, spent)
+
+-- these units in these ticks are reached at speed 3, with this energy, at corners a and b
+abbrev Reaches : ℕ → ℕ → ℕ → ℕ → ℕ → Type 0
+Reaches units ticks energy a b = IsReachedAt one_and_three units ticks (at_once energy) a b
+
+-- 3 units in a tick are, at corners 1 and 2: no other energy, units or ticks, nor another corner
+reached : (Reaches 3 1 12000000001 1 2 → ⊥) × (Reaches 2 1 12000000000 1 2 → ⊥) × (Reaches 3 2 12000000000 1 2 → ⊥) × (Reaches 3 1 12000000000 0 2 → ⊥)
+    × (Reaches 3 1 12000000000 3 2 → ⊥) × (Reaches 3 1 12000000000 1 1 → ⊥) × (Reaches 3 1 12000000000 1 3 → ⊥)
+reached = (
+  λ r. omega (arith, r.cost), λ r. omega (arith, r.all_units), λ r. omega (arith, r.all_ticks), λ r. omega (arith, r.low),
+  λ r. omega (arith, r.low_corner), λ r. omega (arith, r.high), λ r. omega (arith, r.high_corner),
+)
+
+-- a tick with 2 units at speed 3 has this running segment, of these units and this energy
+abbrev HasRun : ℕ → ℕ → Type 0
+HasRun units energy = CostsItsTicks two_a_tick (record { entry = 1; shares = 2 ∷ [] } ∷ [])
+    (Run (record { tick = 0; offset = 0 }) (record { tick = 0; offset = 2 }) 0 1 units energy ∷ [])
+
+-- neither a unit less nor another energy than 8
+cost_of_a_tick : (HasRun 1 8000000000 → ⊥) × (HasRun 2 8000000001 → ⊥)
+cost_of_a_tick = (λ c. omega (arith, c.units), λ c. omega (arith, c.cost))

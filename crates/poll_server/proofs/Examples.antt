@@ -1,6 +1,6 @@
 -- The definitions at work: the tasks s (period 5, worst case 4) and a (period 10, worst case 10). The task s serves
 -- three requests: 3 units at tick 0, 6 at tick 1 and 1 at tick 12.
-use Rattle.std.proofs.Common.{◌≡◌, inl, inr, ℕ, List, [], ◌∷◌, refl, arith, subst}
+use Rattle.std.proofs.Common.{◌≡◌, ◌≤◌, inl, inr, ℕ, List, [], ◌∷◌, refl, arith, subst}
 use Rattle.dvs_base.specs.declared.kind.Scheduler.TheVariants.{Edf}
 use Rattle.freq_table.specs.Tables.{Table}
 use Rattle.request_list.specs.declared.requests.Request.{Request}
@@ -10,8 +10,8 @@ use Rattle.task_model.specs.declared.task.Task.{Task}
 use Rattle.poll_server.specs.ServerJobs.{ServerView, server_of, taken_up_to, taken_units, polled_demand}
 use Rattle.poll_server.specs.declared.served.Outcome.{Outcome}
 use Rattle.poll_server.specs.declared.served.Outcome.TheVariants.{Served, Pending}
-use Rattle.poll_server.specs.Outcomes.{ServedView, outcome_at}
-use Rattle.poll_server.specs.Bound.{jobs_before, request_backlog, latest_job, latest_end, IsServedBy, KeepsBound}
+use Rattle.poll_server.specs.Outcomes.{BelongsTo, ServedView, outcome_at}
+use Rattle.poll_server.specs.Bound.{jobs_before, request_backlog, latest_job, latest_end, IsServedBy, KeepsBound, HaveJobs}
 use Rattle.poll_server.specs.EachOutcome.{job_of}
 
 abbrev task_with : ℕ → ℕ → Task
@@ -76,3 +76,11 @@ bound_at_the_end : (r : ServedView) → r.outcomes ≡ (served_at 5 0 ∷ Pendin
 unfolding taken_up_to release due
 bound_at_the_end r outcomes keeps =
     subst (λ (os : List Outcome). IsServedBy 15 (outcome_at os 1)) outcomes (keeps 1 (omega arith) (omega arith))
+
+-- no job is before tick 0, and the second request belongs to the third job or to one before it
+have_jobs : ((s : ServerView) → HaveJobs s → jobs_before s 0 ≡ 1 → ⊥) × (HaveJobs server → (k : ℕ) × BelongsTo server 1 k × (k ≤ 3))
+unfolding taken_up_to release
+have_jobs = (λ s have one. omega (arith, have.before 0 1 (omega arith) (omega (arith, one))), λ have. third (have.each 1 (omega arith)))
+  where
+    third : ((k : ℕ) × BelongsTo server 1 k × (1 ≤ k) × (k ≤ latest_job server 1)) → (k : ℕ) × BelongsTo server 1 k × (k ≤ 3)
+    third (k, belongs, some, latest) = (k, belongs, latest)

@@ -1,5 +1,5 @@
--- Refusals of replays, the lines of first differences, and a schedule that has a text, by evaluation.
-use Rattle.std.proofs.Common.{◌≡◌, ◌<◌, ◌≤◌, ℕ, zero, suc, nat_eq, false, true≢false, List, [], ◌∷◌, Ok, Err, refl, sym, subst, arith}
+-- Refusals of replays, first differences and their lines, a schedule that has a text, and demands of a run, by evaluation.
+use Rattle.std.proofs.Common.{◌≡◌, ◌<◌, ◌≤◌, ◌++◌, ℕ, zero, suc, length, nat_eq, false, true≢false, List, [], ◌∷◌, Ok, Err, refl, sym, subst, arith}
 use Rattle.std.proofs.lemmas.Bool.Decides.{nat_tests}
 use Rattle.dvs_base.specs.declared.kind.Scheduler.TheVariants.{Edf}
 use Rattle.dvs_base.specs.declared.kind.GovernorKind.TheVariants.{Plain}
@@ -16,10 +16,11 @@ use Rattle.sched_model.specs.Schedule.{schedule_by}
 use Rattle.sched_model.specs.Notes.{notes_before_end}
 use Rattle.trace_reader.specs.Traces.{TraceView, IsTrace}
 use Rattle.trace_writer.specs.RunText.{task_texts}
+use Rattle.event_kernel.specs.Runs.{MeetsDemands}
 use Rattle.replay_laws.specs.OwnList.{Asking, notes_by}
 use Rattle.replay.specs.declared.fault.ReplayFault.TheVariants.{OverWorst, TooManyJobs, Differs}
-use Rattle.replay.specs.Comparison.{comparison}
-use Rattle.replay.specs.Replays.{replay_of}
+use Rattle.replay.specs.Comparison.{FirstUnequal, comparison}
+use Rattle.replay.specs.Replays.{IsFirstDifference, replay_of}
 use Rattle.replay.specs.SameTexts.{HasTextFor}
 
 -- a trace of a number of ticks with these notes
@@ -141,3 +142,20 @@ has_text = record {
         let later : nat_eq 1 (suc (suc k)) ≡ false = grind (arith, nat_tests) in
         rw later (omega arith)
     most (suc i) k lt = omega (arith, lt)
+
+-- two lists whose first notes differ don't differ first in their second notes
+first_notes_differ : (w f : Note) → FirstUnequal (first ∷ last ∷ []) (idle ∷ last ∷ []) 1 w f → ⊥
+first_notes_differ w f d = after d.before d.place_is d.wanted_are d.found_are
+  where
+    after : (ns : List Note) → length ns ≡ 1 → (first ∷ last ∷ []) ≡ ns ++ w ∷ d.more → (idle ∷ last ∷ []) ≡ ns ++ f ∷ d.others → ⊥
+    after [] place wanted found = omega (arith, place)
+    after (n ∷ ns) place wanted found = absurd (cc)
+
+-- a difference is of two unequal notes, on a line after the version and the plan
+difference_shown : (p : Plan) (asked : Asking) → (IsFirstDifference p asked (trace One []) 3 first first → ⊥) × (IsFirstDifference p asked (trace One []) 2 last first → ⊥)
+difference_shown p asked = (λ d. d.2.unequal refl, λ d. omega (arith, d.1))
+
+-- the decision of a run of one tick, which is its first and its last, counts: the speed 8 doesn't meet the demand 9
+one_decision : MeetsDemands (λ p s. record { num = 9; den = 1 }) (record { plan = at_each_tick; demands = record { worsts = []; rows = [] }; ticks = 1 }) → ⊥
+unfolding schedule_by
+one_decision meets = true≢false (sym (meets 0 (omega arith) refl))

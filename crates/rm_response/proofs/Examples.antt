@@ -9,7 +9,7 @@ use Rattle.sched_model.specs.Schedule.{schedule_by}
 use Rattle.sched_model.specs.Plan.{Plan, plan_of}
 use Rattle.rm_response_laws.specs.Responses.{response}
 use Rattle.rm_response.specs.declared.response.ResponseFault.TheVariants.{Offset, Misses}
-use Rattle.rm_response.specs.Denials.{AreLeast, exact_answer}
+use Rattle.rm_response.specs.Denials.{AreLeast, IsMissedAtPeriod, IsShownMiss, exact_answer}
 
 -- tasks under RM on a machine with speed 1
 abbrev at_speed_1 : List Task → Plan
@@ -50,3 +50,8 @@ not_the_least least = true≢false ((least 0 (omega arith)).before 4 (omega arit
 not_complete : AreLeast pair (4 ∷ 1 ∷ []) → ⊥
 unfolding schedule_by published release due latest
 not_complete least = true≢false (sym ((least 1 (omega arith)).done))
+
+-- a first job that is complete at its period isn't missed there, and a miss asks for more than is done
+not_missed : (IsMissedAtPeriod (at_speed_1 (task_of (codes "a") 4 4 0 ∷ [])) (Misses 0 4 4) → ⊥) × (IsShownMiss (Misses 0 4 4) → ⊥)
+unfolding schedule_by published release due latest
+not_missed = (λ missed. true≢false missed, λ shown. omega (arith, shown))

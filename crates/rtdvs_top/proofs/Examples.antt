@@ -1,8 +1,8 @@
 -- Which of two refusals comes first, the lines of a difference, how many loads a command needs, and what a status says
--- of loads, puts and things that it leaves, by evaluation.
+-- of loads, puts, notes, probes, the test, its own cause and things that it leaves, by evaluation.
 use Rattle.std.proofs.Common.{IsTrue, is_ok, ◌≡◌, ◌⊎◌, inl, inr, ℕ, List, [], ◌∷◌, ◌++◌, map, Option, Some, None, true, false, Ok, Err, codes, refl, arith}
 use Rattle.std.specs.Fmt.{digits}
-use Rattle.dvs_base.specs.Outside.{Files, ShelfView}
+use Rattle.dvs_base.specs.Outside.{Files, ShelfView, SinkView}
 use Rattle.dvs_base.specs.declared.kind.Scheduler.TheVariants.{Edf}
 use Rattle.dvs_base.specs.declared.kind.GovernorKind.TheVariants.{Plain}
 use Rattle.dvs_base.specs.declared.kind.Version.TheVariants.{One}
@@ -10,21 +10,35 @@ use Rattle.dvs_base.specs.declared.note.Note.TheVariants.{Run, End}
 use Rattle.dvs_base.specs.declared.note.Pos.{Pos}
 use Rattle.task_model.specs.declared.task.Task.{Task}
 use Rattle.trace_text.specs.TraceLines.{note_text}
+use Rattle.demand_list.specs.Demands.{DemandsView}
 use Rattle.freq_table.specs.Tables.{Table}
-use Rattle.words.specs.Commands.{ConstrainView, CommandView, run, admit, traced, workload, response, constrain, poll, least}
+use Rattle.sched_model.specs.Plan.{Plan, period, plan_of}
+use Rattle.sched_model.specs.Jobs.{released_jobs}
+use Rattle.event_kernel.specs.Runs.{Run as RunOf}
+use Rattle.probes.specs.Tallies.{ProbeView, told_notes}
+use Rattle.rm_response_laws.specs.Responses.{is_first_done}
+use Rattle.words.specs.Commands.{ConstrainView, RunView, CommandView, run, admit, traced, workload, response, constrain, poll, least}
 use Rattle.words.specs.declared.command.TraceUse.{TraceUse}
 use Rattle.words.specs.declared.command.TraceUse.TheVariants.{Replay, Migrate}
 use Rattle.command_files.specs.Meanings.{tasks_at, machine_at}
 use Rattle.rtdvs_top.specs.Constrain.{deadlines_at, constrain_answer}
-use Rattle.command_files.specs.Files.{loads_needed}
-use Rattle.rtdvs_top.specs.Promises.{LoadFailed}
-use Rattle.statuses.specs.Status.{CountsLoads, CountsPuts, LeavesProbes, Leaves}
+use Rattle.command_files.specs.Files.{MakesLoads, files_for, loads_needed}
+use Rattle.rtdvs_top.specs.Asked.{with_files}
+use Rattle.rtdvs_top.specs.Promises.{AdmitsOrDenies, IsDoneOrDenied, LoadFailed, MeansRun, PutsNotes}
+use Rattle.rtdvs_top.specs.Response.{FailsToRespond}
+use Rattle.rtdvs_top.specs.ToldRuns.{TellsRun, notes_under}
+use Rattle.statuses.specs.Noted.{NotedAs}
+use Rattle.statuses.specs.Status.{CountsLoads, CountsPuts, IsShown, LeavesProbes, Leaves}
 use Rattle.statuses.specs.StatusLines.{status_text}
 use Rattle.statuses.specs.declared.status.FileKind.{FileKind}
 use Rattle.statuses.specs.declared.status.FileKind.TheVariants.{Machine, Demands}
 use Rattle.statuses.specs.declared.status.Status.{Status}
 use Rattle.statuses.specs.declared.status.Status.TheVariants.{Done, NotAdmitted, Words, Load, Text, Limit, OverWorst, Differs, Write, NoMemory}
-use Rattle.statuses.specs.declared.status.Denied.TheVariants.{Offset}
+use Rattle.statuses.specs.declared.status.Denied.TheVariants.{Offset, Response, Demand, Units}
+use Rattle.statuses.specs.declared.status.Denied.{Denied}
+use Rattle.statuses.specs.declared.status.Denied.TheVariants as denied
+use Rattle.statuses.specs.declared.status.TextFault.TheVariants.{Trace}
+use Rattle.trace_reader.specs.declared.trace.TraceFault.TheVariants as trace_fault
 
 -- words that name the files t, m and d
 abbrev words : ConstrainView
@@ -137,12 +151,12 @@ shelf faults sure = record { held = None; faults = faults; sure = sure }
 second_load : LoadFailed (shelf 0 1) (shelf 1 0) (Ok admit_words) (Load Machine)
 second_load = inr (refl, inl (refl, inr (omega arith, omega arith)))
 
--- but not where it was sure of two
-sure_of_two : LoadFailed (shelf 0 2) (shelf 1 1) (Ok admit_words) (Load Machine) → ⊥
-sure_of_two (inl tasks) = absurd (let same = tasks.0 in cc)
-sure_of_two (inr (passed, inl (same, inl lacks))) = omega (arith, lacks.1)
-sure_of_two (inr (passed, inl (same, inr failed))) = omega (arith, failed.1)
-sure_of_two (inr (passed, inr none)) = none.1
+-- but not where it was sure of two, whatever the files are
+sure_of_two : (held : Option Files) → LoadFailed (record { held = held; faults = 0; sure = 2 }) (shelf 1 1) (Ok admit_words) (Load Machine) → ⊥
+sure_of_two held (inl tasks) = absurd (let same = tasks.0 in cc)
+sure_of_two held (inr (passed, inl (same, inl lacks))) = omega (arith, lacks.1)
+sure_of_two held (inr (passed, inl (same, inr failed))) = omega (arith, failed.1)
+sure_of_two held (inr (passed, inr none)) = none.1
 
 -- the demands' load is the third
 sure_of_three : LoadFailed (shelf 0 3) (shelf 1 2) (Ok (run_with (Some (codes "f")))) (Load Demands) → ⊥
@@ -206,3 +220,47 @@ changed_by NoMemory leaves = absurd (omega (arith, leaves))
 probes_left : (LeavesProbes {V = ℕ} false Done 1 2 → ⊥) × (LeavesProbes {V = ℕ} false Write 1 2 → ⊥)
     × (LeavesProbes {V = ℕ} true (Limit 100001) 1 2 → ⊥)
 probes_left = (λ same. omega (arith, same), λ same. omega (arith, same), λ same. omega (arith, same))
+
+-- the count of failed loads never falls, and a command without files depends on none
+counts_of_loads : (MakesLoads 1 (shelf 3 0) (shelf 2 0) → ⊥) × (files_for None (workload 1) ≡ Some [])
+counts_of_loads = (λ made. omega (arith, made.later), refl)
+
+-- a status doesn't show its cause by two equal numbers or notes, nor is the refusal of a file one that is a status of its own
+not_shown : (IsShown (NotAdmitted (denied.Edf 4 4)) → ⊥) × (IsShown (NotAdmitted (denied.Rm 0 4 4)) → ⊥) × (IsShown (NotAdmitted (Response 0 4 4)) → ⊥)
+    × (IsShown (NotAdmitted (Demand 6 4 4)) → ⊥) × (IsShown (NotAdmitted (Units 4 4)) → ⊥) × (IsShown (Limit 100000) → ⊥)
+    × (IsShown (OverWorst 0 1 2 2) → ⊥) × (IsShown (Differs 3 (End 2 0 0) (End 2 0 0)) → ⊥) × (IsShown (Text (Trace trace_fault.NoMemory)) → ⊥)
+not_shown = (
+  λ s. omega (arith, s), λ s. omega (arith, s), λ s. omega (arith, s), λ s. omega (arith, s), λ s. omega (arith, s), λ s. omega (arith, s),
+  λ s. omega (arith, s), λ s. s refl, λ s. s,
+)
+
+-- a run with exactly as many jobs as the limit isn't refused for them
+as_many_jobs :
+    (files : Files) (r : RunView) (tasks : List Task) (machine : Table) (demands : DemandsView) (out : SinkView) → MeansRun r files tasks machine demands
+    → released_jobs (plan_of tasks machine r.scheduler) r.ticks ≡ 100000 → out.faults ≡ 0
+    → IsDoneOrDenied (with_files files (run r)) ⊥ out out (Limit 100001) → ⊥
+as_many_jobs files r tasks machine demands out means jobs none headline =
+    neither (headline tasks machine demands means (omega (arith, jobs)) (λ rose. rose) (λ rose. omega (arith, none, rose)) (λ same. absurd (cc)))
+  where
+    neither : {A : Type 0} {B : Denied → Type 0} → ((Limit 100001 ≡ Done) × A) ⊎ ((why : Denied) × (Limit 100001 ≡ NotAdmitted why) × B why) → ⊥
+    neither (inl done) = absurd (let same = done.0 in cc)
+    neither (inr (why, same, by)) = absurd (cc)
+
+-- a first part of an answer was put only where there is a plan, which is admitted
+put_in_part : (why : Status) → AdmitsOrDenies (Err why) Write → ⊥
+put_in_part why passes = absurd (let same = passes.1 in cc)
+
+-- a task that is denied isn't complete at its period
+late_at_its_period : (p : Plan) → FailsToRespond p (Response 0 5 4) → is_first_done p 0 (period p 0) ≡ false
+late_at_its_period p fails = fails.1
+
+-- the names in the notes are those of the tasks that were read
+named_tasks : (files : Files) (old new : SinkView) → tasks_at (codes "t") files ≡ Ok later
+    → PutsNotes (with_files files admit_words) [] (OverWorst 0 1 3 2) old new → NotedAs old new (codes "over worst: a 1 3 2\n")
+unfolding digits
+named_tasks files old new tasks notes = rw tasks at notes
+
+-- the probes of a run that is done were told its notes
+told_all : (r : RunOf) (old new : SinkView) (before after : List ProbeView) → TellsRun One Plain r old new before after Done
+    → after ≡ told_notes (notes_under Plain r) before
+told_all r old new before after told = told

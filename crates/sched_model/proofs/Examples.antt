@@ -1,5 +1,5 @@
 -- Worked plans, their demands and the lines of their speeds, and values of the definitions by evaluation.
-use Rattle.std.proofs.Common.{◌≡◌, ℕ, List, [], ◌∷◌, refl, codes, arith, Bool, true, false, filter}
+use Rattle.std.proofs.Common.{◌≡◌, ℕ, List, [], ◌∷◌, refl, codes, arith, Bool, true, false, true≢false, sym, filter}
 use Rattle.dvs_base.specs.declared.kind.Scheduler.{Scheduler}
 use Rattle.dvs_base.specs.declared.kind.Scheduler.TheVariants.{Edf, Rm}
 use Rattle.dvs_base.specs.declared.kind.GovernorKind.TheVariants.{Plain, Fixed, Cycle, Ahead}
@@ -19,7 +19,7 @@ use Rattle.sched_model.specs.Priority.{in_order}
 use Rattle.sched_model.specs.Demand.{published, IsAlwaysMet}
 use Rattle.sched_model.specs.StaticDemand.{static_demand}
 use Rattle.sched_model.specs.Tests.{level_work}
-use Rattle.sched_model.specs.Schedule.{schedule_by}
+use Rattle.sched_model.specs.Schedule.{schedule_by, AlwaysMeets}
 use Rattle.sched_model.specs.Backlog.{backlog}
 use Rattle.sched_model.specs.Notes.{notes_before_end}
 use Rattle.sched_model.specs.RunNotes.{run_notes}
@@ -261,3 +261,8 @@ static_speed_below_highest : speeds_and_end light_set Cycle [] 8 ≡
     Speed 0 2 8 4 ∷ Speed 2 2 4 2 ∷ Speed 4 2 6 4 ∷ Speed 6 2 2 2 ∷ Speed 7 2 0 1 ∷ End 8 126000000000 0 ∷ []
 unfolding published in_order release due latest schedule_by notes_before_end
 static_speed_below_highest = refl
+
+-- the decision of a run of one tick, which is its first and its last, counts: the speed 1 doesn't meet the demand 6/4
+one_decision : AlwaysMeets denied_set Fixed (worst_demand denied_set) 1 → ⊥
+unfolding published schedule_by
+one_decision meets = true≢false (sym (meets 0 (omega arith) refl))
