@@ -5,8 +5,7 @@
 # that of the list. One whose line says `skipped` lacks a tool and isn't counted; with TOOLS=all it fails.
 # The last line has the counts; the status is 1 where a check failed, and 2 where there is no program.
 least='completion 95
-copies 7
-exercises 30
+copies 95
 failing 1700
 form 6
 links 24
