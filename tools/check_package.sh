@@ -8,6 +8,7 @@ cd "$(dirname "$0")/.." || exit 2
 [ -x "${1:?no program}" ] || { echo "no program: $1"; exit 2; }
 [ -n "$(command -v dpkg-deb)" ] || { echo 'package: skipped, no dpkg-deb'; exit 0; }
 unset PYTHONPATH RTDVS
+python=${PYTHON:-/usr/bin/python3}
 top=$PWD work=$(mktemp -d) shell=$(command -v sh) cases=0 bad=0
 trap 'rm -r "$work"' EXIT
 trap 'exit 2' HUP INT PIPE TERM
@@ -39,7 +40,7 @@ calls_by_python() (
         export PYTHONPATH="$root/lib/python3/dist-packages" && . "$work/calls"
 )
 examples() {
-    same "$(sed -n 's/^    cd //p' "$doc/README.md")" /usr/share/rtdvs && diff -r "$data/crates/example_runs/stdout" crates/example_runs/stdout &&
+    same "$(sed -n 's/^    cd //p' "$doc/README.md")" "${data#"$work/root"}" && diff -r "$data/crates/example_runs/stdout" crates/example_runs/stdout &&
         diff -r -x README.md "$data/crates/example_runs/data" crates/example_runs/data && diff -r -x README.md -x rtdvs.bash "$data/examples" examples
 }
 man_page() { gzip -dc "$root/share/man/man1/rtdvs.1.gz" | cmp - docs/rtdvs.1; }
@@ -88,7 +89,7 @@ scripts() (
 )
 # The links of the pages, of which each leads to a file or a folder.
 links() {
-    for page in "$doc"/*.md "$doc"/docs/*.md "$doc"/examples/*.md "$doc"/crates/example_runs/data/templates/*.md; do
+    find -L "$doc" -name '*.md' | while read -r page; do
         sed 's/`[^`]*`//g' "$page" | grep -o ']([^()#:]*[)#]' | sed 's/^](//; s/[)#]$//' | grep . | sort -u |
             while read -r link; do [ -e "$(dirname "$page")/$link" ] || echo "${page#"$doc/"}: $link"; done
     done > "$work/broken"
@@ -97,7 +98,7 @@ links() {
 
 package=$(sh tools/package.sh "$1" "$work/first") || { echo 'package: not made'; exit 1; }
 again=$(sh tools/package.sh "$1" "$work/second") || { echo 'package: not made'; exit 1; }
-root=$work/root/usr doc=$work/root/usr/share/doc/rtdvs data=$work/root/usr/share/rtdvs python=${PYTHON:-/usr/bin/python3}
+root=$work/root/usr doc=$work/root/usr/share/doc/rtdvs data=$work/root/usr/share/rtdvs
 holds 'not unpacked' dpkg-deb -x "$package" "$work/root"
 PATH=$root/bin:$PATH
 holds 'a second package differs' cmp "$package" "$again"

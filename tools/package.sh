@@ -41,7 +41,8 @@ cp -R crates/example_runs/data crates/example_runs/stdout "$data/crates/example_
 cp -R examples "$data"
 rm "$data/examples/rtdvs.bash"
 for folder_of in crates examples; do ln -s "../../rtdvs/$folder_of" "$doc/$folder_of"; done
-cp tools/package/README.md tools/package/copyright "$doc"
+cp tools/package/copyright "$doc"
+sed -e "s|@EXAMPLES@|${data#"$root"}|g" -e "s|@PAGES@|${doc#"$root"}/docs|g" tools/package/README.md > "$doc/README.md"
 for page in $pages; do cp "docs/$page.md" "$doc/docs"; done
 
 # The changelog in Debian's form: a stanza for each version.
