@@ -11,7 +11,7 @@ form 6
 links 24
 main 51
 named 9
-package 16
+package 17
 peer 140
 python 1150
 reading 160

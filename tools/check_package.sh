@@ -87,6 +87,13 @@ scripts() (
         same "$(PATH="$work/stand-ins:$PATH" "$work/control/prerm" remove)" 'py3clean -p rtdvs' &&
         same "$(PATH='' "$shell" "$work/control/postinst" configure)" '' && same "$(PATH='' "$shell" "$work/control/prerm" remove)" ''
 )
+# The pages are those of the repository; only links to what the package lacks are gone.
+linkless() { sed 's/\[\([^]]*\)\]([^)]*)/\1/g' "$1"; }
+pages() {
+    for page in "$doc"/docs/*.md; do
+        same "$(linkless "$page")" "$(linkless "docs/$(basename "$page")")" || return
+    done
+}
 # The links of the pages, of which each leads to a file or a folder.
 links() {
     find -L "$doc" -name '*.md' | while read -r page; do
@@ -119,6 +126,7 @@ if "$python" -c 'import tomllib' 2>/dev/null; then
 fi
 holds 'the scripts of the package' scripts
 holds 'the sums of the files' sums
+holds 'the pages' pages
 holds 'links of pages' links
 holds 'what is only in the repository' only_repository
 holds 'the changelog or the copyright' papers

@@ -66,7 +66,7 @@ rm "$root.changes" "$root.signed"
 # A link to what isn't in the package becomes its text.
 for page in "$doc/README.md" "$doc"/docs/*.md "$data/examples/README.md" "$data/crates/example_runs/data/templates/README.md"; do
     grep -o '](\([^()#:]*\)' "$page" | sed 's/^](//' | grep . | sort -u | while read -r link; do
-        [ -e "$(dirname "$page")/$link" ] || echo "s|\[\([^]]*\)\]($link\(#[^)]*\)*)|\1|g"
+        [ -e "$(dirname "$page")/$link" ] || printf '%s\n' "s|\[\([^]]*\)\]($link\(#[^)]*\)*)|\1|g"
     done > "$root.links"
     sed -f "$root.links" "$page" > "$root.page"
     cat "$root.page" > "$page"
