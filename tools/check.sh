@@ -13,7 +13,7 @@ main 51
 named 9
 package 17
 peer 140
-python 1150
+python 1200
 reading 160
 wrapper 37'
 
