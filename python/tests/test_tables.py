@@ -105,7 +105,7 @@ def least(engine: Engine) -> Iterator[str]:
         for note, speed in trace.at_speeds():
             ran[speed] += note.units if isinstance(note, Run) else 0
         yield row(governor, *(ran[speed] or "" for speed in (4, 3, 2)))
-    found = engine.least(BOARD, 40, 16)
+    found = engine.least(DATA / "paper" / "machine.toml", 40, 16)
     yield f"A unit is priced at {found.unit_price}, a tick at {found.tick_price}."
     yield row("idle", 0, found.tick_price)
     for speed, cost in costs.items():
@@ -120,7 +120,7 @@ def controller(engine: Engine) -> Iterator[str]:
     demands = Demands.read(folder / "demands.csv", tasks)
     trace = Trace.parse(engine.run(tasks, machine, "edf", "cc", 100, demands))
     ran = sum(note.units for note in trace.notes if isinstance(note, Run))
-    found = engine.least(machine, ran, 100)
+    found = engine.least(folder / "machine.toml", ran, 100)
     bound = Fraction(found.energy, found.rounds)
     yield f"has {count(len(tasks))} tasks, {count(len(machine.points))} speeds, an idle share of {machine.idle} thousandths"
     yield (f"its 100 ticks ran {ran} units for {trace.run_energy}, and idled for {trace.idle_energy}: "
