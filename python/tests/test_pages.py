@@ -237,7 +237,11 @@ SMALL = """A page.
     prices 18000000000 plus 0
     least 2 0 4 2 28 504000000000
 
+Then:
+
     other
+
+And:
 
     $ exit 3
 
@@ -260,10 +264,10 @@ def test_a_fault_has_its_page_and_line(folder: Path) -> None:
         "small.md:31: no such line, or not here: 'b': cat other kept",
         "small.md:38: no such line, or not here: 'least 2 0 4 2 28 504000000000': "
         "./rtdvs least --machine crates/example_runs/data/paper/machine.toml --units 28 --ticks 16",
-        "small.md:40: nothing runs this block, and no comment says why",
-        "small.md:42: status 3, the page says 0: exit 3",
-        "small.md:45: status 4",
-        "small.md:49: " + "*" * 70,
+        "small.md:42: nothing runs this block, and no comment says why",
+        "small.md:46: status 3, the page says 0: exit 3",
+        "small.md:49: status 4",
+        "small.md:53: " + "*" * 70,
     ]
 
 
