@@ -1,11 +1,14 @@
 # check_package.sh PROGRAM: makes the Debian package twice, unpacks it into a folder of its own and tries it from there:
-# README's first call leaves the stored trace, the man page, the completion and the Python module are those of the
-# repository, the module finds the program and both scripts of the package run, and each link of a page leads to a file of
-# the package. It needs dpkg-deb; the module is called where there is Python 3.11 or later.
+# each call of the package's README runs in the folder of the examples and the first one leaves the stored trace; the man
+# page, the completion, the Python module and the examples are those of the repository; the module finds the program and
+# both scripts of the package run; each link of a page and each file of the man page leads to a file of the package; what
+# is only in the repository stays out. It needs dpkg-deb; calls by Python are made where there is Python 3.11 or later, and
+# lintian finds no fault where there is lintian.
 cd "$(dirname "$0")/.." || exit 2
 [ -x "${1:?no program}" ] || { echo "no program: $1"; exit 2; }
 [ -n "$(command -v dpkg-deb)" ] || { echo 'package: skipped, no dpkg-deb'; exit 0; }
 unset PYTHONPATH RTDVS
+python=${PYTHON:-/usr/bin/python3}
 top=$PWD work=$(mktemp -d) shell=$(command -v sh) cases=0 bad=0
 trap 'rm -r "$work"' EXIT
 trap 'exit 2' HUP INT PIPE TERM
@@ -21,18 +24,52 @@ holds() {
 field() { dpkg-deb -f "$package" "$1"; }
 same() { [ "$1" = "$2" ] || { echo "found $1, wanted $2"; return 1; }; }
 only_libc() { field Depends | grep -q -x 'libc6 (>= 2\.[0-9]*)'; }
-# README's call of `sh rtdvs.sh`, made in the folder of the pages
+# The stripped program.
+program() {
+    cp "$1" "$work/stripped" && { [ -z "$(command -v strip)" ] || strip --strip-unneeded -R .comment -R .note "$work/stripped"; } &&
+        cmp "$root/bin/rtdvs" "$work/stripped"
+}
+# The calls of the package's README, made in the folder that it names; those by Python where there is one.
 first_call() (
-    cd "$doc" || exit
-    eval "rtdvs $(sed -n 's/^    sh rtdvs\.sh //p' README.md | head -n 1)" > "$work/trace" &&
+    cd "$data" && eval "$(sed -n 's/^    rtdvs /rtdvs /p' "$doc/README.md" | head -n 1)" > "$work/trace" &&
         cmp "$work/trace" "$top/crates/example_runs/data/paper/edf_cc_with_demands.trace"
 )
+calls_by_python() (
+    cd "$data" && sed -n 's/^    python3 \(.*\)/"$python" -B \1 || exit/p' "$doc/README.md" > "$work/calls" &&
+        same "$(wc -l < "$work/calls")" 2 &&
+        export PYTHONPATH="$root/lib/python3/dist-packages" && . "$work/calls"
+)
+examples() {
+    same "$(sed -n 's/^    cd //p' "$doc/README.md")" "${data#"$work/root"}" && diff -r "$data/crates/example_runs/stdout" crates/example_runs/stdout &&
+        diff -r -x README.md "$data/crates/example_runs/data" crates/example_runs/data && diff -r -x README.md -x rtdvs.bash "$data/examples" examples
+}
 man_page() { gzip -dc "$root/share/man/man1/rtdvs.1.gz" | cmp - docs/rtdvs.1; }
+# The files that the man page names; those without a path are in the folder of the pages.
+man_files() {
+    for file in $(sed -n 's/^\.Pa \([^ ]*\).*/\1/p' docs/rtdvs.1); do
+        case $file in
+        /usr/*) [ -e "$work/root$file" ] ;;
+        *) [ -e "$doc/docs/$file" ] ;;
+        esac || echo "$file"
+    done > "$work/absent"
+    same "$(cat "$work/absent")" ''
+}
+# What is only in the repository: no script, and no word of how the program is built.
+only_repository() {
+    [ ! -e "$doc/tools" ] && [ ! -e "$data/tools" ] && ! find "$work/root" -name '*.sh' | grep . &&
+        ! grep -n -e '\.ci/run' -e 'rtdvs\.sh' -e '`rt ' "$doc/README.md"
+}
+papers() {
+    gzip -dc "$doc/changelog.gz" | head -n 1 | grep -q -x "rtdvs ($version) unstable; urgency=medium" &&
+        grep -q 'stated no licence yet' "$doc/copyright"
+}
+sums() { (cd "$work/root" && md5sum -c "$work/control/md5sums"); }
+lintian_finds_nothing() { lintian --fail-on error,warning "$package"; }
 completion() { same "$(bash -c '. "$1" && complete -p rtdvs' - "$1")" 'complete -F _rtdvs rtdvs'; }
 module() { diff -r -x __pycache__ "$root/lib/python3/dist-packages/rtdvs" python/src/rtdvs; }
 # The same trace by the module, which finds the program on the path.
 call_from_python() (
-    cd "$doc/crates/example_runs/data/paper" || exit
+    cd "$data/crates/example_runs/data/paper" || exit
     PYTHONPATH=$root/lib/python3/dist-packages "$python" -B -c 'from pathlib import Path
 from rtdvs import find_engine
 files = {name: Path(name + ending) for name, ending in (("tasks", ".toml"), ("machine", ".toml"), ("demands", ".csv"))}
@@ -50,9 +87,16 @@ scripts() (
         same "$(PATH="$work/stand-ins:$PATH" "$work/control/prerm" remove)" 'py3clean -p rtdvs' &&
         same "$(PATH='' "$shell" "$work/control/postinst" configure)" '' && same "$(PATH='' "$shell" "$work/control/prerm" remove)" ''
 )
+# The pages are those of the repository; only links to what the package lacks are gone.
+linkless() { sed 's/\[\([^]]*\)\]([^)]*)/\1/g' "$1"; }
+pages() {
+    for page in "$doc"/docs/*.md; do
+        same "$(linkless "$page")" "$(linkless "docs/$(basename "$page")")" || return
+    done
+}
 # The links of the pages, of which each leads to a file or a folder.
 links() {
-    for page in "$doc"/*.md "$doc"/docs/*.md "$doc"/examples/*.md; do
+    find -L "$doc" -name '*.md' | while read -r page; do
         sed 's/`[^`]*`//g' "$page" | grep -o ']([^()#:]*[)#]' | sed 's/^](//; s/[)#]$//' | grep . | sort -u |
             while read -r link; do [ -e "$(dirname "$page")/$link" ] || echo "${page#"$doc/"}: $link"; done
     done > "$work/broken"
@@ -61,7 +105,7 @@ links() {
 
 package=$(sh tools/package.sh "$1" "$work/first") || { echo 'package: not made'; exit 1; }
 again=$(sh tools/package.sh "$1" "$work/second") || { echo 'package: not made'; exit 1; }
-root=$work/root/usr doc=$work/root/usr/share/doc/rtdvs
+root=$work/root/usr doc=$work/root/usr/share/doc/rtdvs data=$work/root/usr/share/rtdvs
 holds 'not unpacked' dpkg-deb -x "$package" "$work/root"
 PATH=$root/bin:$PATH
 holds 'a second package differs' cmp "$package" "$again"
@@ -69,15 +113,24 @@ version=$(sed -n 's/^## \([0-9.]*\) (.*/\1/p' CHANGELOG.md | head -n 1)
 holds 'its version' same "$(field Version)" "$version"
 holds 'the version of the man page' same "$(sed -n 's/^This page is that of version \(.*\)\.$/\1/p' docs/rtdvs.1)" "$version"
 holds 'needs more than the C library' only_libc
-holds 'the program' cmp "$root/bin/rtdvs" "$1"
+holds 'the program' program "$1"
 holds 'the first call' first_call
+holds 'the examples' examples
 holds 'the man page' man_page
+holds 'the files of the man page' man_files
 [ -z "$(command -v bash)" ] || holds 'the completion' completion "$root/share/bash-completion/completions/rtdvs"
 holds 'the Python module' module
-python=${PYTHON:-/usr/bin/python3}
-! "$python" -c 'import tomllib' 2>/dev/null || holds 'a call by the Python module' call_from_python
+if "$python" -c 'import tomllib' 2>/dev/null; then
+    holds 'a call by the Python module' call_from_python
+    holds 'the calls by Python' calls_by_python
+fi
 holds 'the scripts of the package' scripts
+holds 'the sums of the files' sums
+holds 'the pages' pages
 holds 'links of pages' links
+holds 'what is only in the repository' only_repository
+holds 'the changelog or the copyright' papers
+[ -z "$(command -v lintian)" ] || holds 'lintian' lintian_finds_nothing
 
 echo "package: $cases cases, $bad differ"
 [ $bad = 0 ]

@@ -2,7 +2,10 @@
 #     sh tools/package.sh PROGRAM [FOLDER]
 # It writes rtdvs_VERSION_ARCHITECTURE.deb into FOLDER, or here without one, and prints its name. VERSION and the date of
 # all files are those of the first version of CHANGELOG.md, so the same files give the same package. DEBFULLNAME and
-# DEBEMAIL name the maintainer. In share/doc/rtdvs the pages and examples are in folders of the repository's names.
+# DEBEMAIL name the maintainer, who else has an address at example.org. The program is stripped where there is `strip`. The examples are in share/rtdvs, in folders
+# of the repository's names. In share/doc/rtdvs are the pages for those who use the program; what they link to and the
+# package lacks is named there without a link.
+pages='COMMANDS CONVERTERS EVALUATION EXERCISES FORMATS GLOSSARY LEAST MESSAGES PROVED PYTHON RULES SERVERS SPEED SWEEPS TRACE UNITS'
 set -eu
 [ $# -ge 1 ] && [ -x "$1" ] || { echo "usage: sh tools/package.sh PROGRAM [FOLDER]" >&2; exit 2; }
 program=$(cd "$(dirname "$1")" && pwd)/$(basename "$1")
@@ -15,7 +18,7 @@ date=$(sed -n 's/^## [0-9.]* (\([0-9-]*\))$/\1/p' CHANGELOG.md | head -n 1)
 SOURCE_DATE_EPOCH=$(date -u -d "$date" +%s)
 export SOURCE_DATE_EPOCH
 
-# The program may need the C library alone, and at least of the version whose symbols it names.
+# The program may need only the C library, and at least of the version whose symbols it names.
 libraries=$(ldd "$program" | awk '$1 !~ /^linux-vdso|^libc\.so\.6$|ld-linux/ { print $1 }')
 [ -z "$libraries" ] || { echo "package.sh: the program needs more than the C library:" $libraries >&2; exit 1; }
 libc=$(grep -ao 'GLIBC_[0-9.]*' "$program" | sed 's/GLIBC_//' | sort -V | tail -n 1)
@@ -23,19 +26,52 @@ libc=$(grep -ao 'GLIBC_[0-9.]*' "$program" | sed 's/GLIBC_//' | sort -V | tail -
 root=$(mktemp -d)
 trap 'rm -rf "$root"' EXIT
 trap 'exit 2' HUP INT PIPE TERM
-doc=$root/usr/share/doc/rtdvs module=$root/usr/lib/python3/dist-packages/rtdvs
+share=$root/usr/share doc=$root/usr/share/doc/rtdvs data=$root/usr/share/rtdvs
+module=$root/usr/lib/python3/dist-packages/rtdvs maintainer="${DEBFULLNAME:-rtdvs} <${DEBEMAIL:-rtdvs@example.org}>"
 umask 022
 chmod 755 "$root"
-mkdir -p "$root/DEBIAN" "$module" "$root/usr/bin" "$root/usr/share/man/man1" "$root/usr/share/bash-completion/completions" \
-    "$doc/docs" "$doc/crates/example_runs"
+mkdir -p "$root/DEBIAN" "$module" "$root/usr/bin" "$share/man/man1" "$share/bash-completion/completions" "$doc/docs" \
+    "$data/crates/example_runs"
 cp "$program" "$root/usr/bin/rtdvs"
-gzip -9n < docs/rtdvs.1 > "$root/usr/share/man/man1/rtdvs.1.gz"
-cp examples/rtdvs.bash "$root/usr/share/bash-completion/completions/rtdvs"
+[ -z "$(command -v strip)" ] || strip --strip-unneeded -R .comment -R .note "$root/usr/bin/rtdvs"
+gzip -9n < docs/rtdvs.1 > "$share/man/man1/rtdvs.1.gz"
+cp examples/rtdvs.bash "$share/bash-completion/completions/rtdvs"
 cp python/src/rtdvs/*.py python/src/rtdvs/py.typed "$module"
-cp README.md CHANGELOG.md "$doc"
-cp docs/*.md "$doc/docs"
-cp -R examples tools "$doc"
-cp -R crates/example_runs/data crates/example_runs/stdout "$doc/crates/example_runs"
+cp -R crates/example_runs/data crates/example_runs/stdout "$data/crates/example_runs"
+cp -R examples "$data"
+rm "$data/examples/rtdvs.bash"
+for folder_of in crates examples; do ln -s "../../rtdvs/$folder_of" "$doc/$folder_of"; done
+cp tools/package/copyright "$doc"
+sed -e "s|@EXAMPLES@|${data#"$root"}|g" -e "s|@PAGES@|${doc#"$root"}/docs|g" tools/package/README.md > "$doc/README.md"
+for page in $pages; do cp "docs/$page.md" "$doc/docs"; done
+
+# The changelog in Debian's form: a stanza for each version.
+signed() { printf '\n -- %s  %s\n' "$maintainer" "$(LC_ALL=C date -u -R -d "$1")"; }
+signed_at=
+sed -n 's/^## \([0-9.]*\) (\(.*\))$/version \1 \2/p; s/^- /change /p' CHANGELOG.md | while read -r kind words; do
+    case $kind in
+    version)
+        [ -z "$signed_at" ] || { signed "$signed_at" && echo; }
+        signed_at=${words#* }
+        printf 'rtdvs (%s) unstable; urgency=medium\n\n' "${words% *}"
+        ;;
+    change) echo "$words" | fold -s -w 74 | sed '1s/^/  * /; 1!s/^/    /; s/ $//' ;;
+    esac
+    echo "$signed_at" > "$root.signed"
+done > "$root.changes"
+signed "$(cat "$root.signed")" >> "$root.changes"
+gzip -9n < "$root.changes" > "$doc/changelog.gz"
+rm "$root.changes" "$root.signed"
+
+# A link to what isn't in the package becomes its text.
+for page in "$doc/README.md" "$doc"/docs/*.md "$data/examples/README.md" "$data/crates/example_runs/data/templates/README.md"; do
+    grep -o '](\([^()#:]*\)' "$page" | sed 's/^](//' | grep . | sort -u | while read -r link; do
+        [ -e "$(dirname "$page")/$link" ] || printf '%s\n' "s|\[\([^]]*\)\]($link\(#[^)]*\)*)|\1|g"
+    done > "$root.links"
+    sed -f "$root.links" "$page" > "$root.page"
+    cat "$root.page" > "$page"
+done
+rm -f "$root.links" "$root.page"
 find "$root" -type f -exec chmod 644 {} +
 find "$root" -type d -exec chmod 755 {} +
 chmod 755 "$root/usr/bin/rtdvs"
@@ -55,7 +91,7 @@ Architecture: $architecture
 Depends: libc6 (>= $libc)
 Recommends: python3 (>= 3.11)
 Suggests: python3-matplotlib, python3-pandas
-Maintainer: ${DEBFULLNAME:-nobody} <${DEBEMAIL:-nobody@localhost}>
+Maintainer: $maintainer
 Installed-Size: $(find "$root/usr" -type f -printf '%s\n' | awk '{ sum += $1 } END { print int(sum / 1024) + 1 }')
 Section: science
 Priority: optional
@@ -67,6 +103,8 @@ Description: exact schedules and energies of periodic tasks with voltage scaling
  The Python module rtdvs calls it, and explains, compares, draws and converts
  what it prints.
 END
+(cd "$root" && find usr -type f | LC_ALL=C sort | xargs -d '\n' md5sum) > "$root/DEBIAN/md5sums"
+chmod 644 "$root/DEBIAN/md5sums"
 find "$root" -exec touch -h -d "@$SOURCE_DATE_EPOCH" {} +
 dpkg-deb --root-owner-group -Zxz -b "$root" "$folder/rtdvs_${version}_$architecture.deb" > "$root.log" ||
     { cat "$root.log" >&2; rm -f "$root.log"; exit 1; }

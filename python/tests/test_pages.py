@@ -8,6 +8,10 @@ doesn't see, says what else is needed:
     <!-- file: name, under which the text of the block is kept -->
     <!-- status: that of the block's last call, if it isn't 0 -->
     <!-- lines of: a command, of which the block, or the code in a table's first column, are lines in this order -->
+
+In place of that command `above` is the last block of calls without what they print. A block of any other form is a fault,
+unless it is TOML, or part of a file, which tools/check_copies.sh compares. What pages say elsewhere is compared in
+test_tables.py.
 """
 
 import doctest
@@ -16,6 +20,7 @@ import re
 import subprocess
 import sys
 import textwrap
+import tomllib
 from collections.abc import Iterator
 from dataclasses import dataclass, field
 from pathlib import Path
@@ -32,6 +37,7 @@ TOKEN = re.compile(r"""
     | (?P<table>(?:^\|.*\n)+)""", re.MULTILINE | re.VERBOSE)
 CALL = re.compile(r"^\$ (?P<words>.*)\n(?P<printed>(?:(?!\$ ).*\n)*)", re.MULTILINE)
 BARE = re.compile(r"(?:(?:\./rtdvs|python3 -m rtdvs) .*\n)+")
+PART = re.compile(r"[a-z]+ \S+(?: part)?")
 
 
 @dataclass(frozen=True, slots=True)
@@ -79,6 +85,7 @@ class Reader:
     page: str
     folder: Path
     names: dict[str, object] = field(default_factory=dict)
+    bare: list[str] = field(default_factory=list)
 
     def call(self, words: str) -> tuple[int, str]:
         """The exit status of a command and what it prints, on both streams."""
@@ -100,20 +107,25 @@ class Reader:
         for name in block.said("file"):
             (self.folder / name).write_text(block.text, encoding="utf-8")
         for words in block.said("lines of"):
-            yield from self.lines(block, words)
+            yield from self.lines(block, self.bare[-1] if words == "above" else words)
         if not block.said("file") and not block.said("lines of"):
             yield from self.tried(block)
 
     def tried(self, block: Block) -> Iterator[str]:
-        """A block of calls and what they print; one of calls only, or of shell; one of Python."""
+        """A block of calls and what they print; one of calls only, or of shell; one of Python, or of TOML."""
         if block.text.startswith("$ "):
             yield from self.calls(block)
         elif block.kind == "sh" or BARE.fullmatch(block.text):
+            self.bare.append(block.text)
             status, printed = self.call(f"set -e\n{block.text}")
             if status:
                 yield self.fault(block.line, f"status {status}\n{printed}")
         elif block.kind == "python":
             yield from self.python(block)
+        elif block.kind == "toml":
+            tomllib.loads(block.text)
+        elif block.kind != "table" and not PART.fullmatch(block.kind):
+            yield self.fault(block.line, "nothing runs this block, and no comment says why")
 
     def calls(self, block: Block) -> Iterator[str]:
         for call in CALL.finditer(block.text):
@@ -218,6 +230,19 @@ SMALL = """A page.
 
 | `a`, `b` | |
 
+    ./rtdvs least --machine crates/example_runs/data/paper/machine.toml --units 28 --ticks 16
+
+<!-- lines of: above -->
+
+    prices 18000000000 plus 0
+    least 2 0 4 2 28 504000000000
+
+Then:
+
+    other
+
+And:
+
     $ exit 3
 
 ```sh
@@ -237,9 +262,12 @@ def test_a_fault_has_its_page_and_line(folder: Path) -> None:
     assert faults == [
         "small.md:7: printed is '5', the page says '6': echo 4; echo 5",
         "small.md:31: no such line, or not here: 'b': cat other kept",
-        "small.md:33: status 3, the page says 0: exit 3",
-        "small.md:36: status 4",
-        "small.md:40: " + "*" * 70,
+        "small.md:38: no such line, or not here: 'least 2 0 4 2 28 504000000000': "
+        "./rtdvs least --machine crates/example_runs/data/paper/machine.toml --units 28 --ticks 16",
+        "small.md:42: nothing runs this block, and no comment says why",
+        "small.md:46: status 3, the page says 0: exit 3",
+        "small.md:49: status 4",
+        "small.md:53: " + "*" * 70,
     ]
 
 

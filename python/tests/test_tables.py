@@ -1,0 +1,353 @@
+"""What pages say beside their calls: tables, sentences, equations, limits, and the tests that RULES.md names.
+
+A function for a page makes anew what the page says. What the page lacks is a fault, with the line of the page that has
+other numbers in its place.
+"""
+
+import csv
+import re
+from collections import Counter
+from collections.abc import Callable, Iterator
+from fractions import Fraction
+from itertools import pairwise
+from math import ceil
+
+import pytest
+from examples import BOARD, DATA, PAPER, TOP
+from model import random_case
+
+from rtdvs.compare import Case, energy_of, runs
+from rtdvs.decimals import decimal
+from rtdvs.draws import PUBLISHED_MILLISECOND, PUBLISHED_SEED, PUBLISHED_TICKS, PUBLISHED_TOP
+from rtdvs.engine import Engine
+from rtdvs.evaluate import MACHINES
+from rtdvs.files import Demands, FileFault, Machine, Requests, TaskSet
+from rtdvs.paper_table import EXAMPLE, PAIRS, PUBLISHED, shares
+from rtdvs.rules import GOVERNORS, Plan
+from rtdvs.simulate import simulate
+from rtdvs.trace import Done, Release, Run, Trace
+
+PAGES = sorted(path.relative_to(TOP) for path in [*TOP.glob("*.md"), *(TOP / "docs").glob("*.md")])
+NUMBER = r"\d+(?:\.\d+)?"
+
+
+def missing(page: str, text: str, wanted: str) -> str | None:
+    """What is wrong if a page doesn't say this, with the line that says it of other numbers.
+
+    >>> missing("a.md", "one\\nof 3 tasks\\n", "of 4 tasks")
+    "a.md:2: 'of 3 tasks', wanted 'of 4 tasks'"
+    """
+    if wanted in text:
+        return None
+    masked = re.sub(NUMBER, "#", wanted)
+    for place, line in enumerate(text.splitlines(), 1):
+        if masked in re.sub(NUMBER, "#", line):
+            return f"{page}:{place}: {line!r}, wanted {wanted!r}"
+    return f"{page}: no line says {wanted!r}"
+
+
+def short(value: Fraction, places: int) -> str:
+    """A share without zeros at its end.
+
+    >>> short(Fraction(16, 25), 4), short(Fraction(1), 4)
+    ('0.64', '1')
+    """
+    return decimal(value, places).rstrip("0").rstrip(".")
+
+
+def row(*cells: object) -> str:
+    """A row of a table; an empty cell is one blank.
+
+    >>> row("none", 28, "")
+    '| none | 28 | |'
+    """
+    return "|" + "".join(f" {cell} |" if str(cell) else " |" for cell in cells)
+
+
+def readme(engine: Engine) -> Iterator[str]:
+    energies = [energy_of(text) for text in runs(engine, EXAMPLE, PAIRS) if isinstance(text, str)]
+    finer = shares(engine, 3)
+    yield row("energy, in 10^9", *(short(Fraction(energy, 10**9), 4) for energy in energies))
+    yield row("Pillai and Shin (2001)", *PUBLISHED[1:])
+    yield row("this run", *(short(share, 4) for share in shares(engine, 1)))
+    yield row("ticks 3 times finer", *(short(share, 4) for share in finer))
+    yield f"the shares are exactly {finer[4]} and {short(finer[5], 4)}."
+
+
+XSCALE = ((150, "0.75", 80), (400, "1.0", 170), (600, "1.3", 400), (800, "1.6", 900), (1000, "1.8", 1600))
+"""Megahertz, volts and milliwatts, as quoted."""
+
+
+def units(engine: Engine) -> Iterator[str]:
+    mhz, volts, quoted = XSCALE[-1]
+    capacitance = Fraction(quoted, 10**3) / (Fraction(volts)**2 * mhz * 10**6)
+    model = [capacitance * Fraction(volts)**2 * mhz * 10**9 for mhz, volts, _ in XSCALE]
+    for (mhz, volts, quoted), watts in zip(XSCALE, model, strict=True):
+        yield row(mhz, volts, quoted, mhz, int(1000 * Fraction(volts)), round(watts))
+    yield f"gives C = {decimal(capacitance * 10**9, 3)} nF"
+    lower = [100 * (1 - quoted / watts) for (_, _, quoted), watts in zip(XSCALE[1:-1], model[1:-1], strict=True)]
+    yield f"are {round(min(lower))} to {round(max(lower))} percent lower in the middle"
+    folder = DATA / "controller"
+    tasks, machine = TaskSet.read(folder / "tasks.toml"), Machine.read(folder / "machine.toml")
+    first = Demands.read(folder / "demands.csv", tasks).units[tasks.tasks[0].name, 1]
+    yield (f"where it is {machine.charge}, the first job of `{tasks.tasks[0].name}` has {first} units in the demand "
+           f"file and {first + 2 * machine.charge} in the trace")
+    finer = [700 * share for share in shares(engine, 3)]
+    yield f"of continuous time, {finer[4]}/700 and {finer[5]}/700"
+
+
+def least(engine: Engine) -> Iterator[str]:
+    costs = {point.speed: point.millivolts**2 * 1000 for point in BOARD.points}
+    yield "A unit costs {} at speed 2, {} at 3 and {} at 4".format(*costs.values())
+    for governor in ("none", "static", "cc", "la"):
+        trace = Trace.parse(engine.run(PAPER, BOARD, "edf", governor, 16, EXAMPLE.demands))
+        ran = Counter[int]()
+        for note, speed in trace.at_speeds():
+            ran[speed] += note.units if isinstance(note, Run) else 0
+        yield row(governor, *(ran[speed] or "" for speed in (4, 3, 2)))
+    found = engine.least(DATA / "paper" / "machine.toml", 40, 16)
+    yield f"A unit is priced at {found.unit_price}, a tick at {found.tick_price}."
+    yield row("idle", 0, found.tick_price)
+    for speed, cost in costs.items():
+        price = speed * found.unit_price
+        yield row(f"{speed} units", speed * cost, f"{price} - {-found.tick_price} = {price + found.tick_price}")
+    yield from controller(engine)
+
+
+def controller(engine: Engine) -> Iterator[str]:
+    folder = DATA / "controller"
+    tasks, machine = TaskSet.read(folder / "tasks.toml"), Machine.read(folder / "machine.toml")
+    demands = Demands.read(folder / "demands.csv", tasks)
+    trace = Trace.parse(engine.run(tasks, machine, "edf", "cc", 100, demands))
+    ran = sum(note.units for note in trace.notes if isinstance(note, Run))
+    found = engine.least(folder / "machine.toml", ran, 100)
+    bound = Fraction(found.energy, found.rounds)
+    yield f"has {count(len(tasks))} tasks, {count(len(machine.points))} speeds, an idle share of {machine.idle} thousandths"
+    yield (f"its 100 ticks ran {ran} units for {trace.run_energy}, and idled for {trace.idle_energy}: "
+           f"together {trace.energy}.")
+    yield (f"{found.energy} / {found.rounds} = {bound}: of 100 ticks, {found.low_ticks // found.rounds} at speed "
+           f"{found.low} and {found.high_ticks // found.rounds} at speed {found.high}.")
+    yield f"The run spent {round(100 * (trace.energy / bound - 1))} percent more."
+
+
+def count(number: int) -> str:
+    return ("no", "one", "two", "three", "four", "five", "six", "seven", "eight", "nine")[number]
+
+
+def servers(engine: Engine) -> Iterator[str]:
+    folder, period, budget = DATA / "server", 5, 4
+    requests = [(each.arrival, each.units) for each in Requests.read(folder / "requests.csv").requests]
+    polled = engine.poll(folder / "tasks.toml", folder / "machine.toml", folder / "requests.csv", "s", "edf", "none", 15)
+    taken: list[int] = []
+    for release in range(0, 15, period):
+        asked = sum(units for arrival, units in requests if arrival <= release)
+        taken.append(min(budget, asked - sum(taken)))
+    yield "take {}, {} and {} units".format(*taken)
+    for place, ((arrival, asked), service) in enumerate(zip(requests, polled.services, strict=True)):
+        total, before = sum(units for _, units in requests[:place + 1]), ceil(Fraction(arrival, period))
+        backlog = total - sum(taken[:before])
+        job = before + ceil(Fraction(backlog, budget))
+        shown = f"{total} - {total - backlog} = {backlog}" if before else backlog
+        served = f"job {service.job}, {service.position}" if service.job else "pending: past the run"
+        yield row(place + 1, arrival, asked, shown, job - before, before, job, job * period, served)
+    for period, budget in ((5, 4), (10, 8), (5, 8), (10, 15)):
+        waits = (period - 1 + ceil(Fraction(asked, budget)) * period for asked in (1, 6, 8, 19, 40))
+        yield row(period, budget, budget * 10 // period, *waits)
+
+
+def figure(name: str) -> dict[tuple[str, str, str], Fraction]:
+    """The means of a stored table by panel, curve and utilisation."""
+    with (TOP / "examples" / "evaluation" / f"{name}.tsv").open(encoding="utf-8") as file:
+        return {(line["panel"], line["curve"], line["utilisation"]): Fraction(line["mean"])
+                for line in csv.DictReader(file, delimiter="\t") if line["mean"]}
+
+
+def evaluation(engine: Engine) -> Iterator[str]:
+    yield f"from 0.1 to 1.0, seed {PUBLISHED_SEED} |"
+    yield f"the nearest divisor of {PUBLISHED_TICKS} ticks; {PUBLISHED_MILLISECOND} ticks are 1 ms |"
+    yield f"{PUBLISHED_TICKS} ticks, which are {decimal(Fraction(PUBLISHED_TICKS, 1000 * PUBLISHED_MILLISECOND), 4)} s;"
+    for number in (1, 3):
+        points = MACHINES[f"table{number}_idle0"].points
+        speeds = [short(Fraction(point.speed, PUBLISHED_TOP), 2) for point in points]
+        volts = [short(Fraction(point.millivolts, 1000), 1) for point in points]
+        of = f" of {PUBLISHED_TOP} units a tick," if number == 1 else ""
+        yield f"{', '.join(speeds[:-1])} and {speeds[-1]}{of} at {', '.join(volts[:-1])} and {volts[-1]} V |"
+    tasks, machines, idle, demands = (figure(name) for name in ("tasks", "machines", "idle", "demands"))
+    at_most = [max(tasks[f"{number} tasks", "edf la", tenth] - tasks[f"{number} tasks", "bound", tenth]
+                   for tenth in tenths()) for number in (5, 10, 15)]
+    yield f"its mean is at most {decimal(at_most[0], 2)} above it, and {decimal(max(at_most[1:]), 2)} for 10 and 15 tasks"
+    means = [short(tasks[f"{number} tasks", "rm static", "0.7"], 2) for number in (5, 10, 15)]
+    yield "at 0.7 the mean of `static` is {}, {} and {}.".format(*means)
+    pairs = [short(machines[panel, curve, "0.8"], 2) for panel in ("machine 1", "machine 2")
+             for curve in ("edf cc", "rm cc")]
+    yield "At 0.8 the two have {} and {} on machine 1, and {} and {} on machine 2.".format(*pairs)
+    falls = [decimal(idle[f"idle share {share}", "edf static", "0.1"], 2) for share in ("0", "0.01", "0.1", "1")]
+    yield "at 0.1 the share falls from {} to {}, {} and {}.".format(*falls)
+    yield from taken_shares(demands)
+
+
+def taken_shares(demands: dict[tuple[str, str, str], Fraction]) -> Iterator[str]:
+    whole, half = "all of the worst case", "0.5 of it"
+    falls = [(demands[whole, curve, "0.8"], demands[half, curve, "0.8"]) for curve in ("edf cc", "edf la")]
+    yield (f"fall from {short(falls[0][0], 2)} and {decimal(falls[1][0], 2)} to {decimal(falls[0][1], 2)} and "
+           f"{decimal(falls[1][1], 2)} when jobs take half")
+    change = max(abs(demands[whole, "rm cc", tenth] - demands[half, "rm cc", tenth]) for tenth in tenths()
+                 if (half, "rm cc", tenth) in demands)
+    yield f"RM's `cc` changes little (at most {decimal(change, 2)})"
+    spread = max(abs(mean - demands["a uniform share", curve, tenth]) for (panel, curve, tenth), mean in demands.items()
+                 if panel == half)
+    yield f"gives the same means within {decimal(spread, 3)}."
+
+
+def tenths() -> list[str]:
+    return [decimal(Fraction(tenth, 10), 1) for tenth in range(1, 11)]
+
+
+def limits() -> dict[str, int]:
+    """The constants of the code by name."""
+    texts = [path.read_text(encoding="utf-8") for path in (TOP / "crates").glob("*/src/limits.rt")]
+    found = re.findall(r"^pub const ([A-Z_]+): \w+ = ([\d_]+)(?: << (\d+))?;", "\n".join(texts), re.MULTILINE)
+    return {name: int(number) << int(by or 0) for name, number, by in found}
+
+
+def power(number: int) -> str:
+    assert number.bit_count() == 1
+    return f"2^{number.bit_length() - 1}"
+
+
+def formats(engine: Engine) -> Iterator[str]:
+    of = limits()
+    yield f"an array of 1 to {of['MOST_TASKS']} tables"
+    yield f"1 to {of['NAME_BYTES']} bytes of ASCII"
+    yield f"1 to {power(of['LONGEST_PERIOD'])} ticks"
+    yield f"1 to {power(of['MOST_WORK'])} work units |"
+    yield f"0 to {power(of['LATEST_OFFSET'])} ticks; 0 if absent"
+    yield f"common multiple of the periods is at most {power(of['LONGEST_HYPERPERIOD'])}."
+    yield f"0 to {of['MOST_IDLE']} thousandths"
+    yield f"0 to {of['MOST_CHARGE']} work units; 0 if absent"
+    yield f"1 to {of['MOST_POINTS']} entries"
+    yield f"1 to {of['TOP_SPEED']} work units per tick, rising"
+    yield f"1 to {of['MOST_MILLIVOLTS']}, never falling"
+    yield f"1 to {power(of['MOST_REQUEST_UNITS'])} work units; at most {of['MOST_REQUESTS']} rows"
+
+
+def messages(engine: Engine) -> Iterator[str]:
+    of = limits()
+    yield f"More than {of['LONGEST_FILE']} bytes; for a trace, {of['LONGEST_TRACE']}."
+    yield f"At most {of['MOST_IDLE']} and {of['MOST_CHARGE']}."
+    yield f"<count> tasks, at most {of['MOST_TASKS']}`"
+    yield f"<count> points, at most {of['MOST_POINTS']}`"
+    yield f"no common multiple up to {of['LONGEST_HYPERPERIOD']}`"
+    yield f"At most {of['TOP_SPEED']} units per tick and {of['MOST_MILLIVOLTS']} mV."
+    yield f"<count> rows, at most {of['MOST_REQUESTS']}`"
+    yield f"It is line {of['MOST_LINES'] + 1}."
+    yield f"It has more than {of['LINE_BYTES'] - 1} bytes"
+    yield f"<jobs> jobs, at most {of['MOST_JOBS']}`"
+    yield f"`<key>` and `<word>` have at most {of['NAME_BYTES']} bytes"
+
+
+def rules(engine: Engine) -> Iterator[str]:
+    yield f"for more than {limits()['MOST_JOBS']} jobs;"
+
+
+SAID: dict[str, Callable[[Engine], Iterator[str]]] = {
+    "README.md": readme, "docs/UNITS.md": units, "docs/LEAST.md": least, "docs/SERVERS.md": servers,
+    "docs/EVALUATION.md": evaluation, "docs/FORMATS.md": formats, "docs/MESSAGES.md": messages, "docs/RULES.md": rules,
+}
+
+
+@pytest.mark.parametrize("page", SAID)
+def test_what_pages_say(page: str, engine: Engine) -> None:
+    text = (TOP / page).read_text(encoding="utf-8")
+    faults = [fault for wanted in SAID[page](engine) if (fault := missing(page, text, wanted))]
+    assert not faults, "\n" + "\n".join(faults)
+
+
+# Equations
+
+SIDE = r"[\d(](?:[\d ().]|[-+*/](?! ?[a-zA-Z`]))*(?<=[\d)])"
+EQUATION = re.compile(rf"(?<![\w.^/*+-])(?<![\w)] [-+*/] ){SIDE}(?: = {SIDE})+(?![\w^*/])")
+
+
+def wrong_equations(line: str) -> Iterator[str]:
+    """The equations of numbers in a line that don't hold.
+
+    >>> list(wrong_equations("so 12 * 280/8 = 420, and 420 + 336 = 757; C * 2 = 3"))
+    ['420 + 336 = 757']
+    """
+    whole = re.sub(r"ceil\((\d+)/(\d+)\)", lambda part: str(ceil(Fraction(int(part[1]), int(part[2])))), line)
+    for found in EQUATION.finditer(whole):
+        sides = [value(side) for side in found[0].split(" = ")]
+        if any(one != two for one, two in pairwise(sides)):
+            yield found[0]
+
+
+def value(side: str) -> Fraction:
+    """The value of a sum or a product, exactly.
+
+    >>> value("12 * 280/8 - 0.5")
+    Fraction(839, 2)
+    """
+    exact = re.sub(NUMBER, lambda number: f"Fraction('{number[0]}')", side)
+    found: Fraction = eval(exact, {"Fraction": Fraction})
+    return found
+
+
+@pytest.mark.parametrize("page", PAGES, ids=str)
+def test_equations(page: str) -> None:
+    lines = (TOP / page).read_text(encoding="utf-8").splitlines()
+    faults = [f"{page}:{place}: {wrong}" for place, line in enumerate(lines, 1) for wrong in wrong_equations(line)]
+    assert not faults, "\n" + "\n".join(faults)
+
+
+# Answers of the exercises
+
+def test_answers_are_those_of_the_solutions() -> None:
+    """Each line that an answer quotes is printed by a call of the solutions."""
+    solutions = (TOP / "examples" / "exercises" / "solutions.txt").read_text(encoding="utf-8").splitlines()
+    lines = (TOP / "docs" / "EXERCISES.md").read_text(encoding="utf-8").splitlines()
+    answers = [(place, line) for place, line in enumerate(lines, 1) if line.startswith("**Answer.**")]
+    quoted = [(place, code) for place, line in answers for code in re.findall(r"`([a-z]+ [^`]*\d)`", line)]
+    assert len(quoted) >= 3
+    assert not [f"docs/EXERCISES.md:{place}: {code}" for place, code in quoted if code not in solutions]
+
+
+# The tests that RULES.md names
+
+MEASURE = re.compile(r"\d|\b(?:rounded|twice|thousandths|seven|three|one more)\b")
+
+
+def unnamed(text: str, names: set[str]) -> Iterator[str]:
+    """The lines that have a number or a rounding, and name no test of these in a comment at their end.
+
+    >>> list(unnamed("# 1\\ntwice. <!-- test: a -->\\n3\\nrounded <!-- test: a, b -->\\n", {"a"}))
+    ['line 3: no test', 'line 4: no test b']
+    """
+    for place, line in enumerate(text.splitlines(), 1):
+        named = re.search(r"<!-- tests?: (.*) -->", line)
+        if named:
+            yield from (f"line {place}: no test {name}" for name in named[1].split(", ") if name not in names)
+        elif not line.startswith("#") and MEASURE.search(re.sub(r"^\d\. |\]\(.*?\)|\(\d{4}\)|, \d{4}\)", "", line)):
+            yield f"line {place}: no test"
+
+
+def test_rules_name_their_tests() -> None:
+    tests = [*(TOP / "python" / "tests").glob("test_*.py"), *(TOP / "crates").glob("*/src/**/*.rt")]
+    found = re.findall(r"^def (test_\w+)|#\[test\](?:\n.*?)*?\nfn (\w+)",
+                       "\n".join(path.read_text(encoding="utf-8") for path in tests), re.MULTILINE)
+    names = {name for pair in found for name in pair if name}
+    assert not list(unnamed((TOP / "docs" / "RULES.md").read_text(encoding="utf-8"), names))
+
+
+@pytest.mark.parametrize("pair", GOVERNORS, ids="-".join)
+def test_few_decisions_and_notes(pair: tuple[str, str]) -> None:
+    for seed in range(40):
+        tasks, machine, demands, ticks = random_case(seed)
+        try:
+            Plan(tasks, machine, pair[0]).admit()
+        except FileFault:
+            continue
+        trace = simulate(tasks, machine, pair[0], min(ticks, 60), GOVERNORS[pair], demands, pair[1])
+        kinds = Counter(type(note) for note in trace.notes)
+        assert len(trace.decisions) <= kinds[Release] + kinds[Done] + 1
+        assert len(trace.notes) - len(tasks) <= 7 * kinds[Release] + 3
