@@ -7,6 +7,7 @@ use Rattle.freq_table.specs.Tables.{last_entry}
 use Rattle.task_model.specs.declared.task.Task.{Task}
 use Rattle.sched_model.specs.Plan.{Plan, plan_of}
 use Rattle.sched_model.specs.Jobs.{release}
+use Rattle.sched_model.proofs.Examples.{task_from, task_of, entry_of}
 use Rattle.edf_demand_laws.specs.ProcessorDemand.{constrained_demand}
 use Rattle.edf_demand_laws.specs.MetOrMissed.{MissesAtWorst}
 use Rattle.edf_demand.specs.declared.lowest_speed.ConstrainFault.TheVariants.{Offset, Denied}
@@ -16,16 +17,9 @@ use Rattle.edf_demand.specs.Answers.{tested_answer, IsLowestSpeed, IsOverload}
 abbrev plan : List Task → List Point → Plan
 plan tasks points = plan_of tasks (record { points = points; idle = 0; charge = 0 }) Edf
 
--- a task with this name, period, worst case and offset
-abbrev task_of : List ℕ → ℕ → ℕ → ℕ → Task
-task_of name period worst offset = record { name = name; period = period; worst = worst; offset = offset }
-
-abbrev entry_of : ℕ → ℕ → Point
-entry_of speed millivolts = record { speed = speed; millivolts = millivolts }
-
 -- task a (period 4, worst case 4) and task b (period 6, worst case 6)
 abbrev pair : List Task
-pair = task_of (codes "a") 4 4 0 ∷ task_of (codes "b") 6 6 0 ∷ []
+pair = task_of (codes "a") 4 4 ∷ task_of (codes "b") 6 6 ∷ []
 
 -- with the deadlines 2 and 5 the most work per tick is due by tick 6: two jobs of a and one of b, 14 units, for which
 -- speed 2 is too slow and speed 3 enough
@@ -43,7 +37,7 @@ denied = refl
 -- of two tasks with offsets the first in file order is named, whose period and deadline are the longer ones
 offset_in_file_order :
     tested_answer
-    (plan (task_of (codes "b") 6 1 1 ∷ task_of (codes "a") 4 1 1 ∷ []) (entry_of 2 1000 ∷ []))
+    (plan (task_from 1 (codes "b") 6 1 ∷ task_from 1 (codes "a") 4 1 ∷ []) (entry_of 2 1000 ∷ []))
     (slice_index (5 ∷ 2 ∷ []))
     ≡ Err (Offset 0)
 offset_in_file_order = refl

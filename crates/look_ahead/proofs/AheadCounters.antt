@@ -3,6 +3,7 @@ use Rattle.std.proofs.Common.{◌≡◌, ◌≢◌, ℕ, ◌+◌, ◌-◌, ◌<�
 use Rattle.std.specs.Prelude.{map, slice_set}
 use Rattle.std.proofs.Math.ListN.{replicate, get_or-map}
 use Rattle.std.proofs.Math.Seq.{map-set_same}
+use Rattle.std.proofs.lemmas.Bool.Decides.{nat_tests}
 use Rattle.grid_fraction.specs.Numbers.{list_below}
 use Rattle.sched_model.specs.declared.state.Row.{Row}
 use Rattle.sched_model.specs.Plan.{Plan, count, period, offset, rate}
@@ -37,19 +38,11 @@ module _ (plan : Plan) (s : StateView) (left order rates : List ℕ) (keeps : Ke
   -- a new row with the same deadline changes no deadline
   due-kept : (row : Row) → row.deadline ≡ deadline_at s i → (k : ℕ) → deadline_at (written row) k ≡ deadline_at s k
   due-kept row same k =
-      sym (get_or-map due_of (slice_set s.rows i row) k no_row)
-      ∙ (ap (λ (ds : List ℕ). get_or ds k 0) (map-set_same due_of s.rows i row no_row same)
-      ∙ get_or-map due_of s.rows k no_row)
+      grind (arith, get_or-map due_of (slice_set s.rows i row) k no_row, get_or-map due_of s.rows k no_row, map-set_same due_of s.rows i row no_row same)
 
   keeps-row : (row : Row) (left' : List ℕ) → row.deadline ≡ deadline_at s i → left' ≡ map row_wleft (written row).rows
       → Keeps left' order rates plan (written row)
-  keeps-row row left' same is = record {
-    served = keeps.served;
-    left_is = is;
-    order_is = keeps.order_is
-        ∙ in_order-same (deadline_at s) (deadline_at (written row)) (count plan) (λ k lt. sym (due-kept row same k));
-    rates_are = keeps.rates_are;
-  }
+  keeps-row row left' same is = grind (arith, nat_tests, in_order-same, due-kept)
 
   -- after a completion nothing is left of the task's work
   pub keeps-finished : Keeps (slice_set left i 0) order rates plan (after_finish s i)
@@ -60,20 +53,13 @@ module _ (plan : Plan) (s : StateView) (left order rates : List ℕ) (keeps : Ke
   -- `State::run` takes its units from what is left of the task's work
   pub keeps-ran : (units w : ℕ) → CanRun s i units → w ≡ get_or left i w
       → Keeps (slice_set left i (w - units)) order rates plan (after_run s i units)
-  keeps-ran units w can read =
-      let row : Row = record (row_at s i) { used = (row_at s i).used + units } in
-      keeps-row row (slice_set left i (w - units)) refl (left-run s left keeps.left_is i units w can read)
+  keeps-ran units w can read = grind (arith, keeps-row, left-run s left keeps.left_is i units w can read)
 
   -- after a release the task's whole worst case is left, and the task has its place in the order
   pub keeps-released : (w : ℕ) (order' : List ℕ) → w ≡ (row_at s i).worst
       → order' ≡ edf_order plan (after_release plan s i)
       → Keeps (slice_set left i w) order' rates plan (after_release plan s i)
-  keeps-released w order' worst is = record {
-    served = keeps.served;
-    left_is = left-set s left keeps.left_is i (released_row (period plan i) (row_at s i)) w (omega (arith, worst));
-    order_is = is;
-    rates_are = keeps.rates_are;
-  }
+  keeps-released w order' worst is = grind (arith, nat_tests, left-set)
 
 -- after a release the released task is due a period later, and no other deadline changes
 module _ (plan : Plan) (s : StateView) (i : ℕ) (can : CanRelease plan s i) where
@@ -97,16 +83,9 @@ module _ (plan : Plan) (s : StateView) (i : ℕ) (can : CanRelease plan s i) whe
 
 -- before the first release nothing is left, and the tasks are in the order of their offsets
 pub order-opening : (plan : Plan) → in_order (offset plan) (count plan) ≡ edf_order plan (opening plan)
-order-opening plan =
-    in_order-same (offset plan) (deadline_at (opening plan)) (count plan)
-    (λ k lt. sym (ap (λ (r : Row). r.deadline) (opening_at plan k lt)))
+order-opening plan = grind (arith, nat_tests, in_order-same, opening_at)
 
 pub keeps-opening : (plan : Plan) (order rates : List ℕ) → ServesEdf plan.scheduler
     → order ≡ edf_order plan (opening plan) → rates ≡ list_below (count plan) (rate plan)
     → Keeps (replicate (count plan) 0) order rates plan (opening plan)
-keeps-opening plan order rates edf is are = record {
-  served = edf;
-  left_is = left-opening plan;
-  order_is = is;
-  rates_are = are;
-}
+keeps-opening plan order rates edf is are = grind (arith, left-opening plan)

@@ -1,5 +1,5 @@
 -- EDF order: the first task has the least key, and a task whose deadline grows is moved to its place, in a loop.
-use Rattle.std.proofs.Common.{◌≡◌, ℕ, ◌<◌, ◌≤◌, List, [], ◌∷◌, ◌++◌, get_or, arith, sym, subst, ◌≢◌, ◌⊎◌, inl, inr, eq-or-lt_of_le, le_of_suc-le-suc, zero, suc, Bool, true, false, length, drop, refl, ap, ap₂, ◌∙◌, nat_eq, nat_lt, if◌then◌else◌, true≢false, ◌+◌, take, append_assoc, get_or-set_same, length-set}
+use Rattle.std.proofs.Common.{◌≡◌, ℕ, ◌<◌, ◌≤◌, List, [], ◌∷◌, ◌++◌, get_or, arith, sym, subst, ◌≢◌, ◌⊎◌, inl, inr, eq-or-lt_of_le, le_of_suc-le-suc, zero, suc, Bool, true, false, length, drop, refl, ap, ap₂, ◌∙◌, nat_eq, nat_lt, if◌then◌else◌, ◌+◌, take, append_assoc, get_or-set_same, length-set}
 use Rattle.std.specs.Prelude.{◌||◌, ◌&&◌, slice_set}
 use Rattle.std.proofs.lemmas.Bool.Decides.{nat_tests}
 use Rattle.std.proofs.lemmas.List.{drop_more, append-nil, drop-set-lt, take-set, take_all, take_more, take_more_set}
@@ -44,22 +44,10 @@ reinserted key i (x ∷ xs) = if nat_eq x i then insert_by key i xs else x ∷ r
 module _ (key : ℕ → ℕ) (i j : ℕ) (apart : i ≢ j) where
   insert-two : (x : ℕ) (xs : List ℕ) → insert_by key i (insert_by key j xs) ≡ insert_by key j (insert_by key i xs)
       → insert_by key i (insert_by key j (x ∷ xs)) ≡ insert_by key j (insert_by key i (x ∷ xs))
-  insert-two x xs ih = go (stands_before key i x) (stands_before key j x) (stands_before key i j) refl refl refl
-    where
-      go : (a b c : Bool) → stands_before key i x ≡ a → stands_before key j x ≡ b → stands_before key i j ≡ c
-          → insert_by key i (insert_by key j (x ∷ xs)) ≡ insert_by key j (insert_by key i (x ∷ xs))
-      go true true true p q r = let s = before-not key i j r in simp (q, p, r, s) refl
-      go true true false p q r = let s = before-total key i j apart r in simp (q, p, r, s) refl
-      go true false c p q r = let s : stands_before key j i ≡ false = grind (arith, nat_tests) in simp (q, p, s) refl
-      go false true c p q r = let s : stands_before key i j ≡ false = grind (arith, nat_tests) in simp (q, p, s) refl
-      go false false c p q r = simp (p, q) (ap (λ (ys : List ℕ). x ∷ ys) ih)
+  insert-two x xs ih = grind (arith, nat_tests, before-not, before-total)
 
   insert-swap : (xs : List ℕ) → insert_by key i (insert_by key j xs) ≡ insert_by key j (insert_by key i xs)
-  insert-swap [] = go (stands_before key i j) refl
-    where
-      go : (c : Bool) → stands_before key i j ≡ c → insert_by key i (j ∷ []) ≡ insert_by key j (i ∷ [])
-      go true r = rw (r, before-not key i j r) refl
-      go false r = rw (r, before-total key i j apart r) refl
+  insert-swap [] = grind (arith, nat_tests, before-not, before-total)
   insert-swap (x ∷ xs) = insert-two x xs (insert-swap xs)
 
 -- each number of the list is another one than i
@@ -73,12 +61,7 @@ others-below i (x ∷ xs) b = let lt = b.0 in ((λ e. omega arith), others-below
 
 others-ahead : (key : ℕ → ℕ) (i : ℕ) (xs : List ℕ) → IsAhead key i xs → AreOthers i xs
 others-ahead key i [] a = tt
-others-ahead key i (x ∷ xs) a = (
-  (λ e.
-      let self : stands_before key i i ≡ true = subst (λ (j : ℕ). stands_before key i j ≡ true) e a.0 in
-      absurd (true≢false (sym self ∙ before-self key i))),
-  others-ahead key i xs a.1,
-)
+others-ahead key i (x ∷ xs) a = grind (arith, before-self key i, others-ahead key i xs a.1)
 
 not-eq : (x i : ℕ) → x ≢ i → nat_eq x i ≡ false
 not-eq x i ne = grind (arith, nat_tests)
@@ -97,26 +80,16 @@ module _ (key key' : ℕ → ℕ) (i : ℕ) (same : (j : ℕ) → j ≢ i → ke
   insert-front : (n : ℕ) → n ≢ i → stands_before key n i ≡ true → (xs : List ℕ) → IsAhead key i xs
       → insert_by key' n xs ≡ n ∷ xs
   insert-front n ne h [] a = refl
-  insert-front n ne h (y ∷ ys) a =
-      let first : stands_before key' n y ≡ true =
-      before-others n y ne (others-ahead key i (y ∷ ys) a).0 ∙ before-trans key n i y h a.0 in
-      rw first refl
+  insert-front n ne h (y ∷ ys) a = grind (arith, nat_tests, before-others, others-ahead, before-trans)
 
   insert-others : (n : ℕ) → n ≢ i → (xs : List ℕ) → AreOthers i xs → insert_by key n xs ≡ insert_by key' n xs
   insert-others n ne [] o = refl
-  insert-others n ne (y ∷ ys) o =
-      ap₂ (λ (c : Bool) (zs : List ℕ). if c then n ∷ y ∷ ys else y ∷ zs)
-      (sym (before-others n y ne o.0)) (insert-others n ne ys o.1)
+  insert-others n ne (y ∷ ys) o = grind (arith, nat_tests, before-others, insert-others n ne ys o.1)
 
   -- task i, inserted by the old key and then inserted again, is where the new key puts it
   reinserted-own : (xs : List ℕ) → AreOthers i xs → reinserted key' i (insert_by key i xs) ≡ insert_by key' i xs
   reinserted-own [] o = let self : nat_eq i i ≡ true = grind (arith, nat_tests) in rw self refl
-  reinserted-own (x ∷ xs) o = go (stands_before key i x) refl (reinserted-own xs o.1)
-    where
-      go : (c : Bool) → stands_before key i x ≡ c → reinserted key' i (insert_by key i xs) ≡ insert_by key' i xs
-          → reinserted key' i (if c then i ∷ x ∷ xs else x ∷ insert_by key i xs) ≡ insert_by key' i (x ∷ xs)
-      go true p ih = let self : nat_eq i i ≡ true = grind (arith, nat_tests) in rw self refl
-      go false p ih = rw (not-eq x i o.0, before-later x o.0 p) (ap (λ (ys : List ℕ). x ∷ ys) ih)
+  reinserted-own (x ∷ xs) o = grind (arith, not-eq x i o.0, before-later, reinserted-own xs o.1)
 
   -- another task can be inserted before task i is inserted again, or after it
   reinserted-other : (n : ℕ) → n ≢ i → (xs : List ℕ) → IsOrdered key xs
@@ -186,28 +159,11 @@ module _ (key key' : ℕ → ℕ) (i : ℕ) (same : (j : ℕ) → j ≢ i → ke
   moved_back-own : (xs : List ℕ) → AreOthers i xs
       → moved_back (stands_before_due key i (key' i)) i i xs ≡ insert_by key' i xs
   moved_back-own [] o = refl
-  moved_back-own (y ∷ ys) o = go (stands_before key' y i) refl (moved_back-own ys o.1)
-    where
-      go : (c : Bool) → stands_before key' y i ≡ c
-          → moved_back (stands_before_due key i (key' i)) i i ys ≡ insert_by key' i ys
-          → moved_back (stands_before_due key i (key' i)) i i (y ∷ ys) ≡ insert_by key' i (y ∷ ys)
-      go true p ih =
-          let self : nat_eq i i ≡ true = grind (arith, nat_tests) in
-          let t : stands_before_due key i (key' i) y ≡ true = test-is y o.0 ∙ p in
-          rw (self, t, before-not key' y i p) (ap (λ (zs : List ℕ). y ∷ zs) ih)
-      go false p ih =
-          let self : nat_eq i i ≡ true = grind (arith, nat_tests) in
-          let t : stands_before_due key i (key' i) y ≡ false = test-is y o.0 ∙ p in
-          let first : stands_before key' i y ≡ true = before-total key' y i o.0 p in
-          rw (self, t, first) (ap (λ (zs : List ℕ). i ∷ zs) (moved_back-none y ys o.0 o.1))
+  moved_back-own (y ∷ ys) o = grind (arith, nat_tests, test-is, before-not, before-total, moved_back-none, moved_back-own ys o.1)
 
   moved_back-is : (x : ℕ) (xs : List ℕ) → IsOrdered key (x ∷ xs)
       → moved_back (stands_before_due key i (key' i)) i x xs ≡ reinserted key' i (x ∷ xs)
-  moved_back-is x [] o = go (nat_eq x i) refl
-    where
-      go : (b : Bool) → nat_eq x i ≡ b → x ∷ [] ≡ (if b then i ∷ [] else x ∷ [])
-      go true p = let e : x ≡ i = grind (arith, nat_tests) in ap (λ (m : ℕ). m ∷ []) e
-      go false p = refl
+  moved_back-is x [] o = grind (arith, nat_tests)
   moved_back-is x (y ∷ ys) o = go (nat_eq x i) refl (moved_back-is y ys o.1)
     where
       go : (b : Bool) → nat_eq x i ≡ b
@@ -226,13 +182,7 @@ module _ (key key' : ℕ → ℕ) (i : ℕ) (same : (j : ℕ) → j ≢ i → ke
   -- task i goes to its place among all tasks
   pub moved_back-in_order : (n : ℕ) (old : List ℕ) → i < n → old ≡ in_order key n
       → moved_back (stands_before_due key i (key' i)) i (get_or old 0 0) (drop 1 old) ≡ in_order key' n
-  moved_back-in_order n old lt e =
-      let some : 0 < length old = omega (arith, ap (length {A = ℕ}) e, length-in_order key n) in
-      let parts : old ≡ get_or old 0 0 ∷ drop 1 old = drop_more old 0 0 some in
-      let ordered : IsOrdered key (get_or old 0 0 ∷ drop 1 old) =
-      subst (IsOrdered key) (sym e ∙ parts) (in_order-ordered key n) in
-      moved_back-is (get_or old 0 0) (drop 1 old) ordered
-      ∙ (ap (reinserted key' i) (sym parts ∙ e) ∙ reinserted-in_order n lt)
+  moved_back-in_order n old lt e = grind (arith, length-in_order key n, drop_more, in_order-ordered key n, moved_back-is, reinserted-in_order n lt)
 
 -- the first k numbers are in place, and the one that may go back is next
 pub record IsInPlace (test : ℕ → Bool) (i : ℕ) (old order : List ℕ) (k : ℕ) : Type 0 where
@@ -256,36 +206,11 @@ module _ (test : ℕ → Bool) (i : ℕ) (old order : List ℕ) (k : ℕ)
 
   pub passing_stays : (nat_eq here i && test next) ≡ false → IsInPlace test i old order (k + 1)
   passing_stays stays =
-      let stay : moved_back test i here (next ∷ rest) ≡ here ∷ moved_back test i next rest = rw stays refl in
-      record {
-        long = was.long;
-        made = next_is
-            ∙ (ap (λ (ds : List ℕ). take k order ++ ds) stay
-            ∙ (sym (append_assoc (take k order) (here ∷ []) (moved_back test i next rest))
-            ∙ ap (λ (ys : List ℕ). ys ++ moved_back test i next rest) (sym (take_more order k 0 (omega arith)))));
-      }
+      grind (arith, next_is, append_assoc (take k order) (here ∷ []) (moved_back test i next rest), take_more order k 0 (omega arith))
 
   pub passing_moves : here ≡ i → test next ≡ true
       → IsInPlace test i old (slice_set (slice_set order k next) (k + 1) i) (k + 1)
-  passing_moves own moves =
-      let self : nat_eq here i ≡ true = grind (arith, nat_tests) in
-      let set_next = slice_set order k next in
-      let order' = slice_set set_next (k + 1) i in
-      let long : length set_next ≡ length order = length-set order k next in
-      let move : moved_back test i here (next ∷ rest) ≡ next ∷ moved_back test i here rest = rw (self, moves) refl in
-      let front : take (k + 1) order' ≡ take k order ++ next ∷ [] =
-      take-set set_next (k + 1) i ∙ take_more_set order k next (omega arith) in
-      let at : get_or order' (k + 1) 0 ≡ here = get_or-set_same set_next (k + 1) i 0 (omega arith) ∙ sym own in
-      let back : drop (k + 1 + 1) order' ≡ rest =
-      drop-set-lt (k + 1 + 1) set_next (k + 1) i (omega arith) ∙ drop-set-lt (k + 1 + 1) order k next (omega arith) in
-      record {
-        long = length-set set_next (k + 1) i ∙ (long ∙ was.long);
-        made = next_is
-            ∙ (ap (λ (ds : List ℕ). take k order ++ ds) move
-            ∙ (sym (append_assoc (take k order) (next ∷ []) (moved_back test i here rest))
-            ∙ (ap (λ (ys : List ℕ). ys ++ moved_back test i here rest) (sym front)
-            ∙ ap₂ (λ (x : ℕ) (ds : List ℕ). take (k + 1) order' ++ moved_back test i x ds) (sym at) (sym back))));
-      }
+  passing_moves own moves = grind (arith, nat_tests, length-set, take-set, take_more_set, get_or-set_same, drop-set-lt, next_is, append_assoc)
 
 -- a number other than i doesn't go back
 pub stays_other : (x i : ℕ) (b : Bool) → x ≢ i → (nat_eq x i && b) ≡ false
@@ -294,15 +219,9 @@ stays_other x i b ne = let other : nat_eq x i ≡ false = grind (arith, nat_test
 -- a vector whose whole slice was lent and written has the written items
 pub written_back : (len : ℕ) (old new : List ℕ) → len ≡ length old → length new ≡ length old
     → take len (new ++ drop (length new) old) ≡ new
-written_back len old new long same =
-    let none : drop (length new) old ≡ [] = drop_of_length-le old (omega arith) in
-    rw none (rw append-nil (take_all len new (omega arith)))
+written_back len old new long same = grind (arith, nat_tests, drop_of_length-le, append-nil, take_all)
 
 -- when the loop reaches the last place, all numbers are in place
 pub passing_end : (test : ℕ → Bool) (i : ℕ) (old order : List ℕ) (k : ℕ) → k + 1 ≡ length order
     → IsInPlace test i old order k → order ≡ moved_back test i (get_or old 0 0) (drop 1 old)
-passing_end test i old order k last was =
-    let none : drop (k + 1) order ≡ [] = drop_of_length-le order (omega arith) in
-    sym (was.made
-    ∙ (ap (λ (ds : List ℕ). take k order ++ moved_back test i (get_or order k 0) ds) none
-    ∙ (sym (take_more order k 0 (omega arith)) ∙ take_all (k + 1) order (omega arith))))
+passing_end test i old order k last was = grind (arith, nat_tests, drop_of_length-le, take_more, take_all)

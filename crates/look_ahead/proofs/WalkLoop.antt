@@ -1,6 +1,6 @@
 -- The walk from the last task to the first, in a loop, computes the demand.
-use Rattle.std.proofs.Common.{◌≡◌, inl, inr, ℕ, ◌+◌, ◌-◌, ◌*◌, ◌<◌, ◌≤◌, min, true, false, List, [], ◌∷◌, ◌++◌, refl, ◌∙◌, ap, arith, append_assoc, ◌^◌, Bool, length, get_or, take, drop, sym, subst}
-use Rattle.std.specs.Prelude.{◌/◌, nat_eq, if◌then◌else◌}
+use Rattle.std.proofs.Common.{◌≡◌, inl, inr, ℕ, ◌+◌, ◌-◌, ◌*◌, ◌<◌, ◌≤◌, min, true, false, List, [], ◌∷◌, ◌++◌, ◌∙◌, ap, arith, append_assoc, ◌^◌, Bool, length, get_or, take, drop, subst}
+use Rattle.std.specs.Prelude.{nat_eq, if◌then◌else◌}
 use Rattle.std.proofs.lemmas.Bool.{cases_Bool}
 use Rattle.std.proofs.lemmas.Bool.Decides.{nat_tests}
 use Rattle.std.proofs.Math.ListN.{drop_of_length-le}
@@ -9,15 +9,12 @@ use Rattle.std.proofs.lemmas.List.{append-nil, get_or_read, take_more, drop_more
 use Rattle.grid_fraction.specs.Numbers.{ceil_div}
 use Rattle.grid_fraction.proofs.Ceilings.{ceil-at}
 use Rattle.sched_model.specs.Plan.{Plan, hyper, rate, top_speed, count}
-use Rattle.sched_model.specs.AheadDemand.{slack, put_off, spread_rate, spread_rates, due_first}
-use Rattle.sched_model.specs.States.{StateView, row_at, IsOfPlan, earliest_in}
+use Rattle.sched_model.specs.AheadDemand.{slack, spread_rates, due_first}
+use Rattle.sched_model.specs.States.{StateView, IsOfPlan, earliest_in}
 use Rattle.sched_model.proofs.Orders.{sum_list, sum_list-snoc, in_order-below, length-in_order, below-at}
 use Rattle.governor.specs.Steps.{wleft_at}
 use Rattle.look_ahead_laws.specs.Ahead.{deadline_at, edf_order}
 use Rattle.look_ahead_laws.proofs.PutOffWork.{before_is, spread_within}
-use Rattle.task_model.specs.declared.limits.TheConstants.{LONGEST_HYPERPERIOD}
-use Rattle.freq_table.specs.declared.limits.TheConstants.{TOP_SPEED}
-use Rattle.freq_table.specs.Tables.{last_entry}
 use Rattle.sched_model.specs.Tests.{total_rate}
 use Rattle.sched_model.specs.Admission.{IsWithinLimits, IsAdmitted}
 use Rattle.sched_model.proofs.Limits.{low_hyper, some_task}
@@ -29,11 +26,7 @@ use Rattle.look_ahead.proofs.MovedTask.{first-in_order}
 
 -- a task whose job needs nothing leaves its rate
 pub none_spare : (h own ticks spare : ℕ) → 0 < ticks → next_spare h own 0 ticks spare ≡ spare + own
-none_spare h own ticks spare some =
-    let sloped : nat_eq ticks 0 ≡ false = grind (arith, nat_tests, some) in
-    let nothing : 0 - not_put_off h own 0 ticks spare ≡ 0 = omega arith in
-    let none : (0 - not_put_off h own 0 ticks spare) * h ≡ 0 * ticks = omega (arith, ap (λ (m : ℕ). m * h) nothing) in
-    rw sloped (omega (arith, ap (λ (m : ℕ). ceil_div m ticks) none, ceil-at 0 ticks some))
+none_spare h own ticks spare some = grind (arith, nat_tests, ceil-at)
 
 -- what a step of the walk puts off
 put_is : (w room : ℕ) → w - (w - room) ≡ min w room
@@ -60,47 +53,13 @@ module _ (plan : Plan) (s : StateView) where
 
   walked_flat : (l xs : List ℕ) (i spare first : ℕ) → nat_eq (late i) 0 ≡ true
       → Walked (l ++ i ∷ []) xs spare first → Walked l (i ∷ xs) spare (first + left i)
-  walked_flat l xs i spare first flat was = record {
-    order = was.order ∙ append_assoc l (i ∷ []) xs;
-    spare_is =
-        let e : spread_rate plan due left (spread_rates plan due left xs) i ≡ rate plan i = rw flat refl in
-        omega (arith, was.spare_is, sum_list-snoc (rate plan) l i, e);
-    first_is =
-        let e : put_off plan due left (spread_rates plan due left xs) i ≡ 0 = rw flat refl in
-        omega (arith, was.first_is, e);
-  }
+  walked_flat l xs i spare first flat was = grind (arith, nat_tests, append_assoc, sum_list-snoc)
 
   walked_slope : (l xs : List ℕ) (i spare first : ℕ) → 0 < hyper plan → nat_eq (late i) 0 ≡ false
       → Walked (l ++ i ∷ []) xs spare first
       → Walked l (i ∷ xs) ((spare + rate plan i) - ceil_div ((left i - soon i spare) * hyper plan) (late i))
       (first + soon i spare)
-  walked_slope l xs i spare first some slope was =
-      let order : edf_order plan s ≡ l ++ i ∷ xs = was.order ∙ append_assoc l (i ∷ []) xs in
-      let before = before_is plan due left l xs i order in
-      let after = spread_rates plan due left xs in
-      let pre = sum_list (rate plan) l in
-      let u = rate plan i in
-      let w = left i in
-      let h = hyper plan in
-      let most = top_speed plan * h in
-      let sum_is : spare + (pre + u + after) ≡ most = omega (arith, was.spare_is, sum_list-snoc (rate plan) l i) in
-      let free : most - pre - after ≡ spare + u = omega (arith, sum_is) in
-      let room = (spare + u) * late i / h in
-      let y : put_off plan due left after i ≡ min w room =
-      rw slope
-      (ap (λ (m : ℕ). min w ((most - m - after) * late i / h)) before ∙ ap (λ (m : ℕ). min w (m * late i / h)) free) in
-      let v : spread_rate plan due left after i ≡ ceil_div (min w room * h) (late i) =
-      rw slope (ap (λ (m : ℕ). ceil_div (m * h) (late i)) (let z = rw slope at y in z)) in
-      let put : ceil_div ((w - (w - room)) * h) (late i) ≡ ceil_div (min w room * h) (late i) =
-      ap (λ (m : ℕ). ceil_div (m * h) (late i)) (put_is w room) in
-      let sloped : 0 < late i = grind (arith, nat_tests, slope) in
-      let within : ceil_div (min w room * h) (late i) ≤ spare + u =
-      spread_within (spare + u) (late i) h (min w room) some sloped (omega arith) in
-      record {
-        order = order;
-        spare_is = omega (arith, sum_is, v, put, within);
-        first_is = omega (arith, put_is w room, y, was.first_is);
-      }
+  walked_slope l xs i spare first some slope was = grind (arith, nat_tests, append_assoc, before_is, sum_list, sum_list-snoc, put_is, spread_within)
 
   pub walked_step : (l xs : List ℕ) (i spare first : ℕ) → 0 < hyper plan → Walked (l ++ i ∷ []) xs spare first
       → Walked l (i ∷ xs) (next_spare (hyper plan) (rate plan i) (left i) (late i) spare)
@@ -112,17 +71,11 @@ module _ (plan : Plan) (s : StateView) where
       ]
 
 first_by : (b : Bool) (first w room : ℕ) → (if b then first + w else first + (w - room)) ≤ first + w
-first_by true first w room = omega arith
-first_by false first w room = omega arith
+first_by b first w room = grind arith
 
 -- what the highest speed does in a hyperperiod is at most 2^68
 pub most_low : (plan : Plan) → IsWithinLimits plan → top_speed plan * hyper plan ≤ 2 ^ 68
-most_low plan lim =
-    let machine = lim.machine in
-    let speed : top_speed plan ≤ TOP_SPEED =
-    (machine.each (last_entry plan.machine) (let some = machine.some in omega arith)).low_speed in
-    let product = mul-le (top_speed plan) (hyper plan) TOP_SPEED LONGEST_HYPERPERIOD speed (low_hyper plan lim) in
-    omega (arith, product)
+most_low plan lim = grind (arith, mul-le, low_hyper plan lim)
 
 module _ (plan : Plan) (s : StateView) where
   order_long : length (edf_order plan s) ≡ count plan
@@ -163,22 +116,11 @@ module _ (plan : Plan) (s : StateView) where
 
   -- what a job may still need is at most 2^61
   pub left_low : IsWithinLimits plan → IsOfPlan plan s → (i : ℕ) → i < count plan → wleft_at s i ≤ 2 ^ 61
-  left_low lim of i lt =
-      let row = row_at s i in
-      let most = wleft-most row in
-      let is = of.worst i lt in
-      let declared = (lim.tasks.each i lt).low_worst in
-      let charge = lim.machine.low_charge in
-      omega (arith, most, is, declared, charge)
+  left_low lim of i lt = grind (arith, nat_tests, wleft-most)
 
   pub first_grows : IsWithinLimits plan → IsOfPlan plan s → (i spare first : ℕ) → i < count plan
       → next_first (hyper plan) (rate plan i) (wleft_at s i) (slack plan (deadline_at s) i) spare first ≤ first + 2 ^ 61
-  first_grows lim of i spare first lt =
-      let late = slack plan (deadline_at s) i in
-      let room = (spare + rate plan i) * late / hyper plan in
-      let by : next_first (hyper plan) (rate plan i) (wleft_at s i) late spare first ≤ first + wleft_at s i =
-      first_by (nat_eq late 0) first (wleft_at s i) room in
-      omega (arith, by, left_low lim of i lt)
+  first_grows lim of i spare first lt = grind (arith, nat_tests, first_by, left_low)
 
   -- the walk has done all tasks but the first k
   abbrev pub Done : ℕ → ℕ → ℕ → Type 0
@@ -186,22 +128,12 @@ module _ (plan : Plan) (s : StateView) where
 
   pub done_none : (n spare : ℕ) → IsAdmitted plan → ServesEdf plan.scheduler → n ≡ count plan
       → spare ≡ top_speed plan * hyper plan - total_rate plan → Done n spare 0
-  done_none n spare adm serves all is =
-      let long : length (edf_order plan s) ≤ n = omega (arith, order_long) in
-      let front : take n (edf_order plan s) ≡ edf_order plan s = take_all n (edf_order plan s) long in
-      let back : drop n (edf_order plan s) ≡ [] = drop_of_length-le (edf_order plan s) long in
-      rw (front, back) (record {
-        order = sym (append-nil (edf_order plan s));
-        spare_is = omega (arith, is, total_is plan s, rates_fit plan s adm serves);
-        first_is = refl;
-      })
+  done_none n spare adm serves all is = grind (arith, nat_tests, order_long, take_all, drop_of_length-le, append-nil, total_is, rates_fit)
 
   module _ (k spare first : ℕ) (lt : k < count plan) (was : Done (k + 1) spare first) where
     -- the task at place k is the last one still to come
     in_turn : Walked plan s (take k (edf_order plan s) ++ turn k ∷ []) (drop (k + 1) (edf_order plan s)) spare first
-    in_turn =
-        subst (λ (l : List ℕ). Walked plan s l (drop (k + 1) (edf_order plan s)) spare first)
-        (take_more (edf_order plan s) k 0 (rw order_long lt)) was
+    in_turn = grind (arith, nat_tests, take_more, order_long)
 
     pub done_next : 0 < hyper plan
         → Done k

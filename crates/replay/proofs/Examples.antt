@@ -152,7 +152,8 @@ first_notes_differ w f d = after d.before d.place_is d.wanted_are d.found_are
     after (n ∷ ns) place wanted found = absurd (cc)
 
 -- a difference is of two unequal notes, on a line after the version and the plan
-difference_shown : (p : Plan) (asked : Asking) → (IsFirstDifference p asked (trace One []) 3 first first → ⊥) × (IsFirstDifference p asked (trace One []) 2 last first → ⊥)
+difference_shown : (p : Plan) (asked : Asking)
+    → (IsFirstDifference p asked (trace One []) 3 first first → ⊥) × (IsFirstDifference p asked (trace One []) 2 last first → ⊥)
 difference_shown p asked = (λ d. d.2.unequal refl, λ d. omega (arith, d.1))
 
 -- the decision of a run of one tick, which is its first and its last, counts: the speed 8 doesn't meet the demand 9

@@ -107,7 +107,8 @@ fn respond(
 // The fault of a task without a response, with the numbers of its period.
 fn missing(tasks: &TaskSet, machine: &Machine, late: Late) -> ResponseFault
     requires task { late.task < length tasks.now }
-    requires work { let p = plan_of tasks.now machine.now Rm in late.work ≡ level_work_in p (period p late.task) late.task }
+    requires work { let p = plan_of tasks.now machine.now Rm in
+        late.work ≡ level_work_in p (period p late.task) late.task }
     ensures { result ≡ misses_at (plan_of tasks.now machine.now Rm) late.task }
 {
     ResponseFault::Misses {
