@@ -8,6 +8,7 @@ mod loads;
 mod memory;
 mod notes;
 mod over_files;
+mod planted;
 mod probing;
 mod puts;
 mod two_calls;

@@ -1,14 +1,13 @@
 -- The rows of a map, found by task and job: the task of a name, its worst case and its units.
-use Rattle.std.proofs.Common.{◌≡◌, ℕ, ◌<◌, Bool, true, false, List, length, Some, refl, sym, ◌∙◌, arith, ◌≢◌, ◌≤◌, ◌⊎◌, inl, inr, [], ◌∷◌, Option, None, suc, ap, Result, Ok, Err, OnErr, not, is_some, zero, map}
-use Rattle.std.specs.Prelude.{nat_lt, ◌&&◌, ◌||◌, ◌==◌, nat_eq, unwrap_or, slice_index, if◌then◌else◌}
+use Rattle.std.proofs.Common.{◌≡◌, ℕ, ◌<◌, Bool, true, false, List, length, Some, refl, sym, ◌∙◌, arith, ◌≤◌, [], ◌∷◌, Option, None, suc, ap, Result, Ok, Err, OnErr, not, is_some, zero, map}
+use Rattle.std.specs.Prelude.{nat_lt, ◌&&◌, nat_eq, unwrap_or, slice_index, if◌then◌else◌}
 use Rattle.std.specs.List.{position_or_len, AllByRecursion}
 use Rattle.std.specs.Str.{bytes_eq}
-use Rattle.std.proofs.lemmas.Bool.Decides.{nat_tests, eqb_tells}
+use Rattle.std.proofs.lemmas.Bool.Decides.{nat_tests}
 use Rattle.std.proofs.lemmas.List.Sums.{position_or_len_is}
 use Rattle.std.proofs.lemmas.Slice.Eq.{bytes_eq-Decides}
 use Rattle.std.specs.declared.cmp.Ordering.{Ordering}
 use Rattle.std.specs.Ordering.{nat_cmp, ordering_then, is_eq, is_lt, match_ordering}
-use Rattle.std.specs.Cmp.{unsigned_tied, tied_then}
 use Rattle.std.specs.BTreeMap.{insert_entry, is_at}
 use Rattle.std.specs.Map.{lookup, keys_of}
 use Rattle.std.proofs.lemmas.Bool.{eqb-true, eq-eqb}

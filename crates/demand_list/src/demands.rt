@@ -1,5 +1,5 @@
 // Demand lists.
-ghost use Rattle.std.specs.Prelude.{◌≡◌, ◌<◌, ◌≤◌, ◌^◌, ◌↔◌, [], length, slice_index, IsTrue, IfOk, OnErr, OnOk, Ok, None, true, false, not, is_some};
+ghost use Rattle.std.specs.Prelude.{◌≡◌, ◌<◌, ◌≤◌, ◌^◌, [], length, slice_index, IfOk, OnErr, Ok, None, true, false, not, is_some};
 ghost use Rattle.task_model.specs.DemandRows.{demand_row, named_units};
 ghost use Rattle.demand_list.specs.Demands.{units_of, IsWithinWorsts, AddsRow, rows_of, with_row};
 

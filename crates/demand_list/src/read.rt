@@ -1,5 +1,5 @@
 // Reading demand files.
-ghost use Rattle.std.specs.Prelude.{codes, ◌≡◌, ◌≤◌, ◌<◌, ◌^◌, length, map, IfOk, vec_len};
+ghost use Rattle.std.specs.Prelude.{◌≡◌, ◌≤◌, ◌<◌, ◌^◌, length, map, IfOk, vec_len};
 ghost use Rattle.csv.specs.Records.{fields_of};
 ghost use Rattle.csv_text.specs.Rows.{IsDefault, AreCountedFrom, records_left};
 ghost use Rattle.task_model.specs.TaskFile.{place_of};

@@ -1,5 +1,5 @@
 // The test for deadlines up to the periods, and its answers.
-ghost use Rattle.std.specs.Prelude.{◌≡◌, ◌≤◌, true, IfOk, OnOk, IfErr, slice_index};
+ghost use Rattle.std.specs.Prelude.{◌≡◌, true, IfOk, OnOk, IfErr, slice_index};
 ghost use Rattle.dvs_base.specs.declared.kind.Scheduler.TheVariants.{Edf};
 ghost use Rattle.freq_table.specs.Tables.{lowest_pick};
 ghost use Rattle.sched_model.specs.Plan.{plan_of};

@@ -140,8 +140,13 @@ Reaches units ticks energy a b = IsReachedAt one_and_three units ticks (at_once 
 reached : (Reaches 3 1 12000000001 1 2 → ⊥) × (Reaches 2 1 12000000000 1 2 → ⊥) × (Reaches 3 2 12000000000 1 2 → ⊥) × (Reaches 3 1 12000000000 0 2 → ⊥)
     × (Reaches 3 1 12000000000 3 2 → ⊥) × (Reaches 3 1 12000000000 1 1 → ⊥) × (Reaches 3 1 12000000000 1 3 → ⊥)
 reached = (
-  λ r. omega (arith, r.cost), λ r. omega (arith, r.all_units), λ r. omega (arith, r.all_ticks), λ r. omega (arith, r.low),
-  λ r. omega (arith, r.low_corner), λ r. omega (arith, r.high), λ r. omega (arith, r.high_corner),
+  λ r. omega (arith, r.cost),
+  λ r. omega (arith, r.all_units),
+  λ r. omega (arith, r.all_ticks),
+  λ r. omega (arith, r.low),
+  λ r. omega (arith, r.low_corner),
+  λ r. omega (arith, r.high),
+  λ r. omega (arith, r.high_corner),
 )
 
 -- a tick with 2 units at speed 3 has this running segment, of these units and this energy

@@ -1,12 +1,11 @@
 // The least energy and its certificate.
-ghost use Rattle.std.specs.Prelude.{◌≡◌, ◌*◌, ◌≤◌, ◌<◌, ◌↔◌, ℕ, IsTrue, IfOk, OnOk, IfErr, MatchOption};
+ghost use Rattle.std.specs.Prelude.{◌≡◌, ◌*◌, ◌≤◌, ◌<◌, ◌↔◌, IsTrue, IfOk, OnOk, IfErr, MatchOption};
 ghost use Rattle.freq_table.specs.Tables.{highest_speed};
 ghost use Rattle.dvs_base.specs.declared.limits.TheConstants.{MOST_TICKS};
-ghost use Rattle.energy_bound.specs.Schedules.{SchedulesCostTheirTicks};
+ghost use Rattle.energy_bound.specs.Schedules.{SchedulesCostTheirTicks, IsLeast};
 ghost use Rattle.energy_bound.specs.Corners.{last_corner, Holds, IsFirstPartner, HasNoPartner};
 ghost use Rattle.energy_bound.specs.FirstPairs.{least_energy_of};
 ghost use Rattle.energy_bound.specs.Certificates.{IsOver, least_of, IsCertificate, IsFirstCertificate};
-ghost use Rattle.energy_bound.specs.Schedules.{IsLeast};
 
 use crate::corner::{corner_with, holds, nth_corner};
 use freq_table::Machine;

@@ -1,5 +1,5 @@
 // The outcome of each request.
-ghost use Rattle.std.specs.Prelude.{◌≡◌, ◌+◌, ◌<◌, ◌≤◌, ℕ, List, length, IfOk};
+ghost use Rattle.std.specs.Prelude.{◌≡◌, ◌+◌, ◌<◌, ◌≤◌, List, length, IfOk};
 ghost use Rattle.dvs_base.specs.declared.note.Note.{Note as NoteOf};
 ghost use Rattle.poll_server.specs.EachOutcome.{outcome_of, outcomes_of};
 ghost use Rattle.poll_server.specs.ServerJobs.{request_count};

@@ -3,7 +3,7 @@ ghost use Rattle.std.specs.Prelude.{◌≡◌, ◌+◌, ◌<◌, ◌≤◌, IfOk
 ghost use Rattle.dvs_base.specs.declared.limits.TheConstants.{MOST_JOBS};
 ghost use Rattle.request_list.specs.Requests.{AreRequests};
 ghost use Rattle.sched_model.specs.Plan.{count};
-ghost use Rattle.poll_server.specs.ServerJobs.{server_of, arrived_units, job_release, taken_units};
+ghost use Rattle.poll_server.specs.ServerJobs.{arrived_units, taken_units};
 ghost use Rattle.poll_server.specs.Walks.{HasPassed, StandsAfter, IsServable};
 
 use crate::server::Server;

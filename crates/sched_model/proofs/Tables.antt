@@ -1,11 +1,10 @@
 -- Lists whose elements are a function of their place.
 use Rattle.std.proofs.Common.{◌≡◌, ◌≢◌, ℕ, zero, suc, ◌<◌, Bool, true, false, eqb, [], ◌∷◌, ◌++◌, length, length-append, get_or, set, refl, arith, ap, ap₂, ◌∙◌, sym, length-set, get_or-set_same, get_or-set_other}
-use Rattle.std.proofs.lemmas.List.{ext_get_or, get_or-append_right}
+use Rattle.std.proofs.lemmas.List.{ext_get_or, get_or-append_right, map-append}
 use Rattle.std.proofs.Math.ListN.{get_or-append}
 use Rattle.std.proofs.lemmas.Bool.Decides.{nat_tests}
 use Rattle.std.specs.Prelude.{map}
 use Rattle.std.specs.List.{AllByRecursion}
-use Rattle.std.proofs.lemmas.List.{map-append}
 use Rattle.std.proofs.lemmas.List.Elements.{recursion_from_All}
 use Rattle.grid_fraction.specs.Numbers.{list_below}
 

@@ -1,5 +1,5 @@
 // The order of tasks by a key, and among equal keys by number; under RM the key is the period.
-ghost use Rattle.std.specs.Prelude.{◌≡◌, ◌<◌, ℕ, IfOk, length, map};
+ghost use Rattle.std.specs.Prelude.{◌≡◌, ◌<◌, IfOk, length, map};
 ghost use Rattle.std.specs.Option.{ForSome};
 ghost use Rattle.grid_fraction.specs.Numbers.{list_below};
 ghost use Rattle.task_model.specs.Tasks.{task_at};

@@ -1,5 +1,5 @@
 // What goes to `notes` at the end of a call.
-ghost use Rattle.std.specs.Prelude.{◌≡◌, map};
+ghost use Rattle.std.specs.Prelude.{map};
 ghost use Rattle.std.specs.Option.{option_copied};
 ghost use Rattle.task_model.specs.Tasks.{names_of};
 ghost use Rattle.statuses.specs.StatusLines.{status_text};

@@ -14,16 +14,19 @@ use test_inputs::example::{NONE_TRACE, TWO_TRACE_2};
 pub(crate) const TAKEN: [u64; 3] = [0, 1, 255];
 
 // The put of a line fails after each number of bytes in `parts`. `out` has the lines before it and what the put took.
+// Returns the number of calls.
 fn put_fails(
     rt: &impl AllocGlobal,
     call: Call<'_>,
     line: Line<'_>,
     parts: &[u64],
-) -> Result<(), Fail> {
+) -> Result<u64, Fail> {
+    let mut calls: u64 = 0;
     for taken in parts.iter().copied() {
         call.fails_at(rt, line.failing(taken), line.first(taken))?;
+        calls = calls.saturating_add(1);
     }
-    Ok(())
+    Ok(calls)
 }
 
 // A put that isn't made doesn't fail the call.
@@ -48,49 +51,56 @@ fn put_is_not_made(
 }
 
 // Each put of the text, one for each line, fails in turn after each number of bytes in `parts`, and one after them
-// isn't made.
+// isn't made. Returns the number of calls.
 fn each_put_fails(
     rt: &impl AllocGlobal,
     call: Call<'_>,
     text: &str,
     parts: &[u64],
-) -> Result<(), Fail> {
+) -> Result<u64, Fail> {
     let lines = lines_of(rt.alloc(), text)?;
+    let mut calls: u64 = 1;
     for line in &lines {
-        put_fails(rt, call, *line, parts)?;
+        calls = calls.saturating_add(put_fails(rt, call, *line, parts)?);
     }
-    put_is_not_made(rt, call, text, after(&lines))
+    put_is_not_made(rt, call, text, after(&lines))?;
+    Ok(calls)
 }
 
 #[test]
 fn each_put_of_a_trace_fails(rt: HostRuntime) -> Result<(), Fail> {
-    each_put_fails(&rt, NONE_RUN, NONE_TRACE, &TAKEN)?;
-    each_put_fails(&rt, TWO_RUN, TWO_TRACE_2, &TAKEN)?;
-    each_put_fails(&rt, MIGRATE, TWO_TRACE_2, &TAKEN)
+    assert_eq!(rt; each_put_fails(&rt, NONE_RUN, NONE_TRACE, &TAKEN)?, 100);
+    assert_eq!(rt; each_put_fails(&rt, TWO_RUN, TWO_TRACE_2, &TAKEN)?, 70);
+    assert_eq!(rt; each_put_fails(&rt, MIGRATE, TWO_TRACE_2, &TAKEN)?, 70);
+    Ok(())
 }
 
 #[test]
 fn each_put_of_the_other_commands_fails(rt: HostRuntime) -> Result<(), Fail> {
-    each_put_fails(&rt, ADMIT, ADMITTED, &TAKEN)?;
-    each_put_fails(&rt, REPLAY, REPLAYED, &TAKEN)?;
-    each_put_fails(&rt, RESPONSE, RESPONSES, &TAKEN)?;
-    each_put_fails(&rt, CONSTRAIN, CONSTRAINED, &TAKEN)?;
-    each_put_fails(&rt, POLL, POLLED, &TAKEN)?;
-    each_put_fails(&rt, LEAST, LEAST_ENERGY, &TAKEN)
+    assert_eq!(rt; each_put_fails(&rt, ADMIT, ADMITTED, &TAKEN)?, 4);
+    assert_eq!(rt; each_put_fails(&rt, REPLAY, REPLAYED, &TAKEN)?, 4);
+    assert_eq!(rt; each_put_fails(&rt, RESPONSE, RESPONSES, &TAKEN)?, 10);
+    assert_eq!(rt; each_put_fails(&rt, CONSTRAIN, CONSTRAINED, &TAKEN)?, 4);
+    assert_eq!(rt; each_put_fails(&rt, POLL, POLLED, &TAKEN)?, 13);
+    assert_eq!(rt; each_put_fails(&rt, LEAST, LEAST_ENERGY, &TAKEN)?, 7);
+    Ok(())
 }
 
 // Each of these makes four runs of 50000 ticks, so they are separate tests.
 #[test]
 fn each_put_of_a_workload_takes_nothing(rt: HostRuntime) -> Result<(), Fail> {
-    each_put_fails(&rt, WORKLOAD, WORKLOADS, &[0])
+    assert_eq!(rt; each_put_fails(&rt, WORKLOAD, WORKLOADS, &[0])?, 6);
+    Ok(())
 }
 
 #[test]
 fn each_put_of_a_workload_takes_a_byte(rt: HostRuntime) -> Result<(), Fail> {
-    each_put_fails(&rt, WORKLOAD, WORKLOADS, &[1])
+    assert_eq!(rt; each_put_fails(&rt, WORKLOAD, WORKLOADS, &[1])?, 6);
+    Ok(())
 }
 
 #[test]
 fn each_put_of_a_workload_takes_all(rt: HostRuntime) -> Result<(), Fail> {
-    each_put_fails(&rt, WORKLOAD, WORKLOADS, &[255])
+    assert_eq!(rt; each_put_fails(&rt, WORKLOAD, WORKLOADS, &[255])?, 6);
+    Ok(())
 }
