@@ -48,15 +48,6 @@ fn done_in(machine: &Machine, ticks: u64) -> u128
     u128::from(machine.top()) * u128::from(ticks)
 }
 
-// What the highest speed does in one hyperperiod beyond `rates` units; 0 where it does no more.
-fn spare(tasks: &TaskSet, machine: &Machine, rates: u128) -> u128
-    ensures value { result ≡ highest_speed machine.now * hyper_of tasks.now - rates }
-    ensures low { result ≤ 2 ^ 72 }
-{
-    let _machine_limits = machine.as_slice();
-    (u128::from(machine.top()) * u128::from(tasks.hyper())).saturating_sub(rates)
-}
-
 // Whether `rest` units are too many for `most` ticks at the highest speed, or at the speed that the rates of the loads
 // leave.
 fn is_beyond(tasks: &TaskSet, machine: &Machine, loads: &[Load], rest: u128, most: u64) -> bool
@@ -68,9 +59,10 @@ fn is_beyond(tasks: &TaskSet, machine: &Machine, loads: &[Load], rest: u128, mos
     ensures within { IsFalse result → rest ≤ highest_speed machine.now * most }
     ensures low { IsFalse result → rest ≤ 2 ^ 64 }
 {
-    rest > done_in(machine, most)
-        || spare(tasks, machine, rates_of(loads)) * u128::from(most)
-            < rest * u128::from(tasks.hyper())
+    let _machine_limits = machine.as_slice();
+    let hyper = u128::from(tasks.hyper());
+    let spare = (u128::from(machine.top()) * hyper).saturating_sub(rates_of(loads));
+    rest > done_in(machine, most) || spare * u128::from(most) < rest * hyper
 }
 
 // Whether `rest` units fit into `ticks` ticks beside the work of the loads.
