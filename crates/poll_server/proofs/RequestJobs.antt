@@ -1,5 +1,6 @@
 -- Which job a request belongs to, and its outcome from the job that the walk over the requests is at.
-use Rattle.std.proofs.Common.{◌≡◌, ℕ, zero, suc, ◌<◌, ◌≤◌, Bool, true, false, nat_le, ◌⊎◌, inl, inr, refl, arith, ◌+◌, ◌-◌, List, ap, ◌∙◌, sym, subst, add-one}
+use Rattle.std.proofs.Common.{◌≡◌, ℕ, zero, suc, ◌<◌, ◌≤◌, Bool, true, false, nat_le, refl, arith, ◌+◌, ◌-◌, List, ap, ◌∙◌, sym, subst, add-one}
+use Rattle.std.proofs.Math.Logic.{⊎_elim}
 use Rattle.std.proofs.lemmas.Bool.{cases_lt}
 use Rattle.std.proofs.lemmas.Bool.Decides.{nat_tests}
 use Rattle.std.specs.Prelude.{Option}
@@ -26,11 +27,8 @@ asked-up s m n le = sum_below-up (suc m) (suc n) (units s) (omega arith)
 
 -- a later request never belongs to an earlier job
 pub in-order : (s : ServerView) (m n j k : ℕ) → m ≤ n → BelongsTo s m j → BelongsTo s n k → j ≤ k
-in-order s m n j k le first later = go (cases_lt k j)
-  where
-    go : (k < j) ⊎ (j ≤ k) → j ≤ k
-    go (inl lt) = absurd (omega (arith, first.first k lt, later.reached, asked-up s m n le))
-    go (inr ge) = ge
+in-order s m n j k le first later =
+    ⊎_elim (λ lt. absurd (omega (arith, first.first k lt, later.reached, asked-up s m n le))) (λ ge. ge) (cases_lt k j)
 
 -- a request belongs to at most one job
 pub one-job : (s : ServerView) (m j k : ℕ) → BelongsTo s m j → BelongsTo s m k → j ≡ k
@@ -54,11 +52,7 @@ module _ (s : ServerView) (h : AreRequests s.requests) (some : 0 < period s.plan
   test k = nat_le (asked_with s m) (taken_up_to s k)
 
   latest-some : 1 ≤ latest_job s m
-  latest-some = go (latest_job s m) reached-latest
-    where
-      go : (k : ℕ) → asked_with s m ≤ taken_up_to s k → 1 ≤ k
-      go zero le = absurd (omega (arith, le, taken-none s, asked-some))
-      go (suc k) le = omega arith
+  latest-some = grind (arith, reached-latest, taken-none s, asked-some)
 
   latest-passes : test (latest_job s m) ≡ true
   latest-passes = let le = reached-latest in grind (arith, nat_tests)
@@ -108,14 +102,7 @@ module _ (s : ServerView) (h : AreRequests s.requests) (some : 0 < period s.plan
 
   -- where the jobs so far take what was asked for, the walk is at some job
   pub reached-some : r.asked ≤ r.taken → 1 ≤ r.job
-  reached-some enough = go (cases_lt 0 r.job)
-    where
-      go : (0 < r.job) ⊎ (r.job ≤ 0) → 1 ≤ r.job
-      go (inl l) = omega arith
-      go (inr e) =
-          let none : r.job ≡ 0 = omega arith in
-          let nothing : r.taken ≡ 0 = reached.counted ∙ (ap (taken_up_to s) none ∙ taken-none s) in
-          absurd (omega (arith, nothing, enough, asked_below-is, asked-some s h some room m lt))
+  reached-some enough = grind (arith, reached.counted, taken-none s, enough, asked_below-is, asked-some s h some room m lt)
 
   -- the ends of the first n jobs by these notes
   module _ (notes : List Note) (ends : List (Option Pos)) (are : AreEnds s notes n ends) where
@@ -132,12 +119,7 @@ module _ (s : ServerView) (h : AreRequests s.requests) (some : 0 < period s.plan
     pub outcome-pending : r.taken < r.asked → r.job ≡ n → outcome_of s notes m ≡ Pending
     outcome-pending less last =
         let own = belongs s h some room m lt in
-        let later : n < job_of s m = after (cases_lt n (job_of s m)) in
+        let all : r.taken ≡ taken_up_to s n = reached.counted ∙ ap (taken_up_to s) last in
+        let later : n < job_of s m = ⊎_elim (λ lt. lt)
+        (λ le. absurd (omega (arith, taken-up s (job_of s m) n le, all, less, asked_below-is, own.reached))) (cases_lt n (job_of s m)) in
         ap (outcome_by (job_of s m)) (are.no_later (job_of s m) later)
-      where
-        after : (n < job_of s m) ⊎ (job_of s m ≤ n) → n < job_of s m
-        after (inl l) = l
-        after (inr le) =
-            let up : taken_up_to s (job_of s m) ≤ taken_up_to s n = taken-up s (job_of s m) n le in
-            let all : r.taken ≡ taken_up_to s n = reached.counted ∙ ap (taken_up_to s) last in
-            absurd (omega (arith, up, all, less, asked_below-is, (belongs s h some room m lt).reached))

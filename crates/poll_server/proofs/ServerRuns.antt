@@ -2,8 +2,8 @@
 -- cases.
 use Rattle.std.proofs.Common.{◌≡◌, ◌≤◌, ◌*◌, ◌+◌, ℕ, zero, suc, Bool, true, false, nat_eq, arith, refl, if◌then◌else◌, ◌<◌, inl, inr, List, length, ap, ◌∙◌, subst}
 use Rattle.std.proofs.lemmas.Bool.Decides.{nat_tests}
-use Rattle.std.specs.Prelude.{Some, None}
-use Rattle.std.proofs.lemmas.Bool.{cases_lt}
+use Rattle.std.specs.Prelude.{Some}
+use Rattle.std.proofs.lemmas.Bool.{cases_lt, cases_eq}
 use Rattle.sched_model.specs.Plan.{worst, Plan, count, period}
 use Rattle.sched_model.specs.Jobs.{IsWithin, JobDemands, release, demand_of}
 use Rattle.task_model.specs.DemandRows.{DemandRow, named_units}
@@ -18,31 +18,15 @@ use Rattle.poll_server.specs.Walks.{AreTaken}
 use Rattle.poll_server.proofs.Takings.{before-released}
 
 module _ (s : ServerView) where
-  most-taken : (k : ℕ) → taken_units s k ≤ budget s
-  most-taken k = omega arith
-
   most : (i k : ℕ) → polled_demand s i k ≤ worst s.plan i
   most i zero = omega arith
-  most i (suc k) = go (nat_eq i s.task) refl
-    where
-      go : (b : Bool) → nat_eq i s.task ≡ b
-          → (if b then taken_units s (suc k) + 2 * s.plan.machine.charge else worst s.plan i) ≤ worst s.plan i
-      go false e = omega arith
-      go true e =
-          let same : i ≡ s.task = grind (arith, nat_tests) in
-          rw same (omega (arith, most-taken (suc k)))
+  most i (suc k) = elim (cases_eq i s.task) [
+    | inl e ↦ (let same : i ≡ s.task = e in let low : taken_units s (suc k) ≤ budget s = omega arith in grind (arith, nat_tests))
+    | inr ne ↦ (let other : i ≡ s.task → ⊥ = ne in grind (arith, nat_tests))
+  ]
 
   pub polled-within : IsWithin s.plan (polled_demand s)
   polled-within = record { most = λ i k lt. most i k; none = λ i. refl }
-
--- a job with a row needs the units of the row and the charge, and a job without a row needs its worst case
-demand-row : (p : Plan) (rows : List DemandRow) (i k u : ℕ) → named_units rows i (suc k) ≡ Some u
-    → demand_of p rows i (suc k) ≡ u + 2 * p.machine.charge
-demand-row p rows i k u e = rw e refl
-
-demand-none : (p : Plan) (rows : List DemandRow) (i k : ℕ) → named_units rows i (suc k) ≡ None
-    → demand_of p rows i (suc k) ≡ worst p i
-demand-none p rows i k e = rw e refl
 
 -- a list of what the server's first jobs take has the demands of all jobs that are released within the ticks
 pub same-demand : (s : ServerView) → 0 < period s.plan s.task → (ticks : ℕ) (rows : List DemandRow)
@@ -62,10 +46,10 @@ same-demand s some ticks rows are i (suc k) lt first began = go (nat_eq i s.task
         ] in
         let row : named_units rows i (suc k) ≡ Some (taken_units s (suc k)) =
         ap (λ (j : ℕ). named_units rows j (suc k)) same ∙ are.taken_by (suc k) first within in
-        demand-row s.plan rows i k (taken_units s (suc k)) row
+        rw row refl
     go false e =
         let other : i ≡ s.task → ⊥ = grind (arith, nat_tests) in
-        demand-none s.plan rows i k (are.no_other i (suc k) lt other)
+        rw (are.no_other i (suc k) lt other) refl
 
 -- two demands that agree on the jobs released within the ticks
 tell-same : (p : Plan) (dem other : JobDemands) (ticks : List Tick) → ((i : ℕ) → dem i 0 ≡ 0) → ((i : ℕ) → other i 0 ≡ 0)

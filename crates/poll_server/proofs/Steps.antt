@@ -1,8 +1,7 @@
 -- The steps of the walks over a server's jobs and requests.
-use Rattle.std.proofs.Common.{◌≡◌, ℕ, ◌+◌, ◌-◌, ◌*◌, ◌^◌, ◌<◌, ◌≤◌, min, ◌⊎◌, inl, inr, List, [], refl, arith, ap, ◌∙◌, sym}
+use Rattle.std.proofs.Common.{◌≡◌, ℕ, ◌+◌, ◌-◌, ◌*◌, ◌^◌, ◌<◌, ◌≤◌, min, List, [], refl, arith, ap, ◌∙◌, sym}
 use Rattle.std.specs.Prelude.{Option, unwrap_or, slice_index}
 use Rattle.std.proofs.Math.Nat.{mul-le-mul_right, mul-le-mul_left}
-use Rattle.std.proofs.lemmas.Bool.{cases_lt}
 use Rattle.dvs_base.specs.declared.limits.TheConstants.{MOST_JOBS}
 use Rattle.task_model.specs.DemandRows.{DemandRow, named_units}
 use Rattle.task_model.specs.declared.limits.TheConstants.{MOST_WORK}
@@ -96,14 +95,8 @@ reached-next s n m u r h lt less takes = record {
   within = omega arith;
   counted = omega (arith, h.counted, takes, taken-more s r.job);
   asked_for = h.asked_for;
-  first = λ j below. go j (cases_lt j r.job) below;
+  first = λ j below. grind (arith, h.first j, h.counted, h.asked_for, less, below);
 }
-  where
-    go : (j : ℕ) → (j < r.job) ⊎ (r.job ≤ j) → j < r.job + 1 → taken_up_to s j < asked_below s m
-    go j (inl before) below = h.first j before
-    go j (inr at_last) below =
-        let e : j ≡ r.job = omega arith in
-        rw e (omega (arith, h.counted, h.asked_for, less))
 
 pub reached-first : (s : ServerView) (n : ℕ) → HasReached s n 0 (record { job = 0; taken = 0; asked = 0 })
 reached-first s n = record {

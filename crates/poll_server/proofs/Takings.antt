@@ -1,5 +1,6 @@
 -- What a server's jobs take, job by job.
-use Rattle.std.proofs.Common.{◌≡◌, ℕ, zero, suc, ◌<◌, ◌≤◌, ◌⊎◌, inl, inr, refl, arith, eq-or-lt_of_le, ◌+◌, ◌-◌, ◌*◌, min, true, false, nat_le, if◌then◌else◌, ap, ◌∙◌, sym, add-one}
+use Rattle.std.proofs.Common.{◌≡◌, ℕ, zero, suc, ◌<◌, ◌≤◌, ◌⊎◌, refl, arith, eq-or-lt_of_le, ◌+◌, ◌-◌, ◌*◌, min, true, false, nat_le, if◌then◌else◌, ap, ◌∙◌, sym, add-one}
+use Rattle.std.proofs.Math.Logic.{⊎_elim}
 use Rattle.std.proofs.Math.Nat.{mul-le-mul_right, div-mul-le_self}
 use Rattle.std.proofs.lemmas.Bool.Decides.{nat_tests}
 use Rattle.grid_fraction.specs.Numbers.{sum_below}
@@ -17,14 +18,13 @@ pub sum_below-cut : (c n : ℕ) (f g : ℕ → ℕ) → n ≤ c → ((k : ℕ) �
     → ((k : ℕ) → n ≤ k → k < c → f k ≡ 0) → sum_below c f ≡ sum_below n g
 sum_below-cut zero n f g le same none =
     let e : n ≡ 0 = omega arith in rw e refl
-sum_below-cut (suc c) n f g le same none = go (eq-or-lt_of_le le) (sum_below-cut c n f g)
-  where
-    go : (n ≡ suc c) ⊎ (n < suc c)
-        → (n ≤ c → ((k : ℕ) → k < n → f k ≡ g k) → ((k : ℕ) → n ≤ k → k < c → f k ≡ 0) → sum_below c f ≡ sum_below n g)
-        → sum_below (suc c) f ≡ sum_below n g
-    go (inl e) ih = rw e (sum_below-same (suc c) f g (λ k lt. same k (omega arith)))
-    go (inr l) ih =
-        omega (arith, ih (omega arith) same (λ k low high. none k low (omega arith)), none c (omega arith) (omega arith))
+sum_below-cut (suc c) n f g le same none =
+    ⊎_elim (λ e. rw e (sum_below-same (suc c) f g (λ k lt. same k (omega (arith, e)))))
+    (λ l. omega (
+      arith,
+      sum_below-cut c n f g (omega (arith, l)) same (λ k low high. none k low (omega arith)),
+      none c (omega (arith, l)) (omega arith),
+    )) (eq-or-lt_of_le le)
 
 pub taken-none : (s : ServerView) → taken_up_to s 0 ≡ 0
 unfolding taken_up_to
@@ -48,11 +48,8 @@ taken-more s k =
 -- more jobs take no fewer units
 pub taken-up : (s : ServerView) (j k : ℕ) → j ≤ k → taken_up_to s j ≤ taken_up_to s k
 taken-up s j zero le = let e : j ≡ 0 = omega arith in rw e (omega arith)
-taken-up s j (suc k) le = go (eq-or-lt_of_le le) (taken-up s j k)
-  where
-    go : (j ≡ suc k) ⊎ (j < suc k) → (j ≤ k → taken_up_to s j ≤ taken_up_to s k) → taken_up_to s j ≤ taken_up_to s (suc k)
-    go (inl e) ih = rw e (omega arith)
-    go (inr l) ih = omega (arith, ih (omega arith), taken-suc s k)
+taken-up s j (suc k) le =
+    ⊎_elim (λ e. rw e (omega arith)) (λ l. omega (arith, taken-up s j k (omega (arith, l)), taken-suc s k)) (eq-or-lt_of_le le)
 
 -- k jobs take at most k times the budget
 pub taken-low : (s : ServerView) (k : ℕ) → taken_up_to s k ≤ k * budget s
@@ -65,11 +62,7 @@ asked_below-low s h n le = sum_below-limit n MOST_REQUEST_UNITS (units s) (λ k 
 
 -- a later request arrives no earlier
 pub arrival-up : (s : ServerView) → AreRequests s.requests → (m n : ℕ) → m ≤ n → n < request_count s → arrival s m ≤ arrival s n
-arrival-up s h m n le lt = go (eq-or-lt_of_le le)
-  where
-    go : (m ≡ n) ⊎ (m < n) → arrival s m ≤ arrival s n
-    go (inl e) = rw e (omega arith)
-    go (inr l) = h.in_order m n l lt
+arrival-up s h m n le lt = ⊎_elim (λ e. rw e (omega arith)) (λ l. h.in_order m n l lt) (eq-or-lt_of_le le)
 
 -- the units of request m that have arrived by tick t: all or none
 abbrev counts : ServerView → ℕ → ℕ → ℕ

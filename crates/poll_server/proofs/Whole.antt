@@ -1,6 +1,7 @@
 -- A run of a server as a whole: its notes, where the server's jobs are done, what is answered, and the bound on it.
 use Rattle.std.proofs.Common.{◌≡◌, ℕ, ◌*◌, ◌<◌, ◌≤◌, ◌⊎◌, inl, inr, List, refl, arith, ap, ◌∙◌, sym, subst, eq-or-lt_of_le, ◌+◌, ◌-◌, false, length, replicate, ap₂}
 use Rattle.std.specs.Prelude.{Option, Some, None}
+use Rattle.std.proofs.Math.Logic.{⊎_elim}
 use Rattle.std.proofs.Math.Nat.{mul-le-mul_right}
 use Rattle.dvs_base.specs.declared.note.Note.{Note}
 use Rattle.dvs_base.specs.declared.note.Pos.{Pos}
@@ -50,11 +51,7 @@ due-up p i j k le = let more : j * period p i ≤ k * period p i = mul-le-mul_ri
 -- a position not after a tick is not after a later one
 by-later : (t u : ℕ) (q : Pos) → t ≤ u → IsBy t q → IsBy u q
 by-later t u q le (inl before) = inl (omega arith)
-by-later t u q le (inr (at_tick, none)) = go (eq-or-lt_of_le le)
-  where
-    go : (t ≡ u) ⊎ (t < u) → IsBy u q
-    go (inl e) = inr (at_tick ∙ e, none)
-    go (inr l) = inl (omega arith)
+by-later t u q le (inr (at_tick, none)) = ⊎_elim (λ e. inr (at_tick ∙ e, none)) (λ l. inl (omega (arith, at_tick, l))) (eq-or-lt_of_le le)
 
 -- a server with a period and a budget, and the notes of a run
 module _ (s : ServerView) (h : AreRequests s.requests) (some : 0 < period s.plan s.task) (room : 0 < budget s) (notes : List Note) where
@@ -91,9 +88,9 @@ abbrev pub run_of : ServerView → DemandsView → ℕ → Run
 run_of s d ticks = record { plan = s.plan; demands = d; ticks = ticks }
 
 -- each request of a server belongs to a job, and a later request never to an earlier job
-pub server-jobs : (p : Plan) (i : ℕ) (requests : List Request) → IsAdmitted p → i < count p → AreRequests requests
+pub server_jobs : (p : Plan) (i : ℕ) (requests : List Request) → IsAdmitted p → i < count p → AreRequests requests
     → HaveJobs (server_of p i requests)
-server-jobs p i requests adm lt h =
+server_jobs p i requests adm lt h =
     have-jobs (server_of p i requests) h (some-period (server_of p i requests) adm) (some-budget (server_of p i requests) adm lt)
 
 -- the jobs of one task released within the ticks are no more than those of all tasks
@@ -165,34 +162,18 @@ module _ (demand : OwnDemand) (s : ServerView) (d : DemandsView) (n ticks : ℕ)
       (subst (MeetsDeadlines demand) run_is met)
       (subst (λ (m : ℕ). due s.plan s.task k ≤ m) (sym run.1) within))
 
-  -- what `poll` returns is the function of its arguments
-  answers : (from to : Ends) → from.task ≡ s.task → from.ends.items ≡ replicate n None
-      → HasHeard Hears from (notes_of_run demand run) to → (outcomes : List Outcome) (totals : Totals)
-      → ((notes : List Note) → AreEnds s notes n to.ends.items → outcomes ≡ outcomes_of s notes)
-      → totals ≡ totals_of (notes_of_run demand run) → (r : ServedView) → r ≡ record { outcomes = outcomes; totals = totals }
-      → r ≡ served_of demand s ticks
-  answers from to task empty heard outcomes totals each sums r is =
-      is
-      ∙ ap₂ (λ (o : List Outcome) (t : Totals). record { outcomes = o; totals = t })
-      (each (polled_notes demand s ticks) (ends-are from to task empty heard)) (sums ∙ ap totals_of notes-are)
-
-  -- each request has its outcome by the notes
-  answers-polled : (r : ServedView) → r ≡ served_of demand s ticks → IsPolled s (polled_notes demand s ticks) r
-  answers-polled r is =
-      subst (IsPolled s (polled_notes demand s ticks)) (sym is)
-      (are-polled s servable.requests some (some-budget s servable.plan servable.task) (polled_notes demand s ticks))
-
-  -- where the deadlines are met, the bound is kept
-  answers-bound : MeetsDeadlines demand run → (r : ServedView) → r ≡ served_of demand s ticks → KeepsBound s ticks r
-  answers-bound met r is =
-      subst (KeepsBound s ticks) (sym is)
-      (keeps-bound s servable.requests some (some-budget s servable.plan servable.task) (polled_notes demand s ticks) ticks (ends-met met))
-
   pub answered : MeetsDeadlines demand run → (from to : Ends) → from.task ≡ s.task → from.ends.items ≡ replicate n None
       → HasHeard Hears from (notes_of_run demand run) to → (outcomes : List Outcome) (totals : Totals)
       → ((notes : List Note) → AreEnds s notes n to.ends.items → outcomes ≡ outcomes_of s notes)
       → totals ≡ totals_of (notes_of_run demand run) → (r : ServedView) → r ≡ record { outcomes = outcomes; totals = totals }
       → Answered demand s ticks r
   answered met from to task empty heard outcomes totals each sums r is =
-      let served : r ≡ served_of demand s ticks = answers from to task empty heard outcomes totals each sums r is in
-      record { served = served; outcomes = answers-polled r served; bound = answers-bound met r served }
+      let all = polled_notes demand s ticks in
+      let room = some-budget s servable.plan servable.task in
+      let served : r ≡ served_of demand s ticks = is ∙ ap₂ (λ (o : List Outcome) (t : Totals). record { outcomes = o; totals = t })
+      (each all (ends-are from to task empty heard)) (sums ∙ ap totals_of notes-are) in
+      record {
+        served = served;
+        outcomes = subst (IsPolled s all) (sym served) (are-polled s servable.requests some room all);
+        bound = subst (KeepsBound s ticks) (sym served) (keeps-bound s servable.requests some room all ticks (ends-met met));
+      }

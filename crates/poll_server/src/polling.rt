@@ -28,6 +28,7 @@ use std::alloc::Global;
 /// charge; all other jobs need their worst cases. A request is served where the job that takes its last unit is done.
 /// `TooManyJobs`, with their number, exactly where more than `MOST_JOBS` jobs are released below `ticks`; `NoMemory`
 /// where memory ran out.
+#[tactic(auto, using(crate::proofs::Whole::server_jobs))]
 pub fn poll<G: Governor>(
     alloc: Global,
     plan: &Admitted,

@@ -5,12 +5,8 @@ use Rattle.event_kernel.specs.Runs.{notes_of_run}
 use Rattle.request_list.specs.declared.requests.Request.{Request}
 use Rattle.poll_server.specs.ServerJobs.{server_of}
 use Rattle.poll_server.proofs.JobEnds.{hears-all}
-use Rattle.poll_server.proofs.Whole.{Answered, answered, jobs-within, server-jobs}
+use Rattle.poll_server.proofs.Whole.{Answered, answered, jobs-within, server_jobs}
 use Rattle.poll_server.proofs.polling.poll.Goals as goal
-
-pub returns-then-count-gt-MOST_JOBS-clause-in_order : goal.returns-then-count-gt-MOST_JOBS-clause-in_order
-returns-then-count-gt-MOST_JOBS-clause-in_order g c =
-    server-jobs c.args.plan.now c.args.server c.args.requests.now c.scheduler-admitted.ensures.admitted c.requires.server c.as_slice.ensures.limits
 
 pub polled_demands-requires-clause-few : goal.polled_demands-requires-clause-few
 polled_demands-requires-clause-few g c =
@@ -22,27 +18,11 @@ polled_demands-requires-clause-few g c =
       c.if-count-gt-MOST_JOBS.false,
     )
 
-pub returns-in_err-demands-clause-in_order : goal.returns-in_err-demands-clause-in_order
-returns-in_err-demands-clause-in_order g c =
-    server-jobs c.args.plan.now c.args.server c.args.requests.now c.scheduler-admitted.ensures.admitted c.requires.server c.as_slice.ensures.limits
-
-pub returns-in_err-ends-clause-in_order : goal.returns-in_err-ends-clause-in_order
-returns-in_err-ends-clause-in_order g c =
-    server-jobs c.args.plan.now c.args.server c.args.requests.now c.scheduler-admitted.ensures.admitted c.requires.server c.as_slice.ensures.limits
-
-pub returns-in_err-kernel-clause-in_order : goal.returns-in_err-kernel-clause-in_order
-returns-in_err-kernel-clause-in_order g c =
-    server-jobs c.args.plan.now c.args.server c.args.requests.now c.scheduler-admitted.ensures.admitted c.requires.server c.as_slice.ensures.limits
-
 pub outcomes-requires-clause-long : goal.outcomes-requires-clause-long
 outcomes-requires-clause-long g c =
     let whole = rw c.unwrap-totals.ensures at c.drive.ensures.ran in
     let heard = hears-all c.in_ok-ends.ends (notes_of_run g.G.Governor.demand c.in_ok-kernel.kernel) c.drive.new.to whole in
     heard.long ∙ (ap length c.in_ok-ends.ensures.ends ∙ length-replicate c.jobs_below-jobs.result None)
-
-pub returns-in_err-list-clause-in_order : goal.returns-in_err-list-clause-in_order
-returns-in_err-list-clause-in_order g c =
-    server-jobs c.args.plan.now c.args.server c.args.requests.now c.scheduler-admitted.ensures.admitted c.requires.server c.as_slice.ensures.limits
 
 pub returns : goal.returns
 returns g c =
@@ -61,7 +41,7 @@ returns g c =
     record {
       served = all.served;
       outcomes = all.outcomes;
-      in_order = server-jobs p i c.args.requests.now c.scheduler-admitted.ensures.admitted c.requires.server c.as_slice.ensures.limits;
+      in_order = server_jobs p i c.args.requests.now c.scheduler-admitted.ensures.admitted c.requires.server c.as_slice.ensures.limits;
       bound = all.bound;
       few = search rules;
       many = search rules;
