@@ -28,14 +28,6 @@ fn prefixed_note(word: &[u8], note: Note, tasks: Option<&TaskSet>) -> Line
     line
 }
 
-/// Where the schedule and the trace first differ: the line, and the note of each.
-#[derive(Clone, Copy)]
-pub(crate) struct Difference {
-    pub(crate) line: u64,
-    pub(crate) wanted: Note,
-    pub(crate) found: Note,
-}
-
 // Puts the line with the number of the line that differs.
 fn put_differs<E: Sink>(number: u64, notes: &mut E) -> Result<(), Failed>
     ensures { WritesText (E.shows notes.old) (E.shows notes.new)
@@ -49,17 +41,19 @@ fn put_differs<E: Sink>(number: u64, notes: &mut E) -> Result<(), Failed>
     put_line(&line, notes)
 }
 
-/// Puts the lines of a difference.
+/// Puts the lines of a difference: the number of the line, the note that the schedule has there, and the trace's.
 pub(crate) fn put_difference<E: Sink>(
-    at: Difference,
+    line: u64,
+    wanted: Note,
+    found: Note,
     tasks: Option<&TaskSet>,
     notes: &mut E,
 ) -> Result<(), Failed>
     ensures { WritesText (E.shows notes.old) (E.shows notes.new)
-        (difference_text (names_of (option_copied tasks.entry)) at.line at.wanted at.found) result }
+        (difference_text (names_of (option_copied tasks.entry)) line wanted found) result }
 {
-    let wanted = prefixed_note(b"wanted: ", at.wanted, tasks);
-    let found = prefixed_note(b"found: ", at.found, tasks);
-    put_differs(at.line, notes)?;
+    put_differs(line, notes)?;
+    let wanted = prefixed_note(b"wanted: ", wanted, tasks);
+    let found = prefixed_note(b"found: ", found, tasks);
     put_two(&wanted, &found, notes)
 }

@@ -6,7 +6,7 @@ ghost use Rattle.statuses.specs.StatusLines.{status_text};
 ghost use Rattle.statuses.specs.Noted.{NotedAs, noted_text};
 
 use crate::Status;
-use crate::difference::{Difference, put_difference};
+use crate::difference::put_difference;
 use crate::probe_line::put_probes;
 use crate::refusal::status_line;
 use dvs_base::{Sink, put_line};
@@ -26,12 +26,7 @@ pub fn note_status<E: Sink>(status: &Status, tasks: Option<&TaskSet>, notes: &mu
             wanted,
             found,
         } => {
-            let at = Difference {
-                line,
-                wanted,
-                found,
-            };
-            let _ = put_difference(at, tasks, notes);
+            let _ = put_difference(line, wanted, found, tasks, notes);
         }
         _ => {
             let line = status_line(status, tasks);
