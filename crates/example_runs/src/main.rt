@@ -33,15 +33,11 @@ fn words_of(rt: &impl AllocGlobal, line: &str) -> Result<Vec<String>, AllocError
 fn call(rt: &HostRuntime, line: &str) -> Result<u8, AllocError> {
     let alloc = rt.alloc();
     let words = words_of(rt, line)?;
-    let ProgramProbes {
-        speeds,
-        units,
-        dones,
-    } = ProgramProbes::new();
+    let made = ProgramProbes::new();
     let mut probes: Vec<Box<dyn Probe>> = Vec::new(alloc);
-    probes.push(Box::new(alloc, speeds)?)?;
-    probes.push(Box::new(alloc, units)?)?;
-    probes.push(Box::new(alloc, dones)?)?;
+    probes.push(Box::new(alloc, made.speeds)?)?;
+    probes.push(Box::new(alloc, made.units)?)?;
+    probes.push(Box::new(alloc, made.dones)?)?;
     let mut shelf = HostShelf::new(rt);
     let mut out = HostSink::new(rt.stdout());
     let mut notes = HostSink::new(rt.stdout());
