@@ -1,5 +1,5 @@
 -- Ticks of a span in which one job has every unit, or nobody: any number of them is one step.
-use Rattle.std.proofs.Common.{◌≡◌, ◌≢◌, ℕ, zero, suc, ◌+◌, ◌-◌, ◌*◌, ◌<◌, min, Bool, true, false, not, ◌&&◌, ◌||◌, length, set, refl, arith, if◌then◌else◌, ap, ap₂, ◌∙◌, sym, subst, inl, inr, nat_eq, nat_lt, true≢false}
+use Rattle.std.proofs.Common.{◌≡◌, ℕ, zero, suc, ◌+◌, ◌-◌, ◌*◌, ◌<◌, min, true, false, not, ◌&&◌, ◌||◌, length, set, refl, arith, if◌then◌else◌, ap, ap₂, ◌∙◌, sym, subst, inl, inr, nat_eq, nat_lt, true≢false}
 use Rattle.std.specs.Prelude.{Option, None, Some}
 use Rattle.std.proofs.lemmas.Bool.Decides.{nat_tests}
 use Rattle.std.proofs.lemmas.Bool.{and_right}
@@ -18,7 +18,6 @@ use Rattle.sched_model.proofs.Orders.{before-self}
 use Rattle.sched_model.proofs.PieceLemmas.{same_holder-refl}
 use Rattle.governor.specs.Meanings.{OwnDemand}
 use Rattle.event_kernel.specs.declared.span_trace.SpanTrace.{SpanTrace}
-use Rattle.agenda.specs.Agenda.{IsFirstUndone}
 use Rattle.event_kernel.specs.Segment.{after_segment, is_turn, with_units, after_units, holder_at, IsFirst}
 use Rattle.agenda.proofs.StateQueues.{row-here, by-row}
 use Rattle.event_kernel.specs.Tickwork.{after_service, gives}

@@ -1,5 +1,5 @@
 -- The loop over the units of one tick.
-use Rattle.std.proofs.Common.{◌≡◌, ℕ, ◌+◌, ◌-◌, ◌<◌, ◌≤◌, min, Bool, true, false, not, ◌&&◌, ◌||◌, List, [], ◌∷◌, ◌++◌, length, replicate, refl, arith, ap, ap₂, ◌∙◌, sym, subst, ◌⊎◌, inl, inr, append-nil, append_assoc, nat_eq, nat_le}
+use Rattle.std.proofs.Common.{◌≡◌, ℕ, ◌+◌, ◌-◌, ◌<◌, ◌≤◌, min, Bool, true, false, not, ◌&&◌, ◌||◌, List, [], ◌∷◌, ◌++◌, length, replicate, refl, arith, ap, ap₂, ◌∙◌, sym, subst, ◌⊎◌, append-nil, append_assoc, nat_eq, nat_le}
 use Rattle.std.specs.Prelude.{count_by}
 use Rattle.std.proofs.Math.Logic.{⊎_map}
 use Rattle.freq_table.specs.declared.machine.Point.{Point}
@@ -31,7 +31,7 @@ use Rattle.agenda.specs.Agenda.{IsFirstUndone}
 use Rattle.governor.specs.Meanings.{OwnDemand}
 use Rattle.governor.specs.Schedule.{ask_of, course}
 use Rattle.event_kernel.specs.declared.span_trace.SpanTrace.{SpanTrace}
-use Rattle.event_kernel.specs.Segment.{after_units, CanEnter, HeldIn}
+use Rattle.event_kernel.specs.Segment.{after_units, CanEnter}
 use Rattle.event_kernel.specs.SpanTraces.{HeldNow, HoldsSpan}
 use Rattle.event_kernel.specs.Tickwork.{after_service, span_at, tick_at, whole_span, most_units}
 use Rattle.event_kernel.specs.declared.progress.Setting.{Setting}
