@@ -1,12 +1,10 @@
 // What `admit` prepares.
 ghost use Rattle.statuses.specs.Steps.{Gives};
 ghost use Rattle.command_files.specs.Meanings.{tasks_at};
-ghost use Rattle.std.specs.Prelude.{Some};
-ghost use Rattle.std.specs.Prelude.{◌≡◌, ◌<◌, length};
+ghost use Rattle.std.specs.Prelude.{Some, ◌≡◌, ◌<◌, length};
 ghost use Rattle.words.specs.Commands.{admit as admit_of};
 ghost use Rattle.words.specs.Shown.{shown_admit};
 ghost use Rattle.rtdvs_top.specs.Admit.{admitted_text};
-ghost use Rattle.command_files.specs.Admissions.{admission};
 ghost use Rattle.rtdvs_top.specs.Prepared.{IsPrepareStep};
 
 use crate::Status;

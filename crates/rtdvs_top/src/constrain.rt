@@ -1,18 +1,15 @@
 // The answer of `constrain`, the test of deadlines below the periods.
-ghost use Rattle.statuses.specs.Steps.{Gives};
+ghost use Rattle.statuses.specs.Steps.{Gives, IsTestStep};
 ghost use Rattle.command_files.specs.Meanings.{tasks_at};
-ghost use Rattle.std.specs.Prelude.{Some};
-ghost use Rattle.command_files.specs.Loads.{IsLoadStep};
-ghost use Rattle.std.specs.Prelude.{◌≡◌, ◌<◌, length, slice_index, IfOk, OnOk, IfErr};
+ghost use Rattle.std.specs.Prelude.{Some, ◌≡◌, ◌<◌, length, slice_index, IfOk, OnOk, IfErr};
+ghost use Rattle.command_files.specs.Loads.{IsLoadStep, one_file};
 ghost use Rattle.dvs_base.specs.declared.kind.Scheduler.TheVariants.{Edf};
 ghost use Rattle.sched_model.specs.Plan.{plan_of};
 ghost use Rattle.deadline_list.specs.Deadlines.{AreFor};
 ghost use Rattle.words.specs.Commands.{constrain as constrain_of};
 ghost use Rattle.words.specs.Shown.{shown_constrain};
 ghost use Rattle.statuses.specs.Status.{IsOfFile};
-ghost use Rattle.statuses.specs.Steps.{IsTestStep};
 ghost use Rattle.rtdvs_top.specs.Constrain.{deadlines_at, constrained_text, constrain_with, KeepsDeadlines};
-ghost use Rattle.command_files.specs.Loads.{one_file};
 ghost use Rattle.rtdvs_top.specs.Prepared.{RefusesBy, IsPrepareStep};
 
 use crate::prepared::Prepared;
@@ -58,6 +55,7 @@ fn constrained_line(machine: &Machine, found: Constrained) -> Line
 }
 
 // The line of the lowest speed for tasks with these deadlines on a machine.
+#[tactic(auto, unfolding(crate::specs::Constrain::constrain_with))]
 fn lowest_line(
     alloc: Global,
     tasks: &TaskSet,

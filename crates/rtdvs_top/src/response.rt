@@ -1,14 +1,12 @@
 // The answer of `response`, the exact test under RM.
-ghost use Rattle.statuses.specs.Steps.{Gives};
+ghost use Rattle.statuses.specs.Steps.{Gives, IsTestStep};
 ghost use Rattle.command_files.specs.Meanings.{tasks_at};
-ghost use Rattle.std.specs.Prelude.{Some};
-ghost use Rattle.std.specs.Prelude.{◌≡◌, ◌<◌, length, IfOk, OnOk};
+ghost use Rattle.std.specs.Prelude.{Some, ◌≡◌, ◌<◌, length, IfOk, OnOk};
 ghost use Rattle.std.specs.Result.{IsErrOf};
 ghost use Rattle.dvs_base.specs.WritesText.{WritesText};
 ghost use Rattle.sched_model.specs.Plan.{plan_of};
 ghost use Rattle.words.specs.Commands.{response as response_of};
 ghost use Rattle.words.specs.Shown.{shown_response};
-ghost use Rattle.statuses.specs.Steps.{IsTestStep};
 ghost use Rattle.statuses.specs.declared.status.Denied.{Denied};
 ghost use Rattle.rtdvs_top.specs.Prepared.{IsPrepareStep};
 ghost use Rattle.rtdvs_top.specs.Response.{responses_on, response_text, responses_text, Responds, FailsToRespond};

@@ -1,15 +1,13 @@
 // A trace compared with the schedule for the demands that it fixes, and what `replay` and `migrate` prepare.
-ghost use Rattle.statuses.specs.Steps.{Gives};
+ghost use Rattle.statuses.specs.Steps.{Gives, IsTestStep};
 ghost use Rattle.command_files.specs.Meanings.{tasks_at};
-ghost use Rattle.std.specs.Prelude.{Some};
-ghost use Rattle.std.specs.Prelude.{◌≡◌, map, IfOk, ◌<◌, length};
+ghost use Rattle.std.specs.Prelude.{Some, ◌≡◌, map, IfOk, ◌<◌, length};
 ghost use Rattle.dvs_base.specs.Checks.{IsUnlessMemory};
 ghost use Rattle.trace_reader.specs.Traces.{IsTrace};
 ghost use Rattle.words.specs.Commands.{traced};
 ghost use Rattle.words.specs.Shown.{shown_trace};
-ghost use Rattle.statuses.specs.Steps.{IsTestStep};
 ghost use Rattle.command_files.specs.Loads.{IsLoadStep, one_file, later_files};
-ghost use Rattle.rtdvs_top.specs.Trace.{task_names, task_line, lines_of_tasks, trace_of, trace_at, traced_of, replay_status, totals_at, replayed_text};
+ghost use Rattle.rtdvs_top.specs.Trace.{task_names, task_line, lines_of_tasks, trace_of, trace_at, traced_of, replay_status, totals_at, replayed_text, IsMigratable};
 ghost use Rattle.rtdvs_top.specs.Prepared.{IsComparable, IsPrepareStep};
 
 use crate::at_pair::at_pair;
@@ -64,13 +62,11 @@ fn read_trace(alloc: Global, bytes: &[u8], tasks: &TaskSet) -> Result<Trace, Tra
     ensures trace { IfOk result (IsTrace (task_names tasks.now) (lines_of_tasks tasks.now)) }
 {
     let _limits = tasks.as_slice();
-    let names = match task_names(alloc, tasks) {
-        Ok(names) => names,
-        Err(NoMemory) => return Err(TraceFault::NoMemory),
+    let Ok(names) = task_names(alloc, tasks) else {
+        return Err(TraceFault::NoMemory);
     };
-    let lines = match task_lines(alloc, tasks) {
-        Ok(lines) => lines,
-        Err(NoMemory) => return Err(TraceFault::NoMemory),
+    let Ok(lines) = task_lines(alloc, tasks) else {
+        return Err(TraceFault::NoMemory);
     };
     read_any(alloc, bytes, &names, &lines)
 }
@@ -146,7 +142,8 @@ fn compare_governed<G: Publishing>(
     requires trace { IsComparable plan.now trace.now }
     requires kind { trace.now.plan.governor ≡ G.the_kind }
     requires serves { G.serves plan.now.scheduler }
-    ensures { IsTestStep (totals_at (plan.now, trace.now)) result (λ totals. totals) }
+    ensures step { IsTestStep (totals_at (plan.now, trace.now)) result (λ totals. totals) }
+    ensures migratable { IfOk result (λ totals. IsMigratable plan.now trace.now) }
 {
     let _admitted = plan.scheduler();
     let governor = G::made(alloc, plan)?;
@@ -156,7 +153,8 @@ fn compare_governed<G: Publishing>(
 /// The totals of a trace, compared with the schedule under the governor of its pair.
 pub(crate) fn compare_pair(alloc: Global, plan: &Admitted, trace: &Trace) -> Result<Totals, Status>
     requires trace { IsComparable plan.now trace.now }
-    ensures { IsTestStep (totals_at (plan.now, trace.now)) result (λ totals. totals) }
+    ensures step { IsTestStep (totals_at (plan.now, trace.now)) result (λ totals. totals) }
+    ensures migratable { IfOk result (λ totals. IsMigratable plan.now trace.now) }
 {
     at_pair!(
         plan.scheduler(),
