@@ -12,14 +12,17 @@ use Rattle.rtdvs_top.specs.Asked.{asked_with}
 use Rattle.rtdvs_top.specs.Admit.{admitted_text, admit_answer}
 use Rattle.command_files.specs.Admissions.{admission}
 use Rattle.rtdvs_top.specs.Run.{answer_of_prepared, run_answer}
-use Rattle.rtdvs_top.specs.Trace.{trace_at, answer_of_traced, trace_answer}
+use Rattle.request_list.specs.RequestFile.{request_file}
+use Rattle.rtdvs_top.specs.Trace.{trace_of, trace_at, answer_of_traced, trace_answer}
 use Rattle.rtdvs_top.specs.Poll.{requests_at, polling_served, polled_text, answer_of_polling, poll_answer}
 use Rattle.rtdvs_top.specs.Promises.{answer_of_command, run_plan, admit_plan, traced_plan, poll_plan, Passes, Denies, AdmitsOrDenies, AdmitsByTest}
 use Rattle.rtdvs_top.specs.Prepared.{EndsAs}
 use Rattle.statuses.specs.declared.status.Denied.{Denied}
+use Rattle.statuses.specs.declared.status.FileKind.TheVariants as file
+use Rattle.statuses.specs.declared.status.TextFault.TheVariants as text
 use Rattle.statuses.specs.declared.status.Status.{Status}
 use Rattle.statuses.specs.declared.status.Status.TheVariants as status
-use Rattle.rtdvs_top.proofs.DeniedPlans.{DeniesNot, is_denial, status_of, is_given, tasks_at-denies-not, machine_at-denies-not, demands_at-denies-not, trace_at-denies-not, server_at-denies-not, requests_at-denies-not, within-denies-not, traced-denies-not, admission-gives, denied-plan}
+use Rattle.rtdvs_top.proofs.DeniedPlans.{DeniesNot, is_denial, status_of, file-denies-not, tasks_at-denies-not, machine_at-denies-not, demands_at-denies-not, server_at-denies-not, within-denies-not, traced-denies-not, admission-gives, denied-plan}
 
 -- a step gives a value only where the plan passes its test, and denies only where it fails it
 record Tests {A : Type 0} (step : Result A Status) (plan : Result Plan Status) : Type 0 where
@@ -37,7 +40,7 @@ then-tests : {A B : Type 0} (step : Result A Status) (next : A → Result B Stat
     → DeniesNot step → ((a : A) → Tests (next a) (plan a)) → Tests (and_then step next) (and_then step plan)
 then-tests (Ok a) next plan here later = later a
 then-tests (Err s) next plan here later = record {
-  given = λ a e. absurd (true≢false (sym (ap is_given e)));
+  given = λ a e. absurd (cc);
   denied = λ why e. absurd (true≢false (sym (ap (λ r. is_denial (status_of r)) e) ∙ here));
 }
 
@@ -49,7 +52,7 @@ tests-then (Ok a) next plan later tests = record {
   denied = λ why e. absurd (true≢false (sym (ap (λ r. is_denial (status_of r)) e) ∙ later a));
 }
 tests-then (Err s) next plan later tests = record {
-  given = λ b e. absurd (true≢false (sym (ap is_given e)));
+  given = λ b e. absurd (cc);
   denied = λ why e. tests.denied why (ap (λ r. Err (status_of r)) e);
 }
 
@@ -75,7 +78,7 @@ traced-tests r files =
     then-tests (tasks_at r.tasks files) _ _ (tasks_at-denies-not r.tasks files) (λ tasks.
     tests-then _ (answer_of_traced r.asked) _ (traced-denies-not r.asked)
     (then-tests (machine_at r.machine files) _ _ (machine_at-denies-not r.machine files) (λ machine.
-    then-tests (trace_at tasks r.trace files) _ _ (trace_at-denies-not tasks r.trace files) (λ t.
+    then-tests (trace_at tasks r.trace files) _ _ (file-denies-not file.Trace r.trace files text.Trace (trace_of tasks)) (λ t.
     tests-then (admission (plan_of tasks machine t.plan.scheduler)) (λ p. Ok (p, t)) _ (λ p. refl)
     (admission-tests (plan_of tasks machine t.plan.scheduler))))))
 
@@ -86,7 +89,7 @@ poll-tests q files =
     (polled_text s (polling_served q.governor s q.ticks)))
     (then-tests (server_at q.server tasks) _ _ (server_at-denies-not q.server tasks) (λ i.
     then-tests (machine_at q.machine files) _ _ (machine_at-denies-not q.machine files) (λ machine.
-    then-tests (requests_at q.requests files) _ _ (requests_at-denies-not q.requests files) (λ requests.
+    then-tests (requests_at q.requests files) _ _ (file-denies-not file.Requests q.requests files text.Requests request_file) (λ requests.
     tests-then (admission (plan_of tasks machine q.scheduler)) (λ p. Ok (server_of p i requests)) _ (λ p. refl)
     (admission-tests (plan_of tasks machine q.scheduler)))))))
 

@@ -31,10 +31,8 @@ use Rattle.statuses.specs.Refused.{or_status}
 -- a refusal of a replay ends the comparison
 replay-ends : (p : Plan) (t : TraceView) (e : ReplayFault)
     → (e ≢ replay_fault.NoMemory → totals_at (p, t) ≡ Err (replay_status e)) → EndsWith (totals_at (p, t)) (replay_status e)
-replay-ends p t (replay_fault.OverWorst task job used worst) h = h (λ q. cc)
-replay-ends p t (replay_fault.TooManyJobs jobs) h = h (λ q. cc)
-replay-ends p t (replay_fault.Differs line wanted found) h = h (λ q. cc)
 replay-ends p t replay_fault.NoMemory h = tt
+replay-ends p t e h = h (λ q. cc)
 
 -- the answer under a governor's own demand, which is the published one on each schedule, is that under the published one
 module _ (demand : OwnDemand) (kind : GovernorKind) (p : Plan) (publishes : Publishes demand kind p) where
@@ -68,22 +66,19 @@ module _ (demand : OwnDemand) (kind : GovernorKind) (p : Plan) (publishes : Publ
 governed-totals : (demand : OwnDemand) (kind : GovernorKind) (p : Plan) → Publishes demand kind p
     → (t : TraceView) → t.plan.governor ≡ kind → (r : Result Totals ReplayFault)
     → replay_of p (ask_of demand p) t ≡ r → totals_at (p, t) ≡ or_status replay_status r
+unfolding totals_at
 governed-totals demand kind p publishes t is r h =
     ap (λ (g : GovernorKind). or_status replay_status (replay_of p (published p g) t)) is
     ∙ ap (or_status replay_status) (sym (same-answer demand kind p publishes t) ∙ h)
 
 -- what a replay shows, with its refusal as a status
 replay-unloaded : (e : ReplayFault) → OfLoad (λ kind. ⊥) (replay_status e)
-replay-unloaded (replay_fault.OverWorst task job used worst) = tt
-replay-unloaded (replay_fault.TooManyJobs jobs) = tt
-replay-unloaded (replay_fault.Differs line wanted found) = tt
 replay-unloaded replay_fault.NoMemory = tt
+replay-unloaded e = tt
 
 replay-shown : (e : ReplayFault) → IsCause e → IsShown (replay_status e)
-replay-shown (replay_fault.OverWorst task job used worst) h = h
-replay-shown (replay_fault.TooManyJobs jobs) h = h
-replay-shown (replay_fault.Differs line wanted found) h = h
 replay-shown replay_fault.NoMemory h = tt
+replay-shown e h = h
 
 pub compared-as-status : (demand : OwnDemand) (kind : GovernorKind) (p : Plan) → Publishes demand kind p
     → (t : TraceView) → t.plan.governor ≡ kind → (r : Result Totals ReplayFault)

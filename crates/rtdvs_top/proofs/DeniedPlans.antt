@@ -1,5 +1,5 @@
 -- Which steps of an answer can deny a plan, and when.
-use Rattle.std.proofs.Common.{◌≡◌, ◌⊎◌, inl, inr, ℕ, ◌*◌, ◌≤◌, ◌<◌, Bool, true, false, List, length, Option, Some, None, Result, Ok, Err, refl, sym, ◌∙◌, ap, subst, arith, true≢false, nat_lt, if◌then◌else◌}
+use Rattle.std.proofs.Common.{◌≡◌, ◌⊎◌, inl, inr, ℕ, ◌*◌, ◌≤◌, ◌<◌, Bool, true, false, List, Option, Some, None, Result, Ok, Err, refl, sym, ◌∙◌, ap, subst, arith, true≢false, nat_lt, if◌then◌else◌}
 use Rattle.std.proofs.lemmas.Bool.{ltb-true, ltb-false}
 use Rattle.std.proofs.lemmas.Bool.Decides.{nat_tests}
 use Rattle.dvs_base.specs.Outside.{Files, file_of}
@@ -13,7 +13,6 @@ use Rattle.freq_table.specs.MachineFile.{machine_file}
 use Rattle.freq_table.specs.declared.fault.MachineFault.TheVariants as machine_fault
 use Rattle.demand_list.specs.DemandFile.{demand_file}
 use Rattle.demand_list.specs.declared.fault.DemandFault.TheVariants as demand_fault
-use Rattle.request_list.specs.RequestFile.{request_file}
 use Rattle.request_list.specs.declared.fault.RequestFault.TheVariants as request_fault
 use Rattle.trace_reader.specs.Traces.{TraceView}
 use Rattle.trace_reader.specs.declared.trace.TraceFault.TheVariants as trace_fault
@@ -27,13 +26,12 @@ use Rattle.sched_model.specs.Plan.{Plan, hyper, top_speed}
 use Rattle.sched_model.specs.Tests.{total_rate}
 use Rattle.sched_model.specs.Admission.{PassesTest}
 use Rattle.dvs_base.specs.declared.limits.TheConstants.{MOST_JOBS}
-use Rattle.command_files.specs.Meanings.{bytes_from, bytes_at, tasks_at, machine_at, demands_at, longest, server_from, server_at}
+use Rattle.command_files.specs.Meanings.{bytes_from, bytes_at, tasks_at, machine_at, demands_at, server_from, server_at}
 use Rattle.statuses.specs.Status.{text_status}
-use Rattle.statuses.specs.Refused.{or_status, task_status, machine_status, demand_status, trace_status, request_status}
+use Rattle.statuses.specs.Refused.{or_status}
 use Rattle.command_files.specs.Admissions.{admission, admission_by, admission_from, first_overloaded}
 use Rattle.rtdvs_top.specs.Run.{within_jobs}
-use Rattle.rtdvs_top.specs.Trace.{replay_status, trace_of, trace_at, totals_at, printed, answer_of_traced}
-use Rattle.rtdvs_top.specs.Poll.{requests_at}
+use Rattle.rtdvs_top.specs.Trace.{replay_status, totals_at, printed, answer_of_traced}
 use Rattle.rtdvs_top.specs.Promises.{IsDenial, IsDeniedBy}
 use Rattle.statuses.specs.declared.status.Denied.{Denied}
 use Rattle.statuses.specs.declared.status.Denied.TheVariants as denied
@@ -55,11 +53,6 @@ abbrev pub status_of : {A : Type 0} → Result A Status → Status
 status_of (Ok a) = status.Done
 status_of (Err s) = s
 
--- whether a step gave a value
-abbrev pub is_given : {A : Type 0} → Result A Status → Bool
-is_given (Ok a) = true
-is_given (Err s) = false
-
 -- a step that denies nothing
 abbrev pub DeniesNot : {A : Type 0} → Result A Status → Type 0
 DeniesNot step = is_denial (status_of step) ≡ false
@@ -76,40 +69,21 @@ pub denied-later : {A B : Type 0} (step : Result A Status) (next : A → Result 
 denied-later (Ok a) next why here e = (a, refl, e)
 denied-later (Err s) next why here e = absurd (true≢false (sym (ap (λ r. is_denial (status_of r)) e) ∙ here))
 
--- a chain that denies does so in its first step, where the later ones deny nothing
-pub denied-first : {A B : Type 0} (step : Result A Status) (next : A → Result B Status) (why : Denied)
-    → ((a : A) → DeniesNot (next a)) → and_then step next ≡ Err (status.NotAdmitted why)
-    → step ≡ Err (status.NotAdmitted why)
-denied-first (Ok a) next why later e = absurd (true≢false (sym (ap (λ r. is_denial (status_of r)) e) ∙ later a))
-denied-first (Err s) next why later e = ap (λ r. Err (status_of r)) e
-
 -- a chain that gives a value does so in each of its steps
 pub given-both : {A B : Type 0} (step : Result A Status) (next : A → Result B Status) (b : B)
     → and_then step next ≡ Ok b → (a : A) × (step ≡ Ok a) × (next a ≡ Ok b)
 given-both (Ok a) next b e = (a, refl, e)
-given-both (Err s) next b e = absurd (true≢false (sym (ap is_given e)))
+given-both (Err s) next b e = absurd (cc)
 
 -- two values of one step are one
 pub given-once : {A : Type 0} {step : Result A Status} {a b : A} → step ≡ Ok a → step ≡ Ok b → a ≡ b
-given-once {A} {step} {a} {b} first second = ap value (sym first ∙ second)
-  where
-    value : Result A Status → A
-    value (Ok x) = x
-    value (Err s) = a
+given-once first second = cc
 
 bytes-deny-not : (kind : FileKind) (held : Option (List ℕ)) → DeniesNot (bytes_from kind held)
 bytes-deny-not kind None = refl
-bytes-deny-not kind (Some bytes) = go (nat_lt (longest kind) (length bytes))
-  where
-    go : (b : Bool) → DeniesNot (if b then Err (status.Text (text.TooLong kind)) else Ok bytes)
-    go true = refl
-    go false = refl
+bytes-deny-not kind (Some bytes) = grind (arith, nat_tests)
 
-file-denies-not : {A : Type 0} (kind : FileKind) (name : List ℕ) (files : Files) (read : List ℕ → Result A Status)
-    → ((bytes : List ℕ) → DeniesNot (read bytes)) → DeniesNot (and_then (bytes_at kind name files) read)
-file-denies-not kind name files read = then-denies-not (bytes_at kind name files) read (bytes-deny-not kind (file_of files name))
-
--- a refusal of a file denies nothing
+-- a refusal that is no denial denies nothing
 refusal-denies-not : {A F : Type 0} (as_status : F → Status) → ((e : F) → is_denial (as_status e) ≡ false) → (r : Result A F)
     → DeniesNot (or_status as_status r)
 refusal-denies-not as_status each (Ok a) = refl
@@ -125,32 +99,23 @@ text-denies-not (text.Deadlines deadline_fault.NoMemory) = refl
 text-denies-not (text.Requests request_fault.NoMemory) = refl
 text-denies-not why = refl
 
+-- nor does a file that is loaded and read
+pub file-denies-not : {A F : Type 0} (kind : FileKind) (name : List ℕ) (files : Files) (as_text : F → TextFault) (read : List ℕ → Result A F)
+    → DeniesNot (and_then (bytes_at kind name files) (λ bytes. or_status (λ e. text_status (as_text e)) (read bytes)))
+file-denies-not kind name files as_text read =
+    then-denies-not (bytes_at kind name files) _ (bytes-deny-not kind (file_of files name))
+    (λ bytes. refusal-denies-not _ (λ e. text-denies-not (as_text e)) (read bytes))
+
 pub tasks_at-denies-not : (name : List ℕ) (files : Files) → DeniesNot (tasks_at name files)
-tasks_at-denies-not name files =
-    file-denies-not file.Tasks name files (λ bytes. or_status task_status (task_file bytes))
-    (λ bytes. refusal-denies-not task_status (λ e. text-denies-not (text.Tasks e)) (task_file bytes))
+tasks_at-denies-not name files = file-denies-not file.Tasks name files text.Tasks task_file
 
 pub machine_at-denies-not : (name : List ℕ) (files : Files) → DeniesNot (machine_at name files)
-machine_at-denies-not name files =
-    file-denies-not file.Machine name files (λ bytes. or_status machine_status (machine_file bytes))
-    (λ bytes. refusal-denies-not machine_status (λ e. text-denies-not (text.Machine e)) (machine_file bytes))
+machine_at-denies-not name files = file-denies-not file.Machine name files text.Machine machine_file
 
 pub demands_at-denies-not : (tasks : List Task) (name : Option (List ℕ)) (files : Files)
     → DeniesNot (demands_at tasks name files)
 demands_at-denies-not tasks None files = refl
-demands_at-denies-not tasks (Some name) files =
-    file-denies-not file.Demands name files (λ bytes. or_status demand_status (demand_file tasks bytes))
-    (λ bytes. refusal-denies-not demand_status (λ e. text-denies-not (text.Demands e)) (demand_file tasks bytes))
-
-pub trace_at-denies-not : (tasks : List Task) (name : List ℕ) (files : Files) → DeniesNot (trace_at tasks name files)
-trace_at-denies-not tasks name files =
-    file-denies-not file.Trace name files (λ bytes. or_status trace_status (trace_of tasks bytes))
-    (λ bytes. refusal-denies-not trace_status (λ e. text-denies-not (text.Trace e)) (trace_of tasks bytes))
-
-pub requests_at-denies-not : (name : List ℕ) (files : Files) → DeniesNot (requests_at name files)
-requests_at-denies-not name files =
-    file-denies-not file.Requests name files (λ bytes. or_status request_status (request_file bytes))
-    (λ bytes. refusal-denies-not request_status (λ e. text-denies-not (text.Requests e)) (request_file bytes))
+demands_at-denies-not tasks (Some name) files = file-denies-not file.Demands name files text.Demands (demand_file tasks)
 
 pub server_at-denies-not : (name : List ℕ) (tasks : List Task) → DeniesNot (server_at name tasks)
 server_at-denies-not name tasks = go (place_of tasks name)
@@ -160,22 +125,17 @@ server_at-denies-not name tasks = go (place_of tasks name)
     go (Some i) = refl
 
 replay-denies-not : (e : ReplayFault) → is_denial (replay_status e) ≡ false
-replay-denies-not (replay_fault.OverWorst task job used worst) = refl
-replay-denies-not (replay_fault.TooManyJobs jobs) = refl
-replay-denies-not (replay_fault.Differs line wanted found) = refl
 replay-denies-not replay_fault.NoMemory = refl
+replay-denies-not e = refl
 
 pub traced-denies-not : (asked : TraceUse) (x : Plan × TraceView) → DeniesNot (answer_of_traced asked x)
+unfolding totals_at
 traced-denies-not asked x =
     then-denies-not (totals_at x) (λ totals. Ok (printed asked x totals))
     (refusal-denies-not replay_status replay-denies-not (replay_of x.0 (published x.0 x.1.plan.governor) x.1)) (λ totals. refl)
 
 pub within-denies-not : (jobs : ℕ) (bytes : List ℕ) → DeniesNot (within_jobs jobs bytes)
-within-denies-not jobs bytes = go (nat_lt MOST_JOBS jobs)
-  where
-    go : (b : Bool) → DeniesNot (if b then Err (status.Limit jobs) else Ok bytes)
-    go true = refl
-    go false = refl
+within-denies-not jobs bytes = grind (arith, nat_tests)
 
 -- jobs within the limit are not refused
 pub within-few : (jobs : ℕ) (bytes : List ℕ) → jobs ≤ MOST_JOBS → within_jobs jobs bytes ≡ Ok bytes
@@ -218,20 +178,16 @@ admission-gives p q e = go (decides p)
   where
     go : Decides p p.scheduler (admission p) → (q ≡ p) × PassesTest p.scheduler p
     go (inl same) = (given-once e same.0, same.1)
-    go (inr denial) = absurd (true≢false (ap is_given (sym e ∙ denial.1)))
+    go (inr denial) = let no = denial.1 in absurd (cc)
 
 -- a plan that is denied fails its test, by the test's two numbers
 pub denied-plan : (p : Plan) (why : Denied) → admission p ≡ Err (status.NotAdmitted why) → IsDeniedBy p why
 denied-plan p why e = record {
   numbers = e;
   by = go (decides p);
-  fails = λ h. true≢false (ap is_given (sym (passes-admission p.scheduler p h) ∙ e));
+  fails = λ h. let ok = passes-admission p.scheduler p h in absurd (cc);
 }
   where
-    why-of : Result Plan Status → Denied
-    why-of (Err (status.NotAdmitted d)) = d
-    why-of r = why
-
     go : Decides p p.scheduler (admission p) → IsDenial p why
-    go (inl same) = absurd (true≢false (ap is_given (sym same.0 ∙ e)))
-    go (inr denial) = subst (IsDenial p) (ap why-of (sym denial.1 ∙ e)) denial.2
+    go (inl same) = let ok = same.0 in absurd (cc)
+    go (inr denial) = let own = denial.1 in let same : denial.0 ≡ why = cc in subst (IsDenial p) same denial.2

@@ -19,8 +19,10 @@ use Rattle.replay.specs.declared.fault.ReplayFault.{ReplayFault}
 use Rattle.replay.specs.declared.fault.ReplayFault.TheVariants as replay_fault
 use Rattle.replay.proofs.Exact.{Passes, replayed-passes, some-replayed, is-replayed}
 use Rattle.rtdvs_top.specs.Asked.{asked_with}
+use Rattle.std.specs.Prelude.{IfOk}
+use Rattle.statuses.specs.Steps.{IsTestStep}
 use Rattle.rtdvs_top.specs.Trace.{replay_status, totals_at, task_line, lines_of_tasks, trace_of, trace_at, traced_of, printed, answer_of_traced, trace_answer, IsScheduleText, AreFilesOf, TellsOwn, IsMigratable, IsDoneUnless, AcceptsScheduleTexts}
-use Rattle.rtdvs_top.proofs.DeniedPlans.{is_given, given-once, given-both, passes-admission, admission-gives}
+use Rattle.rtdvs_top.proofs.DeniedPlans.{given-once, given-both, passes-admission, admission-gives}
 use Rattle.dvs_base.specs.Outside.{Files, file_of}
 use Rattle.dvs_base.specs.Checks.{and_then}
 use Rattle.dvs_base.specs.declared.kind.GovernorKind.{GovernorKind}
@@ -72,6 +74,7 @@ few-of-none p ticks = go (nat_lt MOST_JOBS (released_jobs p ticks)) refl
 module _ (p : Plan) (lim : IsWithinLimits p) (t : TraceView) (ended : IsEnded t.notes) where
   -- a trace that has totals passes the comparison
   pub passes : IsOk (totals_at (p, t)) → Passes p lim (published p t.plan.governor) t ended
+  unfolding totals_at
   passes ok =
       let asked = published p t.plan.governor in
       let done = replayed-some (replay_of p asked t) ok in
@@ -83,8 +86,12 @@ module _ (p : Plan) (lim : IsWithinLimits p) (t : TraceView) (ended : IsEnded t.
   own-notes ok = sym (passes ok).same
 
 -- a trace that was compared with the schedule of an admitted plan has a text in version 2
-pub migratable : (p : Plan) (t : TraceView) → IsAdmitted p → IsComparable p t → IsOk (totals_at (p, t)) → IsMigratable p t
-migratable p t adm c ok =
+pub migratable : (p : Plan) (t : TraceView) → IsAdmitted p → IsComparable p t → (r : Result Totals Status)
+    → IsTestStep (totals_at (p, t)) r (λ totals. totals) → IfOk r (λ totals. IsMigratable p t)
+unfolding totals_at
+migratable p t adm c (Err s) step = tt
+migratable p t adm c (Ok totals) step =
+    let ok : IsOk (totals_at (p, t)) = subst IsOk (sym step.gives) refl in
     let lim = adm.limits in
     let g = t.plan.governor in
     let ticks = t.plan.ticks in
@@ -169,25 +176,22 @@ module _ (r : TracedView) (files : Files) (v : Version) (p : Plan) (g : Governor
 
   -- where the trace file is the text of a schedule, the answer is what is printed for its trace
   pub printed-done : trace_answer r files ≡ Ok (printed r.asked (p, t) (totals_of t.notes))
+  unfolding totals_at
   printed-done = rw (of.tasks_are, traced-is, compared) refl
 
 -- a file whose bytes are taken has these bytes
 held-file : (kind : FileKind) (held : Option (List ℕ)) (bytes : List ℕ) → bytes_from kind held ≡ Ok bytes → held ≡ Some bytes
-held-file kind None bytes e = absurd (true≢false (sym (ap is_given e)))
+held-file kind None bytes e = absurd (cc)
 held-file kind (Some b) bytes e = fits (nat_lt (longest kind) (length b)) e
   where
     fits : (long : Bool) → (if long then Err (status.Text (text_fault.TooLong kind)) else Ok b) ≡ Ok bytes → Some b ≡ Some bytes
-    fits true e = absurd (true≢false (sym (ap is_given e)))
-    fits false e = ap Some (given-once {A = List ℕ} refl e)
+    fits true e = absurd (cc)
+    fits false e = cc
 
 -- what a trace file means, where it has a meaning
 trace-given : (t : TraceView) (r : Result TraceView TraceFault) → or_status trace_status r ≡ Ok t → r ≡ Ok t
-trace-given t (Ok u) h = ap (λ (r : Result TraceView Status). ok_or_it r) h
-  where
-    ok_or_it : Result TraceView Status → Result TraceView TraceFault
-    ok_or_it (Ok x) = Ok x
-    ok_or_it (Err s) = Ok u
-trace-given t (Err e) h = absurd (true≢false (sym (ap is_given h)))
+trace-given t (Ok u) h = cc
+trace-given t (Err e) h = absurd (cc)
 
 -- the trace t with other notes
 abbrev with_notes : TraceView → List Note → TraceView
@@ -201,6 +205,7 @@ module _ (r : TracedView) (files : Files) (tasks : List Task) (machine : Table) 
   own-text : tasks_at r.tasks files ≡ Ok tasks → machine_at r.machine files ≡ Ok machine
       → bytes_at file.Trace r.trace files ≡ Ok bytes → IsTextOf (names plan) (lines_of_tasks tasks) bytes t
       → IsAdmitted plan → IsOk (totals_at (plan, t)) → TellsOwn r files plan t
+  unfolding totals_at
   own-text ts ms bs found adm ok =
       let g = t.plan.governor in
       let ended = found.0.ended in
@@ -235,22 +240,18 @@ pub done-own : (r : TracedView) (files : Files) (tasks : List Task) (p : Plan) (
     → tasks_at r.tasks files ≡ Ok tasks → traced_of r tasks files ≡ Ok (p, t) → IsAdmitted p → IsOk (trace_answer r files)
     → (q : Plan) × (u : TraceView) × TellsOwn r files q u
 done-own r files tasks p t ts e adm ok =
-    let m = given-both (machine_at r.machine files) (λ machine. and_then (trace_at tasks r.trace files)
-    (λ u. and_then (admission (plan_of tasks machine u.plan.scheduler)) (λ q. Ok (q, u)))) (p, t) e in
-    let machine : Table = m.0 in
-    let x = given-both (trace_at tasks r.trace files) (λ u. and_then (admission (plan_of tasks machine u.plan.scheduler)) (λ q. Ok (q, u))) (p, t) m.2 in
-    let a = given-both (admission (plan_of tasks machine x.0.plan.scheduler)) (λ q. Ok (q, x.0)) (p, t) x.2 in
-    let b = given-both (bytes_at file.Trace r.trace files) (λ bytes. or_status trace_status (trace_of tasks bytes)) x.0 x.1 in
+    let m = given-both (machine_at r.machine files) _ (p, t) e in
+    let x = given-both (trace_at tasks r.trace files) _ (p, t) m.2 in
+    let q : Plan = plan_of tasks m.0 x.0.plan.scheduler in
+    let a = given-both (admission q) _ (p, t) x.2 in
+    let b = given-both (bytes_at file.Trace r.trace files) _ x.0 x.1 in
     let pair : (p, t) ≡ (a.0, x.0) = given-once a.2 refl in
-    let plan_is : p ≡ plan_of tasks machine x.0.plan.scheduler =
-    ap (λ y. y.0) pair ∙ (admission-gives (plan_of tasks machine x.0.plan.scheduler) a.0 a.1).0 in
-    let trace_is : t ≡ x.0 = ap (λ y. y.1) pair in
+    let own = pair ∙ ap (λ (y : Plan). (y, x.0)) (admission-gives q a.0 a.1).0 in
     let found = (reads-found Two (map (λ (t : Task). t.name) tasks) (lines_of_tasks tasks) b.0 x.0 (trace-given x.0 (trace_of tasks b.0) b.2)).0 in
     let answer : trace_answer r files ≡ answer_of_traced r.asked (p, t) = rw (ts, e) refl in
     let totals : IsOk (totals_at (p, t)) = first-ok (totals_at (p, t)) (λ totals. Ok (printed r.asked (p, t) totals)) (subst IsOk answer ok) in
-    let P : Plan → TraceView → Type 0 = λ q u. IsAdmitted q × IsOk (totals_at (q, u)) in
-    let both = subst (λ (u : TraceView). P (plan_of tasks machine x.0.plan.scheduler) u) trace_is (subst (λ (q : Plan). P q t) plan_is (adm, totals)) in
-    (plan_of tasks machine x.0.plan.scheduler, x.0, own-text r files tasks machine b.0 x.0 ts m.1 b.1 found both.0 both.1)
+    let both = subst (λ (y : Plan × TraceView). IsAdmitted y.0 × IsOk (totals_at y)) own (adm, totals) in
+    (q, x.0, own-text r files tasks m.0 b.0 x.0 ts m.1 b.1 found both.0 both.1)
   where
     first-ok : {A B : Type 0} (step : Result A Status) (next : A → Result B Status) → IsOk (and_then step next) → IsOk step
     first-ok (Ok y) next h = refl

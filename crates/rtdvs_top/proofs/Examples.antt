@@ -15,7 +15,7 @@ use Rattle.words.specs.Commands.{ConstrainView, CommandView, run, admit, traced,
 use Rattle.words.specs.declared.command.TraceUse.{TraceUse}
 use Rattle.words.specs.declared.command.TraceUse.TheVariants.{Replay, Migrate}
 use Rattle.command_files.specs.Meanings.{tasks_at, machine_at}
-use Rattle.rtdvs_top.specs.Constrain.{deadlines_at, constrain_answer}
+use Rattle.rtdvs_top.specs.Constrain.{deadlines_at, constrain_with, constrain_answer}
 use Rattle.command_files.specs.Files.{loads_needed}
 use Rattle.rtdvs_top.specs.Promises.{LoadFailed}
 use Rattle.statuses.specs.Status.{CountsLoads, CountsPuts, LeavesProbes, Leaves}
@@ -23,7 +23,7 @@ use Rattle.statuses.specs.StatusLines.{status_text}
 use Rattle.statuses.specs.declared.status.FileKind.{FileKind}
 use Rattle.statuses.specs.declared.status.FileKind.TheVariants.{Machine, Demands}
 use Rattle.statuses.specs.declared.status.Status.{Status}
-use Rattle.statuses.specs.declared.status.Status.TheVariants.{Done, NotAdmitted, Words, Load, Text, Limit, OverWorst, Differs, Write, NoMemory}
+use Rattle.statuses.specs.declared.status.Status.TheVariants.{Done, NotAdmitted, Load, Limit, Differs, Write}
 use Rattle.statuses.specs.declared.status.Denied.TheVariants.{Offset}
 
 -- words that name the files t, m and d
@@ -50,6 +50,7 @@ offset_next :
     → machine_at (codes "m") files ≡ Ok machine
     → deadlines_at later (codes "d") files ≡ Ok (3 ∷ [])
     → constrain_answer words files ≡ Err (NotAdmitted (Offset 0))
+unfolding constrain_with
 offset_next files machine tasks found deadlines = rw (tasks, found, deadlines) refl
 
 abbrev at_tick : ℕ → Pos
@@ -161,28 +162,12 @@ read_first files new (inr later) = later.0
 -- a count of failed loads that rose shows in the status
 loads_counted : (s : Status) → CountsLoads 3 4 s → (kind : FileKind) × (s ≡ Load kind)
 loads_counted (Load kind) counts = (kind, refl)
-loads_counted Done counts = absurd (omega (arith, counts))
-loads_counted (NotAdmitted why) counts = absurd (omega (arith, counts))
-loads_counted (Words why) counts = absurd (omega (arith, counts))
-loads_counted (Text why) counts = absurd (omega (arith, counts))
-loads_counted (Limit jobs) counts = absurd (omega (arith, counts))
-loads_counted (OverWorst task job units worst) counts = absurd (omega (arith, counts))
-loads_counted (Differs line wanted found) counts = absurd (omega (arith, counts))
-loads_counted Write counts = absurd (omega (arith, counts))
-loads_counted NoMemory counts = absurd (omega (arith, counts))
+loads_counted s counts = absurd (omega (arith, counts))
 
 -- a count of failed puts that rose shows in the status
 puts_counted : (s : Status) → CountsPuts 3 4 s → s ≡ Write
 puts_counted Write counts = refl
-puts_counted Done counts = absurd (omega (arith, counts))
-puts_counted (Load kind) counts = absurd (omega (arith, counts))
-puts_counted (NotAdmitted why) counts = absurd (omega (arith, counts))
-puts_counted (Words why) counts = absurd (omega (arith, counts))
-puts_counted (Text why) counts = absurd (omega (arith, counts))
-puts_counted (Limit jobs) counts = absurd (omega (arith, counts))
-puts_counted (OverWorst task job units worst) counts = absurd (omega (arith, counts))
-puts_counted (Differs line wanted found) counts = absurd (omega (arith, counts))
-puts_counted NoMemory counts = absurd (omega (arith, counts))
+puts_counted s counts = absurd (omega (arith, counts))
 
 -- and the status `Write` shows that it rose
 write_counted : CountsPuts 3 3 Write → ⊥
@@ -192,14 +177,7 @@ write_counted counts = omega (arith, counts.0)
 changed_by : (s : Status) → Leaves {W = ℕ} s 1 2 → (s ≡ Done) ⊎ (s ≡ Write)
 changed_by Done leaves = inl refl
 changed_by Write leaves = inr refl
-changed_by (Load kind) leaves = absurd (omega (arith, leaves))
-changed_by (NotAdmitted why) leaves = absurd (omega (arith, leaves))
-changed_by (Words why) leaves = absurd (omega (arith, leaves))
-changed_by (Text why) leaves = absurd (omega (arith, leaves))
-changed_by (Limit jobs) leaves = absurd (omega (arith, leaves))
-changed_by (OverWorst task job units worst) leaves = absurd (omega (arith, leaves))
-changed_by (Differs line wanted found) leaves = absurd (omega (arith, leaves))
-changed_by NoMemory leaves = absurd (omega (arith, leaves))
+changed_by s leaves = absurd (omega (arith, leaves))
 
 -- probes that aren't asked for stay as they were, also where a run is done; those that are asked for change only by the
 -- same two statuses

@@ -1,5 +1,5 @@
 -- What a `least` whose file is known has met, from how its answer ends.
-use Rattle.std.proofs.Common.{◌≡◌, ◌*◌, ℕ, Bool, true, false, List, Option, Some, Result, Ok, Err, refl, sym, ◌∙◌, ap, subst, arith, true≢false, nat_lt, if◌then◌else◌}
+use Rattle.std.proofs.Common.{◌≡◌, ◌*◌, ℕ, Bool, true, false, List, Option, Some, Result, Ok, Err, refl, sym, ◌∙◌, ap, subst, arith, nat_lt, if◌then◌else◌}
 use Rattle.std.proofs.lemmas.Bool.Decides.{nat_tests}
 use Rattle.std.specs.Io.KnownBytes.{Appends}
 use Rattle.dvs_base.specs.Outside.{Files, SinkView}
@@ -20,29 +20,27 @@ use Rattle.rtdvs_top.specs.Prepared.{EndsAs, ProvesDone}
 use Rattle.statuses.specs.declared.status.Denied.{Denied}
 use Rattle.statuses.specs.declared.status.Status.{Status}
 use Rattle.statuses.specs.declared.status.Status.TheVariants as status
-use Rattle.rtdvs_top.proofs.DeniedPlans.{is_given, given-once, denied-later, machine_at-denies-not}
+use Rattle.rtdvs_top.proofs.DeniedPlans.{given-once, denied-later, machine_at-denies-not}
 
 -- the text of the answer is that of the minimum
 text-is : (l : LeastView) (files : Files) (m : Table) (a : Least) (text : List ℕ) → machine_at l.machine files ≡ Ok m
     → least_energy_of m l.units l.ticks ≡ Ok a → answer_of_command (least l) files ≡ Ok text → text ≡ least_text a
+unfolding least_on
 text-is l files m a text e f h = given-once h (ap (λ x. and_then x (least_on l)) e ∙ ap least_from f)
 
 -- where the answer is denied, the machine does fewer units in the ticks than are asked for
 too-many : (l : LeastView) (m : Table) (why : Denied) → least_on l m ≡ Err (status.NotAdmitted why) → AreTooMany m l why
+unfolding least_on
 too-many l m why h = go (nat_lt (l.ticks * highest_speed m) l.units) refl h
   where
     whole : Least
     whole = let a = low_corner m l.units l.ticks in least_of m l.units l.ticks a (high_corner m l.units l.ticks a)
 
-    why_of : Result (List ℕ) Status → Denied
-    why_of (Err (status.NotAdmitted d)) = d
-    why_of r = why
-
     go : (b : Bool) → nat_lt (l.ticks * highest_speed m) l.units ≡ b
         → least_from (if b then Err (record { num = l.units; cap = l.ticks * highest_speed m }) else Ok whole) ≡ Err (status.NotAdmitted why)
         → AreTooMany m l why
-    go true e h = record { numbers = ap why_of (sym h); more = grind (arith, nat_tests) }
-    go false e h = absurd (true≢false (ap is_given h))
+    go true e h = record { numbers = cc; more = grind (arith, nat_tests) }
+    go false e h = absurd (cc)
 
 -- a `least` whose file is known, from how its answer ends and what it met
 pub proves-least : (files : Option Files) (c : CommandView) (s : Status) (old new : SinkView)

@@ -3,7 +3,7 @@ use Rattle.std.proofs.Common.{◌≡◌, ◌≤◌, ◌∙◌, arith, ℕ, Bool,
 use Rattle.dvs_base.specs.Outside.{Files, ShelfView, SinkView}
 use Rattle.task_model.specs.declared.task.Task.{Task}
 use Rattle.probes.specs.Tallies.{ProbeView}
-use Rattle.words.specs.Commands.{CommandView, tasks_name, run, traced, poll, least}
+use Rattle.words.specs.Commands.{CommandView, tasks_name, run}
 use Rattle.rtdvs_top.specs.Asked.{asked_with}
 use Rattle.rtdvs_top.specs.Promises.{LoadFailed, TellsProbes, answer_of_command}
 use Rattle.statuses.specs.Steps.{IsRefusal, Refuses}
@@ -54,19 +54,13 @@ refusal-of None step s refuses = refuses
 refusal-of (Some files) step s refuses = ends-refusal (step files) s refuses
 
 refused-ends : (files : Option Files) (old new : SinkView) (step : Files → Result (List ℕ) Status) (s : Status)
-    → Refuses files step s → EndsAs old new files step s
-refused-ends None old new step status.Done refuses = absurd refuses
-refused-ends None old new step status.Write refuses = absurd refuses
-refused-ends None old new step s refuses = refuses
-refused-ends (Some files) old new step status.Done refuses = absurd refuses
-refused-ends (Some files) old new step status.Write refuses = absurd refuses
-refused-ends (Some files) old new step s refuses = refuses
+    → IsRefusal s → Refuses files step s → EndsAs old new files step s
+refused-ends files old new step status.Done refusal refuses = absurd refusal
+refused-ends files old new step status.Write refusal refuses = absurd refusal
+refused-ends files old new step s refusal refuses = refuses
 
 refused-met : (files : Option Files) (c : CommandView) (s : Status) → IsRefusal s → ProvesDone files c s
-refused-met files (run r) status.Done refusal = absurd refusal
-refused-met files (traced r) status.Done refusal = absurd refusal
-refused-met files (poll q) status.Done refusal = absurd refusal
-refused-met files (least l) status.Done refusal = absurd refusal
+refused-met files c status.Done refusal = absurd refusal
 refused-met files c s refusal = tt
 
 refused-told : (files : Option Files) (c : CommandView) (old new : SinkView) (before after : List ProbeView) (s : Status)
@@ -87,7 +81,7 @@ refused-answered old new c tasks s refused failed loads counts =
     let files = files_for old.shelf.held c in
     let refusal = refusal-of files (answer_of_command c) s refused.ended in
     record {
-      ended = refused-ends files old.out new.out (answer_of_command c) s refused.ended;
+      ended = refused-ends files old.out new.out (answer_of_command c) s refusal refused.ended;
       met = refused-met files c s refusal;
       tested = refused.tested;
       named = refused.named;
@@ -138,7 +132,7 @@ module _ (c : CommandView) (old mid new : ShelfView) (tasks : Option (List Task)
       let ends = put.ends in
       record {
         ended = put-ends files c (shows out.0) (shows out.1) (answer_of p) s prepared.answer put.ended;
-        met = prepared.met s ends;
+        met = put-cases (answer_of p) s (ProvesDone files c) ends prepared.met tt tt (λ jobs. tt);
         tested = prepared.tested s ends;
         named = put-named files c tasks (answer_of p) s ends prepared.named;
         failed = put-cases (answer_of p) s (LoadFailed old new (Ok c)) ends tt tt tt (λ jobs. tt);

@@ -21,7 +21,7 @@ use Rattle.freq_table.specs.Tables.{lowest_pick}
 use Rattle.sched_model.specs.Jobs.{JobDemands, released_jobs, demand_of, IsWithin}
 use Rattle.event_kernel.specs.Runs.{Run, IsListOf, notes_of_run}
 use Rattle.event_kernel.specs.MetRun.{IsMetRun}
-use Rattle.trace_writer.specs.Lines.{WroteLines, StoppedIn, WritesLines}
+use Rattle.trace_writer.specs.Lines.{WritesLines}
 use Rattle.trace_writer.proofs.WrittenLines.{all-as, some-as, stopped-some}
 use Rattle.event_kernel.proofs.ListedDemands.{demand-within}
 use Rattle.sched_model.specs.Demand.{published}
@@ -34,7 +34,6 @@ use Rattle.rtdvs_top.specs.ToldRuns.{TellsRun}
 use Rattle.rtdvs_top.specs.Prepared.{answer_of_run, Ends, status_of_writing}
 use Rattle.rtdvs_top.specs.Run.{HasMet, text_under}
 use Rattle.probes.specs.Tallies.{ProbeView, told_notes}
-use Rattle.statuses.specs.declared.status.Status.TheVariants as status
 use Rattle.rtdvs_top.proofs.LineNotes.{trace-notes}
 use Rattle.rtdvs_top.proofs.DeniedPlans.{within-few}
 use Rattle.rtdvs_top.proofs.Comparisons as comparisons
@@ -83,33 +82,19 @@ module _ (demand : OwnDemand) (kind : GovernorKind) (p : Plan) (d : DemandsView)
     text = text_under v kind (run_of ticks)
 
     -- what probes were told where all lines of a run are written, and where the writing stops in one of them
-    done-told : WroteLines old new before after (own_lines k) → after ≡ told_notes (notes ticks) before
-    done-told w =
-        (all-as same-lines w).told
-        ∙ ap (λ (ns : List Note). told_notes ns before) (trace-notes v (names p) (notes ticks) p.scheduler kind ticks (task_texts p))
-
-    stopped-told : StoppedIn old new before after (own_lines k)
-        → StoppedIn old new before after (run_lines v p kind ticks (notes ticks))
-    stopped-told s = some-as same-lines s
-
-    done-ends : released_jobs p ticks ≤ MOST_JOBS → WroteLines old new before after (own_lines k)
-        → Ends old new (answer_of_run v kind (run_of ticks)) status.Done
-    done-ends few w = (text, within-few (released_jobs p ticks) text few, (all-as same-lines w).wrote)
-
-    stopped-ends : released_jobs p ticks ≤ MOST_JOBS → StoppedIn old new before after (own_lines k)
-        → Ends old new (answer_of_run v kind (run_of ticks)) status.Write
-    stopped-ends few s = (text, within-few (released_jobs p ticks) text few, stopped-some old new before after _ (stopped-told s))
-
     pub writing-told : {T E : Type 0} (r : Result T E) → WritesLines old new before after (own_lines k) r
         → TellsRun v kind (run_of ticks) old new before after (status_of_writing r)
-    writing-told (Ok t) wrote = done-told wrote
-    writing-told (Err e) stopped = stopped-told stopped
+    writing-told (Ok t) wrote =
+        (all-as same-lines wrote).told
+        ∙ ap (λ (ns : List Note). told_notes ns before) (trace-notes v (names p) (notes ticks) p.scheduler kind ticks (task_texts p))
+    writing-told (Err e) stopped = some-as same-lines stopped
 
     pub writing-ends : {T E : Type 0} (r : Result T E) → released_jobs p ticks ≤ MOST_JOBS
         → WritesLines old new before after (own_lines k) r
         → Ends old new (answer_of_run v kind (run_of ticks)) (status_of_writing r)
-    writing-ends (Ok t) few wrote = done-ends few wrote
-    writing-ends (Err e) few stopped = stopped-ends few stopped
+    writing-ends (Ok t) few wrote = (text, within-few (released_jobs p ticks) text few, (all-as same-lines wrote).wrote)
+    writing-ends (Err e) few stopped =
+        (text, within-few (released_jobs p ticks) text few, stopped-some old new before after _ (some-as same-lines stopped))
 
   -- a demand that is met where a schedule's own demand decides is met where the published one does
   met-there : (t : ℕ)

@@ -1,5 +1,5 @@
 -- What is put to `notes` at the end, with the names of the command's tasks.
-use Rattle.std.proofs.Common.{◌≡◌, ℕ, Bool, true, false, List, Option, Some, None, refl, ap, subst}
+use Rattle.std.proofs.Common.{◌≡◌, ℕ, Bool, true, false, List, Option, Some, None, refl, ap, sym, subst}
 use Rattle.dvs_base.specs.Outside.{Files, SinkView}
 use Rattle.task_model.specs.declared.task.Task.{Task}
 use Rattle.probes.specs.Tallies.{ProbeView}
@@ -28,13 +28,6 @@ module _ (files : Files) (c : CommandView) (tasks : Option (List Task)) (ps : Li
 pub puts-notes : (files : Option Files) (c : CommandView) (tasks read : Option (List Task)) (ps qs : List ProbeView) (s : Status)
     (old new : SinkView) (asks : Bool) → asks ≡ asks_probes c → read ≡ tasks → qs ≡ ps → HasTaskNames files c tasks s
     → NotedAs old new (noted_text asks (names_of read) qs s) → PutsNotes (asked_with files c) ps s old new
-puts-notes None c tasks read ps qs s old new asks a r q named h = (
-  names_of read,
-  subst (λ (b : Bool). NotedAs old new (noted_text b (names_of read) ps s)) a
-      (subst (λ (xs : List ProbeView). NotedAs old new (noted_text asks (names_of read) xs s)) q h),
-)
+puts-notes None c tasks read ps qs s old new asks a r q named h = (names_of read, rw (sym a, sym q) h)
 puts-notes (Some files) c tasks read ps qs s old new asks a r q named h =
-    subst (λ (t : List ℕ). NotedAs old new t) (same-noted files c tasks ps (asks_probes c) s refl named)
-    (subst (λ (b : Bool). NotedAs old new (noted_text b (names_of tasks) ps s)) a
-    (subst (λ (t : Option (List Task)). NotedAs old new (noted_text asks (names_of t) ps s)) r
-    (subst (λ (xs : List ProbeView). NotedAs old new (noted_text asks (names_of read) xs s)) q h)))
+    subst (λ (t : List ℕ). NotedAs old new t) (same-noted files c tasks ps (asks_probes c) s refl named) (rw (sym a, sym r, sym q) h)

@@ -1,16 +1,17 @@
 -- The status is the answer's, from how the answer ends and why its loads failed.
-use Rattle.std.proofs.Common.{◌≡◌, ◌⊎◌, inl, inr, ℕ, ◌+◌, Bool, List, [], ◌∷◌, Option, Some, None, Result, Ok, Err, IsTrue, refl, ap, subst, arith, rules}
+use Rattle.std.proofs.Common.{◌≡◌, ◌≢◌, ◌≤◌, ◌⊎◌, inl, inr, ℕ, ◌+◌, Bool, true, false, if◌then◌else◌, length, List, [], ◌∷◌, Option, Some, None, Result, Ok, Err, IsTrue, refl, sym, ap, subst, arith, rules}
 use Rattle.dvs_base.specs.Outside.{Files, ShelfView, SinkView, Rose, Lacks, file_of}
 use Rattle.words.specs.declared.command.WordFault.{WordFault}
 use Rattle.words.specs.Commands.{CommandView, run, admit, traced, workload, response, constrain, poll, least}
 use Rattle.rtdvs_top.specs.Asked.{asked_with}
-use Rattle.rtdvs_top.specs.Promises.{answer_of_command, Answers, Writes, WritesPart, IsSureOf, LoadFailed}
-use Rattle.command_files.specs.Files.{NamedFile, files_of, files_needed, files_for, is_passed, passes, FailsFrom}
+use Rattle.rtdvs_top.specs.Promises.{answer_of_command, IsAnswer, Answers, Writes, WritesPart, IsSureOf, LoadFailed}
+use Rattle.command_files.specs.Files.{NamedFile, MakesLoads, loads_while, loads_needed, loads_of, files_of, files_needed, files_for, is_passed, passes, FailsFrom}
 use Rattle.statuses.specs.Status.{CountsPuts, Leaves}
 use Rattle.rtdvs_top.specs.Prepared.{EndsAs}
 use Rattle.statuses.specs.declared.status.FileKind.{FileKind}
 use Rattle.statuses.specs.declared.status.Status.{Status}
 use Rattle.statuses.specs.declared.status.Status.TheVariants as status
+use Rattle.rtdvs_top.proofs.DeniedPlans.{status_of}
 
 -- the answer ends with the load of the first of these files that is lacking, where those before it are passed
 abbrev StopsAt : Files → CommandView → List NamedFile → Result (List ℕ) Status → Type 0
@@ -69,6 +70,17 @@ answers-of (Some files) c old new out_old out_new (status.Load kind) known ends 
 answers-of (Some files) c old new out_old out_new status.NoMemory known ends failed = tt
 answers-of (Some files) c old new out_old out_new s known ends failed = ends
 
+-- where no load and no put failed and memory didn't run out, the status is the answer's
+pub undisturbed : (loads_rose puts_rose : Type 0) (answer : Result (List ℕ) Status) (s : Status)
+    → IsAnswer loads_rose puts_rose answer s → (loads_rose → ⊥) → (puts_rose → ⊥) → s ≢ status.NoMemory → s ≡ status_of answer
+undisturbed loads_rose puts_rose (Ok text) status.Done h still whole memory = refl
+undisturbed loads_rose puts_rose (Err e) status.Done h still whole memory = absurd (cc)
+undisturbed loads_rose puts_rose answer status.Write h still whole memory = absurd (whole h.1)
+undisturbed loads_rose puts_rose answer status.NoMemory h still whole memory = absurd (memory refl)
+undisturbed loads_rose puts_rose answer (status.Load kind) (inl e) still whole memory = sym (ap status_of e)
+undisturbed loads_rose puts_rose answer (status.Load kind) (inr rose) still whole memory = absurd (still rose)
+undisturbed loads_rose puts_rose answer s h still whole memory = sym (ap status_of h)
+
 -- a sink that is sure of the whole answer counts no further fault
 pub sure-of : {W : Type 0} (shows : W → SinkView) (files : Option Files) (c : CommandView) (s : Status) (old new : W)
     → EndsAs (shows old) (shows new) files (answer_of_command c) s → Leaves s old new
@@ -104,3 +116,16 @@ pub counts-puts : {W : Type 0} (shows : W → SinkView) (files : Option Files) (
 counts-puts shows files c status.Done old new ends leaves = ends.2.steady
 counts-puts shows files c status.Write old new ends leaves = (ends.2.rose, ends.2.later)
 counts-puts shows files c s old new ends leaves = ap (λ w. (shows w).faults) leaves
+
+-- a shelf that is sure of all files of a command counts no further fault
+few-loads : (passed : NamedFile → Bool) (fs : List NamedFile) → loads_while passed fs ≤ length fs
+few-loads passed [] = omega arith
+few-loads passed (f ∷ fs) = go (passed f) (few-loads passed fs)
+  where
+    go : (b : Bool) → loads_while passed fs ≤ length fs → 1 + (if b then loads_while passed fs else 0) ≤ length (f ∷ fs)
+    go true few = omega (arith, few)
+    go false few = omega arith
+
+pub loads-sure : (held : Option Files) (c : CommandView) (old new : ShelfView) → MakesLoads (loads_needed held c) old new
+    → loads_of c ≤ old.sure → new.faults ≡ old.faults
+loads-sure held c old new made sure = made.steady (omega (arith, few-loads (passes held c) (files_of c), sure))

@@ -1,8 +1,8 @@
 -- The tasks of a command are loaded first: what that load gives, and how the loads after it add to it.
-use Rattle.std.proofs.Common.{◌≡◌, ◌≤◌, inl, inr, ℕ, ◌+◌, Bool, true, List, [], ◌∷◌, Option, Some, None, Result, Ok, Err, IsTrue, refl, sym, ◌∙◌, ap, subst, arith}
-use Rattle.std.proofs.lemmas.Option.{same_Some}
+use Rattle.std.proofs.Common.{◌≡◌, ◌≤◌, inl, inr, ℕ, ◌+◌, Bool, true, List, [], ◌∷◌, Option, Some, None, Result, Ok, Err, IsTrue, refl, sym, ◌∙◌, ap, subst, arith, if◌then◌else◌}
 use Rattle.dvs_base.specs.Outside.{Files, ShelfView, Rose, Lacks}
 use Rattle.dvs_base.specs.Checks.{and_then}
+use Rattle.std.specs.Prelude.{IsErrAnd}
 use Rattle.task_model.specs.declared.task.Task.{Task}
 use Rattle.words.specs.Commands.{CommandView, run, admit, traced, workload, response, constrain, poll, least, tasks_name}
 use Rattle.statuses.specs.declared.status.FileKind.{FileKind}
@@ -13,8 +13,8 @@ use Rattle.statuses.specs.Status.{IsOfFile, OfLoad}
 use Rattle.statuses.specs.Steps.{EndsWith, Refuses}
 use Rattle.statuses.specs.StatusLines.{status_text}
 use Rattle.command_files.specs.Meanings.{tasks_at}
-use Rattle.command_files.specs.Files.{NamedFile, named_file, files_of, files_needed, files_for, passes, FailsFrom, MakesLoads, loads_needed, names_at, names_from}
-use Rattle.command_files.specs.Loads.{one_file, files_after, tasks_loads, loads_after, IsLoadStep, LaterLoadFails}
+use Rattle.command_files.specs.Files.{NamedFile, named_file, files_of, files_needed, files_for, passes, FailsFrom, MakesLoads, loads_needed, loads_while, names_at, names_from}
+use Rattle.command_files.specs.Loads.{one_file, but_first, but_tasks, passes_tasks, tasks_loads, loads_after, IsLoadStep, LaterLoadFails}
 use Rattle.rtdvs_top.specs.Admit.{admit_after_tasks}
 use Rattle.rtdvs_top.specs.Run.{run_after_tasks}
 use Rattle.rtdvs_top.specs.Trace.{trace_after_tasks}
@@ -28,24 +28,22 @@ use Rattle.rtdvs_top.specs.Prepared.{AreTasksAt, HasTaskNames, IsRefused, IsTask
 -- a command that names a file of tasks loads it first, and its answer goes on with the tasks
 record LoadsTasks (c : CommandView) (name : List ℕ) : Type 0 where
   later : List Task → Files → Result (List ℕ) Status
-  first : files_of c ≡ named_file file.Tasks name ∷ files_after c
+  first : files_of c ≡ named_file file.Tasks name ∷ but_first (files_of c)
   answer : (files : Files) → answer_of_command c files ≡ and_then (tasks_at name files) (λ tasks. later tasks files)
 
-loads-tasks : (c : CommandView) (name : List ℕ) → Some name ≡ tasks_name c → LoadsTasks c name
-loads-tasks (run r) name e =
-    subst (LoadsTasks (run r)) (sym (same_Some _ _ e)) (record { later = run_after_tasks r; first = refl; answer = λ files. refl })
-loads-tasks (admit a) name e =
-    subst (LoadsTasks (admit a)) (sym (same_Some _ _ e)) (record { later = admit_after_tasks a; first = refl; answer = λ files. refl })
-loads-tasks (traced r) name e =
-    subst (LoadsTasks (traced r)) (sym (same_Some _ _ e)) (record { later = trace_after_tasks r; first = refl; answer = λ files. refl })
-loads-tasks (workload seed) name e = absurd (cc)
-loads-tasks (response r) name e =
-    subst (LoadsTasks (response r)) (sym (same_Some _ _ e)) (record { later = response_after_tasks r; first = refl; answer = λ files. refl })
-loads-tasks (constrain r) name e =
-    subst (LoadsTasks (constrain r)) (sym (same_Some _ _ e)) (record { later = constrain_after_tasks r; first = refl; answer = λ files. refl })
-loads-tasks (poll q) name e =
-    subst (LoadsTasks (poll q)) (sym (same_Some _ _ e)) (record { later = poll_after_tasks q; first = refl; answer = λ files. refl })
-loads-tasks (least l) name e = absurd (cc)
+abbrev Starts : CommandView → Option (List ℕ) → Type 0
+Starts c None = Unit {0}
+Starts c (Some name) = LoadsTasks c name
+
+starts : (c : CommandView) → Starts c (tasks_name c)
+starts (run r) = record { later = run_after_tasks r; first = refl; answer = λ files. refl }
+starts (admit a) = record { later = admit_after_tasks a; first = refl; answer = λ files. refl }
+starts (traced r) = record { later = trace_after_tasks r; first = refl; answer = λ files. refl }
+starts (workload seed) = tt
+starts (response r) = record { later = response_after_tasks r; first = refl; answer = λ files. refl }
+starts (constrain r) = record { later = constrain_after_tasks r; first = refl; answer = λ files. refl }
+starts (poll q) = record { later = poll_after_tasks q; first = refl; answer = λ files. refl }
+starts (least l) = tt
 
 -- a chain whose first step is refused is refused so
 ends-then : {A B : Type 0} (step : Result A Status) (next : A → Result B Status) (s : Status) → EndsWith step s
@@ -71,7 +69,7 @@ of-file-tested a s h = tt
 -- the load of the tasks that a command names
 module _ (c : CommandView) (name : List ℕ) (named : Some name ≡ tasks_name c) (old new : ShelfView) where
   abbrev own : LoadsTasks c name
-  own = loads-tasks c name named
+  own = subst (Starts c) (sym named) (starts c)
 
   held-are : files_for old.held c ≡ old.held
   held-are = ap (files_needed old.held) own.first
@@ -99,7 +97,7 @@ module _ (c : CommandView) (name : List ℕ) (named : Some name ≡ tasks_name c
       subst (λ (fs : List NamedFile). FailsFrom (passes (files_for old.held c) c) old new 1 fs kind) (sym own.first) (alone h)
     where
       alone : FailsFrom (λ f. true) old new 1 (named_file file.Tasks name ∷ []) kind
-          → FailsFrom (passes (files_for old.held c) c) old new 1 (named_file file.Tasks name ∷ files_after c) kind
+          → FailsFrom (passes (files_for old.held c) c) old new 1 (named_file file.Tasks name ∷ but_first (files_of c)) kind
       alone (inl x) = inl x
       alone (inr x) = absurd x.1
   first-failed s h = tt
@@ -136,6 +134,12 @@ module _ (c : CommandView) (name : List ℕ) (named : Some name ≡ tasks_name c
         counts = step.counts;
       }
 
+-- what holds of an error that is handed on
+pub at-error : {T : Type 0} (P : Result T Status → Type 0) (r : Result T Status) (s : Status) → IsErrAnd r (λ x. x ≡ s) → P (Err s)
+    → P r
+at-error P (Ok v) s is h = absurd is
+at-error {T} P (Err x) s is h = subst (λ (y : Status). P (Err y)) (sym is) h
+
 -- a command without a file of tasks loads none
 pub no-tasks : (c : CommandView) (shelf : ShelfView) → None ≡ tasks_name c → IsTasksStep shelf shelf c (Ok None)
 no-tasks c shelf none = record {
@@ -149,14 +153,12 @@ no-tasks c shelf none = record {
 
 -- the loads of a command's tasks, and those after them, are the loads that its answer needs
 pub needed-loads : (held : Option Files) (c : CommandView) → loads_needed held c ≡ tasks_loads (tasks_name c) + loads_after held c
-needed-loads held (run r) = omega arith
-needed-loads held (admit a) = omega arith
-needed-loads held (traced r) = omega arith
-needed-loads held (workload seed) = omega arith
-needed-loads held (response r) = omega arith
-needed-loads held (constrain r) = omega arith
-needed-loads held (poll q) = omega arith
-needed-loads held (least l) = omega arith
+needed-loads held c = go (tasks_name c) (starts c)
+  where
+    go : (o : Option (List ℕ)) → Starts c o → loads_needed held c
+        ≡ tasks_loads o + (if passes_tasks held c o then loads_while (passes held c) (but_tasks o (files_of c)) else 0)
+    go None none = omega arith
+    go (Some name) own = ap (loads_while (passes held c)) own.first
 
 pub both-made : {m n : ℕ} (old mid new : ShelfView) → MakesLoads m old mid → MakesLoads n mid new → MakesLoads (m + n) old new
 both-made old mid new first later = record {
@@ -189,26 +191,25 @@ module _ (passed : NamedFile → Bool) (old mid new : ShelfView) (kind : FileKin
 
 -- a load that failed after the tasks of a command were read
 module _ (old mid new : ShelfView) (kind : FileKind) (still : mid.faults ≡ old.faults) where
-  after-first : (c : CommandView) (f : NamedFile) (fs : List NamedFile) → MakesLoads 1 old mid
-      → IsTrue (passes mid.held c f) × FailsFrom (passes mid.held c) mid new 1 fs kind
-      → FailsFrom (passes old.held c) old new 1 (f ∷ fs) kind
-  after-first c f fs made fails =
-      let P : Option Files → Type 0 = λ held. IsTrue (passes held c f) × FailsFrom (passes held c) mid new 1 fs kind in
-      let own : P old.held = subst P made.held fails in
-      inr (own.0, fails-later (passes old.held c) old mid new kind 1 made still 1 (1 + 1) fs (omega arith) own.1)
+  -- the files that a command needs are the shelf's, where one of their loads failed
+  known : (c : CommandView) (fs : List NamedFile) → FailsFrom (passes old.held c) old new 1 fs kind
+      → FailsFrom (passes (files_needed old.held fs) c) old new 1 fs kind
+  known c [] fails = absurd fails
+  known c (f ∷ fs) fails = fails
+
+  abbrev Fails : CommandView → Option Files → Option (List ℕ) → Type 0
+  Fails c held o = IsTrue (passes_tasks held c o) × FailsFrom (passes held c) mid new 1 (but_tasks o (files_of c)) kind
 
   load-failed : (c : CommandView) → MakesLoads (tasks_loads (tasks_name c)) old mid → LaterLoadFails mid new c (status.Load kind)
       → LoadFailed old new (Ok c) (status.Load kind)
-  load-failed (run r) made fails = after-first (run r) (named_file file.Tasks r.tasks) (files_after (run r)) made fails
-  load-failed (admit a) made fails = after-first (admit a) (named_file file.Tasks a.tasks) (files_after (admit a)) made fails
-  load-failed (traced r) made fails = after-first (traced r) (named_file file.Tasks r.tasks) (files_after (traced r)) made fails
-  load-failed (workload seed) made fails = absurd fails.1
-  load-failed (response r) made fails = after-first (response r) (named_file file.Tasks r.tasks) (files_after (response r)) made fails
-  load-failed (constrain r) made fails = after-first (constrain r) (named_file file.Tasks r.tasks) (files_after (constrain r)) made fails
-  load-failed (poll q) made fails = after-first (poll q) (named_file file.Tasks q.tasks) (files_after (poll q)) made fails
-  load-failed (least l) made fails =
-      fails-later (passes old.held (least l)) old mid new kind 0 made still 1 1 (files_of (least l)) (omega arith)
-      (subst (λ (held : Option Files). FailsFrom (passes held (least l)) mid new 1 (files_of (least l)) kind) made.held fails.1)
+  load-failed c made fails = known c (files_of c) (go (tasks_name c) (starts c) made (subst (λ held. Fails c held (tasks_name c)) made.held fails))
+    where
+      go : (o : Option (List ℕ)) → Starts c o → MakesLoads (tasks_loads o) old mid → Fails c old.held o
+          → FailsFrom (passes old.held c) old new 1 (files_of c) kind
+      go None none made fails = fails-later (passes old.held c) old mid new kind 0 made still 1 1 (files_of c) (omega arith) fails.1
+      go (Some name) own made fails =
+          subst (λ (fs : List NamedFile). FailsFrom (passes old.held c) old new 1 fs kind) (sym own.first)
+          (inr (fails.0, fails-later (passes old.held c) old mid new kind 1 made still 1 (1 + 1) _ (omega arith) fails.1))
 
 pub later-failed : (c : CommandView) (old mid new : ShelfView) (s : Status) → MakesLoads (tasks_loads (tasks_name c)) old mid
     → mid.faults ≡ old.faults → LaterLoadFails mid new c s → LoadFailed old new (Ok c) s

@@ -47,7 +47,7 @@ constrained_text machine found =
     ∷ [])
 
 -- the answer of `constrain` for these tasks, this machine and these relative deadlines
-abbrev pub constrain_with : List Task → Table → List ℕ → Result (List ℕ) Status
+unfoldable pub constrain_with : List Task → Table → List ℕ → Result (List ℕ) Status
 constrain_with tasks machine deadlines = do
   found ← or_status constrain_status (tested_answer (plan_of tasks machine Edf) (slice_index deadlines))
   Ok (constrained_text machine found)

@@ -43,7 +43,7 @@ least_from (Ok a) = Ok (least_text a)
 least_from (Err e) = Err (status.NotAdmitted (denied.Units e.num e.cap))
 
 -- the answer of `least` on a machine
-abbrev pub least_on : LeastView → Table → Result (List ℕ) Status
+unfoldable pub least_on : LeastView → Table → Result (List ℕ) Status
 least_on l m = least_from (least_energy_of m l.units l.ticks)
 
 -- the answer of `least`

@@ -18,13 +18,14 @@ use Rattle.dvs_base.specs.WritesText.{Wrote, WroteSome}
 use Rattle.energy_bound.specs.declared.least.Least.{Least}
 use Rattle.dvs_base.specs.PlanWords.{IsPair}
 use Rattle.poll_server.specs.ServerJobs.{ServerView, request_count}
+use Rattle.poll_server.specs.Outcomes.{ServedView}
 use Rattle.probes.specs.Tallies.{ProbeView}
 use Rattle.rtdvs_top.specs.declared.prepared.Prepared.{Prepared}
 use Rattle.rtdvs_top.specs.declared.prepared.Prepared.TheVariants as prepared
 use Rattle.std.specs.List.{AllByRecursion}
 use Rattle.replay.specs.Replays.{NamesTask}
 use Rattle.rtdvs_top.specs.declared.prepared.ReadyRun.{ReadyRun}
-use Rattle.statuses.specs.Steps.{EndsWith, Gives, Refuses, CountsStep}
+use Rattle.statuses.specs.Steps.{EndsWith, Gives, Refuses, CountsStep, IsTestStep}
 use Rattle.command_files.specs.Files.{files_for, names_by, loads_needed, MakesLoads}
 use Rattle.command_files.specs.Loads.{LaterLoadFails, loads_after, tasks_loads}
 use Rattle.statuses.specs.Status.{CountsLoads, Leaves, LeavesProbes, IsShown}
@@ -38,7 +39,7 @@ use Rattle.rtdvs_top.specs.Constrain.{FailsToKeep}
 use Rattle.rtdvs_top.specs.Generated.{workload_tasks, workload_ticks, workload_totals, workload_text}
 use Rattle.rtdvs_top.specs.Trace.{traced_of, migrated_text, IsMigratable}
 use Rattle.rtdvs_top.specs.Least.{least_text, IsLeastOn}
-use Rattle.rtdvs_top.specs.Poll.{polled_text, polling_of, HasServed}
+use Rattle.rtdvs_top.specs.Poll.{polled_text, polling_served, answer_of_polling, polling_of, HasServed}
 use Rattle.rtdvs_top.specs.Response.{responses_text}
 use Rattle.demand_list.specs.Demands.{DemandsView}
 use Rattle.sched_model.specs.Admission.{IsAdmitted}
@@ -74,17 +75,22 @@ EndsAs old new files answer s = Refuses files answer s
 -- What is known of a command that is done, with the tasks of its file. A run is of the plan and the demands that were
 -- prepared; a replay or a migration has compared a trace with the schedule of an admitted plan; a `poll` run has kept the
 -- outcomes, their order and the bound, for the server of its files; `least` has its bound, for the machine of its file.
-abbrev pub ProvesDone : Option Files → CommandView → Status → Type 0
-ProvesDone files (run r) status.Done =
+abbrev pub IsKnownDone : Option Files → CommandView → Type 0
+IsKnownDone files (run r) =
     (tasks : List Task) × Gives files (tasks_at r.tasks) tasks
     × (p : Plan) × (d : DemandsView) × Gives files (prepared_of r tasks) (p, d) × IsReadyRun r.governor (run_with r p d)
-ProvesDone files (traced r) status.Done =
+IsKnownDone files (traced r) =
     (tasks : List Task) × Gives files (tasks_at r.tasks) tasks
     × (p : Plan) × (t : TraceView) × Gives files (traced_of r tasks) (p, t) × IsAdmitted p
-ProvesDone files (poll q) status.Done =
+IsKnownDone files (poll q) =
     (tasks : List Task) × Gives files (tasks_at q.tasks) tasks
     × (s : ServerView) × Gives files (polling_of q tasks) s × HasServed s q.governor q.ticks
-ProvesDone files (least l) status.Done = (m : Table) × (a : Least) × Gives files (machine_at l.machine) m × IsLeastOn m l a
+IsKnownDone files (least l) = (m : Table) × (a : Least) × Gives files (machine_at l.machine) m × IsLeastOn m l a
+IsKnownDone files c = ⊤
+
+-- what is known of a command that ended with this status
+abbrev pub ProvesDone : Option Files → CommandView → Status → Type 0
+ProvesDone files c status.Done = IsKnownDone files c
 ProvesDone files c s = ⊤
 
 -- Where the files are known, the lines of a status have the names of the command's tasks. Where a command that asks for
@@ -153,9 +159,11 @@ pub record IsPollable (s : ServerView) (governor : GovernorKind) (ticks : ℕ) :
   pub some_ticks : 1 ≤ ticks
   pub few_ticks : ticks ≤ MOST_TICKS
 
--- the run under a governor of this kind
-abbrev pub governed_run : GovernorKind → ReadyRun → ReadyRun
-governed_run kind w = record w { governor = kind }
+-- what a `poll` run gives: the outcomes and what they keep, or why the run isn't made
+pub record IsServed (governor : GovernorKind) (ticks : ℕ) (s : ServerView) (r : Result ServedView Status) : Type 0 where
+  pub step : IsTestStep (answer_of_polling governor ticks s) r (polled_text s)
+  pub served : IfOk r (λ v. v ≡ polling_served governor s ticks)
+  pub kept : IfOk r (λ v. HasServed s governor ticks)
 
 -- the run that is ready to be written
 abbrev pub ready_run : ReadyRun → Run
@@ -221,7 +229,7 @@ pub record IsPrepared (files : Option Files) (c : CommandView) (tasks : Option (
   pub puttable : IsPuttable p
   pub tells : tells_probes p ≡ asks_probes c
   pub named : HasTaskNames files c tasks status.Done
-  pub met : (s : Status) → PutEnds (answer_of p) s → ProvesDone files c s
+  pub met : IsKnownDone files c
   pub tested : (s : Status) → PutEnds (answer_of p) s → ProvesTests (asked_with files c) s
   pub told : (old new : SinkView) (before after : List ProbeView) (s : Status) → PutTells p old new before after s
       → TellsProbes (asked_with files c) old new before after s

@@ -123,7 +123,7 @@ replay_status (replay_fault.Differs line wanted found) = status.Differs line wan
 replay_status replay_fault.NoMemory = status.NoMemory
 
 -- the totals of a trace of a plan, where its notes are those of the schedule for the demands that they fix
-abbrev pub totals_at : Plan × TraceView → Result Totals Status
+unfoldable pub totals_at : Plan × TraceView → Result Totals Status
 totals_at x = or_status replay_status (replay_of x.0 (published x.0 x.1.plan.governor) x.1)
 
 -- the line of a replay: the releases, the completions, and the energies of running and of idling

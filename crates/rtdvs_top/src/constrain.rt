@@ -58,6 +58,7 @@ fn constrained_line(machine: &Machine, found: Constrained) -> Line
 }
 
 // The line of the lowest speed for tasks with these deadlines on a machine.
+#[tactic(auto, unfolding(crate::specs::Constrain::constrain_with))]
 fn lowest_line(
     alloc: Global,
     tasks: &TaskSet,

@@ -17,7 +17,7 @@ use crate::prepared::{EdfTotals, Prepared, Workload};
 use demand_list::Demands;
 use dvs_base::{
     Failed, GovernorKind, Line, Name, NoMemory, Note, Part, Scheduler, Sink, Totals, VoidSink,
-    line_of, put_line,
+    line_of, put_line, put_two,
 };
 use edf_admit::{EdfFault, edf_admit};
 use event_kernel::{Kernel, KernelFault, Listener, Stopped};
@@ -189,10 +189,12 @@ pub(crate) fn put_made<W: Sink>(
     ensures { WritesText (W.shows out.old) (W.shows out.new) (workload_text made.seed made.tasks made.ticks) result }
 {
     put_line(&head_line(made), out)?;
-    put_line(&totals_line(GovernorKind::Plain, totals.full), out)?;
-    put_line(&totals_line(GovernorKind::Fixed, totals.fixed), out)?;
-    put_line(&totals_line(GovernorKind::Cycle, totals.cycle), out)?;
-    put_line(&totals_line(GovernorKind::Ahead, totals.ahead), out)
+    let full = totals_line(GovernorKind::Plain, totals.full);
+    let fixed = totals_line(GovernorKind::Fixed, totals.fixed);
+    put_two(&full, &fixed, out)?;
+    let cycle = totals_line(GovernorKind::Cycle, totals.cycle);
+    let ahead = totals_line(GovernorKind::Ahead, totals.ahead);
+    put_two(&cycle, &ahead, out)
 }
 
 /// What `workload` prepares: a generated workload, and the totals of its runs under each governor that serves EDF.

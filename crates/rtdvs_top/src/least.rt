@@ -72,6 +72,7 @@ pub(crate) fn put_least<W: Sink>(least: &Least, out: &mut W) -> Result<(), Faile
 }
 
 // The answer of `least` on a machine.
+#[tactic(auto, unfolding(crate::specs::Least::least_on))]
 fn bound_energy(words: &LeastWords<'_>, machine: &Machine) -> Result<Least, Status>
     requires { HasReadyTicks (shown_least words.now) }
     ensures step { IsTestStep (least_on (shown_least words.now) machine.now) result (λ a. least_text a) }

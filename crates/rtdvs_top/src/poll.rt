@@ -10,15 +10,15 @@ ghost use Rattle.words.specs.Commands.{poll as poll_of, IsReadyCommand};
 ghost use Rattle.words.specs.Shown.{shown_poll};
 ghost use Rattle.statuses.specs.Steps.{IsTestStep};
 ghost use Rattle.command_files.specs.Loads.{IsLoadStep, one_file, later_files};
-ghost use Rattle.rtdvs_top.specs.Poll.{requests_at, polling_at, poll_status, polling_served, answer_of_polling, HasServed, outcome_text, request_lines, is_served, served_among, polled_line, polled_text};
+ghost use Rattle.rtdvs_top.specs.Poll.{requests_at, polling_at, poll_status, outcome_text, request_lines, is_served, served_among, polled_line, polled_text};
 ghost use Rattle.command_files.specs.Meanings.{server_at};
-ghost use Rattle.rtdvs_top.specs.Prepared.{IsPollable, IsPrepareStep};
+ghost use Rattle.rtdvs_top.specs.Prepared.{IsPollable, IsServed, IsPrepareStep};
 
 use crate::at_pair::at_pair;
 use crate::prepared::{Polling, Prepared};
 use crate::{FileKind, Status, TextFault};
 use command_files::{admit, load_file, load_machine};
-use dvs_base::{Failed, GovernorKind, Line, Part, Shelf, Short, Sink, Totals, line_of, put_line};
+use dvs_base::{Failed, Line, Part, Shelf, Short, Sink, Totals, line_of, put_line};
 use governor::Publishing;
 use poll_server::{Outcome, PollFault, Served, poll};
 use request_list::Requests;
@@ -85,14 +85,13 @@ fn poll_status(why: PollFault) -> Status
 // The outcomes of the requests and the totals of a `poll` run under governor `G`.
 fn serve_governed<G: Publishing>(
     alloc: Global,
+    words: &PollWords<'_>,
     polling: &Polling,
-    ticks: u64,
 ) -> Result<Served, Status>
-    requires polling { IsPollable polling.now G.the_kind ticks }
+    requires polling { IsPollable polling.now words.now.governor words.now.ticks }
     requires serves { G.serves polling.now.plan.scheduler }
-    ensures step { IsTestStep (answer_of_polling G.the_kind ticks polling.now) result (polled_text polling.now) }
-    ensures served { IfOk result (λ r. r ≡ polling_served G.the_kind polling.now ticks) }
-    ensures kept { IfOk result (λ r. HasServed polling.now G.the_kind ticks) }
+    ensures { words.now.governor ≡ G.the_kind
+        → IsServed words.now.governor words.now.ticks polling.now result }
 {
     let _admitted = polling.plan.scheduler();
     let governor = G::made(alloc, &polling.plan)?;
@@ -102,7 +101,7 @@ fn serve_governed<G: Publishing>(
         polling.server,
         &polling.requests,
         governor,
-        ticks,
+        words.ticks,
     )
     .map_err(poll_status)
 }
@@ -110,23 +109,20 @@ fn serve_governed<G: Publishing>(
 /// The outcomes of the requests and the totals of a `poll` run under the governor of its pair.
 pub(crate) fn serve_pair(
     alloc: Global,
+    words: &PollWords<'_>,
     polling: &Polling,
-    governor: GovernorKind,
-    ticks: u64,
 ) -> Result<Served, Status>
-    requires { IsPollable polling.now governor ticks }
-    ensures step { IsTestStep (answer_of_polling governor ticks polling.now) result (polled_text polling.now) }
-    ensures served { IfOk result (λ r. r ≡ polling_served governor polling.now ticks) }
-    ensures kept { IfOk result (λ r. HasServed polling.now governor ticks) }
+    requires { IsPollable polling.now words.now.governor words.now.ticks }
+    ensures { IsServed words.now.governor words.now.ticks polling.now result }
 {
     at_pair!(
         polling.plan.scheduler(),
-        governor,
+        words.governor,
         serve_governed,
         [],
         alloc,
-        polling,
-        ticks
+        words,
+        polling
     )
 }
 
@@ -236,6 +232,6 @@ pub(crate) fn prepare_poll<'a, S: Shelf>(
 {
     let server = find_server(words.server, tasks)?;
     let polling = load_polling(alloc, words, server, tasks, shelf)?;
-    let served = serve_pair(alloc, &polling, words.governor, words.ticks)?;
+    let served = serve_pair(alloc, words, &polling)?;
     Ok(Prepared::Polled(polling, served))
 }

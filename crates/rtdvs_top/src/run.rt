@@ -5,7 +5,7 @@ ghost use Rattle.command_files.specs.Meanings.{tasks_at};
 ghost use Rattle.dvs_base.specs.PlanWords.{IsPair};
 ghost use Rattle.words.specs.Commands.{IsReady, run as run_of};
 ghost use Rattle.words.specs.Shown.{shown_run};
-ghost use Rattle.rtdvs_top.specs.Prepared.{IsPrepareStep, IsPutStep, ready_run, governed_run, status_of_put, status_of_writing};
+ghost use Rattle.rtdvs_top.specs.Prepared.{IsPrepareStep, IsPutStep, ready_run, status_of_put, status_of_writing};
 ghost use Rattle.command_files.specs.PlannedRuns.{IsRunnable};
 ghost use Rattle.rtdvs_top.specs.declared.prepared.Prepared.TheVariants as prepared;
 
@@ -63,8 +63,8 @@ fn run_governed<G: Publishing, W: Sink, P: Probe>(
 ) -> Result<(), Status>
     requires run { IsRunnable (ready_run run.now) }
     requires serves { G.serves run.now.plan.scheduler }
-    ensures { IsPutStep (out.old, out.new) (probes.old, probes.new) W.shows (λ v. map P.seen v.items)
-        (prepared.Trace (governed_run G.the_kind run.now)) (status_of_put result) }
+    ensures { run.now.governor ≡ G.the_kind → IsPutStep (out.old, out.new) (probes.old, probes.new) W.shows
+        (λ v. map P.seen v.items) (prepared.Trace run.now) (status_of_put result) }
 {
     let _worsts = run.demands.worsts();
     let _admitted = run.plan.scheduler();

@@ -9,7 +9,7 @@ ghost use Rattle.words.specs.Commands.{traced};
 ghost use Rattle.words.specs.Shown.{shown_trace};
 ghost use Rattle.statuses.specs.Steps.{IsTestStep};
 ghost use Rattle.command_files.specs.Loads.{IsLoadStep, one_file, later_files};
-ghost use Rattle.rtdvs_top.specs.Trace.{task_names, task_line, lines_of_tasks, trace_of, trace_at, traced_of, replay_status, totals_at, replayed_text};
+ghost use Rattle.rtdvs_top.specs.Trace.{task_names, task_line, lines_of_tasks, trace_of, trace_at, traced_of, replay_status, totals_at, replayed_text, IsMigratable};
 ghost use Rattle.rtdvs_top.specs.Prepared.{IsComparable, IsPrepareStep};
 
 use crate::at_pair::at_pair;
@@ -146,7 +146,8 @@ fn compare_governed<G: Publishing>(
     requires trace { IsComparable plan.now trace.now }
     requires kind { trace.now.plan.governor ≡ G.the_kind }
     requires serves { G.serves plan.now.scheduler }
-    ensures { IsTestStep (totals_at (plan.now, trace.now)) result (λ totals. totals) }
+    ensures step { IsTestStep (totals_at (plan.now, trace.now)) result (λ totals. totals) }
+    ensures migratable { IfOk result (λ totals. IsMigratable plan.now trace.now) }
 {
     let _admitted = plan.scheduler();
     let governor = G::made(alloc, plan)?;
@@ -156,7 +157,8 @@ fn compare_governed<G: Publishing>(
 /// The totals of a trace, compared with the schedule under the governor of its pair.
 pub(crate) fn compare_pair(alloc: Global, plan: &Admitted, trace: &Trace) -> Result<Totals, Status>
     requires trace { IsComparable plan.now trace.now }
-    ensures { IsTestStep (totals_at (plan.now, trace.now)) result (λ totals. totals) }
+    ensures step { IsTestStep (totals_at (plan.now, trace.now)) result (λ totals. totals) }
+    ensures migratable { IfOk result (λ totals. IsMigratable plan.now trace.now) }
 {
     at_pair!(
         plan.scheduler(),

@@ -25,6 +25,7 @@ use Rattle.grid_fraction.proofs.Multiples.{divides_all-append, le-least_common_m
 use Rattle.task_model.specs.Tasks.{hyper_of, no_task, task_at, IsTask, IsTaskSet}
 use Rattle.freq_table.specs.Tables.{Table}
 use Rattle.sched_model.specs.Plan.{Plan, plan_of, period, offset, rate, hyper}
+use Rattle.sched_model.specs.Jobs.{released_jobs}
 use Rattle.sched_model.specs.Tests.{IsEdfFeasible}
 use Rattle.workload.specs.Draws.{next_state, draw_of, state_after, draw}
 use Rattle.workload.specs.Workload.{task_by, made_task, made_name, made_row, periods, share_of, made_tasks, made_machine}
@@ -215,12 +216,12 @@ module _ (x n : ℕ) (some : 1 ≤ n) (few : n ≤ MOST_TASKS) where
 
   -- the released jobs are few: of each task at most one more than one for every 20 ticks
   pub few-released : (machine : Table) (scheduler : Scheduler) (ticks : ℕ)
-      → sum_below n (λ i. ceil_div (ticks - offset (plan_of tasks machine scheduler) i) (period (plan_of tasks machine scheduler) i)) ≤ n * (ticks / 20 + 1)
+      → released_jobs (plan_of tasks machine scheduler) ticks ≤ n * (ticks / 20 + 1)
   few-released machine scheduler ticks =
       let p : Plan = plan_of tasks machine scheduler in
       let f : ℕ → ℕ = λ i. ceil_div (ticks - offset p i) (period p i) in
       let all : 1 * sum_below n f ≤ n * (ticks / 20 + 1) = share-sum 1 n (ticks / 20 + 1) f (λ i lt. omega (arith, each i lt)) in
-      omega (arith, all)
+      subst (λ m. sum_below m f ≤ n * (ticks / 20 + 1)) (sym long) (omega (arith, all))
     where
       most : (d a : ℕ) → 20 ≤ d → a ≤ ticks → ceil_div a d ≤ ticks / 20 + 1
       most d a low le =

@@ -1,10 +1,13 @@
-use Rattle.std.proofs.Common.{ap, ◌∙◌}
-use Rattle.freq_table.specs.Tables.{Table, lowest_pick}
-use Rattle.rtdvs_top.proofs.Picks.{pick-within}
+use Rattle.std.proofs.Common.{◌≡◌, ap, ◌∙◌, arith}
+use Rattle.freq_table.specs.declared.machine.Pick.{Pick}
+use Rattle.freq_table.specs.Tables.{Table, lowest_entry, lowest_pick}
 use Rattle.rtdvs_top.proofs.admit.admitted_line.Goals as goal
 
+-- the entry that a demand picks is in the table
 pub point-point-requires : goal.point-point-requires
 point-point-requires c =
+    let m = c.args.plan.now.machine in
     let d = c.static_demand-demand.result in
-    rw c.machine-2.ensures.machine (pick-within c.args.plan.now.machine d c.lowest-pick.result c.machine.ensures.admitted.limits.machine
-    (c.lowest-pick.ensures ∙ ap (λ (x : Table). lowest_pick x d) c.machine.ensures.machine))
+    let pick : c.lowest-pick.result ≡ lowest_pick m d = c.lowest-pick.ensures ∙ ap (λ (x : Table). lowest_pick x d) c.machine.ensures.machine in
+    let entry : c.lowest-pick.result.index ≡ lowest_entry m d = ap (λ (p : Pick). p.index) pick in
+    rw c.machine-2.ensures.machine (omega (arith, entry, c.machine.ensures.admitted.limits.machine.some))

@@ -3,8 +3,7 @@ use Rattle.task_model.specs.declared.task.Task.{Task}
 use Rattle.words.specs.Shown.{shown_command}
 use Rattle.statuses.specs.declared.status.Status.{Status}
 use Rattle.rtdvs_top.specs.Prepared.{IsTasksStep}
-use Rattle.rtdvs_top.proofs.TestEnds.{at-error}
-use Rattle.rtdvs_top.proofs.TasksFirst.{tasks-refused}
+use Rattle.rtdvs_top.proofs.TasksFirst.{at-error, tasks-refused}
 use Rattle.rtdvs_top.proofs.answer.load_its_tasks.Goals as goal
 
 pub returns-in_err-load_tasks-in-Some : goal.returns-in_err-load_tasks-in-Some

@@ -5,7 +5,9 @@ use Rattle.sched_model.specs.Jobs.{released_jobs}
 use Rattle.dvs_base.specs.declared.limits.TheConstants.{MOST_JOBS}
 use Rattle.sched_model.specs.Plan.{plan_of}
 use Rattle.rtdvs_top.specs.Generated.{workload_plan}
-use Rattle.rtdvs_top.proofs.FewJobs.{few-jobs}
+use Rattle.workload.specs.Draws.{first_state}
+use Rattle.workload.specs.Workload.{made_machine}
+use Rattle.workload.proofs.MadeTasks.{few-released}
 use Rattle.rtdvs_top.proofs.generated.made_plan.Goals as goal
 
 pub returns-in-Ok-clause-jobs : goal.returns-in-Ok-clause-jobs
@@ -17,7 +19,7 @@ returns-in-Ok-clause-jobs c =
     let plan : c.in-Ok.plan ≡ workload_plan seed tasks =
     c.in-Ok.ensures.plan ∙ ap₂ (λ tasks machine. plan_of tasks machine Edf) made.tasks_are made.machine_is in
     let jobs : released_jobs (workload_plan seed tasks) ticks ≤ tasks * (ticks / 20 + 1) =
-    few-jobs seed tasks ticks c.requires.some (omega (arith, c.requires.few)) in
+    few-released (first_state seed) tasks c.requires.some (omega (arith, c.requires.few)) made_machine Edf ticks in
     let each : ticks / 20 + 1 ≤ 2501 = omega (arith, c.requires.few_ticks) in
     let most : tasks * (ticks / 20 + 1) ≤ tasks * 2501 = mul-le-mul_left tasks each in
     let all : tasks * 2501 ≤ 32 * 2501 = mul-le-mul_right 2501 c.requires.few in

@@ -1,37 +1,29 @@
-use Rattle.dvs_base.proofs.TextPuts.{writes-part}
-use Rattle.rtdvs_top.proofs.WorkloadLines.{first-part, second-part, third-part, fourth-part, all-put}
+use Rattle.std.proofs.Common.{◌≡◌, ◌++◌, ℕ, ap, sym}
+use Rattle.dvs_base.proofs.TextPuts.{wrote-some-more, wrote-then-some, writes-then, writes-part}
+use Rattle.rtdvs_top.specs.Generated.{head_text, edf_text, workload_totals, workload_text}
+use Rattle.rtdvs_top.specs.declared.prepared.EdfTotals.{EdfTotals}
 use Rattle.rtdvs_top.proofs.generated.put_made.Goals as goal
+
+-- the text of a workload is its first line and the lines of its totals
+all-lines : (seed n ticks : ℕ) (t : EdfTotals) → t ≡ workload_totals seed n ticks
+    → workload_text seed n ticks ≡ head_text seed n ticks ++ edf_text t
+unfolding workload_text
+all-lines seed n ticks t is = ap (λ (x : EdfTotals). head_text seed n ticks ++ edf_text x) (sym is)
 
 pub returns-in_err-put_line : goal.returns-in_err-put_line
 returns-in_err-put_line g c =
-    writes-part _ _ _ c.from_residual.result c.from_residual.ensures.0
-    (first-part _ _ _ c.args.totals.now c.requires _ _ (rw c.head_line.ensures.text at c.in_err-put_line.ensures))
+    rw (all-lines _ _ _ _ c.requires) (writes-part _ _ _ c.from_residual.result c.from_residual.ensures.0
+    (wrote-some-more _ _ _ _ (rw c.head_line.ensures.text at c.in_err-put_line.ensures)))
 
-pub returns-in_err-put_line-2 : goal.returns-in_err-put_line-2
-returns-in_err-put_line-2 g c =
-    writes-part _ _ _ c.from_residual-in_err-put_line-2.result c.from_residual-in_err-put_line-2.ensures.0
-    (second-part _ _ _ c.args.totals.now c.requires _ _ _ (rw c.head_line.ensures.text at c.in_ok-put_line.ensures)
-    (rw c.totals_line.ensures.text at c.in_err-put_line-2.ensures))
-
-pub returns-in_err-put_line-3 : goal.returns-in_err-put_line-3
-returns-in_err-put_line-3 g c =
-    writes-part _ _ _ c.from_residual-in_err-put_line-3.result c.from_residual-in_err-put_line-3.ensures.0
-    (third-part _ _ _ c.args.totals.now c.requires _ _ _ (rw c.head_line.ensures.text at c.in_ok-put_line.ensures) _
-    (rw c.totals_line.ensures.text at c.in_ok-put_line-2.ensures)
-    (rw c.totals_line-2.ensures.text at c.in_err-put_line-3.ensures))
-
-pub returns-in_err-put_line-4 : goal.returns-in_err-put_line-4
-returns-in_err-put_line-4 g c =
-    writes-part _ _ _ c.from_residual-in_err-put_line-4.result c.from_residual-in_err-put_line-4.ensures.0
-    (fourth-part _ _ _ c.args.totals.now c.requires _ _ _ (rw c.head_line.ensures.text at c.in_ok-put_line.ensures) _
-    (rw c.totals_line.ensures.text at c.in_ok-put_line-2.ensures) _
-    (rw c.totals_line-2.ensures.text at c.in_ok-put_line-3.ensures)
-    (rw c.totals_line-3.ensures.text at c.in_err-put_line-4.ensures))
+pub returns-in_err-put_two : goal.returns-in_err-put_two
+returns-in_err-put_two g c =
+    rw (all-lines _ _ _ _ c.requires) (writes-part _ _ _ c.from_residual-in_err-put_two.result c.from_residual-in_err-put_two.ensures.0
+    (wrote-then-some _ _ _ _ _ (rw c.head_line.ensures.text at c.in_ok-put_line.ensures) (wrote-some-more _ _ _ _
+    (rw (c.totals_line-full.ensures.text, c.totals_line-fixed.ensures.text) at c.in_err-put_two.ensures))))
 
 pub returns : goal.returns
 returns g c =
-    all-put _ _ _ c.args.totals.now c.requires _ _ _ (rw c.head_line.ensures.text at c.in_ok-put_line.ensures) _
-    (rw c.totals_line.ensures.text at c.in_ok-put_line-2.ensures) _
-    (rw c.totals_line-2.ensures.text at c.in_ok-put_line-3.ensures) _ c.put_line-5.result
-    (rw c.totals_line-3.ensures.text at c.in_ok-put_line-4.ensures)
-    (rw c.totals_line-4.ensures.text at c.put_line-5.ensures)
+    rw (all-lines _ _ _ _ c.requires) (writes-then _ _ _ _ _ c.put_two-2.result (rw c.head_line.ensures.text at c.in_ok-put_line.ensures)
+    (writes-then _ _ _ _ _ c.put_two-2.result
+    (rw (c.totals_line-full.ensures.text, c.totals_line-fixed.ensures.text) at c.in_ok-put_two.ensures)
+    (rw (c.totals_line-cycle.ensures.text, c.totals_line-ahead.ensures.text) at c.put_two-2.ensures)))

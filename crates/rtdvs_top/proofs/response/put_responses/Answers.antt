@@ -1,11 +1,15 @@
-use Rattle.std.proofs.Common.{length, arith}
+use Rattle.std.proofs.Common.{◌≡◌, ℕ, suc, List, [], ◌∷◌, ◌++◌, length, ap, ◌∙◌, append-nil, arith}
 use Rattle.dvs_base.specs.Parts.{joined}
+use Rattle.dvs_base.proofs.JoinedTexts.{joined-append}
 use Rattle.grid_fraction.specs.Numbers.{list_below}
 use Rattle.rtdvs_top.specs.Response.{response_text}
 use Rattle.statuses.proofs.NumberedPuts.{next-put, part-put}
-use Rattle.rtdvs_top.proofs.JoinedLines.{joined-below}
 use Rattle.dvs_base.proofs.TextPuts.{writes-part}
 use Rattle.rtdvs_top.proofs.response.put_responses.Goals as goal
+
+-- the lines of the first n numbers, and of number n after them
+joined-below : (f : ℕ → List ℕ) (n : ℕ) → joined (list_below (suc n) f) ≡ joined (list_below n f) ++ f n
+joined-below f n = joined-append (list_below n f) (f n ∷ []) ∙ ap (λ (t : List ℕ). joined (list_below n f) ++ t) (append-nil (f n))
 
 pub loop-i-preserved : goal.loop-i-preserved
 loop-i-preserved g c =

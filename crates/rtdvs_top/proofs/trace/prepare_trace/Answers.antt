@@ -1,26 +1,34 @@
-use Rattle.std.proofs.Common.{Some, Result, refl, sym, subst, rules}
-use Rattle.std.specs.Prelude.{IsOk}
-use Rattle.words.specs.Commands.{traced}
+use Rattle.std.proofs.Common.{◌≡◌, ℕ, List, Option, Some, None, Result, refl, subst, rules}
+use Rattle.dvs_base.specs.Outside.{Files}
+use Rattle.task_model.specs.declared.task.Task.{Task}
+use Rattle.words.specs.Commands.{TracedView, traced}
 use Rattle.words.specs.Shown.{shown_trace}
 use Rattle.statuses.specs.declared.status.Status.{Status}
+use Rattle.statuses.specs.Steps.{Gives}
+use Rattle.command_files.specs.Meanings.{tasks_at}
+use Rattle.command_files.specs.Files.{passes, loads_while, MakesLoads}
+use Rattle.command_files.specs.Loads.{files_after, loads_after}
 use Rattle.rtdvs_top.specs.declared.prepared.Prepared.{Prepared}
 use Rattle.rtdvs_top.specs.Prepared.{IsPrepareStep}
-use Rattle.rtdvs_top.proofs.Exactness.{migratable}
-use Rattle.rtdvs_top.proofs.TestEnds.{at-error, trace-refused, trace-prepared, trace-loads}
+use Rattle.rtdvs_top.proofs.TasksFirst.{at-error}
 use Rattle.rtdvs_top.proofs.trace.prepare_trace.Goals as goal
+
+-- after tasks that were read, the loads go on
+all-later : (held : Option Files) (r : TracedView) (tasks : List Task) → Gives held (tasks_at r.tasks) tasks
+    → loads_while (passes held (traced r)) (files_after (traced r)) ≡ loads_after held (traced r)
+all-later None r tasks read = refl
+all-later (Some files) r tasks read = rw read refl
 
 pub returns-in_err-totals : goal.returns-in_err-totals
 returns-in_err-totals g c =
     let r = shown_trace c.args.words.now in
     let old = g.S.Shelf.shows c.args.shelf.now in
     let new = g.S.Shelf.shows c.load_traced.new.shelf in
-    let e = c.in_err-totals.ensures in
     at-error (λ (x : Result Prepared Status). IsPrepareStep old new (traced r) (Some c.args.tasks.now) x) _ _
     c.from_residual-in_err-totals.ensures.1
     (record {
       prepared = tt;
-      refused = trace-refused old.held r c.args.tasks.now c.in_ok-plan.plan c.in_ok-plan.trace c.requires c.in_ok-plan.ensures.step.read _
-          (search rules) e.shown;
+      refused = record { ended = search rules; tested = search rules; named = search rules; shown = c.in_err-totals.ensures.step.shown };
       failed = search rules;
       loads = search rules;
       counts = search rules;
@@ -28,29 +36,20 @@ returns-in_err-totals g c =
 
 pub returns-in-Replay : goal.returns-in-Replay
 returns-in-Replay g c =
-    let r = shown_trace c.args.words.now in
     let old = g.S.Shelf.shows c.args.shelf.now in
-    let step = c.in_ok-plan.ensures.step in
+    let all = all-later old.held (shown_trace c.args.words.now) c.args.tasks.now c.requires in
     record {
-      prepared = trace-prepared old.held r c.args.tasks.now c.in_ok-plan.plan c.in_ok-plan.trace c.requires step.read _
-          c.scheduler-admitted.ensures.admitted (search rules) (search rules) refl;
+      prepared = record {
+        answer = search rules;
+        puttable = search rules;
+        tells = search rules;
+        named = search rules;
+        met = search rules;
+        tested = search rules;
+        told = search rules;
+      };
       refused = tt;
       failed = tt;
-      loads = trace-loads old.held r c.args.tasks.now c.in_ok-plan.plan c.in_ok-plan.trace c.requires step.read old _ step.loads;
-      counts = search rules;
-    }
-
-pub returns : goal.returns
-returns g c =
-    let r = shown_trace c.args.words.now in
-    let old = g.S.Shelf.shows c.args.shelf.now in
-    record {
-      prepared = trace-prepared old.held r c.args.tasks.now c.in_ok-plan.plan c.in_ok-plan.trace c.requires c.in_ok-plan.ensures.step.read _
-          c.scheduler-admitted.ensures.admitted (search rules)
-          (migratable c.in_ok-plan.plan c.in_ok-plan.trace c.scheduler-admitted.ensures.admitted c.in_ok-plan.ensures.compared
-          (subst IsOk (sym c.in_ok-totals.ensures.gives) refl)) refl;
-      refused = tt;
-      failed = tt;
-      loads = search rules;
+      loads = subst (λ (n : ℕ). MakesLoads n old (g.S.Shelf.shows c.load_traced.new.shelf)) all c.in_ok-plan.ensures.step.loads;
       counts = search rules;
     }
