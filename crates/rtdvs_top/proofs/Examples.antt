@@ -208,8 +208,15 @@ not_shown : (IsShown (NotAdmitted (denied.Edf 4 4)) → ⊥) × (IsShown (NotAdm
     × (IsShown (NotAdmitted (Demand 6 4 4)) → ⊥) × (IsShown (NotAdmitted (Units 4 4)) → ⊥) × (IsShown (Limit 100000) → ⊥)
     × (IsShown (OverWorst 0 1 2 2) → ⊥) × (IsShown (Differs 3 (End 2 0 0) (End 2 0 0)) → ⊥) × (IsShown (Text (Trace trace_fault.NoMemory)) → ⊥)
 not_shown = (
-  λ s. omega (arith, s), λ s. omega (arith, s), λ s. omega (arith, s), λ s. omega (arith, s), λ s. omega (arith, s), λ s. omega (arith, s),
-  λ s. omega (arith, s), λ s. s refl, λ s. s,
+  λ s. omega (arith, s),
+  λ s. omega (arith, s),
+  λ s. omega (arith, s),
+  λ s. omega (arith, s),
+  λ s. omega (arith, s),
+  λ s. omega (arith, s),
+  λ s. omega (arith, s),
+  λ s. s refl,
+  λ s. s,
 )
 
 -- a run with exactly as many jobs as the limit isn't refused for them
