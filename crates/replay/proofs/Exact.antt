@@ -18,7 +18,7 @@ use Rattle.trace_reader.specs.Traces.{TraceView, is_end, IsEnded}
 use Rattle.replay_laws.specs.FixedDemands.{fixed_of}
 use Rattle.replay_laws.specs.OwnList.{Asking, ticks_by, AreNotesFor, AreOwn, HasOwnList}
 use Rattle.trace_laws.proofs.OneEnd.{schedule-ended}
-use Rattle.replay.specs.Comparison.{same_note, line_of, first_unequal, FirstUnequal, differs, unless_unequal}
+use Rattle.replay.specs.Comparison.{same_note, first_unequal, FirstUnequal, unless_unequal}
 use Rattle.replay.specs.Replays.{first_over, too_many, unless, own_notes, replay_of, IsCause, IsReplayed, IsFirstDifference}
 use Rattle.replay.specs.declared.fault.ReplayFault.{ReplayFault}
 use Rattle.replay.specs.declared.fault.ReplayFault.TheVariants as fault

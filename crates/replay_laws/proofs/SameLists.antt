@@ -1,11 +1,11 @@
 -- Which demand lists have schedules with the same notes: notes are those of a schedule for some demand list exactly where
 -- they are those for the list that they fix.
 use Rattle.std.specs.Prelude.{count_by}
-use Rattle.std.proofs.Common.{◌≡◌, ◌<◌, ◌≤◌, ℕ, Bool, true, false, List, length, refl, ap, ◌∙◌, sym, subst, arith, inl, inr}
+use Rattle.std.proofs.Common.{◌≡◌, ◌<◌, ◌≤◌, ℕ, true, false, List, length, refl, ap, ◌∙◌, sym, subst, arith, inl, inr}
 use Rattle.std.proofs.lemmas.Bool.Decides.{nat_tests}
 use Rattle.std.specs.List.{AllByRecursion}
 use Rattle.dvs_base.specs.declared.note.Note.{Note}
-use Rattle.task_model.specs.DemandRows.{DemandRow, named_units}
+use Rattle.task_model.specs.DemandRows.{DemandRow}
 use Rattle.std.proofs.Math.Logic.{⊎_elim}
 use Rattle.std.proofs.lemmas.Bool.{cases_Bool}
 use Rattle.sched_model.specs.Plan.{Plan, count}
@@ -21,7 +21,7 @@ use Rattle.governor.specs.Schedule.{ask_of}
 use Rattle.replay_laws.proofs.SameNotes.{IsBlind, blind-own}
 use Rattle.replay_laws.specs.FixedDemands.{fixed_of}
 use Rattle.replay_laws.specs.OwnList.{Asking, ticks_by, notes_by, TellSame, HasSameNotes, AreOwn, HasOwnList, TextHasOwnList, OwnLists}
-use Rattle.replay_laws.proofs.OwnDemands.{Fixes, looks-at-none, told, own-told, told-finished, tell-same, own-notes, fixed-demand, IsOfTask, notes-fit, notes-of-tasks, fixed-within, fixed-demands}
+use Rattle.replay_laws.proofs.OwnDemands.{looks-at-none, told, own-told, told-finished, tell-same, own-notes, fixed-demand, IsOfTask, notes-fit, notes-of-tasks, fixed-within, fixed-demands}
 use Rattle.replay_laws.proofs.BlindDemands.{blind-published}
 
 -- a completion among the notes: the list that they fix has the job's demand, and the job has had it

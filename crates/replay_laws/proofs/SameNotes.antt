@@ -1,6 +1,6 @@
 -- Two demands that the ticks of a schedule don't distinguish: they have one state, the same decisions, one schedule and the
 -- same notes.
-use Rattle.std.proofs.Common.{◌≡◌, ◌<◌, ◌≤◌, ℕ, suc, Bool, true, false, List, ◌∷◌, length, refl, ap, ◌∙◌, nat_le, sym, arith, ◌-◌, [], if◌then◌else◌, ap₂, not, ◌&&◌, ◌||◌, length-drop, ◌+◌, min, ◌⊎◌, inl, inr, zero, ◌++◌, take, drop, flat_map, nat_eq}
+use Rattle.std.proofs.Common.{◌≡◌, ◌<◌, ◌≤◌, ℕ, suc, Bool, true, false, List, ◌∷◌, length, refl, ap, ◌∙◌, sym, arith, ◌-◌, [], if◌then◌else◌, ap₂, not, ◌&&◌, ◌||◌, length-drop, ◌+◌, min, ◌⊎◌, inl, inr, zero, ◌++◌, take, drop, flat_map, nat_eq}
 use Rattle.std.proofs.lemmas.Bool.Decides.{nat_tests}
 use Rattle.std.proofs.Math.Logic.{⊎_elim, ⊎_map}
 use Rattle.std.proofs.lemmas.Bool.{cases_lt, cases_Bool}
