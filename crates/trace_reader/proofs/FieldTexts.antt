@@ -4,6 +4,7 @@ use Rattle.std.specs.Prelude.{nat_lt, position, decimal, codes}
 use Rattle.std.specs.List.{AllPairs, join_with_byte, position_or_len}
 use Rattle.std.specs.Option.{ok_or}
 use Rattle.std.specs.Str.{bytes_eq}
+use Rattle.std.proofs.lemmas.Bool.{false_from_ne_true}
 use Rattle.std.proofs.lemmas.Bool.Decides.{nat_tests}
 use Rattle.std.proofs.lemmas.List.Quantifiers.{position-Some}
 use Rattle.std.proofs.lemmas.List.Sums.{position_or_len_is}
@@ -25,6 +26,10 @@ use Rattle.trace_reader.proofs.UnspacedFields.{lacks-decimal, parts-first, parts
 pub if-ok : {A F : Type 0} (b : Bool) (r : Result A F) (k : F) (x : A) → (if b then r else Err k) ≡ Ok x → (b ≡ true) × (r ≡ Ok x)
 if-ok true r k x e = (refl, e)
 if-ok false r k x e = absurd cc
+
+-- the same where the result is a value
+pub if-made : {A F : Type 0} (b : Bool) (x y : A) (k : F) → (if b then Ok x else Err k) ≡ Ok y → (b ≡ true) × (x ≡ y)
+if-made {F = F} b x y k e = let r = if-ok b (Ok x) k y e in (r.0, ok-is {F = F} x y r.1)
 
 -- where a sequence of two steps gives a value, and the first of them gives only values with a property, it gave one
 pub read-step : {A B F : Type 0} {P : A → Type 0} {r : Result A F} {f : A → Result B F} {y : B} → ((x : A) → r ≡ Ok x → P x) → (r >>= f) ≡ Ok y
@@ -104,11 +109,9 @@ place names i apart lt =
     position_or_len_is (λ name. bytes_eq name (name_of names i)) names i [] (omega arith) earlier here
   where
     earlier : (k : ℕ) → k < i → bytes_eq (get_or names k []) (name_of names i) ≡ false
-    earlier k less = differs (bytes_eq (get_or names k []) (name_of names i)) refl
-      where
-        differs : (b : Bool) → bytes_eq (get_or names k []) (name_of names i) ≡ b → b ≡ false
-        differs true e = absurd (apart k i [] less lt ((bytes_eq-Decides (get_or names k []) (name_of names i)).0 e))
-        differs false e = refl
+    earlier k less =
+        false_from_ne_true (bytes_eq (get_or names k []) (name_of names i))
+        (λ e. apart k i [] less lt ((bytes_eq-Decides (get_or names k []) (name_of names i)).0 e))
 
     here : i < length names → bytes_eq (get_or names i []) (name_of names i) ≡ true
     here _ = (bytes_eq-Decides (name_of names i) (name_of names i)).1 refl

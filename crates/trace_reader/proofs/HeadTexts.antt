@@ -1,8 +1,9 @@
 -- The lines before the notes: a line that is read is its value's text, and that text is read.
-use Rattle.std.proofs.Common.{◌≡◌, ◌⊎◌, inl, inr, ℕ, suc, ◌+◌, ◌^◌, ◌≤◌, Bool, true, false, ◌&&◌, List, [], ◌∷◌, ◌++◌, length, Option, Some, None, Ok, Err, refl, sym, ap, ap₂, subst, ◌∙◌, append_assoc, arith, if◌then◌else◌}
+use Rattle.std.proofs.Common.{◌≡◌, ℕ, suc, ◌+◌, ◌^◌, ◌≤◌, Bool, true, false, ◌&&◌, List, [], ◌∷◌, ◌++◌, length, Option, Some, None, Result, Ok, Err, refl, sym, ap, ap₂, subst, ◌∙◌, append_assoc, arith, if◌then◌else◌}
 use Rattle.std.specs.Prelude.{nat_le, decimal, codes}
 use Rattle.std.specs.List.{AllByRecursion, join_with_byte}
 use Rattle.std.specs.Str.{bytes_eq}
+use Rattle.std.proofs.lemmas.Bool.{and_parts}
 use Rattle.std.proofs.lemmas.Bool.Decides.{nat_tests}
 use Rattle.std.proofs.lemmas.Option.{same_Some}
 use Rattle.std.proofs.lemmas.Slice.Eq.{bytes_eq-Decides}
@@ -31,7 +32,7 @@ use Rattle.trace_reader.specs.Fields.{parts, four_of}
 use Rattle.trace_reader.specs.Heads.{line_at, version_in, plan_line_of, parts_after_tasks, version_task_lines}
 use Rattle.trace_reader.proofs.Lined.{spaced, line-spaced}
 use Rattle.trace_reader.proofs.UnspacedFields.{Lacks, lacks-unspaced, lacks-spaced, length-decimal, parts-joined}
-use Rattle.trace_reader.proofs.FieldTexts.{read-step, if-ok}
+use Rattle.trace_reader.proofs.FieldTexts.{read-step, if-made}
 use Rattle.dvs_base.proofs.Checks.{step-ok, ok-is, ok_or-ok}
 use Rattle.trace_reader.proofs.ItemTexts.{four-is}
 use Rattle.trace_reader.proofs.LineTexts.{AreNames, line_at-found, line_at-text, read-line, join-line, join-spaced, length-spaced}
@@ -52,23 +53,24 @@ abbrev pub version_body : Version → List ℕ
 version_body One = codes "trace 1"
 version_body Two = codes "trace 2"
 
-either-is : (a b : Bool) (x y v : Version) → (if a then Ok x else (if b then Ok y else Err kind.Version)) ≡ Ok v
-    → ((a ≡ true) × (x ≡ v)) ⊎ ((b ≡ true) × (y ≡ v))
-either-is true b x y v e = inl (refl, ok-is {F = TraceKind} x v e)
-either-is false true x y v e = inr (refl, ok-is {F = TraceKind} y v e)
-either-is false false x y v e = absurd cc
+-- where a word is read as a value by its text, or else by what follows, it is the value's text if that is so of what follows
+word-else : {A R : Type 0} (given : A → R) → ((x y : A) → given x ≡ given y → x ≡ y) → (text : A → List ℕ) (word : List ℕ) (x y : A) (rest : R)
+    → (rest ≡ given y → word ≡ text y) → (if bytes_eq word (text x) then given x else rest) ≡ given y → word ≡ text y
+word-else given same text word x y rest later e = by (bytes_eq word (text x)) refl e
+  where
+    by : (b : Bool) → bytes_eq word (text x) ≡ b → (if b then given x else rest) ≡ given y → word ≡ text y
+    by true is e = (bytes_eq-Decides word (text x)).0 is ∙ ap text (same x y e)
+    by false other e = later e
+
+version-else : (text : List ℕ) (v w : Version) (rest : Result Version TraceKind) → (rest ≡ Ok w → text ≡ version_body w)
+    → (if bytes_eq text (version_body v) then Ok v else rest) ≡ Ok w → text ≡ version_body w
+version-else text = word-else Ok (ok-is {F = TraceKind}) version_body text
 
 pub version-found : (newest v : Version) (text : List ℕ) → version_in newest text ≡ Ok v → (text ≡ version_body v) × IsUpTo newest v
 version-found One v text e =
-    let found = if-ok (bytes_eq text (codes "trace 1")) (Ok One) kind.Version v e in
-    subst (λ (w : Version). (text ≡ version_body w) × IsUpTo One w) (ok-is {F = TraceKind} One v found.1)
-    ((bytes_eq-Decides text (codes "trace 1")).0 found.0, tt)
-version-found Two v text e = by (either-is (bytes_eq text (codes "trace 1")) (bytes_eq text (codes "trace 2")) One Two v e)
-  where
-    by : ((bytes_eq text (codes "trace 1") ≡ true) × (One ≡ v)) ⊎ ((bytes_eq text (codes "trace 2") ≡ true) × (Two ≡ v))
-        → (text ≡ version_body v) × IsUpTo Two v
-    by (inl h) = subst (λ (w : Version). (text ≡ version_body w) × IsUpTo Two w) h.1 ((bytes_eq-Decides text (codes "trace 1")).0 h.0, tt)
-    by (inr h) = subst (λ (w : Version). (text ≡ version_body w) × IsUpTo Two w) h.1 ((bytes_eq-Decides text (codes "trace 2")).0 h.0, tt)
+    let found = if-made (bytes_eq text (codes "trace 1")) One v kind.Version e in
+    (version-else text One v _ (λ e. absurd cc) e, subst (IsUpTo One) found.1 tt)
+version-found Two v text e = (version-else text One v _ (version-else text Two v _ (λ e. absurd cc)) e, tt)
 
 pub version-text : (newest v : Version) → IsUpTo newest v → version_in newest (version_body v) ≡ Ok v
 version-text One One h = refl
@@ -80,22 +82,17 @@ pub version-line : (v : Version) → version_line v ≡ version_body v ++ 10 ∷
 version-line One = refl
 version-line Two = refl
 
--- where a word is read as a value by its text, or else by what follows, it is the value's text if that is so of what follows
-word-else : {A : Type 0} (text : A → List ℕ) (word : List ℕ) (x y : A) (rest : Option A) → (rest ≡ Some y → word ≡ text y)
+option-else : {A : Type 0} (text : A → List ℕ) (word : List ℕ) (x y : A) (rest : Option A) → (rest ≡ Some y → word ≡ text y)
     → (if bytes_eq word (text x) then Some x else rest) ≡ Some y → word ≡ text y
-word-else text word x y rest later e = by (bytes_eq word (text x)) refl e
-  where
-    by : (b : Bool) → bytes_eq word (text x) ≡ b → (if b then Some x else rest) ≡ Some y → word ≡ text y
-    by true same e = (bytes_eq-Decides word (text x)).0 same ∙ ap text (same_Some x y e)
-    by false other e = later e
+option-else = word-else Some same_Some
 
 scheduler-word : (word : List ℕ) (s : Scheduler) → scheduler_of word ≡ Some s → word ≡ scheduler_word s
-scheduler-word word s = word-else scheduler_word word Edf s _ (word-else scheduler_word word Rm s _ (λ e. absurd cc))
+scheduler-word word s = option-else scheduler_word word Edf s _ (option-else scheduler_word word Rm s _ (λ e. absurd cc))
 
 governor-word : (word : List ℕ) (g : GovernorKind) → governor_of word ≡ Some g → word ≡ governor_word g
 governor-word word g =
-    word-else governor_word word Plain g _ (word-else governor_word word Fixed g _
-    (word-else governor_word word Cycle g _ (word-else governor_word word Ahead g _ (λ e. absurd cc))))
+    option-else governor_word word Plain g _ (option-else governor_word word Fixed g _
+    (option-else governor_word word Cycle g _ (option-else governor_word word Ahead g _ (λ e. absurd cc))))
 
 ticks-word : (word : List ℕ) (n : ℕ) → ticks_of word ≡ Some n → (word ≡ decimal n) × (1 ≤ n) × (n ≤ MOST_TICKS)
 ticks-word word n e = by (number_below (2 ^ 64) word) refl e
@@ -117,11 +114,6 @@ pub record IsPlan (plan : PlanLine) : Type 0 where
   pub some : 1 ≤ plan.ticks
   pub low : plan.ticks ≤ MOST_TICKS
 
-made-plan : (word pair : Bool) (made plan : PlanLine) → (if word && pair then Ok made else Err kind.Plan) ≡ Ok plan
-    → (word ≡ true) × (pair ≡ true) × (made ≡ plan)
-made-plan true true made plan e = (refl, refl, ok-is {F = TraceKind} made plan e)
-made-plan _ _ made plan e = absurd cc
-
 pub plan-found : (text : List ℕ) (plan : PlanLine) → plan_line_of (parts 32 text) ≡ Ok plan
     → (text ++ 10 ∷ [] ≡ plan_text plan.scheduler plan.governor plan.ticks) × IsPlan plan
 unfolding plan_line_of
@@ -131,14 +123,15 @@ plan-found text plan e =
     let c = read-step (λ g is. governor-word a.0.2 g (ok_or-ok (governor_of a.0.2) kind.Plan g is)) b.2 in
     let d = read-step (λ n is. ticks-word a.0.3 n (ok_or-ok (ticks_of a.0.3) kind.Plan n is)) c.2 in
     let made : PlanLine = record { scheduler = b.0; governor = c.0; ticks = d.0 } in
-    let f = made-plan (bytes_eq a.0.0 (codes "plan")) (is_pair b.0 c.0) made plan d.2 in
-    let word = (bytes_eq-Decides a.0.0 (codes "plan")).0 f.0 in
+    let f = if-made (bytes_eq a.0.0 (codes "plan") && is_pair b.0 c.0) made plan kind.Plan d.2 in
+    let both = and_parts (bytes_eq a.0.0 (codes "plan")) (is_pair b.0 c.0) f.0 in
+    let word = (bytes_eq-Decides a.0.0 (codes "plan")).0 both.0 in
     let fields : parts 32 text ≡ plan_fields b.0 c.0 d.0 = four-is (parts 32 text) a.0 (ok_or-ok (four_of (parts 32 text)) kind.Plan a.0 a.1)
     ∙ (λ j. word j ∷ b.1 j ∷ c.1 j ∷ d.1.0 j ∷ []) in
     let whole : text ++ 10 ∷ [] ≡ line (plan_fields b.0 c.0 d.0) = ap (λ t. t ++ 10 ∷ []) (sym (join-spaced text) ∙ ap spaced fields)
     ∙ sym (line-spaced (plan_fields b.0 c.0 d.0)) in
-    subst (λ (p : PlanLine). (text ++ 10 ∷ [] ≡ plan_text p.scheduler p.governor p.ticks) × IsPlan p) f.2
-    (whole, record { pair = f.1; some = d.1.1; low = d.1.2 })
+    subst (λ (p : PlanLine). (text ++ 10 ∷ [] ≡ plan_text p.scheduler p.governor p.ticks) × IsPlan p) f.1
+    (whole, record { pair = both.1; some = d.1.1; low = d.1.2 })
 
 scheduler-read : (s : Scheduler) → scheduler_of (scheduler_word s) ≡ Some s
 scheduler-read Edf = refl
@@ -158,11 +151,18 @@ plan-read : (plan : PlanLine) → IsPlan plan → plan_line_of (plan_fields plan
 unfolding plan_line_of
 plan-read plan h = rw (scheduler-read plan.scheduler, governor-read plan.governor, ticks-read plan.ticks h.some h.low, h.pair) refl
 
-pub scheduler-short : (s : Scheduler) → length (scheduler_word s) ≤ 3
+-- the most bytes of a word for a scheduler, and for a governor
+abbrev pub most_scheduler_bytes : ℕ
+most_scheduler_bytes = 3
+
+abbrev pub most_governor_bytes : ℕ
+most_governor_bytes = 6
+
+pub scheduler-short : (s : Scheduler) → length (scheduler_word s) ≤ most_scheduler_bytes
 scheduler-short Edf = omega arith
 scheduler-short Rm = omega arith
 
-pub governor-short : (g : GovernorKind) → length (governor_word g) ≤ 6
+pub governor-short : (g : GovernorKind) → length (governor_word g) ≤ most_governor_bytes
 governor-short Plain = omega arith
 governor-short _ = omega arith
 

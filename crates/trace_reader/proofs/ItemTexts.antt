@@ -49,6 +49,14 @@ six-is (a ∷ b ∷ c ∷ d ∷ f ∷ g ∷ []) p e =
     (same_Some (a, b, c, d, f, g) p e) refl
 six-is _ p e = absurd cc
 
+abbrev read_item : Item → Result Item TraceKind
+read_item item = Ok item
+
+-- what is made is what was read, so it may have its fields and limits
+found-as : (v : Version) (names fields : List (List ℕ)) (made item : Item) → read_item made ≡ read_item item → Found v names fields made
+    → Found v names fields item
+found-as v names fields made item e h = subst (Found v names fields) (ok-is {F = TraceKind} made item e) h
+
 release-found : (v : Version) (names fields : List (List ℕ)) (item : Item) → release_in names fields ≡ Ok item → Found v names (codes "release" ∷ fields) item
 unfolding release_in
 release-found v names fields item e =
@@ -56,11 +64,8 @@ release-found v names fields item e =
     let tick = read-step (whole_in-found a.0.0) a.2 in
     let task = read-step (task_in-found names a.0.1) tick.2 in
     let job = read-step (whole_in-found a.0.2) task.2 in
-    let made : Item = Told (Release tick.0 task.0 job.0) in
-    let texts : codes "release" ∷ fields ≡ item_fields names made =
-    ap (λ ps. codes "release" ∷ ps) (three-is fields a.0 (ok_or-ok (three_of fields) kind.Word a.0 a.1))
-    ∙ (λ j. codes "release" ∷ tick.1.0 j ∷ task.1.0 j ∷ job.1.0 j ∷ []) in
-    subst (λ (r : Item). Found v names (codes "release" ∷ fields) r) (ok-is {F = TraceKind} made item job.2) (texts, (tick.1.1, task.1.1, job.1.1))
+    let are = three-is fields a.0 (ok_or-ok (three_of fields) kind.Word a.0 a.1) in
+    found-as v names _ _ item job.2 (cc (are, tick.1.0, task.1.0, job.1.0), (tick.1.1, task.1.1, job.1.1))
 
 speed-found : (v : Version) (names fields : List (List ℕ)) (item : Item) → speed_in fields ≡ Ok item → Found v names (codes "speed" ∷ fields) item
 unfolding speed_in
@@ -69,12 +74,8 @@ speed-found v names fields item e =
     let tick = read-step (whole_in-found a.0.0) a.2 in
     let speed = read-step (whole_in-found a.0.1) tick.2 in
     let demand = read-step (fraction_in-found a.0.2) speed.2 in
-    let made : Item = Told (Speed tick.0 speed.0 demand.0.0 demand.0.1) in
-    let texts : codes "speed" ∷ fields ≡ item_fields names made =
-    ap (λ ps. codes "speed" ∷ ps) (three-is fields a.0 (ok_or-ok (three_of fields) kind.Word a.0 a.1))
-    ∙ (λ j. codes "speed" ∷ tick.1.0 j ∷ speed.1.0 j ∷ demand.1.0 j ∷ []) in
-    subst (λ (r : Item). Found v names (codes "speed" ∷ fields) r) (ok-is {F = TraceKind} made item demand.2)
-    (texts, (tick.1.1, speed.1.1, demand.1.1, demand.1.2))
+    let are = three-is fields a.0 (ok_or-ok (three_of fields) kind.Word a.0 a.1) in
+    found-as v names _ _ item demand.2 (cc (are, tick.1.0, speed.1.0, demand.1.0), (tick.1.1, speed.1.1, demand.1.1, demand.1.2))
 
 run-found : (v : Version) (names fields : List (List ℕ)) (item : Item) → run_in names fields ≡ Ok item → Found v names (codes "run" ∷ fields) item
 unfolding run_in
@@ -86,12 +87,12 @@ run-found v names fields item e =
     let job = read-step (whole_in-found a.0.3) task.2 in
     let units = read-step (whole_in-found a.0.4) job.2 in
     let energy = read-step (wide_in-found a.0.5) units.2 in
-    let made : Item = Told (Run from.0 to.0 task.0 job.0 units.0 energy.0) in
-    let texts : codes "run" ∷ fields ≡ item_fields names made =
-    ap (λ ps. codes "run" ∷ ps) (six-is fields a.0 (ok_or-ok (six_of fields) kind.Word a.0 a.1))
-    ∙ (λ j. codes "run" ∷ from.1.0 j ∷ to.1.0 j ∷ task.1.0 j ∷ job.1.0 j ∷ units.1.0 j ∷ energy.1.0 j ∷ []) in
-    subst (λ (r : Item). Found v names (codes "run" ∷ fields) r) (ok-is {F = TraceKind} made item energy.2)
-    (texts, (from.1.1, to.1.1, task.1.1, job.1.1, units.1.1, energy.1.1))
+    let are = six-is fields a.0 (ok_or-ok (six_of fields) kind.Word a.0 a.1) in
+    found-as v names _ _ item energy.2 (
+      ap (λ ps. codes "run" ∷ ps) are
+          ∙ (λ j. codes "run" ∷ from.1.0 j ∷ to.1.0 j ∷ task.1.0 j ∷ job.1.0 j ∷ units.1.0 j ∷ energy.1.0 j ∷ []),
+      (from.1.1, to.1.1, task.1.1, job.1.1, units.1.1, energy.1.1),
+    )
 
 idle-found : (v : Version) (names fields : List (List ℕ)) (item : Item) → idle_in fields ≡ Ok item → Found v names (codes "idle" ∷ fields) item
 unfolding idle_in
@@ -101,11 +102,8 @@ idle-found v names fields item e =
     let to = read-step (position_in-found a.0.1) from.2 in
     let units = read-step (whole_in-found a.0.2) to.2 in
     let energy = read-step (wide_in-found a.0.3) units.2 in
-    let made : Item = Told (Idle from.0 to.0 units.0 energy.0) in
-    let texts : codes "idle" ∷ fields ≡ item_fields names made =
-    ap (λ ps. codes "idle" ∷ ps) (four-is fields a.0 (ok_or-ok (four_of fields) kind.Word a.0 a.1))
-    ∙ (λ j. codes "idle" ∷ from.1.0 j ∷ to.1.0 j ∷ units.1.0 j ∷ energy.1.0 j ∷ []) in
-    subst (λ (r : Item). Found v names (codes "idle" ∷ fields) r) (ok-is {F = TraceKind} made item energy.2) (texts, (from.1.1, to.1.1, units.1.1, energy.1.1))
+    let are = four-is fields a.0 (ok_or-ok (four_of fields) kind.Word a.0 a.1) in
+    found-as v names _ _ item energy.2 (cc (are, from.1.0, to.1.0, units.1.0, energy.1.0), (from.1.1, to.1.1, units.1.1, energy.1.1))
 
 done-found : (v : Version) (names fields : List (List ℕ)) (item : Item) → done_in names fields ≡ Ok item → Found v names (codes "done" ∷ fields) item
 unfolding done_in
@@ -115,11 +113,11 @@ done-found v names fields item e =
     let task = read-step (task_in-found names a.0.1) at_end.2 in
     let job = read-step (whole_in-found a.0.2) task.2 in
     let used = read-step (whole_in-found a.0.3) job.2 in
-    let made : Item = Told (Done at_end.0 task.0 job.0 used.0) in
-    let texts : codes "done" ∷ fields ≡ item_fields names made =
-    ap (λ ps. codes "done" ∷ ps) (four-is fields a.0 (ok_or-ok (four_of fields) kind.Word a.0 a.1))
-    ∙ (λ j. codes "done" ∷ at_end.1.0 j ∷ task.1.0 j ∷ job.1.0 j ∷ used.1.0 j ∷ []) in
-    subst (λ (r : Item). Found v names (codes "done" ∷ fields) r) (ok-is {F = TraceKind} made item used.2) (texts, (at_end.1.1, task.1.1, job.1.1, used.1.1))
+    let are = four-is fields a.0 (ok_or-ok (four_of fields) kind.Word a.0 a.1) in
+    found-as v names _ _ item used.2 (
+      ap (λ ps. codes "done" ∷ ps) are ∙ (λ j. codes "done" ∷ at_end.1.0 j ∷ task.1.0 j ∷ job.1.0 j ∷ used.1.0 j ∷ []),
+      (at_end.1.1, task.1.1, job.1.1, used.1.1),
+    )
 
 end-found : (v : Version) (names fields : List (List ℕ)) (item : Item) → end_in fields ≡ Ok item → Found v names (codes "end" ∷ fields) item
 unfolding end_in
@@ -128,11 +126,8 @@ end-found v names fields item e =
     let ticks = read-step (whole_in-found a.0.0) a.2 in
     let run = read-step (wide_in-found a.0.1) ticks.2 in
     let idle = read-step (wide_in-found a.0.2) run.2 in
-    let made : Item = Told (End ticks.0 run.0 idle.0) in
-    let texts : codes "end" ∷ fields ≡ item_fields names made =
-    ap (λ ps. codes "end" ∷ ps) (three-is fields a.0 (ok_or-ok (three_of fields) kind.Word a.0 a.1))
-    ∙ (λ j. codes "end" ∷ ticks.1.0 j ∷ run.1.0 j ∷ idle.1.0 j ∷ []) in
-    subst (λ (r : Item). Found v names (codes "end" ∷ fields) r) (ok-is {F = TraceKind} made item idle.2) (texts, (ticks.1.1, run.1.1, idle.1.1))
+    let are = three-is fields a.0 (ok_or-ok (three_of fields) kind.Word a.0 a.1) in
+    found-as v names _ _ item idle.2 (cc (are, ticks.1.0, run.1.0, idle.1.0), (ticks.1.1, run.1.1, idle.1.1))
 
 share-found : (v : Version) (names fields : List (List ℕ)) (item : Item) → energy_in v names fields ≡ Ok item → Found v names (codes "energy" ∷ fields) item
 unfolding energy_in
@@ -141,11 +136,8 @@ share-found v names fields item e =
     let had = if-ok (has_task_lines v) (ok_or (two_of fields) kind.Word) kind.Word a.0 a.1 in
     let task = read-step (task_in-found names a.0.0) a.2 in
     let energy = read-step (wide_in-found a.0.1) task.2 in
-    let made : Item = Share task.0 energy.0 in
-    let texts : codes "energy" ∷ fields ≡ item_fields names made =
-    ap (λ ps. codes "energy" ∷ ps) (two-is fields a.0 (ok_or-ok (two_of fields) kind.Word a.0 had.1))
-    ∙ (λ j. codes "energy" ∷ task.1.0 j ∷ energy.1.0 j ∷ []) in
-    subst (λ (r : Item). Found v names (codes "energy" ∷ fields) r) (ok-is {F = TraceKind} made item energy.2) (texts, (had.0, task.1.1, energy.1.1))
+    let are = two-is fields a.0 (ok_or-ok (two_of fields) kind.Word a.0 had.1) in
+    found-as v names _ _ item energy.2 (cc (are, task.1.0, energy.1.0), (had.0, task.1.1, energy.1.1))
 
 -- reading an item by the word that its line begins with
 module _ (v : Version) (names fields : List (List ℕ)) (word : List ℕ) (item : Item) where

@@ -1,9 +1,8 @@
 -- The notes that are read are those of their text, and the text of any notes is read.
-use Rattle.std.proofs.Common.{◌≡◌, ℕ, zero, suc, ◌+◌, ◌-◌, ◌^◌, ◌<◌, ◌≤◌, Bool, true, false, List, [], ◌∷◌, ◌++◌, length, drop, get_or, Result, Ok, Err, refl, sym, ap, ap₂, subst, ◌∙◌, append_assoc, arith, if◌then◌else◌}
-use Rattle.std.specs.Prelude.{nat_lt, nat_le, ◌==◌, flat_map}
+use Rattle.std.proofs.Common.{◌≡◌, ℕ, zero, suc, ◌+◌, ◌-◌, ◌^◌, ◌<◌, ◌≤◌, Bool, true, false, List, [], ◌∷◌, ◌++◌, length, drop, get_or, Result, Ok, Err, refl, sym, ap, ap₂, subst, inl, inr, ◌∙◌, append_assoc, arith, if◌then◌else◌}
+use Rattle.std.specs.Prelude.{nat_le, ◌==◌, flat_map}
 use Rattle.std.specs.List.{AllByRecursion, join_with_byte}
-use Rattle.std.proofs.lemmas.Bool.{eq-eqb, eqb-true, le-leb, leb-true}
-use Rattle.std.proofs.lemmas.Bool.Decides.{nat_tests}
+use Rattle.std.proofs.lemmas.Bool.{cases_lt, eq-eqb, eqb-true, le-leb, leb-true}
 use Rattle.std.proofs.lemmas.List.{append-nil}
 use Rattle.dvs_base.specs.Parts.{joined, name_of}
 use Rattle.trace_text.specs.TraceLines.{note_text}
@@ -25,7 +24,7 @@ use Rattle.trace_reader.specs.Items.{item_of}
 use Rattle.trace_reader.specs.TraceFile.{SoFar, energy_line_count, is_in_order, is_right_share, next_item, with_item, ends, is_nothing, notes_from}
 use Rattle.trace_reader.specs.Traces.{IsNoteOf, is_end}
 use Rattle.trace_reader.proofs.FirstCut.{HasPart}
-use Rattle.trace_reader.proofs.FieldTexts.{AreApart}
+use Rattle.trace_reader.proofs.FieldTexts.{AreApart, if-ok, if-made}
 use Rattle.dvs_base.proofs.Checks.{step-ok, ok-is}
 use Rattle.trace_reader.proofs.Lined.{spaced}
 use Rattle.trace_reader.proofs.ItemTexts.{item_fields, IsItemOf, item_of-text}
@@ -42,18 +41,14 @@ record IsNextItem (v : Version) (names : List (List ℕ)) (s : SoFar) (fields : 
   order : is_in_order s.energies_read (energy_line_count v names) item ≡ true
   right : is_right_share s.notes item ≡ true
 
-checks : (order right : Bool) (x item : Item) → (if order then (if right then Ok x else Err kind.Share) else Err kind.Order) ≡ Ok item
-    → (order ≡ true) × (right ≡ true) × (x ≡ item)
-checks true true x item e = (refl, refl, ok-is {F = TraceKind} x item e)
-checks _ _ x item e = absurd cc
-
 next_item-found : (v : Version) (names : List (List ℕ)) (s : SoFar) (fields : List (List ℕ)) (item : Item)
     → next_item v names s fields ≡ Ok item → IsNextItem v names s fields item
 unfolding next_item
 next_item-found v names s fields item e =
     let a = step-ok _ _ item e in
-    let c = checks (is_in_order s.energies_read (energy_line_count v names) a.0) (is_right_share s.notes a.0) a.0 item a.2 in
-    subst (λ (x : Item). IsNextItem v names s fields x) c.2 (record { read = a.1; order = c.0; right = c.1 })
+    let b = if-ok (is_in_order s.energies_read (energy_line_count v names) a.0) _ kind.Order item a.2 in
+    let c = if-made (is_right_share s.notes a.0) a.0 item kind.Share b.1 in
+    subst (λ (x : Item). IsNextItem v names s fields x) c.1 (record { read = a.1; order = b.0; right = c.0 })
 
 -- the notes `all` that are read from line n on: those so far, `body` and the last, with their text and its limits
 pub record Reads (v : Version) (names : List (List ℕ)) (n : ℕ) (s : SoFar) (ps : List (List ℕ)) (all : List Note) : Type 0 where
@@ -71,10 +66,6 @@ pub record Reads (v : Version) (names : List (List ℕ)) (n : ℕ) (s : SoFar) (
 nothing-is : (ps : List (List ℕ)) → is_nothing ps ≡ true → ps ≡ [] ∷ []
 nothing-is ([] ∷ []) e = refl
 nothing-is _ e = absurd cc
-
-ended : (b : Bool) (notes all : List Note) (n : ℕ) → (if b then Ok notes else Err (Refused n kind.AfterEnd)) ≡ Ok all → (b ≡ true) × (notes ≡ all)
-ended true notes all n e = (refl, ok-is {F = TraceFault} notes all e)
-ended false notes all n e = absurd cc
 
 -- the item of a note ends the run where the note does
 ends-told : (n : Note) → ends (Told n) ≡ is_end n
@@ -156,14 +147,13 @@ share-facts v names notes energies_read e lt = rw e (refl, shares-next names not
 share-widths : (notes body : List Note) (energies_read j energy : ℕ) → body ≡ []
     → energy ≡ task_energy notes energies_read → energy < 2 ^ 128 → energies_read ≤ j
     → (energies_read + 1 ≤ j → task_energy (notes ++ body) j < 2 ^ 128) → task_energy (notes ++ []) j < 2 ^ 128
-share-widths notes body energies_read j energy none sum fits low later = by (nat_lt energies_read j) refl
-  where
-    by : (b : Bool) → nat_lt energies_read j ≡ b → task_energy (notes ++ []) j < 2 ^ 128
-    by true e = subst (λ bs. task_energy (notes ++ bs) j < 2 ^ 128) none (later (grind (arith, nat_tests)))
-    by false e =
-        let here : energies_read ≡ j = grind (arith, nat_tests) in
-        let same : energy ≡ task_energy (notes ++ []) j = sum ∙ ap₂ (λ ns i. task_energy ns i) (sym (append-nil notes)) here in
-        omega (arith, same)
+share-widths notes body energies_read j energy none sum fits low later = elim (cases_lt energies_read j) [
+  | inl lt ↦ subst (λ bs. task_energy (notes ++ bs) j < 2 ^ 128) none (later (omega (arith, lt)))
+  | inr ge ↦
+      let here : energies_read ≡ j = omega (arith, ge, low) in
+      let same : energy ≡ task_energy (notes ++ []) j = sum ∙ ap₂ (λ ns i. task_energy ns i) (sym (append-nil notes)) here in
+      omega (arith, same, fits)
+]
 
 -- reading the energy of a task
 read-share : (v : Version) (names : List (List ℕ)) (n : ℕ) (s : SoFar) (text : List ℕ) (rest : List (List ℕ)) (i energy : ℕ) (all : List Note)
@@ -217,7 +207,7 @@ item-step v names n s text rest (Told note) all read item e later = by (is_end n
   where
     by : (b : Bool) → is_end note ≡ b → Reads v names n s (text ∷ rest) all
     by true end =
-        let last = ended (is_nothing rest) (s.notes ++ note ∷ []) all (n + 1) (rw (ends-told note ∙ end) at e) in
+        let last = if-made (is_nothing rest) (s.notes ++ note ∷ []) all (Refused (n + 1) kind.AfterEnd) (rw (ends-told note ∙ end) at e) in
         read-last v names n s text rest note all end read item last.0 last.1
     by false other = read-note v names n s text rest note all other read item
         (later (record { notes = s.notes ++ note ∷ []; energies_read = s.energies_read }) (rw (ends-told note ∙ other) at e))

@@ -1,8 +1,9 @@
 -- A number of few digits is below a power of ten.
-use Rattle.std.proofs.Common.{◌≡◌, ℕ, suc, ◌+◌, ◌*◌, ◌-◌, ◌^◌, ◌<◌, ◌≤◌, Bool, true, false, List, [], ◌∷◌, length, Some, None, refl, subst, not, ◌∙◌, arith, if◌then◌else◌, ◌&&◌}
+use Rattle.std.proofs.Common.{◌≡◌, ℕ, suc, ◌+◌, ◌*◌, ◌-◌, ◌^◌, ◌<◌, ◌≤◌, Bool, true, false, List, [], ◌∷◌, length, Some, None, refl, ap, subst, not, ◌∙◌, arith, if◌then◌else◌, ◌&&◌}
 use Rattle.std.specs.Prelude.{nat_lt, ◌==◌}
 use Rattle.std.specs.Char.{is_ascii_digit}
 use Rattle.std.specs.List.{list_all}
+use Rattle.std.proofs.Math.Bool.{and-true}
 use Rattle.std.proofs.lemmas.Bool.{and_parts}
 use Rattle.std.proofs.lemmas.Bool.Decides.{nat_tests}
 use Rattle.std.proofs.Math.Nat.{pow-suc, pow-le-pow_right}
@@ -36,11 +37,7 @@ read_on-below v i (c ∷ cs) low h =
 spelled-by : {A : Type 0} (cs : List ℕ) (x y : A)
     → (if starts_number cs then (if list_all is_ascii_digit cs then x else y) else y) ≡ (if is_spelled cs then x else y)
 spelled-by [] x y = refl
-spelled-by (c ∷ []) x y = by (is_ascii_digit c)
-  where
-    by : (b : Bool) → (if b && true then x else y) ≡ (if b then x else y)
-    by true = refl
-    by false = refl
+spelled-by (c ∷ []) x y = ap (λ b. if b then x else y) (and-true (is_ascii_digit c))
 spelled-by (c ∷ d ∷ cs) x y = by (not (c == 48)) (list_all is_ascii_digit (c ∷ d ∷ cs))
   where
     by : (b digits : Bool) → (if b then (if digits then x else y) else y) ≡ (if b && digits then x else y)

@@ -17,12 +17,12 @@ use Rattle.trace_reader.specs.declared.trace.TraceFault.{TraceFault}
 use Rattle.trace_reader.specs.declared.trace.TraceFault.TheVariants.{Refused, NoMemory}
 use Rattle.trace_reader.specs.declared.trace.TraceKind.TheVariants as kind
 use Rattle.trace_reader.specs.Fields.{parts}
-use Rattle.trace_reader.specs.Heads.{line_at, at_line, version_in, plan_line_of, parts_after_tasks, version_task_lines}
+use Rattle.trace_reader.specs.Heads.{line_at, version_in, plan_line_of, parts_after_tasks, version_task_lines}
 use Rattle.trace_reader.specs.TraceFile.{nothing_yet, energy_line_count, is_nothing, notes_from, trace_file}
 use Rattle.trace_reader.specs.Traces.{TraceView, text_of, IsNoteOf, is_end, IsEnded, HasShares, lines_for_tasks, IsTrace, IsTextOf, HaveOneText}
 use Rattle.trace_reader.proofs.ReaderSteps.{is_nothing-some}
 use Rattle.trace_reader.proofs.WholeText.{lines-wanted, text-parts}
-use Rattle.trace_reader.proofs.FieldTexts.{AreApart}
+use Rattle.trace_reader.proofs.FieldTexts.{AreApart, if-made}
 use Rattle.dvs_base.proofs.Checks.{step-ok, ok-is}
 use Rattle.trace_reader.proofs.LineTexts.{AreNames, line_at-found, join-line}
 use Rattle.trace_reader.proofs.ShareTexts.{rest_text, energy-end, HaveNoEnd, told-notes}
@@ -98,22 +98,6 @@ found-whole newest names tasks bytes v plan ps p notes up_to is_plan head tasks_
     } in
     let found : IsFound newest names tasks bytes made = record { trace = trace; text = text; version = up_to } in
     subst (λ (ns : List Note). IsFound newest names tasks bytes (record { version = v; plan = plan; notes = ns })) (sym reads.whole) found
-
--- what the reader returns from the end of the task lines on
-abbrev from_tasks : Version → List (List ℕ) → PlanLine → ℕ × List (List ℕ) → Result TraceView TraceFault
-from_tasks v names plan rest = notes_from v names rest.0 nothing_yet rest.1 >>= λ notes. Ok (record { version = v; plan = plan; notes = notes })
-
-abbrev from_plan : Version → List (List ℕ) → List (List ℕ) → List (List ℕ) → PlanLine → Result TraceView TraceFault
-from_plan v names tasks ps plan = parts_after_tasks 3 (version_task_lines v tasks) ps >>= from_tasks v names plan
-
-abbrev from_second : Version → List (List ℕ) → List (List ℕ) → List ℕ × List (List ℕ) → Result TraceView TraceFault
-from_second v names tasks second = at_line 2 (plan_line_of (parts 32 second.0)) >>= from_plan v names tasks second.1
-
-abbrev from_version : List (List ℕ) → List (List ℕ) → List (List ℕ) → Version → Result TraceView TraceFault
-from_version names tasks ps v = line_at 2 ps >>= from_second v names tasks
-
-abbrev from_first : Version → List (List ℕ) → List (List ℕ) → List ℕ × List (List ℕ) → Result TraceView TraceFault
-from_first newest names tasks first = at_line 1 (version_in newest first.0) >>= from_version names tasks first.1
 
 -- the text from line n on is that line, its line feed and the text after it
 line-text : (n : ℕ) (ps : List (List ℕ)) (p : List ℕ × List (List ℕ)) → line_at n ps ≡ Ok p → join_with_byte 10 ps ≡ (p.0 ++ 10 ∷ []) ++ join_with_byte 10 p.1
@@ -192,7 +176,7 @@ trace_file-text newest names tasks t more named apart lines up_to h =
     omega (arith, size, counted) in
     let notes : notes_from v names n nothing_yet (parts 10 last) ≡ answer (3 + lines_for_tasks v (length names) (length tasks) + length t.notes) t.notes more =
     read_notes ∙ ap₂ (λ m ns. answer m ns more) place (sym ends.whole) in
-    ap (λ x. line_at 1 (parts 10 x) >>= from_first newest names tasks) whole
+    ap (trace_file newest names tasks) whole
     ∙ rw (version-read v (plan_line ++ third), version-text newest v up_to, plan.line_read, plan.plan_read, read_tasks, notes)
     (answer-then (is_nothing (parts 10 more)) v t.plan t.notes (Refused (3 + lines_for_tasks v (length names) (length tasks) + length t.notes) kind.AfterEnd))
 
@@ -204,17 +188,13 @@ nothing-more : (more : List ℕ) → is_nothing (parts 10 more) ≡ true → mor
 nothing-more [] e = refl
 nothing-more (b ∷ more) e = let some = is_nothing-some (b ∷ more) (omega arith) in absurd (cc)
 
-same-answer : (b : Bool) (t u : TraceView) (fault : TraceFault) → (if b then Ok t else Err fault) ≡ Ok u → (b ≡ true) × (t ≡ u)
-same-answer true t u fault e = (refl, ok-is {F = TraceFault} t u e)
-same-answer false t u fault e = absurd cc
-
 -- each trace has one text, and no text is the beginning of another trace's text
 pub one-text : (names tasks : List (List ℕ)) → AreNames names → AreApart names → AreLines tasks → HaveOneText names tasks
 one-text names tasks named apart lines t u more h k e =
     let first = trace_file-text Two names tasks t more named apart (version-lines t.version tasks lines) tt h in
     let second = trace_file-text Two names tasks u [] named apart (version-lines u.version tasks lines) tt k in
     let same : whole_answer names tasks t more ≡ Ok u = sym first ∙ (ap (trace_file Two names tasks) (e ∙ sym (append-nil (text_of names tasks u))) ∙ second) in
-    let found = same-answer (is_nothing (parts 10 more)) t u
+    let found = if-made (is_nothing (parts 10 more)) t u
     (Refused (3 + lines_for_tasks t.version (length names) (length tasks) + length t.notes) kind.AfterEnd) same in
     (found.1, nothing-more more found.0)
 

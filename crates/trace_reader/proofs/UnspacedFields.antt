@@ -40,19 +40,21 @@ lacks-unspaced (field ∷ fields) h =
 abbrev IsNoDigit : ℕ → Type 0
 IsNoDigit c = (d : ℕ) → d < 10 → 48 + d ≢ c
 
+-- what holds of both holds of the one that is chosen
+either : {A : Type 0} (P : A → Type 0) (b : Bool) (x y : A) → P x → P y → P (if b then x else y)
+either P true x y p q = p
+either P false x y p q = q
+
 lacks-digits : (c : ℕ) → IsNoDigit c → (k n : ℕ) (acc : List ℕ) → Lacks c acc → Lacks c (digits_onto k 10 false n acc)
 lacks-digits c free zero n acc h = h
-lacks-digits c free (suc k) n acc h = either (n / 10 == 0) _ _ (glyph, h) (lacks-digits c free k (n / 10) (digit_glyph false (n % 10) ∷ acc) (glyph, h))
+lacks-digits c free (suc k) n acc h = either (Lacks c) (n / 10 == 0) _ _ (glyph, h)
+    (lacks-digits c free k (n / 10) (digit_glyph false (n % 10) ∷ acc) (glyph, h))
   where
     low : nat_lt (n % 10) 10 ≡ true
     low = grind (arith, nat_tests)
 
     glyph : (digit_glyph false (n % 10) == c) ≡ false
     glyph = let ne : 48 + n % 10 ≢ c = free (n % 10) (omega arith) in rw low (grind (arith, nat_tests))
-
-    either : (b : Bool) (xs ys : List ℕ) → Lacks c xs → Lacks c ys → Lacks c (if b then xs else ys)
-    either true xs ys p q = p
-    either false xs ys p q = q
 
 -- a byte that is not a digit is not in a number's text
 pub lacks-decimal : (c : ℕ) → IsNoDigit c → (n : ℕ) → Lacks c (decimal n)
@@ -61,12 +63,8 @@ lacks-decimal c free n = lacks-digits c free 64 n [] tt
 
 length-digits : (k n : ℕ) (acc : List ℕ) → length (digits_onto k 10 false n acc) ≤ k + length acc
 length-digits zero n acc = omega arith
-length-digits (suc k) n acc = either (n / 10 == 0) _ _ (omega arith)
+length-digits (suc k) n acc = either (λ ds. length ds ≤ suc k + length acc) (n / 10 == 0) _ _ (omega arith)
     (let more = length-digits k (n / 10) (digit_glyph false (n % 10) ∷ acc) in omega (arith, more))
-  where
-    either : (b : Bool) (xs ys : List ℕ) → length xs ≤ suc k + length acc → length ys ≤ suc k + length acc → length (if b then xs else ys) ≤ suc k + length acc
-    either true xs ys p q = p
-    either false xs ys p q = q
 
 pub length-decimal : (n : ℕ) → length (decimal n) ≤ 64
 unfolding digits

@@ -7,6 +7,7 @@ use Rattle.dvs_base.specs.Parts.{joined, name_of}
 use Rattle.dvs_base.specs.declared.kind.Scheduler.{Scheduler}
 use Rattle.dvs_base.specs.declared.kind.GovernorKind.{GovernorKind}
 use Rattle.dvs_base.specs.declared.kind.Version.{Version}
+use Rattle.dvs_base.specs.declared.kind.Version.TheVariants.{One, Two}
 use Rattle.dvs_base.specs.declared.note.Note.{Note}
 use Rattle.dvs_base.specs.declared.note.Note.TheVariants.{End}
 use Rattle.trace_text.specs.TraceLines.{note_text, plan_text}
@@ -29,15 +30,12 @@ lines-by v names all n b e = own n ∙ ap (λ (c : Bool). (if c then for_tasks v
 -- what holds of texts for the tasks holds of each of their lines
 pub each-for : (P : List ℕ → Type 0) (v : Version) (texts : List (List ℕ)) → (has_task_lines v ≡ true → AllByRecursion P texts)
     → AllByRecursion (λ l. P l.text) (for_tasks v texts)
-each-for P v texts h = by (has_task_lines v) h
+each-for P One texts h = tt
+each-for P Two texts h = each texts (h refl)
   where
     each : (some : List (List ℕ)) → AllByRecursion P some → AllByRecursion (λ l. P l.text) (map unnoted_line some)
     each [] h = tt
     each (text ∷ some) h = (h.0, each some h.1)
-
-    by : (b : Bool) → (b ≡ true → AllByRecursion P texts) → AllByRecursion (λ l. P l.text) (if b then map unnoted_line texts else [])
-    by true h = each texts (h refl)
-    by false h = tt
 
 -- what holds of the line of each task's energy holds of the lines of all of them
 pub each-share : (P : List ℕ → Type 0) (notes : List Note) (names : List (List ℕ))
@@ -65,21 +63,15 @@ each-noted P v names all (n ∷ notes) shares own =
 
 -- the lines for the tasks are those of the texts that the version has
 for-has : (v : Version) (texts : List (List ℕ)) → for_tasks v texts ≡ map unnoted_line (version_task_lines v texts)
-for-has v texts = by (has_task_lines v)
-  where
-    by : (b : Bool) → (if b then map unnoted_line texts else []) ≡ map unnoted_line (if b then texts else [])
-    by true = refl
-    by false = refl
+for-has One texts = refl
+for-has Two texts = refl
 
 length-for : (v : Version) (texts : List (List ℕ)) → length (for_tasks v texts) ≡ length (version_task_lines v texts)
 length-for v texts = ap length (for-has v texts) ∙ length-map (version_task_lines v texts) unnoted_line
 
 length-has : (v : Version) (texts : List (List ℕ)) → length (version_task_lines v texts) ≡ (if has_task_lines v then length texts else 0)
-length-has v texts = by (has_task_lines v)
-  where
-    by : (b : Bool) → length (if b then texts else []) ≡ (if b then length texts else 0)
-    by true = refl
-    by false = refl
+length-has One texts = refl
+length-has Two texts = refl
 
 length-from : (notes : List Note) (i : ℕ) (names : List (List ℕ)) → length (shares_from notes i names) ≡ length names
 length-from notes i [] = refl
@@ -104,11 +96,8 @@ length-noted v names all (n ∷ m ∷ notes) ended =
 
 pub lines-wanted : (v : Version) (names tasks : List (List ℕ))
     → lines_for_tasks v (length names) (length tasks) ≡ length (version_task_lines v tasks) + energy_line_count v names
-lines-wanted v names tasks = by (has_task_lines v)
-  where
-    by : (b : Bool) → (if b then length tasks + length names else 0) ≡ length (if b then tasks else []) + (if b then length names else 0)
-    by true = refl
-    by false = refl
+lines-wanted One names tasks = refl
+lines-wanted Two names tasks = refl
 
 -- how many lines a trace has
 pub length-lines : (v : Version) (s : Scheduler) (g : GovernorKind) (ticks : ℕ) (names tasks : List (List ℕ)) (notes : List Note) → IsEnded notes
