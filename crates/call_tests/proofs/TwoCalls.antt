@@ -1,12 +1,12 @@
 -- What two calls over one shelf and one sink show, from what each shows.
-use Rattle.std.proofs.Common.{◌≡◌, inl, inr, ℕ, ◌+◌, ◌≤◌, Bool, List, [], ◌∷◌, length, Option, Some, None, Result, Ok, Err, subst, ◌∙◌, arith}
-use Rattle.std.proofs.lemmas.Bool.{cases_Bool}
+use Rattle.std.proofs.Common.{◌≡◌, inl, inr, ℕ, ◌+◌, ◌≤◌, List, Option, Result, Ok, Err, subst, ◌∙◌, arith}
 use Rattle.dvs_base.specs.Outside.{Files, ShelfView, SinkView, Rose}
 use Rattle.words.specs.Commands.{CommandView}
 use Rattle.words.specs.declared.command.WordFault.{WordFault}
 use Rattle.rtdvs_top.specs.Asked.{Asked, asked_of, with_files, without_files, refused_words, loads_asked, loads_wanted}
 use Rattle.rtdvs_top.specs.Promises.{answer_of_command, Answers, IsAnswer}
-use Rattle.command_files.specs.Files.{MakesLoads, passes, loads_while, NamedFile, files_of}
+use Rattle.rtdvs_top.proofs.StepAnswers.{few-loads}
+use Rattle.command_files.specs.Files.{MakesLoads, passes, files_of}
 use Rattle.statuses.specs.Status.{CountsPuts}
 use Rattle.statuses.specs.declared.status.Status.{Status}
 use Rattle.statuses.specs.declared.status.Status.TheVariants as status
@@ -58,13 +58,8 @@ module _ (old mid new : ShelfView) (out_old out_mid out_new : SinkView) (c : Res
       (Rose out_mid.faults out_new.faults) s) held answers)
 
 -- an answer needs no more loads than the words name files
-while-few : (passed : NamedFile → Bool) (fs : List NamedFile) → loads_while passed fs ≤ length fs
-while-few passed [] = omega arith
-while-few passed (f ∷ fs) =
-    elim (cases_Bool (passed f)) [ inl on ↦ rw on (omega (arith, while-few passed fs)) | inr off ↦ rw off (omega arith) ]
-
 wanted-few : (files : Option Files) (c : Result CommandView WordFault) → loads_wanted files c ≤ loads_asked c
-wanted-few files (Ok c) = while-few (passes files c) (files_of c)
+wanted-few files (Ok c) = few-loads (passes files c) (files_of c)
 wanted-few files (Err why) = omega arith
 
 -- no load fails where the shelf guarantees those that both commands name

@@ -15,7 +15,7 @@ use Rattle.rtdvs_top.specs.Run.{answer_of_prepared, run_answer}
 use Rattle.request_list.specs.RequestFile.{request_file}
 use Rattle.rtdvs_top.specs.Trace.{trace_of, trace_at, answer_of_traced, trace_answer}
 use Rattle.rtdvs_top.specs.Poll.{requests_at, polling_served, polled_text, answer_of_polling, poll_answer}
-use Rattle.rtdvs_top.specs.Promises.{answer_of_command, run_plan, admit_plan, traced_plan, poll_plan, Passes, Denies, AdmitsOrDenies, AdmitsByTest}
+use Rattle.rtdvs_top.specs.Promises.{answer_of_command, run_plan, admit_plan, traced_plan, poll_plan, Passes, AdmitsOrDenies, AdmitsByTest}
 use Rattle.rtdvs_top.specs.Prepared.{EndsAs}
 use Rattle.statuses.specs.declared.status.Denied.{Denied}
 use Rattle.statuses.specs.declared.status.FileKind.TheVariants as file
@@ -27,7 +27,7 @@ use Rattle.rtdvs_top.proofs.DeniedPlans.{DeniesNot, is_denial, status_of, file-d
 -- a step gives a value only where the plan passes its test, and denies only where it fails it
 record Tests {A : Type 0} (step : Result A Status) (plan : Result Plan Status) : Type 0 where
   given : (a : A) → step ≡ Ok a → Passes plan
-  denied : (why : Denied) → step ≡ Err (status.NotAdmitted why) → Denies plan why
+  denied : (why : Denied) → step ≡ Err (status.NotAdmitted why) → AdmitsOrDenies plan (status.NotAdmitted why)
 
 admission-tests : (p : Plan) → Tests (admission p) (Ok p)
 admission-tests p = record {

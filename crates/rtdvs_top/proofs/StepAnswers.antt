@@ -117,8 +117,8 @@ counts-puts shows files c status.Done old new ends leaves = ends.2.steady
 counts-puts shows files c status.Write old new ends leaves = (ends.2.rose, ends.2.later)
 counts-puts shows files c s old new ends leaves = ap (λ w. (shows w).faults) leaves
 
--- a shelf that is sure of all files of a command counts no further fault
-few-loads : (passed : NamedFile → Bool) (fs : List NamedFile) → loads_while passed fs ≤ length fs
+-- an answer needs no more loads than the words name files
+pub few-loads : (passed : NamedFile → Bool) (fs : List NamedFile) → loads_while passed fs ≤ length fs
 few-loads passed [] = omega arith
 few-loads passed (f ∷ fs) = go (passed f) (few-loads passed fs)
   where
@@ -126,6 +126,7 @@ few-loads passed (f ∷ fs) = go (passed f) (few-loads passed fs)
     go true few = omega (arith, few)
     go false few = omega arith
 
+-- a shelf that is sure of all files of a command counts no further fault
 pub loads-sure : (held : Option Files) (c : CommandView) (old new : ShelfView) → MakesLoads (loads_needed held c) old new
     → loads_of c ≤ old.sure → new.faults ≡ old.faults
 loads-sure held c old new made sure = made.steady (omega (arith, few-loads (passes held c) (files_of c), sure))

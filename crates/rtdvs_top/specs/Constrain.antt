@@ -83,16 +83,11 @@ FailsToKeep p relative (denied.Offset i) = IsFirstOffset (offset p) (count p) i
 FailsToKeep p relative (denied.Demand at num cap) = IsOverload p relative at num cap
 FailsToKeep p relative why = ⊥
 
--- the files mean this machine, and these relative deadlines of the tasks
-pub record MeansDeadlines (r : ConstrainView) (files : Files) (tasks : List Task) (machine : Table) (deadlines : List ℕ)
-    : Type 0 where
-  pub machine_is : machine_at r.machine files ≡ Ok machine
-  pub deadlines_are : deadlines_at tasks r.deadlines files ≡ Ok deadlines
-
 -- Holds is true of the plan and the relative deadlines that the files mean
 abbrev pub HoldsOfMeant : Files → ConstrainView → List Task → (Plan → (ℕ → ℕ) → Type 0) → Type 0
 HoldsOfMeant files r tasks Holds =
-    (machine : Table) × (deadlines : List ℕ) × MeansDeadlines r files tasks machine deadlines
+    (machine : Table) × (machine_at r.machine files ≡ Ok machine)
+    × (deadlines : List ℕ) × (deadlines_at tasks r.deadlines files ≡ Ok deadlines)
     × Holds (plan_of tasks machine Edf) (slice_index deadlines)
 
 -- The test of `constrain`, where the files are known, without a premise. A test that is done, that denies the tasks or

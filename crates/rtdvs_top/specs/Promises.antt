@@ -95,15 +95,11 @@ pub record IsDeniedBy (p : Plan) (why : Denied) : Type 0 where
   pub by : IsDenial p why
   pub fails : PassesTest p.scheduler p → ⊥
 
--- there is a plan, and it is denied
-abbrev pub Denies : Result Plan Status → Denied → Type 0
-Denies plan why = (p : Plan) × (plan ≡ Ok p) × IsDeniedBy p why
-
 -- an answer is written, whole or in part, only where its plan passes the test, and denied only where its plan fails it
 abbrev pub AdmitsOrDenies : Result Plan Status → Status → Type 0
 AdmitsOrDenies plan status.Done = Passes plan
 AdmitsOrDenies plan status.Write = Passes plan
-AdmitsOrDenies plan (status.NotAdmitted why) = Denies plan why
+AdmitsOrDenies plan (status.NotAdmitted why) = (p : Plan) × (plan ≡ Ok p) × IsDeniedBy p why
 AdmitsOrDenies plan s = ⊤
 
 -- What the answer of `run`, `admit`, `replay`, `migrate` or `poll` shows of its scheduler's test, where its files are

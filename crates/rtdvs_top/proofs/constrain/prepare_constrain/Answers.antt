@@ -27,9 +27,9 @@ deadlines-tested : (held : Option Files) (r : ConstrainView) (tasks : List Task)
 deadlines-tested None r tasks machine deadlines step s read m d ends by = tt
 deadlines-tested (Some files) r tasks machine deadlines step status.Done read m d ends by = absurd ends
 deadlines-tested (Some files) r tasks machine deadlines step (status.NotAdmitted why) read m d ends by =
-    (tasks, read, (machine, deadlines, record { machine_is = m; deadlines_are = d }, by))
+    (tasks, read, (machine, m, deadlines, d, by))
 deadlines-tested (Some files) r tasks machine deadlines step (status.Limit jobs) read m d ends by =
-    (tasks, read, (machine, deadlines, record { machine_is = m; deadlines_are = d }, by))
+    (tasks, read, (machine, m, deadlines, d, by))
 deadlines-tested (Some files) r tasks machine deadlines step s read m d ends by = tt
 
 pub returns-in_err-lowest_line : goal.returns-in_err-lowest_line
