@@ -32,18 +32,20 @@ NUMBER = r"\d+(?:\.\d+)?"
 
 
 def missing(page: str, text: str, wanted: str) -> str | None:
-    """What is wrong if a page doesn't say this, with the line that says it of other numbers.
+    """What is wrong if a page doesn't say this, with the line that says it of other numbers, the fewest of them.
 
     >>> missing("a.md", "one\\nof 3 tasks\\n", "of 4 tasks")
     "a.md:2: 'of 3 tasks', wanted 'of 4 tasks'"
     """
     if wanted in text:
         return None
-    masked = re.sub(NUMBER, "#", wanted)
-    for place, line in enumerate(text.splitlines(), 1):
-        if masked in re.sub(NUMBER, "#", line):
-            return f"{page}:{place}: {line!r}, wanted {wanted!r}"
-    return f"{page}: no line says {wanted!r}"
+    masked, numbers = re.sub(NUMBER, "#", wanted), Counter(re.findall(NUMBER, wanted))
+    alike = [((numbers & Counter(re.findall(NUMBER, line))).total(), -place, line)
+             for place, line in enumerate(text.splitlines(), 1) if masked in re.sub(NUMBER, "#", line)]
+    if not alike:
+        return f"{page}: no line says {wanted!r}"
+    _, place, line = max(alike)
+    return f"{page}:{-place}: {line!r}, wanted {wanted!r}"
 
 
 def short(value: Fraction, places: int) -> str:
