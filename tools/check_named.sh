@@ -1,3 +1,3 @@
-# check_named.sh: whether the table of MAP.md, which files name what, is what named.sh prints.
+# check_named.sh: whether the numbers of MAP.md, how many files name what, are those of what named.sh prints.
 cd "$(dirname "$0")/.." || exit 2
 sh tools/named.sh --check

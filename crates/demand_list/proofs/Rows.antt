@@ -7,7 +7,8 @@ use Rattle.std.proofs.lemmas.Bool.Decides.{nat_tests}
 use Rattle.std.proofs.lemmas.List.Sums.{position_or_len_is}
 use Rattle.std.proofs.lemmas.Slice.Eq.{bytes_eq-Decides}
 use Rattle.std.specs.declared.cmp.Ordering.{Ordering}
-use Rattle.std.specs.Ordering.{nat_cmp, ordering_then, is_eq, is_lt, match_ordering}
+use Rattle.std.specs.Ordering.{is_eq, is_lt, match_ordering}
+use Rattle.dvs_base.proofs.PairOrders.{pair_cmp, is_lt-pair_cmp}
 use Rattle.std.specs.BTreeMap.{insert_entry, is_at}
 use Rattle.std.specs.Map.{lookup, keys_of}
 use Rattle.std.proofs.lemmas.Bool.{eqb-true, eq-eqb}
@@ -36,17 +37,13 @@ module _ (tasks : List Task) (i : ℕ) (name : List ℕ) (known : IsTaskSet task
       let within : nat_lt i (length tasks) ≡ true = grind (arith, nat_tests) in
       rw (place, within) refl
 
--- the order of jobs: by task, and then by job number
-abbrev pub job_cmp : ℕ × ℕ → ℕ × ℕ → Ordering
-job_cmp a b = ordering_then (nat_cmp a.0 b.0) (nat_cmp a.1 b.1)
-
 -- the map's keys are equal where the row's task and job are
-is_eq-job_cmp : (i k a b : ℕ) → is_eq (job_cmp (i, k) (a, b)) ≡ (nat_eq a i && nat_eq b k)
-is_eq-job_cmp i k a b = grind (arith, nat_tests)
+is_eq-key : (i k a b : ℕ) → is_eq (pair_cmp (i, k) (a, b)) ≡ (nat_eq a i && nat_eq b k)
+is_eq-key i k a b = grind (arith, nat_tests)
 
-pub named-rows_of : (es : List ((ℕ × ℕ) × ℕ)) (i k : ℕ) → named_units (rows_of es) i k ≡ lookup (is_at (job_cmp (i, k))) es
+pub named-rows_of : (es : List ((ℕ × ℕ) × ℕ)) (i k : ℕ) → named_units (rows_of es) i k ≡ lookup (is_at (pair_cmp (i, k))) es
 named-rows_of [] i k = refl
-named-rows_of (e ∷ es) i k = rw (is_eq-job_cmp i k e.0.0 e.0.1, named-rows_of es i k) refl
+named-rows_of (e ∷ es) i k = rw (is_eq-key i k e.0.0 e.0.1, named-rows_of es i k) refl
 
 -- the units of a row that is found are at most its task's worst case
 one-within : (worsts : List ℕ) (r : DemandRow) (i : ℕ) (rest : Option ℕ) (same job : Bool) → nat_eq r.task i ≡ same → IsRow worsts r
@@ -65,10 +62,6 @@ named-within worsts (r ∷ rows) i k h = one-within worsts r i (named_units rows
 pub IsWithinWorsts-rows : (d : DemandsView) → AllByRecursion (IsRow d.worsts) d.rows → IsWithinWorsts d
 IsWithinWorsts-rows d h i k _ = named-within d.worsts d.rows i k h
 
--- the map's key of a row is less than another's where the row comes before it
-is_lt-job_cmp : (r s : DemandRow) → is_lt (job_cmp (r.task, r.job) (s.task, s.job)) ≡ precedes r s
-is_lt-job_cmp r s = grind (arith, nat_tests)
-
 absent : {X : Type 0} (b : Bool) (v : X) (rest : Option X) → (if b then Some v else rest) ≡ None → (b ≡ false) × (rest ≡ None)
 absent true v rest h = absurd (cc)
 absent false v rest h = (refl, h)
@@ -85,14 +78,14 @@ by_order order.Greater true r s rows k v e es rest p q l n h i = absurd (cc)
 by_order order.Greater false r s rows k v e es rest p q l n h i = rw (q, i) refl
 
 pub rows_of-insert_entry : (es : List ((ℕ × ℕ) × ℕ)) (i k u : ℕ) → named_units (rows_of es) i k ≡ None
-    → rows_of (insert_entry job_cmp es (i, k) u) ≡ with_row (rows_of es) (record { task = i; job = k; units = u })
+    → rows_of (insert_entry pair_cmp es (i, k) u) ≡ with_row (rows_of es) (record { task = i; job = k; units = u })
 rows_of-insert_entry [] i k u h = refl
 rows_of-insert_entry (e ∷ es) i k u h =
     let r : DemandRow = record { task = i; job = k; units = u } in
     let s : DemandRow = record { task = e.0.0; job = e.0.1; units = e.1 } in
     let a = absent (nat_eq s.task i && nat_eq s.job k) s.units (named_units (rows_of es) i k) h in
-    by_order (job_cmp (i, k) e.0) (precedes r s) r s (rows_of es) (i, k) u e es (insert_entry job_cmp es (i, k) u) refl refl
-    (is_lt-job_cmp r s) (is_eq-job_cmp i k s.task s.job ∙ a.0) refl (rows_of-insert_entry es i k u a.1)
+    by_order (pair_cmp (i, k) e.0) (precedes r s) r s (rows_of es) (i, k) u e es (insert_entry pair_cmp es (i, k) u) refl refl
+    (is_lt-pair_cmp (r.task, r.job) (s.task, s.job)) (is_eq-key i k s.task s.job ∙ a.0) refl (rows_of-insert_entry es i k u a.1)
 
 -- An equal key that is given another value, and then its own again, leaves the entries as they were.
 module _ {K X : Type 0} (cmp : K → K → Ordering) (k : K) where

@@ -31,7 +31,7 @@ use Rattle.statuses.specs.Status.{text_status}
 use Rattle.statuses.specs.Refused.{or_status}
 use Rattle.command_files.specs.Admissions.{admission, admission_by, admission_from, first_overloaded}
 use Rattle.rtdvs_top.specs.Run.{within_jobs}
-use Rattle.rtdvs_top.specs.Trace.{replay_status, totals_at, printed, answer_of_traced}
+use Rattle.rtdvs_top.specs.Trace.{replay_status, totals_at, use_text, answer_of_traced}
 use Rattle.rtdvs_top.specs.Promises.{IsDenial, IsDeniedBy}
 use Rattle.statuses.specs.declared.status.Denied.{Denied}
 use Rattle.statuses.specs.declared.status.Denied.TheVariants as denied
@@ -131,7 +131,7 @@ replay-denies-not e = refl
 pub traced-denies-not : (asked : TraceUse) (x : Plan × TraceView) → DeniesNot (answer_of_traced asked x)
 unfolding totals_at
 traced-denies-not asked x =
-    then-denies-not (totals_at x) (λ totals. Ok (printed asked x totals))
+    then-denies-not (totals_at x) (λ totals. Ok (use_text asked x totals))
     (refusal-denies-not replay_status replay-denies-not (replay_of x.0 (published x.0 x.1.plan.governor) x.1)) (λ totals. refl)
 
 pub within-denies-not : (jobs : ℕ) (bytes : List ℕ) → DeniesNot (within_jobs jobs bytes)

@@ -21,7 +21,7 @@ use Rattle.replay.proofs.Exact.{Passes, replayed-passes, some-replayed, is-repla
 use Rattle.rtdvs_top.specs.Asked.{asked_with}
 use Rattle.std.specs.Prelude.{IfOk}
 use Rattle.statuses.specs.Steps.{IsTestStep}
-use Rattle.rtdvs_top.specs.Trace.{replay_status, totals_at, task_line, lines_of_tasks, trace_of, trace_at, traced_of, printed, answer_of_traced, trace_answer, IsScheduleText, AreFilesOf, TellsOwn, IsMigratable, IsDoneUnless, AcceptsScheduleTexts}
+use Rattle.rtdvs_top.specs.Trace.{replay_status, totals_at, task_line, lines_of_tasks, trace_of, trace_at, traced_of, use_text, answer_of_traced, trace_answer, IsScheduleText, AreFilesOf, TellsOwn, IsMigratable, IsDoneUnless, AcceptsScheduleTexts}
 use Rattle.rtdvs_top.proofs.DeniedPlans.{given-once, given-both, passes-admission, admission-gives}
 use Rattle.dvs_base.specs.Outside.{Files, file_of}
 use Rattle.dvs_base.specs.Checks.{and_then}
@@ -175,7 +175,7 @@ module _ (r : TracedView) (files : Files) (v : Version) (p : Plan) (g : Governor
   traced-is = rw (of.machine_is, read-at, admitted) refl
 
   -- where the trace file is the text of a schedule, the answer is what is printed for its trace
-  pub printed-done : trace_answer r files ≡ Ok (printed r.asked (p, t) (totals_of t.notes))
+  pub printed-done : trace_answer r files ≡ Ok (use_text r.asked (p, t) (totals_of t.notes))
   unfolding totals_at
   printed-done = rw (of.tasks_are, traced-is, compared) refl
 
@@ -249,7 +249,7 @@ done-own r files tasks p t ts e adm ok =
     let own = pair ∙ ap (λ (y : Plan). (y, x.0)) (admission-gives q a.0 a.1).0 in
     let found = (reads-found Two (map (λ (t : Task). t.name) tasks) (lines_of_tasks tasks) b.0 x.0 (trace-given x.0 (trace_of tasks b.0) b.2)).0 in
     let answer : trace_answer r files ≡ answer_of_traced r.asked (p, t) = rw (ts, e) refl in
-    let totals : IsOk (totals_at (p, t)) = first-ok (totals_at (p, t)) (λ totals. Ok (printed r.asked (p, t) totals)) (subst IsOk answer ok) in
+    let totals : IsOk (totals_at (p, t)) = first-ok (totals_at (p, t)) (λ totals. Ok (use_text r.asked (p, t) totals)) (subst IsOk answer ok) in
     let both = subst (λ (y : Plan × TraceView). IsAdmitted y.0 × IsOk (totals_at y)) own (adm, totals) in
     (q, x.0, own-text r files tasks m.0 b.0 x.0 ts m.1 b.1 found both.0 both.1)
   where

@@ -10,7 +10,7 @@ use Rattle.statuses.specs.Steps.{IsRefusal, Refuses}
 use Rattle.command_files.specs.Files.{files_for, MakesLoads, loads_needed}
 use Rattle.command_files.specs.Loads.{tasks_loads, loads_after}
 use Rattle.statuses.specs.Status.{CountsLoads, LeavesProbes}
-use Rattle.rtdvs_top.specs.Prepared.{Ends, EndsAs, PutEnds, HasTaskNames, HasAnswer, IsPutStep, IsPrepareStep, IsTasksStep, IsRefused, IsPrepared, Seen, seen, IsAnswered, ProvesDone, answer_of}
+use Rattle.rtdvs_top.specs.Prepared.{Ends, EndsAs, PutEnds, HasTaskNames, HasAnswer, IsPutStep, IsPrepareStep, IsTasksStep, IsRefused, IsPrepared, CallView, views_of, IsAnswered, ProvesDone, answer_of}
 use Rattle.rtdvs_top.proofs.TasksFirst.{needed-loads, both-made, more-made, later-failed}
 use Rattle.rtdvs_top.specs.declared.prepared.Prepared.{Prepared}
 use Rattle.statuses.specs.declared.status.Status.{Status}
@@ -73,7 +73,7 @@ refused-told (Some files) (run r) old new before after status.Write refusal = ab
 refused-told (Some files) c old new before after s refusal = tt
 
 -- what was refused before anything was put answers the command
-refused-answered : (old new : Seen) (c : CommandView) (tasks : Option (List Task)) (s : Status)
+refused-answered : (old new : CallView) (c : CommandView) (tasks : Option (List Task)) (s : Status)
     → IsRefused (files_for old.shelf.held c) c tasks s → LoadFailed old.shelf new.shelf (Ok c) s
     → MakesLoads (loads_needed old.shelf.held c) old.shelf new.shelf → CountsLoads old.shelf.faults new.shelf.faults s
     → IsAnswered c old new s tasks
@@ -93,7 +93,7 @@ refused-answered old new c tasks s refused failed loads counts =
     }
 
 -- so does a refusal of its tasks
-pub tasks-answered : (old new : Seen) (c : CommandView) (s : Status) → IsTasksStep old.shelf new.shelf c (Err s)
+pub tasks-answered : (old new : CallView) (c : CommandView) (s : Status) → IsTasksStep old.shelf new.shelf c (Err s)
     → IsAnswered c old new s None
 tasks-answered old new c s step =
     let held = old.shelf.held in
@@ -113,9 +113,9 @@ module _ (c : CommandView) (old mid new : ShelfView) (tasks : Option (List Task)
   -- it is refused
   pub prepare-answered : (out_old out_new : SinkView) (before after : List ProbeView) (s : Status)
       → IsPrepareStep mid new c tasks (Err s)
-      → IsAnswered c (seen old out_old before) (seen new out_new after) s tasks
+      → IsAnswered c (views_of old out_old before) (views_of new out_new after) s tasks
   prepare-answered out_old out_new before after s step =
-      refused-answered (seen old out_old before) (seen new out_new after) c tasks s
+      refused-answered (views_of old out_old before) (views_of new out_new after) c tasks s
       (subst (λ (held : Option Files). IsRefused (files_for held c) c tasks s) held-is step.refused)
       (later-failed c old mid new s first.loads first.counts step.failed) (all-loads step.loads)
       (subst (λ (n : ℕ). CountsLoads n new.faults s) first.counts step.counts)
@@ -123,7 +123,7 @@ module _ (c : CommandView) (old mid new : ShelfView) (tasks : Option (List Task)
   -- it was put
   pub put-answered : {W V : Type 0} (out : W × W) (probes : V × V) (shows : W → SinkView) (counts : V → List ProbeView)
       (p : Prepared) (s : Status) → IsPrepareStep mid new c tasks (Ok p) → IsPutStep out probes shows counts p s
-      → IsAnswered c (seen old (shows out.0) (counts probes.0)) (seen new (shows out.1) (counts probes.1)) s tasks
+      → IsAnswered c (views_of old (shows out.0) (counts probes.0)) (views_of new (shows out.1) (counts probes.1)) s tasks
   put-answered out probes shows counts p s step put =
       let files = files_for old.held c in
       let prepared : IsPrepared files c tasks p =

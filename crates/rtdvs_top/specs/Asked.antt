@@ -29,8 +29,8 @@ abbrev pub command_asked : List (String Global) → Result CommandView WordFault
 command_asked words = command_of (map string_bytes words)
 
 -- what the words ask for, over this shelf
-abbrev pub asked : List (String Global) → ShelfView → Asked
-asked words shelf = asked_of shelf.held (command_asked words)
+abbrev pub asked_for : List (String Global) → ShelfView → Asked
+asked_for words shelf = asked_of shelf.held (command_asked words)
 
 -- the number of files that the words name
 abbrev pub loads_asked : Result CommandView WordFault → ℕ

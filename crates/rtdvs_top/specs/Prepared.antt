@@ -51,14 +51,14 @@ abbrev pub answer_of_run : Version → GovernorKind → Run → Result (List ℕ
 answer_of_run v g r = answer_of_plan v g r.demands r.ticks r.plan
 
 -- what a call sees: the shelf, the sink of the answer, and the probes
-pub record Seen : Type 0 where
+pub record CallView : Type 0 where
   pub shelf : ShelfView
   pub out : SinkView
   pub probes : List ProbeView
 
 -- what a call sees of this shelf, this sink and these probes
-abbrev pub seen : ShelfView → SinkView → List ProbeView → Seen
-seen shelf out probes = record { shelf = shelf; out = out; probes = probes }
+abbrev pub views_of : ShelfView → SinkView → List ProbeView → CallView
+views_of shelf out probes = record { shelf = shelf; out = out; probes = probes }
 
 -- the answer's text was written, or a first part of it, or the answer is refused
 abbrev pub Ends : SinkView → SinkView → Result (List ℕ) Status → Status → Type 0
@@ -101,7 +101,7 @@ HasTaskNames (Some files) c tasks status.Done = IfAsked (asks_probes c) (names_o
 HasTaskNames (Some files) c tasks s = status_text (names_of tasks) s ≡ status_text (names_by c files) s
 
 -- a command was answered with this status, and its tasks where they were read
-pub record IsAnswered (c : CommandView) (old new : Seen) (s : Status) (tasks : Option (List Task)) : Type 0 where
+pub record IsAnswered (c : CommandView) (old new : CallView) (s : Status) (tasks : Option (List Task)) : Type 0 where
   -- the answer's text was written, or a first part of it, or the status is the answer's refusal
   pub ended : EndsAs old.out new.out (files_for old.shelf.held c) (answer_of_command c) s
   -- what is known of a run, a replay, a `poll` run or a `least` that is done

@@ -141,15 +141,15 @@ pub record IsMigratable (p : Plan) (t : TraceView) : Type 0 where
   pub trace : IsTrace (names p) (task_texts p) (record t { version = Two })
 
 -- what is printed for a trace that is that of its schedule: its totals by `replay`, its text in version 2 by `migrate`
-abbrev pub printed : TraceUse → Plan × TraceView → Totals → List ℕ
-printed Replay x totals = replayed_text totals
-printed Migrate x totals = migrated_text x.0 x.1
+abbrev pub use_text : TraceUse → Plan × TraceView → Totals → List ℕ
+use_text Replay x totals = replayed_text totals
+use_text Migrate x totals = migrated_text x.0 x.1
 
 -- the answer for a trace of a plan, which is compared first
 abbrev pub answer_of_traced : TraceUse → Plan × TraceView → Result (List ℕ) Status
 answer_of_traced asked x = do
   totals ← totals_at x
-  Ok (printed asked x totals)
+  Ok (use_text asked x totals)
 
 -- the answer of `replay` or `migrate`, after its tasks were read
 abbrev pub trace_after_tasks : TracedView → List Task → Files → Result (List ℕ) Status

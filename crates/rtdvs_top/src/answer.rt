@@ -3,7 +3,7 @@ ghost use Rattle.std.specs.Prelude.{◌≡◌, map};
 ghost use Rattle.words.specs.Commands.{IsReadyCommand, asks_probes};
 ghost use Rattle.words.specs.Shown.{shown_command};
 ghost use Rattle.statuses.specs.Status.{Leaves, LeavesProbes};
-ghost use Rattle.rtdvs_top.specs.Prepared.{IsAnswered, IsTasksStep, seen, status_of_put};
+ghost use Rattle.rtdvs_top.specs.Prepared.{IsAnswered, IsTasksStep, views_of, status_of_put};
 
 use crate::Status;
 use crate::prepare::prepare;
@@ -49,8 +49,8 @@ pub(crate) fn answer_command<S: Shelf, W: Sink, P: Probe>(
 ) -> (Status, Option<TaskSet>)
     requires { IsReadyCommand (shown_command command.now) }
     ensures answered { IsAnswered (shown_command command.now)
-        (seen (S.shows shelf.old) (W.shows out.old) (map P.seen probes.old.items))
-        (seen (S.shows shelf.new) (W.shows out.new) (map P.seen probes.new.items)) result.0 result.1 }
+        (views_of (S.shows shelf.old) (W.shows out.old) (map P.seen probes.old.items))
+        (views_of (S.shows shelf.new) (W.shows out.new) (map P.seen probes.new.items)) result.0 result.1 }
     ensures leaves { Leaves result.0 out.old out.new }
     ensures kept { LeavesProbes (asks_probes (shown_command command.now)) result.0 probes.old probes.new }
 {

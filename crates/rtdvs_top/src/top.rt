@@ -1,7 +1,7 @@
 // The top call.
 ghost use Rattle.std.specs.Prelude.{◌≡◌, ◌≤◌, ◌↔◌, map};
 ghost use Rattle.dvs_base.specs.Outside.{Rose};
-ghost use Rattle.rtdvs_top.specs.Asked.{asked, command_asked, loads_asked, loads_wanted, probes_asked};
+ghost use Rattle.rtdvs_top.specs.Asked.{asked_for, command_asked, loads_asked, loads_wanted, probes_asked};
 ghost use Rattle.rtdvs_top.specs.Promises.{Answers, Writes, WritesPart, IsSureOf, LoadFailed, ProvesRun, ProvesTests, ProvesPoll, IsDoneOrDenied, ProvesLeast, PutsNotes, TellsProbes, AdmitsByTest};
 ghost use Rattle.command_files.specs.Files.{MakesLoads};
 ghost use Rattle.statuses.specs.Status.{CountsLoads, CountsPuts, IsShown, Leaves, LeavesProbes};
@@ -36,7 +36,7 @@ pub fn rtdvs<S: Shelf, W: Sink, E: Sink>(
     probes: &mut Vec<Box<dyn Probe>>,
 ) -> Status
     // Which status: the answer's, unless a load or a put failed or memory ran out; and what it shows by itself.
-    ensures answers { Answers (asked words.now (S.shows shelf.old))
+    ensures answers { Answers (asked_for words.now (S.shows shelf.old))
         (Rose (S.shows shelf.old).faults (S.shows shelf.new).faults)
         (Rose (W.shows out.old).faults (W.shows out.new).faults) result }
     ensures words { (why : WordFault) → (result ≡ Status.Words why) ↔ (command_asked words.now ≡ Err why) }
@@ -46,28 +46,28 @@ pub fn rtdvs<S: Shelf, W: Sink, E: Sink>(
 
     // What is on `out`: the whole answer, where a put failed a first part of it, else nothing.
     ensures done { result ≡ Status.Done
-        → Writes (asked words.now (S.shows shelf.old)) (W.shows out.old) (W.shows out.new) }
+        → Writes (asked_for words.now (S.shows shelf.old)) (W.shows out.old) (W.shows out.new) }
     ensures part { result ≡ Status.Write
-        → WritesPart (asked words.now (S.shows shelf.old)) (W.shows out.old) (W.shows out.new) }
+        → WritesPart (asked_for words.now (S.shows shelf.old)) (W.shows out.old) (W.shows out.new) }
     ensures leaves { Leaves result out.old out.new }
 
     // What the answer proves: of a run, of the scheduler's test, of a trace, of exact tests, of a server, of energy.
-    ensures headline { IsDoneOrDenied (asked words.now (S.shows shelf.old))
+    ensures headline { IsDoneOrDenied (asked_for words.now (S.shows shelf.old))
         (Rose (S.shows shelf.old).faults (S.shows shelf.new).faults) (W.shows out.old) (W.shows out.new) result }
-    ensures run { ProvesRun (asked words.now (S.shows shelf.old)) (W.shows out.old) (W.shows out.new) result }
-    ensures admitted { AdmitsByTest (asked words.now (S.shows shelf.old)) result }
-    ensures exact { AcceptsScheduleTexts (asked words.now (S.shows shelf.old))
+    ensures run { ProvesRun (asked_for words.now (S.shows shelf.old)) (W.shows out.old) (W.shows out.new) result }
+    ensures admitted { AdmitsByTest (asked_for words.now (S.shows shelf.old)) result }
+    ensures exact { AcceptsScheduleTexts (asked_for words.now (S.shows shelf.old))
         (Rose (S.shows shelf.old).faults (S.shows shelf.new).faults)
         (Rose (W.shows out.old).faults (W.shows out.new).faults) result }
-    ensures tested { ProvesTests (asked words.now (S.shows shelf.old)) result }
-    ensures polled { ProvesPoll (asked words.now (S.shows shelf.old)) result }
-    ensures least { ProvesLeast (asked words.now (S.shows shelf.old)) (W.shows out.old) (W.shows out.new) result }
+    ensures tested { ProvesTests (asked_for words.now (S.shows shelf.old)) result }
+    ensures polled { ProvesPoll (asked_for words.now (S.shows shelf.old)) result }
+    ensures least { ProvesLeast (asked_for words.now (S.shows shelf.old)) (W.shows out.old) (W.shows out.new) result }
 
     // What is on `notes`, and what the probes were told: a run's notes where the words ask for probes, else nothing.
-    ensures notes { PutsNotes (asked words.now (S.shows shelf.old)) (map (λ b. seen b) probes.new.items) result
+    ensures notes { PutsNotes (asked_for words.now (S.shows shelf.old)) (map (λ b. seen b) probes.new.items) result
         (E.shows notes.old) (E.shows notes.new) }
     ensures kept { LeavesProbes (probes_asked (command_asked words.now)) result probes.old probes.new }
-    ensures told { TellsProbes (asked words.now (S.shows shelf.old)) (W.shows out.old) (W.shows out.new)
+    ensures told { TellsProbes (asked_for words.now (S.shows shelf.old)) (W.shows out.old) (W.shows out.new)
         (map (λ b. seen b) probes.old.items) (map (λ b. seen b) probes.new.items) result }
 
     // What is left of the shelf, how counts of faults go with the status, and that what is guaranteed doesn't fail.
@@ -75,7 +75,7 @@ pub fn rtdvs<S: Shelf, W: Sink, E: Sink>(
         (S.shows shelf.old) (S.shows shelf.new) }
     ensures counts { CountsLoads (S.shows shelf.old).faults (S.shows shelf.new).faults result }
     ensures puts { CountsPuts (W.shows out.old).faults (W.shows out.new).faults result }
-    ensures sure { IsSureOf (asked words.now (S.shows shelf.old)) (W.shows out.old)
+    ensures sure { IsSureOf (asked_for words.now (S.shows shelf.old)) (W.shows out.old)
         → (W.shows out.new).faults ≡ (W.shows out.old).faults }
     ensures loads { loads_asked (command_asked words.now) ≤ (S.shows shelf.old).sure
         → (S.shows shelf.new).faults ≡ (S.shows shelf.old).faults }

@@ -3,12 +3,12 @@ use Rattle.std.proofs.Common.{◌≡◌, ◌≢◌, ℕ, zero, suc, ◌+◌, ◌
 use Rattle.std.specs.Prelude.{map, sum_by}
 use Rattle.std.specs.List.{All}
 use Rattle.std.specs.List.Sorted.{IsPermutation, IsSorted}
-use Rattle.std.specs.Ordering.{is_lt, nat_cmp, ordering_then}
-use Rattle.std.specs.declared.cmp.Ordering.{Ordering}
+use Rattle.std.specs.Ordering.{is_lt}
 use Rattle.std.proofs.lemmas.Bool.Decides.{nat_tests}
 use Rattle.std.proofs.lemmas.List.Elements.{All-tail}
 use Rattle.std.proofs.lemmas.List.Sorted.{All-permutation, IsPermutation-map, sum_by-IsPermutation}
 use Rattle.std.proofs.lemmas.List.Sums.{sum_by-cons}
+use Rattle.dvs_base.proofs.PairOrders.{pair_cmp, is_lt-pair_cmp}
 use Rattle.grid_fraction.specs.Numbers.{sum_below, list_below}
 use Rattle.sched_model.specs.Priority.{stands_before, in_order}
 use Rattle.sched_model.proofs.Orders.{before-not, before-total, sum_list, IsAhead, IsOrdered, in_order-ordered, sum_list-in_order, sum_list-snoc}
@@ -76,13 +76,6 @@ none_trans : (key : ℕ → ℕ) (i j : ℕ) (js : List ℕ) → stands_before k
 none_trans key i j [] h a = tt
 none_trans key i j (k ∷ ks) h a = grind (arith, nat_tests, none_trans key i j ks h a.1)
 
--- how std orders pairs
-abbrev pub pair_cmp : ℕ × ℕ → ℕ × ℕ → Ordering
-pair_cmp x y = ordering_then (nat_cmp x.0 y.0) (nat_cmp x.1 y.1)
-
-is_lt-then : (a b c d : ℕ) → is_lt (ordering_then (nat_cmp a b) (nat_cmp c d)) ≡ (nat_lt a b || (nat_eq a b && nat_lt c d))
-is_lt-then a b c d = grind (arith, nat_tests)
-
 -- each pair has the key of its number
 abbrev HasKeys : (ℕ → ℕ) → List (ℕ × ℕ) → Type 0
 HasKeys key ks = All (λ q. q.0 ≡ key q.1) ks
@@ -102,7 +95,7 @@ rising_from_sorted key k (l ∷ ks) a h =
     late =
         let of_k : k.0 ≡ key k.1 = a 0 k (omega arith) in
         let of_l : l.0 ≡ key l.1 = a 1 k (omega arith) in
-        ap₂ (λ u v. nat_lt u v || (nat_eq u v && nat_lt l.1 k.1)) (sym of_l) (sym of_k) ∙ (sym (is_lt-then l.0 k.0 l.1 k.1) ∙ first)
+        ap₂ (λ u v. nat_lt u v || (nat_eq u v && nat_lt l.1 k.1)) (sym of_l) (sym of_k) ∙ (sym (is_lt-pair_cmp l k) ∙ first)
 
     later : IsSorted pair_cmp (l ∷ ks)
     later i d low below =

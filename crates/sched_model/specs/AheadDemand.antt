@@ -6,7 +6,7 @@ use Rattle.grid_fraction.specs.declared.Frac.{Frac}
 use Rattle.grid_fraction.specs.Numbers.{least_below, ceil_div, sum_where}
 use Rattle.sched_model.specs.Plan.{Plan, count, hyper, rate, top_speed}
 use Rattle.sched_model.specs.Jobs.{JobDemands, deadline}
-use Rattle.sched_model.specs.Ticks.{Tick, wleft}
+use Rattle.sched_model.specs.Ticks.{PublishedDemand, wleft}
 use Rattle.sched_model.specs.Priority.{sum_before, in_order, stands_before}
 
 -- A, the earliest deadline
@@ -69,5 +69,5 @@ pub record IsSpread (p : Plan) (due left y v : ℕ → ℕ) : Type 0 where
       → v i ≡ (if nat_eq (slack p due i) 0 then rate p i else ceil_div (y i * hyper p) (slack p due i))
 
 -- the demand of `la` under EDF at the tick after `past`
-abbrev pub edf_ahead : Plan → JobDemands → List Tick → Frac
+abbrev pub edf_ahead : Plan → JobDemands → PublishedDemand
 edf_ahead p dem past = let t = length past in ahead_of p (λ i. deadline p i t) (wleft p dem past) t

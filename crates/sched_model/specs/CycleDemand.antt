@@ -6,7 +6,7 @@ use Rattle.grid_fraction.specs.declared.Frac.{Frac}
 use Rattle.grid_fraction.specs.Numbers.{sum_below}
 use Rattle.sched_model.specs.Plan.{Plan, period, hyper, count, worst}
 use Rattle.sched_model.specs.Jobs.{latest, JobDemands, last_release, earliest}
-use Rattle.sched_model.specs.Ticks.{Tick, is_complete, at, exec, wleft}
+use Rattle.sched_model.specs.Ticks.{PublishedDemand, Tick, is_complete, at, exec, wleft}
 use Rattle.sched_model.specs.Priority.{allotment}
 use Rattle.sched_model.specs.StaticDemand.{static_speed}
 
@@ -23,7 +23,7 @@ abbrev pub cycle_units : Plan → JobDemands → List Tick → ℕ → ℕ
 cycle_units p dem past i = if is_complete p dem past i then dem i (latest p i (length past)) else worst p i
 
 -- the demand of `cc` under EDF at the tick after `past`
-abbrev pub edf_cycle : Plan → JobDemands → List Tick → Frac
+abbrev pub edf_cycle : Plan → JobDemands → PublishedDemand
 edf_cycle p dem past = edf_cycle_of p (cycle_units p dem past)
 
 -- What the demand under RM uses: the last release r, the earliest deadline N after it, and for each task what its job
@@ -77,5 +77,5 @@ abbrev pub allotment_left : Plan → JobDemands → List Tick → ℕ → ℕ
 allotment_left p dem past i = allotment_left_of p (since_release p dem past) i
 
 -- the demand of `cc` under RM at the tick after `past`
-abbrev pub rm_cycle : Plan → JobDemands → List Tick → Frac
+abbrev pub rm_cycle : Plan → JobDemands → PublishedDemand
 rm_cycle p dem past = rm_cycle_of p (since_release p dem past) (length past)

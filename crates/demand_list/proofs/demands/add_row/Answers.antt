@@ -3,7 +3,8 @@ use Rattle.std.specs.BTreeMap.{insert_entry, is_at}
 use Rattle.std.specs.Map.{lookup, keys_of}
 use Rattle.task_model.specs.DemandRows.{named_units}
 use Rattle.demand_list.specs.Demands.{rows_of}
-use Rattle.demand_list.proofs.Rows.{job_cmp, named-rows_of, rows_of-insert_entry, insert_entry-back}
+use Rattle.dvs_base.proofs.PairOrders.{pair_cmp}
+use Rattle.demand_list.proofs.Rows.{named-rows_of, rows_of-insert_entry, insert_entry-back}
 use Rattle.demand_list.proofs.demands.add_row.Goals as goal
 
 pub returns-in_default-earlier-clause-answer : goal.returns-in_default-earlier-clause-answer
@@ -28,9 +29,9 @@ pub returns-in-Ok-insert-clause-stays : goal.returns-in-Ok-insert-clause-stays
 returns-in-Ok-insert-clause-stays c _ =
     let key : ℕ × ℕ = (c.args.task, c.args.job) in
     let es : List ((ℕ × ℕ) × ℕ) = c.args.rows.now.entries in
-    let first : c.insert.new.self.entries ≡ insert_entry job_cmp es key c.args.units = c.in-Ok.ensures.entries in
-    let second : c.insert-2.new.self.entries ≡ insert_entry job_cmp c.insert.new.self.entries key c.in-Some.kept = c.in-Ok-insert.ensures.entries in
+    let first : c.insert.new.self.entries ≡ insert_entry pair_cmp es key c.args.units = c.in-Ok.ensures.entries in
+    let second : c.insert-2.new.self.entries ≡ insert_entry pair_cmp c.insert.new.self.entries key c.in-Some.kept = c.in-Ok-insert.ensures.entries in
     let same : keys_of c.insert.new.self.entries ≡ keys_of es = (rw c.in-Some.is at c.in-Ok.ensures.keys_stay) refl in
-    let found : lookup (is_at (job_cmp key)) es ≡ Some c.in-Some.kept = sym c.in-Ok.ensures.old ∙ c.in-Some.is in
-    second ∙ ap (λ (e : List ((ℕ × ℕ) × ℕ)). insert_entry job_cmp e key c.in-Some.kept) first
-    ∙ insert_entry-back job_cmp key c.args.units c.in-Some.kept es (ap keys_of (sym first) ∙ same) found
+    let found : lookup (is_at (pair_cmp key)) es ≡ Some c.in-Some.kept = sym c.in-Ok.ensures.old ∙ c.in-Some.is in
+    second ∙ ap (λ (e : List ((ℕ × ℕ) × ℕ)). insert_entry pair_cmp e key c.in-Some.kept) first
+    ∙ insert_entry-back pair_cmp key c.args.units c.in-Some.kept es (ap keys_of (sym first) ∙ same) found
