@@ -74,7 +74,7 @@ pub(crate) fn rates_of(loads: &[Load]) -> u128
 
 // The place among loads for one with the worst case `worst` that has the response `response`: after those with greater
 // worst cases, up to the first whose period is below the response.
-fn place_of(loads: &[Load], worst: u64, response: u64) -> usize
+fn place_among(loads: &[Load], worst: u64, response: u64) -> usize
     ensures within { result ≤ length loads.now }
     ensures long { All (λ x. response ≤ x.period) (take result loads.now) }
 {
@@ -92,6 +92,6 @@ pub(crate) fn add(loads: &mut Vec<Load>, load: Load, response: u64)
     ensures put { IsPutAfter response load loads.old.items loads.new.items }
     ensures capacity { vec_capacity loads.old ≤ vec_capacity loads.new }
 {
-    let place = place_of(loads, load.worst, response);
+    let place = place_among(loads, load.worst, response);
     let _room_was_reserved = loads.insert(place, load);
 }

@@ -1,6 +1,7 @@
 // The search for the response of a task among the ticks up to its period (after Bini and Buttazzo 2004).
 ghost use Rattle.std.specs.Prelude.{◌≡◌, ◌≤◌, ◌<◌, ◌+◌, ◌-◌, ◌*◌, ◌^◌, IsTrue, IsFalse, length, All};
 ghost use Rattle.dvs_base.specs.declared.kind.Scheduler.TheVariants.{Rm};
+ghost use Rattle.dvs_base.specs.Widths.{u64_end};
 ghost use Rattle.dvs_base.specs.declared.limits.TheConstants.{MOST_TASKS};
 ghost use Rattle.task_model.specs.declared.limits.TheConstants.{LONGEST_PERIOD};
 ghost use Rattle.task_model.specs.Tasks.{hyper_of};
@@ -42,7 +43,7 @@ enum Ends {
 fn done_in(machine: &Machine, ticks: u64) -> u128
     requires { ticks ≤ LONGEST_PERIOD }
     ensures value { result ≡ highest_speed machine.now * ticks }
-    ensures low { result ≤ 2 ^ 64 }
+    ensures low { result ≤ u64_end }
 {
     let _machine_limits = machine.as_slice();
     u128::from(machine.top()) * u128::from(ticks)
@@ -57,7 +58,7 @@ fn is_beyond(tasks: &TaskSet, machine: &Machine, loads: &[Load], rest: u128, mos
     requires low_ticks { most ≤ LONGEST_PERIOD }
     ensures none { IsTrue result → NoneFits (highest_speed machine.now) loads.now rest 0 (most + 1) }
     ensures within { IsFalse result → rest ≤ highest_speed machine.now * most }
-    ensures low { IsFalse result → rest ≤ 2 ^ 64 }
+    ensures low { IsFalse result → rest ≤ u64_end }
 {
     let _machine_limits = machine.as_slice();
     let hyper = u128::from(tasks.hyper());
@@ -69,7 +70,7 @@ fn is_beyond(tasks: &TaskSet, machine: &Machine, loads: &[Load], rest: u128, mos
 fn fits(machine: &Machine, loads: &[Load], rest: u128, ticks: u64) -> bool
     requires few { length loads.now ≤ MOST_TASKS }
     requires each { All IsLoad loads.now }
-    requires low_rest { rest ≤ 2 ^ 64 }
+    requires low_rest { rest ≤ u64_end }
     requires low_ticks { ticks ≤ LONGEST_PERIOD }
     ensures yes { IsTrue result → rest + work_of loads.now ticks ≤ highest_speed machine.now * ticks }
     ensures no { IsFalse result → highest_speed machine.now * ticks < rest + work_of loads.now ticks }
@@ -82,7 +83,7 @@ fn fits(machine: &Machine, loads: &[Load], rest: u128, ticks: u64) -> bool
 fn raised(machine: &Machine, loads: &[Load], rest: u128, span: Span, steps: u32) -> u64
     requires few { length loads.now ≤ MOST_TASKS }
     requires each { All IsLoad loads.now }
-    requires low_rest { rest ≤ 2 ^ 64 }
+    requires low_rest { rest ≤ u64_end }
     requires in_span { span.first ≤ span.last }
     requires low_ticks { span.last ≤ LONGEST_PERIOD }
     ensures low { span.first ≤ result }
@@ -108,7 +109,7 @@ fn raised(machine: &Machine, loads: &[Load], rest: u128, span: Span, steps: u32)
 fn ends_of(machine: &Machine, loads: &[Load], rest: u128, span: Span) -> Ends
     requires few { length loads.now ≤ MOST_TASKS }
     requires each { All IsLoad loads.now }
-    requires low_rest { rest ≤ 2 ^ 64 }
+    requires low_rest { rest ≤ u64_end }
     requires in_span { span.first ≤ span.last }
     requires low_ticks { span.last ≤ LONGEST_PERIOD }
     ensures { EndsDecide (highest_speed machine.now) loads.now rest span.first span.last result }

@@ -1,7 +1,7 @@
 use Rattle.std.proofs.Common.{◌≤◌, arith}
 use Rattle.std.proofs.lemmas.List.Elements.{All-more}
 use Rattle.rm_response.specs.declared.loads.Load.{Load}
-use Rattle.rm_response.proofs.loads.place_of.Goals as goal
+use Rattle.rm_response.proofs.loads.place_among.Goals as goal
 
 pub loop-k-preserved : goal.loop-k-preserved
 loop-k-preserved c =
