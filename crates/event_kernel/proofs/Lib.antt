@@ -20,3 +20,4 @@ pub mod DrivenRuns
 pub mod DecisionStates
 pub mod ListedDemands
 pub mod MetRuns
+pub mod LatestDemands

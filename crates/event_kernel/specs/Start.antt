@@ -24,8 +24,8 @@ pub record IsAtStart {G : Type 0} (stands : G → Plan → StateView → Type 0)
   pub setting : IsSetting set
   -- no job is released yet
   pub state : progress.state ≡ opening set.plan.now
-  -- the governor's counters and the agenda are right for that state
-  pub current : IsCurrent stands set.plan.now progress
+  -- the governor's counters, the agenda and the demands of the latest jobs are right for that state
+  pub current : IsCurrent stands set progress
   -- the account has no note yet
   pub booked : HasBooked set.plan.now account []
   -- for any number of ticks, every deadline will be met, and so will the demands where the kind's always are

@@ -48,13 +48,13 @@ impl<G: Governor> Progress<G> {
         requires past { NonePast set.now.plan.now self.old.state }
         requires due { IsFirstDue set.now.plan.now self.old.state task }
         requires can { CanRelease set.now.plan.now self.old.state task }
-        requires current { IsCurrent G.stands set.now.plan.now self.old }
+        requires current { IsCurrent G.stands set.now self.old }
         ensures trace { self.new.trace ≡ with_notes self.old.trace
             (opening_notes (demands_of set.now.plan.now set.now.demands.now) self.old.state task) }
         ensures state { self.new.state ≡ with_next_job set.now.plan.now self.old.state task
             (needs_nothing (demands_of set.now.plan.now set.now.demands.now) self.old.state task) }
         ensures of { IsOfPlan set.now.plan.now self.new.state }
-        ensures current { IsCurrent G.stands set.now.plan.now self.new }
+        ensures current { IsCurrent G.stands set.now self.new }
     {
         let state = &self.state;
         let now = state.now;
@@ -64,7 +64,9 @@ impl<G: Governor> Progress<G> {
             task,
             job,
         });
-        let complete = demand(set.plan, set.demands, task, job) == 0;
+        let needs = demand(set.plan, set.demands, task, job);
+        let complete = needs == 0;
+        self.needs[task as usize] = needs;
         self.governor.released(set.plan, &self.state, task);
         self.agenda.renew(set.plan, &self.state, task, complete);
         self.state.release(set.plan, task);
@@ -89,11 +91,11 @@ impl<G: Governor> Progress<G> {
         requires set { IsSetting set.now }
         requires at { IsAtBoundary set.now G.demand self.old.state }
         requires none { self.old.trace.notes ≡ [] }
-        requires current { IsCurrent G.stands set.now.plan.now self.old }
+        requires current { IsCurrent G.stands set.now self.old }
         ensures trace { self.new.trace ≡ with_notes self.old.trace
             (all_release_notes set.now.plan.now (demands_of set.now.plan.now set.now.demands.now) self.old.state.now) }
         ensures state { self.new.state ≡ state_at set.now G.demand self.old.state.now }
-        ensures current { IsCurrent G.stands set.now.plan.now self.new }
+        ensures current { IsCurrent G.stands set.now self.new }
     {
         let mut any = false;
         while let Some(task) = self.agenda.first_due(set.plan, &self.state) {
@@ -112,14 +114,13 @@ impl<G: Governor> Progress<G> {
         requires between { IsBetween set.now G.demand self.old.state }
         requires early { self.old.state.now < set.now.ticks }
         requires met { IsMetBy set.now G.demand self.old.state.now }
-        requires current { IsCurrent G.stands set.now.plan.now self.old }
+        requires current { IsCurrent G.stands set.now self.old }
         ensures begun { IsInSpan set.now G.demand result self.new.state.now self.new.state self.new.trace }
         ensures from { result.from ≡ self.old.state.now }
         ensures same { self.new.state.now ≡ self.old.state.now }
-        ensures current { IsCurrent G.stands set.now.plan.now self.new }
+        ensures current { IsCurrent G.stands set.now self.new }
     {
-        let state = &self.state;
-        let from = state.now;
+        let from = self.now();
         self.trace.clear();
         self.release_all(set);
         let index = decide(set.plan, &self.governor, &self.state, &mut self.trace.notes);

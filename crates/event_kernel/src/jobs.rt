@@ -5,6 +5,7 @@ ghost use Rattle.grid_fraction.specs.Numbers.{ceil_div};
 ghost use Rattle.sched_model.specs.Plan.{count, period, offset};
 ghost use Rattle.sched_model.specs.Jobs.{released_jobs};
 ghost use Rattle.sched_model.specs.States.{row_at};
+ghost use Rattle.event_kernel.specs.Current.{latest_demands};
 ghost use Rattle.event_kernel.specs.Runs.{demands_of, IsListOf};
 ghost use Rattle.event_kernel.specs.Segment.{holder_at};
 
@@ -50,31 +51,28 @@ pub fn worst_demands(alloc: Global, plan: &Admitted) -> Result<Demands, NoMemory
     Demands::worst_only(alloc, &worsts)
 }
 
-/// A job's demand in work units, with twice the charge; 0 for job 0.
+/// The demand of a job from job 1 on, in work units, with twice the charge.
 pub(crate) fn demand(plan: &Admitted, demands: &Demands, task: u32, job: u64) -> u64
     requires list { IsListOf plan.now demands.now }
     requires task { task < count plan.now }
+    requires job { 1 ≤ job }
     ensures { result ≡ demands_of plan.now demands.now task job }
 {
     let _within = demands.worsts();
-    if job == 0 {
-        return 0;
-    }
     demands.units(task, job) + 2 * plan.machine().charge()
 }
 
-/// The work units that a task's latest job still needs.
-pub(crate) fn lacking(set: &Setting<'_>, state: &State, task: u32) -> u64
-    requires list { IsListOf set.now.plan.now set.now.demands.now }
-    requires rows { length state.now.rows ≡ count set.now.plan.now }
-    requires task { task < count set.now.plan.now }
+/// The work units that a task's latest job still needs, from the demands of the latest jobs.
+pub(crate) fn lacking(_set: &Setting<'_>, state: &State, needs: &[u64], task: u32) -> u64
+    requires needs { needs.now ≡ latest_demands _set.now state.now }
+    requires rows { length state.now.rows ≡ count _set.now.plan.now }
+    requires task { task < count _set.now.plan.now }
     requires within { (row_at state.now task).used
-        ≤ demands_of set.now.plan.now set.now.demands.now task (row_at state.now task).job }
-    ensures { result ≡ demands_of set.now.plan.now set.now.demands.now task (row_at state.entry.now task).job
+        ≤ demands_of _set.now.plan.now _set.now.demands.now task (row_at state.now task).job }
+    ensures { result ≡ demands_of _set.now.plan.now _set.now.demands.now task (row_at state.entry.now task).job
         - (row_at state.entry.now task).used }
 {
-    let row = state.rows[task as usize];
-    demand(set.plan, set.demands, task, row.job) - row.used
+    needs[task as usize] - state.rows[task as usize].used
 }
 
 /// The holder that is the latest job of the task `first`; nobody where it is `None`.

@@ -105,7 +105,7 @@ impl<'a, G: Governor> Kernel<'a, G> {
             demands,
             ticks,
         };
-        let progress = Progress::new(alloc, plan, governor)?;
+        let progress = Progress::new(alloc, &set, governor)?;
         let account = Account::new(alloc, plan.count(), plan.machine())?;
         Ok(Kernel {
             set,

@@ -1,8 +1,8 @@
 // The parts of a run: what stays, and what changes.
 ghost use Rattle.std.specs.Prelude.{◌≡◌, ◌≤◌, IfOk};
-ghost use Rattle.sched_model.specs.Plan.{Plan};
 ghost use Rattle.sched_model.specs.States.{opening, after_advance};
 ghost use Rattle.event_kernel.specs.Current.{IsCurrent};
+ghost use Rattle.event_kernel.specs.declared.progress.Setting.{Setting};
 
 use crate::notes::SpanNotes;
 use crate::span_trace::SpanTrace;
@@ -21,30 +21,33 @@ pub struct Setting<'a> {
     pub ticks: u64,
 }
 
-/// What changes in a run: the state; the governor's counters and the agenda, which follow the state; and the trace of
-/// the latest span.
+/// What changes in a run: the state; the governor's counters, the agenda and the demand of each task's latest job, which
+/// follow the state; and the trace of the latest span.
 #[derive(Drop)]
 pub struct Progress<G: Governor> {
     pub governor: G,
     pub state: State,
     pub agenda: Agenda,
+    pub needs: Vec<u64>,
     pub trace: SpanTrace,
 }
 
 impl<G: Governor> Progress<G> {
     /// A run before its first tick, with room for the notes of a span. It fails only where memory runs out.
-    pub(crate) fn new(alloc: Global, plan: &Admitted, governor: G) -> Result<Progress<G>, NoMemory>
-        requires { G.stands governor plan.now (opening plan.now) }
-        ensures state { IfOk result (λ x. x.state ≡ opening plan.now) }
-        ensures current { IfOk result (λ x. IsCurrent G.stands plan.now x) }
+    pub(crate) fn new(alloc: Global, set: &Setting<'_>, governor: G) -> Result<Self, NoMemory>
+        requires { G.stands governor set.now.plan.now (opening set.now.plan.now) }
+        ensures state { IfOk result (λ x. x.state ≡ opening set.now.plan.now) }
+        ensures current { IfOk result (λ x. IsCurrent G.stands set.now x) }
     {
-        let state = State::new(alloc, plan)?;
-        let agenda = Agenda::new(alloc, plan)?;
+        let state = State::new(alloc, set.plan)?;
+        let agenda = Agenda::new(alloc, set.plan)?;
+        let needs = vec![in alloc; 0; set.plan.count() as usize].map_err(|_| NoMemory)?;
         let trace = SpanTrace::new(SpanNotes::new(alloc)?);
         Ok(Progress {
             governor,
             state,
             agenda,
+            needs,
             trace,
         })
     }
@@ -60,7 +63,7 @@ impl<G: Governor> Progress<G> {
     pub(crate) fn advance(&mut self, to: u64)
         requires { self.old.state.now ≤ to }
         ensures state { self.new.state ≡ after_advance self.old.state to }
-        ensures current { (p : Plan) → IsCurrent G.stands p self.old → IsCurrent G.stands p self.new }
+        ensures current { (set : Setting) → IsCurrent G.stands set self.old → IsCurrent G.stands set self.new }
         ensures trace { self.new.trace ≡ self.old.trace }
     {
         self.state.advance(to);

@@ -11,7 +11,6 @@ use crate::jobs::{holder_of, lacking};
 use crate::progress::{Progress, Setting};
 use crate::span_trace::Moment;
 use governor::Governor;
-use sched_model::Admitted;
 
 impl<G: Governor> Progress<G> {
     // The number of ticks before the span's last one.
@@ -19,7 +18,7 @@ impl<G: Governor> Progress<G> {
         requires set { IsSetting set.now }
         requires at { IsInSpan set.now G.demand force self.now.state.now self.now.state self.now.trace }
         requires first { IsFirst set.now.plan.now self.now.state first }
-        requires current { IsCurrent G.stands set.now.plan.now self.now }
+        requires current { IsCurrent G.stands set.now self.now }
         ensures { AreQuiet set.now force self.now.state first result }
     {
         let state = &self.state;
@@ -27,23 +26,23 @@ impl<G: Governor> Progress<G> {
         let event = set.ticks.min(self.agenda.next_release(set.plan, state));
         let most = event - 1 - state.now;
         match first {
-            Some(task) => most.min((lacking(set, state, task) - 1) / speed),
+            Some(task) => most.min((lacking(set, state, &self.needs, task) - 1) / speed),
             None => most,
         }
     }
 
     // Runs `units` of the first incomplete job, which stays incomplete; where there is none, nothing changes.
-    fn serve_first(&mut self, plan: &Admitted, first: Option<u32>, units: u64)
-        requires of { IsOfPlan plan.now self.old.state }
+    fn serve_first(&mut self, set: &Setting<'_>, first: Option<u32>, units: u64)
+        requires of { IsOfPlan set.now.plan.now self.old.state }
         requires can { IfSome first (λ i. CanRun self.old.state i units) }
-        requires first { IsFirst plan.now self.old.state first }
-        requires current { IsCurrent G.stands plan.now self.old }
+        requires first { IsFirst set.now.plan.now self.old.state first }
+        requires current { IsCurrent G.stands set.now self.old }
         ensures state { self.new.state ≡ gives self.old.state first units }
-        ensures current { IsCurrent G.stands plan.now self.new }
+        ensures current { IsCurrent G.stands set.now self.new }
         ensures trace { self.new.trace ≡ self.old.trace }
     {
         if let Some(task) = first {
-            self.serve(plan, task, units, false);
+            self.serve(set, task, units, false);
         }
     }
 
@@ -52,10 +51,10 @@ impl<G: Governor> Progress<G> {
     pub(crate) fn stay(&mut self, set: &Setting<'_>, force: InForce)
         requires set { IsSetting set.now }
         requires at { IsInSpan set.now G.demand force self.old.state.now self.old.state self.old.trace }
-        requires current { IsCurrent G.stands set.now.plan.now self.old }
+        requires current { IsCurrent G.stands set.now self.old }
         ensures in_span { IsInSpan set.now G.demand force self.new.state.now self.new.state self.new.trace }
         ensures last { IsLastTick set.now force self.new.state }
-        ensures current { IsCurrent G.stands set.now.plan.now self.new }
+        ensures current { IsCurrent G.stands set.now self.new }
     {
         let state = &self.state;
         let now = state.now;
@@ -72,7 +71,7 @@ impl<G: Governor> Progress<G> {
             force,
         };
         self.trace.enter(at, holder, units);
-        self.serve_first(set.plan, first, units);
+        self.serve_first(set, first, units);
         self.advance(now + quiet);
     }
 }

@@ -24,7 +24,7 @@ impl<G: Governor> Progress<G> {
     fn any_due(&self, set: &Setting<'_>) -> bool
         requires set { IsSetting set.now }
         requires past { NonePast set.now.plan.now self.now.state }
-        requires current { IsCurrent G.stands set.now.plan.now self.now }
+        requires current { IsCurrent G.stands set.now self.now }
         ensures { result ≡ some_due set.now.plan.now self.entry.now.state }
     {
         self.agenda.next_release(set.plan, &self.state) == self.now()
@@ -34,7 +34,7 @@ impl<G: Governor> Progress<G> {
     fn is_end(&self, set: &Setting<'_>, completed: bool) -> bool
         requires set { IsSetting set.now }
         requires past { NonePast set.now.plan.now self.now.state }
-        requires current { IsCurrent G.stands set.now.plan.now self.now }
+        requires current { IsCurrent G.stands set.now self.now }
         ensures { result ≡ (completed || (nat_eq self.entry.now.state.now set.now.ticks
             || some_due set.now.plan.now self.entry.now.state)) }
     {
@@ -45,9 +45,9 @@ impl<G: Governor> Progress<G> {
     fn by_events(&mut self, set: &Setting<'_>, force: InForce)
         requires set { IsSetting set.now }
         requires at { IsInSpan set.now G.demand force self.old.state.now self.old.state self.old.trace }
-        requires current { IsCurrent G.stands set.now.plan.now self.old }
+        requires current { IsCurrent G.stands set.now self.old }
         ensures walked { HasWalked set.now G.demand force (self.new.state.now - 1) self.new.state self.new.trace }
-        ensures current { IsCurrent G.stands set.now.plan.now self.new }
+        ensures current { IsCurrent G.stands set.now self.new }
     {
         self.stay(set, force);
         self.work(set, force);
@@ -57,9 +57,9 @@ impl<G: Governor> Progress<G> {
     fn by_ticks(&mut self, set: &Setting<'_>, force: InForce)
         requires set { IsSetting set.now }
         requires at { IsInSpan set.now G.demand force self.old.state.now self.old.state self.old.trace }
-        requires current { IsCurrent G.stands set.now.plan.now self.old }
+        requires current { IsCurrent G.stands set.now self.old }
         ensures walked { HasWalked set.now G.demand force (self.new.state.now - 1) self.new.state self.new.trace }
-        ensures current { IsCurrent G.stands set.now.plan.now self.new }
+        ensures current { IsCurrent G.stands set.now self.new }
     {
         loop {
             let completed = self.work(set, force);
@@ -73,9 +73,9 @@ impl<G: Governor> Progress<G> {
     fn walk_span(&mut self, walk: Walk, set: &Setting<'_>, force: InForce)
         requires set { IsSetting set.now }
         requires at { IsInSpan set.now G.demand force self.old.state.now self.old.state self.old.trace }
-        requires current { IsCurrent G.stands set.now.plan.now self.old }
+        requires current { IsCurrent G.stands set.now self.old }
         ensures walked { HasWalked set.now G.demand force (self.new.state.now - 1) self.new.state self.new.trace }
-        ensures current { IsCurrent G.stands set.now.plan.now self.new }
+        ensures current { IsCurrent G.stands set.now self.new }
     {
         match walk {
             Walk::Events => self.by_events(set, force),
@@ -90,11 +90,11 @@ impl<G: Governor> Progress<G> {
         requires between { IsBetween set.now G.demand self.old.state }
         requires early { self.old.state.now < set.now.ticks }
         requires met { IsMetBy set.now G.demand self.old.state.now }
-        requires current { IsCurrent G.stands set.now.plan.now self.old }
+        requires current { IsCurrent G.stands set.now self.old }
         ensures between { IsBetween set.now G.demand self.new.state }
         ensures later { self.old.state.now < self.new.state.now }
         ensures limit { self.new.state.now ≤ set.now.ticks }
-        ensures current { IsCurrent G.stands set.now.plan.now self.new }
+        ensures current { IsCurrent G.stands set.now self.new }
         ensures notes { let jobs = demands_of set.now.plan.now set.now.demands.now in
             notes_before G.demand set.now.plan.now jobs self.new.state.now
             ≡ notes_before G.demand set.now.plan.now jobs self.old.state.now ++ self.new.trace.notes }

@@ -12,26 +12,26 @@ use crate::jobs::{holder_of, lacking};
 use crate::progress::{Progress, Setting};
 use crate::span_trace::Moment;
 use governor::Governor;
-use sched_model::{Admitted, Holder};
+use sched_model::Holder;
 
 impl<G: Governor> Progress<G> {
     /// Runs `units` of the first incomplete job, and completes it where `ends`. The governor and the agenda hear of it.
-    pub(crate) fn serve(&mut self, plan: &Admitted, task: u32, units: u64, ends: bool)
-        requires of { IsOfPlan plan.now self.old.state }
+    pub(crate) fn serve(&mut self, set: &Setting<'_>, task: u32, units: u64, ends: bool)
+        requires of { IsOfPlan set.now.plan.now self.old.state }
         requires can { CanRun self.old.state task units }
-        requires first { IsFirstUndone plan.now self.old.state (count plan.now) task }
-        requires current { IsCurrent G.stands plan.now self.old }
+        requires first { IsFirstUndone set.now.plan.now self.old.state (count set.now.plan.now) task }
+        requires current { IsCurrent G.stands set.now self.old }
         ensures state { self.new.state ≡ after_service self.old.state task units ends }
-        ensures current { IsCurrent G.stands plan.now self.new }
-        ensures of { IsOfPlan plan.now self.new.state }
+        ensures current { IsCurrent G.stands set.now self.new }
+        ensures of { IsOfPlan set.now.plan.now self.new.state }
         ensures trace { self.new.trace ≡ self.old.trace }
     {
-        self.governor.ran(plan, &self.state, task, units);
-        self.agenda.serve(plan, &self.state, task, units);
+        self.governor.ran(set.plan, &self.state, task, units);
+        self.agenda.serve(set.plan, &self.state, task, units);
         self.state.run(task, units);
         if ends {
-            self.governor.finished(plan, &self.state, task);
-            self.agenda.complete(plan, &self.state, task);
+            self.governor.finished(set.plan, &self.state, task);
+            self.agenda.complete(set.plan, &self.state, task);
             self.state.finish(task);
         }
     }
@@ -40,9 +40,9 @@ impl<G: Governor> Progress<G> {
     pub(crate) fn work(&mut self, set: &Setting<'_>, force: InForce) -> bool
         requires set { IsSetting set.now }
         requires at { IsInSpan set.now G.demand force self.old.state.now self.old.state self.old.trace }
-        requires current { IsCurrent G.stands set.now.plan.now self.old }
+        requires current { IsCurrent G.stands set.now self.old }
         ensures worked { HasWorked set.now G.demand self.old.state.now self.new.state self.new.trace result }
-        ensures current { IsCurrent G.stands set.now.plan.now self.new }
+        ensures current { IsCurrent G.stands set.now self.new }
     {
         let state = &self.state;
         let now = state.now;
@@ -52,7 +52,7 @@ impl<G: Governor> Progress<G> {
             let Some(task) = self.agenda.first_ready(set.plan, &self.state) else {
                 break;
             };
-            let lacks = lacking(set, &self.state, task);
+            let lacks = lacking(set, &self.state, &self.needs, task);
             let share = rest.min(lacks);
             let holder = holder_of(&self.state, Some(task));
             let at = Moment {
@@ -61,7 +61,7 @@ impl<G: Governor> Progress<G> {
                 force,
             };
             self.trace.enter(at, holder, share);
-            self.serve(set.plan, task, share, share == lacks);
+            self.serve(set, task, share, share == lacks);
             completed = completed || share == lacks;
             rest -= share;
         }

@@ -11,7 +11,7 @@ invariant-loop-set g l =
     let before = notes_before g.G.Governor.demand l.set.plan.now (demands_of l.set.plan.now l.set.demands.now) l.progress.state.now in
     record {
       between : IsBetween l.set g.G.Governor.demand l.progress.state;
-      current : IsCurrent g.G.Governor.stands l.set.plan.now l.progress;
+      current : IsCurrent g.G.Governor.stands l.set l.progress;
       limit : l.progress.state.now ≤ l.set.ticks;
       told : HeardAll g.L.Listener.heard g.L.Listener.stops l.fn.to l.to before;
       booked : HasBooked l.set.plan.now l.account before;

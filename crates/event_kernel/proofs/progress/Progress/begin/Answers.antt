@@ -48,7 +48,7 @@ returns-clause-begun g c =
     c.release_all.ensures.trace ∙ ap (λ (q : SpanTrace). with_notes q releases) c.clear.ensures in
     let notes : c.decide-index.new.notes ≡ kept_notes (releases ++ speed) =
     c.decide-index.ensures.note ∙ (ap (λ (q : SpanTrace). kept_notes (q.notes ++ speed)) released ∙ kept_notes-append releases speed) in
-    begins-span c.requires.set (record { from = c.state.inside.now; index = c.decide-index.result }) s0 st
+    begins-span c.requires.set (record { from = c.now-from.result; index = c.decide-index.result }) s0 st
     (record { segment = c.release_all.new.self.trace.segment; notes = c.decide-index.new.notes })
-    c.requires.early c.requires.between (ap (λ (v : StateView). v.now) c.state.view_is) c.release_all.ensures.state c.decide-index.ensures.index
+    c.requires.early c.requires.between c.now-from.ensures c.release_all.ensures.state c.decide-index.ensures.index
     (ap₂ (λ (q : SpanTrace) (ns : List Note). record { segment = q.segment; notes = ns }) released notes)

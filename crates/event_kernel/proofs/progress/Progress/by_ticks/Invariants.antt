@@ -7,7 +7,7 @@ abbrev pub invariant-loop-force : goal.invariant-loop-force
 invariant-loop-force g l =
     record {
       in_span : IsInSpan l.fn.set g.G.Governor.demand l.fn.force l.self.state.now l.self.state l.self.trace;
-      current : IsCurrent g.G.Governor.stands l.fn.set.plan.now l.self;
+      current : IsCurrent g.G.Governor.stands l.fn.set l.self;
     }
 
 abbrev pub decreases-loop-force : goal.decreases-loop-force

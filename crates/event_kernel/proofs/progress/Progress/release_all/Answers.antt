@@ -11,6 +11,7 @@ use Rattle.agenda.specs.Agenda.{IsFirstDue, due_left}
 use Rattle.agenda.proofs.StateQueues.{due-falls}
 use Rattle.event_kernel.specs.declared.progress.Setting.{Setting}
 use Rattle.event_kernel.specs.declared.span_trace.SpanTrace.{SpanTrace}
+use Rattle.event_kernel.specs.Current.{latest_demands}
 use Rattle.event_kernel.specs.Runs.{demands_of}
 use Rattle.event_kernel.specs.Segment.{with_notes}
 use Rattle.event_kernel.specs.Settings.{IsSetting, IsAtBoundary, state_at}
@@ -128,4 +129,8 @@ returns-else-any-clause-state g c =
 
 pub returns-then-any-clause-current : goal.returns-then-any-clause-current
 returns-then-any-clause-current g c =
-    record { counters = search rules; agenda = c.mark.ensures.stand }
+    record {
+      counters = search rules;
+      agenda = c.mark.ensures.stand;
+      demands = c.loop-task.invariant.current.demands ∙ ap (λ (s : StateView). latest_demands c.args.set.now s) (sym c.mark.ensures.marked);
+    }

@@ -19,7 +19,7 @@ invariant-loop-task g l =
       released : ℕ;
       within : released ≤ count p;
       so_far : HasReleased p dem past released l.any l.self.state;
-      current : IsCurrent g.G.Governor.stands p l.self;
+      current : IsCurrent g.G.Governor.stands l.fn.set l.self;
       of : IsOfPlan p l.self.state;
       trace : l.self.trace ≡ with_notes l.fn.self.trace (notes_upto p dem past released);
     }

@@ -1,4 +1,5 @@
-use Rattle.std.proofs.Common.{◌≡◌, ℕ, ◌+◌, List, [], ◌∷◌, ◌++◌, append_assoc, Bool, nat_eq, ap, ap₂, ◌∙◌, sym, subst, eq-eqb, rules}
+use Rattle.std.proofs.Common.{◌≡◌, ℕ, ◌+◌, List, [], ◌∷◌, ◌++◌, append_assoc, length, arith, Bool, nat_eq, ap, ap₂, ◌∙◌, sym, subst, eq-eqb, rules}
+use Rattle.std.specs.Prelude.{slice_set}
 use Rattle.dvs_base.specs.declared.note.Note.{Note}
 use Rattle.dvs_base.specs.declared.note.Note.TheVariants.{Release, Done}
 use Rattle.event_kernel.specs.Boundary.{needs_nothing}
@@ -7,14 +8,36 @@ use Rattle.event_kernel.specs.SpanNotes.{kept_notes}
 use Rattle.event_kernel.proofs.SpanBuffer.{kept_notes-append}
 use Rattle.sched_model.specs.declared.state.Row.{Row}
 use Rattle.sched_model.specs.Jobs.{JobDemands}
-use Rattle.sched_model.specs.States.{row_at, after_finish, StateView}
+use Rattle.sched_model.specs.Plan.{period}
+use Rattle.sched_model.specs.States.{row_at, after_finish, released_row, CanRelease, StateView}
 use Rattle.sched_model.proofs.States.{row_read}
-use Rattle.agenda.specs.Agenda.{with_next_job}
+use Rattle.agenda.specs.Agenda.{next_job_row, with_next_job}
+use Rattle.agenda.proofs.StateQueues.{with_row}
 use Rattle.agenda.specs.Stands.{Stands}
+use Rattle.event_kernel.specs.declared.progress.Setting.{Setting}
+use Rattle.event_kernel.specs.Current.{latest_demands}
 use Rattle.event_kernel.specs.Runs.{demands_of}
+use Rattle.event_kernel.proofs.LatestDemands.{demands-long, demand-written}
 use Rattle.event_kernel.proofs.BoundaryReleases.{opened-done, opening-done}
 use Rattle.event_kernel.proofs.progress.Progress.release_one.Given.{Over}
 use Rattle.event_kernel.proofs.progress.Progress.release_one.Goals as goal
+
+-- the demand of the next job is written, and its row
+written : (set : Setting) (s : StateView) (i : ℕ) (row : Row) (n : ℕ) (needs : List ℕ) (next : StateView) → CanRelease set.plan.now s i
+    → needs ≡ latest_demands set s → n ≡ demands_of set.plan.now set.demands.now i row.job → next ≡ with_row s i row
+    → slice_set needs i n ≡ latest_demands set next
+written set s i row n needs next can before is moved =
+    ap (λ (xs : List ℕ). slice_set xs i n) before ∙ (demand-written set s i row can.task can.below n is
+    ∙ ap (λ (v : StateView). latest_demands set v) (sym moved))
+
+pub index_mut-requires : goal.index_mut-requires
+index_mut-requires g c =
+    omega (
+      arith,
+      c.requires.can.below,
+      ap (λ (xs : List ℕ). length xs) c.requires.current.demands,
+      demands-long c.args.set.now c.args.self.now.state,
+    )
 
 -- a job that needs nothing
 module _ (g : Over) (c : goal.After-push-then-complete g) where
@@ -31,7 +54,7 @@ module _ (g : Over) (c : goal.After-push-then-complete g) where
   is = row_read s _ i c.index.result.now c.state.view_is c.requires.can.task c.index.ensures
 
   none : dem i ((row_at s i).job + 1) ≡ 0
-  none = sym (ap (λ (r : Row). dem i (r.job + 1)) is) ∙ (sym c.demand-complete.ensures ∙ c.if-complete.true)
+  none = sym (ap (λ (r : Row). dem i (r.job + 1)) is) ∙ (sym c.demand-needs.ensures ∙ c.if-complete.true)
 
   state-is : c.finish.new.self ≡ with_next_job c.args.set.now.plan.now s i (needs_nothing dem s i)
   state-is =
@@ -61,10 +84,27 @@ returns-then-complete-clause-trace g c =
 pub returns-then-complete-clause-current : goal.returns-then-complete-clause-current
 returns-then-complete-clause-current g c =
     let p = c.args.set.now.plan.now in
-    let same : nat_eq c.demand-complete.result 0 ≡ needs_nothing (dem g c) (s g c) (i g c) =
-    ap (λ n. nat_eq n 0) (c.demand-complete.ensures ∙ ap (λ (r : Row). dem g c (i g c) (r.job + 1)) (is g c)) in
+    let same : nat_eq c.demand-needs.result 0 ≡ needs_nothing (dem g c) (s g c) (i g c) =
+    ap (λ n. nat_eq n 0) (c.demand-needs.ensures ∙ ap (λ (r : Row). dem g c (i g c) (r.job + 1)) (is g c)) in
     record {
       counters = search rules;
       agenda = subst (λ (v : StateView). Stands p v c.renew.new.self) (sym (state-is g c))
           (subst (λ (b : Bool). Stands p (with_next_job p (s g c) (i g c) b) c.renew.new.self) same c.renew.ensures);
+      demands = written c.args.set.now (s g c) (i g c) (next_job_row (period p (i g c)) (needs_nothing (dem g c) (s g c) (i g c)) (row_at (s g c) (i g c)))
+          c.demand-needs.result c.args.self.now.needs.items c.finish.new.self c.requires.can c.requires.current.demands
+          (c.demand-needs.ensures ∙ ap (λ (r : Row). dem g c (i g c) (r.job + 1)) (is g c)) (state-is g c);
+    }
+
+pub returns-else-complete-clause-current : goal.returns-else-complete-clause-current
+returns-else-complete-clause-current g c =
+    let p = c.args.set.now.plan.now in
+    let s = c.args.self.now.state in
+    let i = c.args.task in
+    let row = row_read s _ i c.index.result.now c.state.view_is c.requires.can.task c.index.ensures in
+    record {
+      counters = search rules;
+      agenda = search rules;
+      demands = written c.args.set.now s i (released_row (period p i) (row_at s i)) c.demand-needs.result
+          c.args.self.now.needs.items c.release.new.self c.requires.can c.requires.current.demands
+          (c.demand-needs.ensures ∙ ap (λ (r : Row). demands_of p c.args.set.now.demands.now i (r.job + 1)) row) c.release.ensures;
     }

@@ -95,7 +95,7 @@ returns-clause-worked g c =
 
 pub returns-clause-current : goal.returns-clause-current
 returns-clause-current g c =
-    c.advance.ensures.current c.args.set.now.plan.now (elim c.if-rest-gt0.branch [
-      | then-rest-gt0 w ↦ subst (IsCurrent g.G.Governor.stands c.args.set.now.plan.now) (sym w.self-is) c.loop-rest.invariant.current
-      | else-rest-gt0 w ↦ subst (IsCurrent g.G.Governor.stands c.args.set.now.plan.now) (sym w.self-is) c.loop-rest.invariant.current
+    c.advance.ensures.current c.args.set.now (elim c.if-rest-gt0.branch [
+      | then-rest-gt0 w ↦ subst (IsCurrent g.G.Governor.stands c.args.set.now) (sym w.self-is) c.loop-rest.invariant.current
+      | else-rest-gt0 w ↦ subst (IsCurrent g.G.Governor.stands c.args.set.now) (sym w.self-is) c.loop-rest.invariant.current
     ])

@@ -11,7 +11,7 @@ invariant-loop-rest g l =
     let run = l.self in
     record {
       so_far : HoldsHanded m.demand p (demands_of p l.fn.set.demands.now) l.fn.self.state.now l.rest l.completed run.state run.trace;
-      current : IsCurrent m.stands p run;
+      current : IsCurrent m.stands l.fn.set run;
       of : IsOfPlan p run.state;
     }
 
