@@ -71,10 +71,10 @@ fn take_first(next: &mut Queue<ByDue>, tasks: &TaskSet, machine: &Machine) -> u6
     ensures taken { TakesFirst (plan_of tasks.now machine.now Edf) (due_of next.old.entries) (due_of next.new.entries)
         result }
 {
-    match next.take_first() {
+    match next.first() {
         Some(job) => {
             let period = tasks.task(job.task).period;
-            next.insert(Entry {
+            next.replace_first(Entry {
                 task: job.task,
                 due: job.due + period,
                 period,
