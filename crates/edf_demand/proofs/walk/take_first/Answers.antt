@@ -20,8 +20,8 @@ replace_first-requires c =
     let head = front c.args.next.now.entries c.in-Some.job c.in-Some.ensures.value in
     subst (IsOfFirst c.in-Some.job.task) (sym head.1) refl
 
-pub returns-in-Some : goal.returns-in-Some
-returns-in-Some c =
+pub returns : goal.returns
+returns c =
     let q = c.args.next.now in
     let calendar = c.requires.queue.calendar in
     let job = c.in-Some.job in
@@ -42,6 +42,6 @@ returns-in-Some c =
           (ap (λ (t : Task). t.period) c.task-period.ensures.task) c.worst.ensures.value;
     }
 
-pub returns-in-None : goal.returns-in-None
-returns-in-None c =
-    absurd (no-front c.args.next.now c.requires.queue.calendar (none-front c.args.next.now.entries c.in-None.ensures.value))
+pub returns-in_default : goal.returns-in_default
+returns-in_default c =
+    absurd (no-front c.args.next.now c.requires.queue.calendar (none-front c.args.next.now.entries c.in_default.ensures.value))
