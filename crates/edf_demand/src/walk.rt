@@ -71,18 +71,16 @@ fn take_first(next: &mut Queue<ByDue>, tasks: &TaskSet, machine: &Machine) -> u6
     ensures taken { TakesFirst (plan_of tasks.now machine.now Edf) (due_of next.old.entries) (due_of next.new.entries)
         result }
 {
-    match next.take_first() {
-        Some(job) => {
-            let period = tasks.task(job.task).period;
-            next.insert(Entry {
-                task: job.task,
-                due: job.due + period,
-                period,
-            });
-            worst(tasks, machine, job.task)
-        }
-        None => 0,
-    }
+    let Some(job) = next.first() else {
+        return 0;
+    };
+    let period = tasks.task(job.task).period;
+    next.replace_first(Entry {
+        task: job.task,
+        due: job.due + period,
+        period,
+    });
+    worst(tasks, machine, job.task)
 }
 
 // Takes the jobs that are due at `now`: the next deadline of each of their tasks is a period later.

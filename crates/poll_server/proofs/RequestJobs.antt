@@ -92,21 +92,21 @@ module _ (s : ServerView) (h : AreRequests s.requests) (some : 0 < period s.plan
   asked_below-is = reached.asked_for ∙ ap (asked_below s) (add-one m)
 
   -- where the jobs so far take what was asked for, the request belongs to the last of them
-  pub job-is : r.asked ≤ r.taken → job_of s m ≡ r.job
+  pub job-is : r.asked ≤ r.waiting.taken → job_of s m ≡ r.job
   job-is enough =
       let here : BelongsTo s m r.job = record {
-        reached = omega (arith, enough, asked_below-is, reached.counted);
+        reached = omega (arith, enough, asked_below-is, reached.stands.counted);
         first = λ j below. subst (λ (u : ℕ). taken_up_to s j < u) (ap (asked_below s) (add-one m)) (reached.first j below);
       } in
       one-job s m (job_of s m) r.job (belongs s h some room m lt) here
 
   -- where the jobs so far take what was asked for, the walk is at some job
-  pub reached-some : r.asked ≤ r.taken → 1 ≤ r.job
-  reached-some enough = grind (arith, reached.counted, taken-none s, enough, asked_below-is, asked-some s h some room m lt)
+  pub reached-some : r.asked ≤ r.waiting.taken → 1 ≤ r.job
+  reached-some enough = grind (arith, reached.stands.counted, taken-none s, enough, asked_below-is, asked-some s h some room m lt)
 
   -- the ends of the first n jobs by these notes
   module _ (notes : List Note) (ends : List (Option Pos)) (are : AreEnds s notes n ends) where
-    pub outcome-reached : r.asked ≤ r.taken → outcome_of s notes m ≡ outcome_by r.job (end_at ends (r.job - 1))
+    pub outcome-reached : r.asked ≤ r.waiting.taken → outcome_of s notes m ≡ outcome_by r.job (end_at ends (r.job - 1))
     outcome-reached enough =
         let first : 1 ≤ r.job = reached-some enough in
         let back : r.job - 1 + 1 ≡ r.job = omega arith in
@@ -116,10 +116,10 @@ module _ (s : ServerView) (h : AreRequests s.requests) (some : 0 < period s.plan
         ∙ ap (outcome_by r.job) (sym told)
 
     -- where all n jobs take less than was asked for, the request is pending
-    pub outcome-pending : r.taken < r.asked → r.job ≡ n → outcome_of s notes m ≡ Pending
+    pub outcome-pending : r.waiting.taken < r.asked → r.job ≡ n → outcome_of s notes m ≡ Pending
     outcome-pending less last =
         let own = belongs s h some room m lt in
-        let all : r.taken ≡ taken_up_to s n = reached.counted ∙ ap (taken_up_to s) last in
+        let all : r.waiting.taken ≡ taken_up_to s n = reached.stands.counted ∙ ap (taken_up_to s) last in
         let later : n < job_of s m = ⊎_elim (λ lt. lt)
         (λ le. absurd (omega (arith, taken-up s (job_of s m) n le, all, less, asked_below-is, own.reached))) (cases_lt n (job_of s m)) in
         ap (outcome_by (job_of s m)) (are.no_later (job_of s m) later)

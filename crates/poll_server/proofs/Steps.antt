@@ -1,11 +1,7 @@
 -- The steps of the walks over a server's jobs and requests.
 use Rattle.std.proofs.Common.{◌≡◌, ℕ, ◌+◌, ◌-◌, ◌*◌, ◌^◌, ◌<◌, ◌≤◌, min, List, [], refl, arith, ap, ◌∙◌, sym}
-use Rattle.std.specs.Prelude.{Option, unwrap_or, slice_index}
-use Rattle.std.proofs.Math.Nat.{mul-le-mul_right, mul-le-mul_left}
-use Rattle.dvs_base.specs.declared.limits.TheConstants.{MOST_JOBS}
+use Rattle.std.proofs.Math.Nat.{mul-le-mul_right}
 use Rattle.task_model.specs.DemandRows.{DemandRow, named_units}
-use Rattle.task_model.specs.declared.limits.TheConstants.{MOST_WORK}
-use Rattle.demand_list.specs.Demands.{DemandsView, units_of}
 use Rattle.request_list.specs.Requests.{AreRequests}
 use Rattle.sched_model.specs.Plan.{count, period}
 use Rattle.sched_model.specs.Jobs.{release}
@@ -14,8 +10,8 @@ use Rattle.sched_model.proofs.Limits.{every_period}
 use Rattle.poll_server.specs.declared.taking.Waiting.{Waiting}
 use Rattle.poll_server.specs.declared.outcomes.Reached.{Reached}
 use Rattle.poll_server.specs.ServerJobs.{ServerView, budget, job_release, request_count, arrival, units, arrived_units, taken_up_to, taken_units, asked_below}
-use Rattle.poll_server.specs.Walks.{HasPassed, StandsAfter, AreTaken, IsServable, HasReached}
-use Rattle.poll_server.proofs.Takings.{taken-none, taken-more, taken-low, asked_below-low, arrived-counted}
+use Rattle.poll_server.specs.Walks.{HasPassed, StandsAfter, AreTaken, HasReached}
+use Rattle.poll_server.proofs.Takings.{taken-none, taken-more, asked_below-low, arrived-counted}
 
 -- the server has some budget and some period
 pub some-budget : (s : ServerView) → IsAdmitted s.plan → s.task < count s.plan → 0 < budget s
@@ -27,13 +23,6 @@ some-period s adm = every_period s.plan adm.limits s.task
 -- the units of the requests up to and including request m are below 2^128
 pub asked_below-fits : (s : ServerView) → AreRequests s.requests → (m : ℕ) → m < request_count s → asked_below s m + units s m < 2 ^ 128
 asked_below-fits s h m lt = omega (arith, asked_below-low s h m (omega arith), (h.each m lt).low, h.few)
-
--- the units that the first k jobs take are at most 2^80
-pub taken-fits : (s : ServerView) → IsAdmitted s.plan → s.task < count s.plan → (k : ℕ) → k ≤ MOST_JOBS → taken_up_to s k ≤ 2 ^ 80
-taken-fits s adm lt k few =
-    let low : budget s ≤ MOST_WORK = (adm.limits.tasks.each s.task lt).low_worst in
-    let most : k * budget s ≤ k * MOST_WORK = mul-le-mul_left k low in
-    omega (arith, taken-low s k, most, few)
 
 -- where the next request arrives after tick t, the units of the requests passed are those that arrived by t
 pub passed-arrived : (s : ServerView) → AreRequests s.requests → (t : ℕ) (w : Waiting) → HasPassed s t w
@@ -82,26 +71,22 @@ taken-first s rows none = record {
   no_other = λ i k lt other. ap (λ (l : List DemandRow). named_units l i k) none;
 }
 
--- the demand list has what job k of the server takes
-pub units-taken : (s : ServerView) (n : ℕ) (d : DemandsView) → IsServable s n d → (k : ℕ) → 1 ≤ k → k ≤ n
-    → units_of d s.task k ≡ taken_units s k
-units-taken s n d h k first most = ap (λ (o : Option ℕ). unwrap_or o (slice_index d.worsts s.task)) (h.rows.taken_by k first most)
-
 -- the walk over the requests goes one job further
-pub reached-next : (s : ServerView) (n m u : ℕ) (r : Reached) → HasReached s n m r → r.job < n → r.taken < r.asked
-    → u ≡ taken_units s (r.job + 1)
-    → HasReached s n m (record { job = r.job + 1; taken = r.taken + u; asked = r.asked })
-reached-next s n m u r h lt less takes = record {
+pub reached-next : (s : ServerView) (n m : ℕ) (r : Reached) (w : Waiting) → HasReached s n m r → r.job < n
+    → r.waiting.taken < r.asked → StandsAfter s (r.job + 1) w
+    → HasReached s n m (record { job = r.job + 1; waiting = w; asked = r.asked })
+reached-next s n m r w h lt less stands = record {
   within = omega arith;
-  counted = omega (arith, h.counted, takes, taken-more s r.job);
+  stands = stands;
   asked_for = h.asked_for;
-  first = λ j below. grind (arith, h.first j, h.counted, h.asked_for, less, below);
+  first = λ j below. grind (arith, h.first j, h.stands.counted, h.asked_for, less, below);
 }
 
-pub reached-first : (s : ServerView) (n : ℕ) → HasReached s n 0 (record { job = 0; taken = 0; asked = 0 })
+pub reached-first : (s : ServerView) (n : ℕ)
+    → HasReached s n 0 (record { job = 0; waiting = record { next = 0; arrived = 0; taken = 0 }; asked = 0 })
 reached-first s n = record {
   within = omega arith;
-  counted = sym (taken-none s);
+  stands = stands-first s;
   asked_for = refl;
   first = λ j below. absurd (omega arith);
 }

@@ -1,5 +1,5 @@
 -- What a server's jobs take, job by job.
-use Rattle.std.proofs.Common.{◌≡◌, ℕ, zero, suc, ◌<◌, ◌≤◌, ◌⊎◌, refl, arith, eq-or-lt_of_le, ◌+◌, ◌-◌, ◌*◌, min, true, false, nat_le, if◌then◌else◌, ap, ◌∙◌, sym, add-one}
+use Rattle.std.proofs.Common.{◌≡◌, ℕ, zero, suc, ◌<◌, ◌≤◌, refl, arith, eq-or-lt_of_le, ◌+◌, ◌-◌, ◌*◌, min, true, false, nat_le, if◌then◌else◌, ap, ◌∙◌, sym, add-one}
 use Rattle.std.proofs.Math.Logic.{⊎_elim}
 use Rattle.std.proofs.Math.Nat.{mul-le-mul_right, div-mul-le_self}
 use Rattle.std.proofs.lemmas.Bool.Decides.{nat_tests}

@@ -108,7 +108,7 @@ pub record Answered (demand : OwnDemand) (s : ServerView) (ticks : ℕ) (r : Ser
 module _ (demand : OwnDemand) (s : ServerView) (d : DemandsView) (n ticks : ℕ) (n_is : n ≡ jobs_before s ticks)
     (servable : IsServable s n d) (run : Run) (run_is : run ≡ run_of s d ticks) where
   some : 0 < period s.plan s.task
-  some = every_period s.plan servable.plan.limits s.task
+  some = every_period s.plan servable.server.plan.limits s.task
 
   abbrev dem : JobDemands
   dem = demand_of s.plan d.rows
@@ -120,7 +120,7 @@ module _ (demand : OwnDemand) (s : ServerView) (d : DemandsView) (n ticks : ℕ)
   notes-are : notes_of_run demand run ≡ polled_notes demand s ticks
   notes-are =
       ap (notes_of_run demand) run_is
-      ∙ sym (same-notes demand s some ((own-lists s.plan servable.plan.limits).looks demand) ticks d.rows
+      ∙ sym (same-notes demand s some ((own-lists s.plan servable.server.plan.limits).looks demand) ticks d.rows
       (subst (λ (m : ℕ). AreTaken s m d.rows) n_is servable.rows)
       ((schedule_exists s.plan dem (ask_of demand s.plan dem) ticks).1))
 
@@ -138,8 +138,8 @@ module _ (demand : OwnDemand) (s : ServerView) (d : DemandsView) (n ticks : ℕ)
         let over : jobs_before s ticks < k = subst (λ (m : ℕ). m < k) n_is later in
         let polled = schedule_exists s.plan (polled_demand s) (ask_of demand s.plan (polled_demand s)) ticks in
         let after : ticks ≤ job_release s k = before-released s ticks k some over in
-        ends-never s.plan (polled_demand s) (ask_of demand s.plan (polled_demand s)) servable.plan.limits
-        (ticks_by s.plan (ask_of demand s.plan) (polled_demand s) ticks) polled.0 s.task k servable.task (omega arith)
+        ends-never s.plan (polled_demand s) (ask_of demand s.plan (polled_demand s)) servable.server.plan.limits
+        (ticks_by s.plan (ask_of demand s.plan) (polled_demand s) ticks) polled.0 s.task k servable.server.task (omega arith)
         (subst (λ (m : ℕ). m ≤ release s.plan s.task k) (sym polled.1) after);
   }
     where
@@ -158,7 +158,7 @@ module _ (demand : OwnDemand) (s : ServerView) (d : DemandsView) (n ticks : ℕ)
   ends-met met k first within =
       let run = schedule_exists s.plan dem (ask_of demand s.plan dem) ticks in
       subst (λ (l : List Note). IsEndBy (due s.plan s.task k) (done_at l s.task k)) (sym (ap (notes_of_run demand) run_is) ∙ notes-are)
-      (ends-in-time s.plan dem (ask_of demand s.plan dem) servable.plan.limits ticks_run run.0 s.task k servable.task first
+      (ends-in-time s.plan dem (ask_of demand s.plan dem) servable.server.plan.limits ticks_run run.0 s.task k servable.server.task first
       (subst (MeetsDeadlines demand) run_is met)
       (subst (λ (m : ℕ). due s.plan s.task k ≤ m) (sym run.1) within))
 
@@ -169,11 +169,11 @@ module _ (demand : OwnDemand) (s : ServerView) (d : DemandsView) (n ticks : ℕ)
       → Answered demand s ticks r
   answered met from to task empty heard outcomes totals each sums r is =
       let all = polled_notes demand s ticks in
-      let room = some-budget s servable.plan servable.task in
+      let room = some-budget s servable.server.plan servable.server.task in
       let served : r ≡ served_of demand s ticks = is ∙ ap₂ (λ (o : List Outcome) (t : Totals). record { outcomes = o; totals = t })
       (each all (ends-are from to task empty heard)) (sums ∙ ap totals_of notes-are) in
       record {
         served = served;
-        outcomes = subst (IsPolled s all) (sym served) (are-polled s servable.requests some room all);
-        bound = subst (KeepsBound s ticks) (sym served) (keeps-bound s servable.requests some room all ticks (ends-met met));
+        outcomes = subst (IsPolled s all) (sym served) (are-polled s servable.server.requests some room all);
+        bound = subst (KeepsBound s ticks) (sym served) (keeps-bound s servable.server.requests some room all ticks (ends-met met));
       }

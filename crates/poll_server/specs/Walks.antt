@@ -33,13 +33,16 @@ pub record AreTaken (s : ServerView) (n : ℕ) (rows : List DemandRow) : Type 0 
   pub no_later : (k : ℕ) → n < k → named_units rows s.task k ≡ None
   pub no_other : (i k : ℕ) → i < count s.plan → (i ≡ s.task → ⊥) → named_units rows i k ≡ None
 
--- A server of a task of an admitted plan, with requests within the limits; the demand list has the units that the first
--- n jobs take.
-pub record IsServable (s : ServerView) (n : ℕ) (d : DemandsView) : Type 0 where
+-- a server of a task of an admitted plan, with requests within the limits and at most so many jobs
+pub record IsServer (s : ServerView) (n : ℕ) : Type 0 where
   pub plan : IsAdmitted s.plan
   pub task : s.task < count s.plan
   pub requests : AreRequests s.requests
   pub few : n ≤ MOST_JOBS
+
+-- a server whose first n jobs take the units that the demand list has
+pub record IsServable (s : ServerView) (n : ℕ) (d : DemandsView) : Type 0 where
+  pub server : IsServer s n
   pub list : HasWorstsOf s.plan.tasks d
   pub rows : AreTaken s n d.rows
 
@@ -63,6 +66,6 @@ pub record AreEnds (s : ServerView) (notes : List Note) (n : ℕ) (ends : List (
 -- the walk over the first m requests is at a job of the first n: the jobs before it take less than the requests ask for
 pub record HasReached (s : ServerView) (n m : ℕ) (r : Reached) : Type 0 where
   pub within : r.job ≤ n
-  pub counted : r.taken ≡ taken_up_to s r.job
+  pub stands : StandsAfter s r.job r.waiting
   pub asked_for : r.asked ≡ asked_below s m
   pub first : (j : ℕ) → j < r.job → taken_up_to s j < asked_below s m

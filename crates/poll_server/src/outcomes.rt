@@ -3,53 +3,52 @@ ghost use Rattle.std.specs.Prelude.{◌≡◌, ◌+◌, ◌<◌, ◌≤◌, List
 ghost use Rattle.dvs_base.specs.declared.note.Note.{Note as NoteOf};
 ghost use Rattle.poll_server.specs.EachOutcome.{outcome_of, outcomes_of};
 ghost use Rattle.poll_server.specs.ServerJobs.{request_count};
-ghost use Rattle.poll_server.specs.Walks.{IsServable, AreEnds, HasReached};
+ghost use Rattle.poll_server.specs.Walks.{IsServer, AreEnds, HasReached};
 
 use crate::Outcome;
 use crate::ends::Ends;
 use crate::server::Server;
-use demand_list::Demands;
+use crate::taking::Waiting;
 use dvs_base::NoMemory;
 use std::alloc::Global;
 
-/// The first jobs of a server in a run: how many they are, their demands, and where they are done.
+/// The first jobs of a server in a run: how many they are, and where they are done.
 #[derive(Clone, Copy)]
 pub(crate) struct Jobs<'a> {
     pub(crate) server: &'a Server<'a>,
     pub(crate) count: u64,
-    pub(crate) demands: &'a Demands,
     pub(crate) ends: &'a Ends,
 }
 
-// The job that the first requests reach, the units that it and the jobs before it take, and the units of the requests.
+// The job that the first requests reach, what is counted after it and the jobs before it, and the units of the requests.
 #[derive(Drop)]
 struct Reached {
     job: u64,
-    taken: u128,
+    waiting: Waiting,
     asked: u128,
 }
 
 impl Reached {
     // Adds request `m`: goes on to the job that takes its last unit, or to the last job where none does.
     fn add(&mut self, jobs: &Jobs<'_>, m: usize)
-        requires servable { IsServable jobs.now.server.now jobs.now.count jobs.now.demands.now }
+        requires server { IsServer jobs.now.server.now jobs.now.count }
         requires request { m < request_count jobs.now.server.now }
         requires reached { HasReached jobs.now.server.now jobs.now.count m self.old }
         ensures reached { HasReached jobs.now.server.now jobs.now.count (m + 1) self.new }
-        ensures last { self.new.taken < self.new.asked → self.new.job ≡ jobs.now.count }
+        ensures last { self.new.waiting.taken < self.new.asked → self.new.job ≡ jobs.now.count }
         ensures some { 1 ≤ self.new.asked }
     {
         let server = jobs.server;
         self.asked += u128::from(server.requests[m].units);
-        while self.job < jobs.count && self.taken < self.asked {
+        while self.job < jobs.count && self.waiting.taken < self.asked {
+            self.waiting.take(server, self.job);
             self.job += 1;
-            self.taken += u128::from(jobs.demands.units(server.task, self.job));
         }
     }
 
     // The outcome of request `m`, after those before it.
     fn serve(&mut self, jobs: &Jobs<'_>, m: usize) -> Outcome
-        requires servable { IsServable jobs.now.server.now jobs.now.count jobs.now.demands.now }
+        requires server { IsServer jobs.now.server.now jobs.now.count }
         requires long { length jobs.now.ends.now.ends.items ≡ jobs.now.count }
         requires request { m < request_count jobs.now.server.now }
         requires reached { HasReached jobs.now.server.now jobs.now.count m self.old }
@@ -59,7 +58,7 @@ impl Reached {
             → result ≡ outcome_of jobs.now.server.now notes m }
     {
         self.add(jobs, m);
-        if self.taken < self.asked {
+        if self.waiting.taken < self.asked {
             return Outcome::Pending;
         }
         match jobs.ends.end(self.job) {
@@ -71,7 +70,7 @@ impl Reached {
 
 /// The outcomes of all requests of a server.
 pub(crate) fn outcomes(alloc: Global, jobs: &Jobs<'_>) -> Result<Vec<Outcome>, NoMemory>
-    requires servable { IsServable jobs.now.server.now jobs.now.count jobs.now.demands.now }
+    requires server { IsServer jobs.now.server.now jobs.now.count }
     requires long { length jobs.now.ends.now.ends.items ≡ jobs.now.count }
     ensures { (notes : List NoteOf)
         → AreEnds jobs.now.server.now notes jobs.now.count jobs.now.ends.now.ends.items
@@ -79,7 +78,11 @@ pub(crate) fn outcomes(alloc: Global, jobs: &Jobs<'_>) -> Result<Vec<Outcome>, N
 {
     let mut reached = Reached {
         job: 0,
-        taken: 0,
+        waiting: Waiting {
+            next: 0,
+            arrived: 0,
+            taken: 0,
+        },
         asked: 0,
     };
     let mut list = Vec::new(alloc);

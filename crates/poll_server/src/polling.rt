@@ -82,7 +82,6 @@ pub fn poll<G: Governor>(
         &Jobs {
             server: &own,
             count: jobs,
-            demands: &demands,
             ends: &ends,
         },
     )?;

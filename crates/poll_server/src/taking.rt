@@ -12,13 +12,13 @@ use dvs_base::NoMemory;
 use event_kernel::worst_demands;
 use std::alloc::Global;
 
-// What is counted after some jobs of a server: the next request that hasn't arrived, the units of the requests before
-// it, and the units that the jobs took.
+/// What is counted after some jobs of a server: the next request that hasn't arrived, the units of the requests before
+/// it, and the units that the jobs took.
 #[derive(Drop)]
-struct Waiting {
-    next: usize,
-    arrived: u128,
-    taken: u128,
+pub(crate) struct Waiting {
+    pub(crate) next: usize,
+    pub(crate) arrived: u128,
+    pub(crate) taken: u128,
 }
 
 impl Waiting {
@@ -36,8 +36,8 @@ impl Waiting {
         }
     }
 
-    // The units that the next job takes, which is released after the first `jobs` jobs.
-    fn take(&mut self, server: &Server<'_>, jobs: u64) -> u64
+    /// The units that the next job takes, which is released after the first `jobs` jobs.
+    pub(crate) fn take(&mut self, server: &Server<'_>, jobs: u64) -> u64
         requires task { server.now.task < count server.now.plan }
         requires requests { AreRequests server.now.requests }
         requires few { jobs < MOST_JOBS }
@@ -73,8 +73,7 @@ pub(crate) fn polled_demands(
         taken: 0,
     };
     for job in 0..jobs {
-        let units = waiting.take(server, job);
-        demands.set(server.task, job + 1, units)?;
+        demands.set(server.task, job + 1, waiting.take(server, job))?;
     }
     Ok(demands)
 }

@@ -44,6 +44,16 @@ request_header = codes "arrival" ∷ codes "units" ∷ []
 abbrev pub few_rows : List (List (List ℕ)) → Result (List (List (List ℕ))) RequestFault
 few_rows rows = if nat_lt MOST_REQUESTS (length rows) then Err (fault.TooMany (length rows)) else Ok rows
 
+-- the refusal of a file of n rows in which a row is refused: their number is checked before each row
+abbrev pub first_refusal : ℕ → RequestFault → RequestFault
+first_refusal n why = if nat_lt MOST_REQUESTS n then fault.TooMany n else why
+
+-- the requests of all rows, at most the limit
+abbrev pub requests_of : List (List (List ℕ)) → Result (List Request) RequestFault
+requests_of all = do
+  rows ← few_rows all
+  requests_from 1 0 [] rows
+
 -- the rows of a file after its header, at most the limit
 abbrev pub rows_in : List ℕ → Result (List (List (List ℕ))) RequestFault
 rows_in bytes = do

@@ -1,21 +1,18 @@
 // Reading request files.
-ghost use Rattle.std.specs.Prelude.{List, codes, ◌≡◌, ◌≤◌, ◌<◌, [], Ok, length, ok_or, IfOk, IfErr};
+ghost use Rattle.std.specs.Prelude.{List, ◌≡◌, ◌≤◌, ◌<◌, ◌+◌, Ok, length, IfOk};
 ghost use Rattle.dvs_base.specs.Widths.{u64_end};
 ghost use Rattle.csv.specs.Records.{fields_of};
-ghost use Rattle.csv_text.specs.Rows.{IsDefault, records_left, text_rows};
+ghost use Rattle.csv_text.specs.Rows.{IsDefault, records_left};
 ghost use Rattle.dvs_base.specs.Checks.{IsUnlessMemory};
-ghost use Rattle.request_list.specs.declared.limits.TheConstants.{MOST_REQUESTS};
-ghost use Rattle.request_list.specs.declared.fault.RequestFault.TheVariants as fault;
 ghost use Rattle.request_list.specs.Requests.{IsRequest, AreRequests};
 ghost use Rattle.request_list.specs.declared.requests.Request.{Request};
 ghost use Rattle.request_list.specs.RequestText.{IsRequestText};
-ghost use Rattle.request_list.specs.RequestFile.{request_of_row, requests_from, request_header, request_file};
+ghost use Rattle.request_list.specs.RequestFile.{request_of_row, first_refusal, requests_of, request_file};
 
-use crate::limits::{MOST_REQUEST_UNITS, MOST_REQUESTS};
-use crate::{Request, RequestColumn, RequestFault, Requests};
+use crate::{MOST_REQUEST_UNITS, MOST_REQUESTS, Request, RequestColumn, RequestFault, Requests};
 use csv::{ByteRecord, Reader};
 use csv_text::{next_record, rows_reader, two_fields};
-use dvs_base::whole;
+use dvs_base::{NoMemory, whole};
 use std::alloc::Global;
 
 // The request of a row, where the row before it arrives at `earlier`.
@@ -43,33 +40,24 @@ fn read_row(row: u64, earlier: u64, fields: &ByteRecord) -> Result<Request, Requ
     Ok(Request { arrival, units })
 }
 
-// A reader of the rows of a file, after its header was checked.
-fn request_rows<'a>(
-    alloc: Global,
-    bytes: &'a [u8],
+// The refusal of a file where the row `count`, the last that was read, is refused: too many rows come before `why`.
+fn refusal(
+    mut count: u64,
+    why: RequestFault,
+    reader: &mut Reader<&[u8]>,
     fields: &mut ByteRecord,
-) -> Result<Reader<&'a [u8]>, RequestFault>
-    ensures rows { IsUnlessMemory RequestFault.NoMemory (λ reader. records_left reader) result
-        (ok_or (text_rows request_header bytes.now) RequestFault.Header) }
-    ensures default_reader { IfOk result (λ reader. IsDefault reader) }
-    ensures few { IfOk result (λ reader. length (records_left reader) ≤ length bytes.now) }
-{
-    let rows = rows_reader(alloc, bytes, &["arrival", "units"], fields)?;
-    rows.ok_or(RequestFault::Header)
-}
-
-// How many rows a reader has left.
-fn count_rows(reader: &mut Reader<&[u8]>, fields: &mut ByteRecord) -> Result<u64, RequestFault>
+) -> Result<RequestFault, NoMemory>
     requires default_reader { IsDefault reader.old }
-    requires few { length (records_left reader.old) < u64_end }
-    ensures count { IfOk result (λ n. n ≡ length (records_left reader.old)) }
-    ensures err { IfErr result (λ e. e ≡ fault.NoMemory) }
+    requires few { count + length (records_left reader.old) < u64_end }
+    ensures { IfOk result (λ e. e ≡ first_refusal (count + length (records_left reader.old)) why) }
 {
-    let mut count = 0;
     while next_record(reader, fields)? {
         count += 1;
     }
-    Ok(count)
+    if count > MOST_REQUESTS {
+        return Ok(RequestFault::TooMany { count });
+    }
+    Ok(why)
 }
 
 // The requests of the rows that a reader has left, counted from 1.
@@ -79,21 +67,26 @@ fn read_rows(
     fields: &mut ByteRecord,
 ) -> Result<Vec<Request>, RequestFault>
     requires default_reader { IsDefault reader.old }
-    requires few { length (records_left reader.old) ≤ MOST_REQUESTS }
-    ensures rows { IsUnlessMemory RequestFault.NoMemory (λ v. v.items) result
-        (requests_from 1 0 [] (records_left reader.old)) }
+    requires few { 1 + length (records_left reader.old) < u64_end }
+    ensures rows { IsUnlessMemory RequestFault.NoMemory (λ v. v.items) result (requests_of (records_left reader.old)) }
     ensures limits { IfOk result (λ v. AreRequests v.items) }
 {
     let mut requests = Vec::new(alloc);
     let mut row: u64 = 1;
     let mut earlier = 0;
     while next_record(reader, fields)? {
-        let request = read_row(row, earlier, fields)?;
-        if requests.push(request).is_err() {
-            return Err(RequestFault::NoMemory);
+        match read_row(row, earlier, fields) {
+            Ok(request) if row <= MOST_REQUESTS => {
+                requests.push(request).map_err(|_| RequestFault::NoMemory)?;
+                row += 1;
+                earlier = request.arrival;
+            }
+            Ok(_) => {
+                let many = RequestFault::TooMany { count: row };
+                return Err(refusal(row, many, reader, fields)?);
+            }
+            Err(why) => return Err(refusal(row, why, reader, fields)?),
         }
-        row += 1;
-        earlier = request.arrival;
     }
     Ok(requests)
 }
@@ -104,11 +97,8 @@ fn read_requests(alloc: Global, bytes: &[u8]) -> Result<Requests, RequestFault>
     ensures limits { IfOk result (λ requests. AreRequests requests) }
 {
     let mut fields = ByteRecord::new(alloc);
-    let count = count_rows(&mut request_rows(alloc, bytes, &mut fields)?, &mut fields)?;
-    if count > MOST_REQUESTS {
-        return Err(RequestFault::TooMany { count });
-    }
-    let mut reader = request_rows(alloc, bytes, &mut fields)?;
+    let rows = rows_reader(alloc, bytes, &["arrival", "units"], &mut fields)?;
+    let mut reader = rows.ok_or(RequestFault::Header)?;
     let requests = read_rows(alloc, &mut reader, &mut fields)?;
     Ok(Requests { requests })
 }

@@ -10,7 +10,8 @@ abbrev pub invariant-loop-requests : goal.invariant-loop-requests
 invariant-loop-requests l = record {
   default_reader : IsDefault l.reader;
   count : l.row ≡ length l.requests.items + 1;
-  few : length l.requests.items + length (records_left l.reader) ≤ MOST_REQUESTS;
+  all : l.row + length (records_left l.reader) ≡ 1 + length (records_left l.fn.reader);
+  few : length l.requests.items ≤ MOST_REQUESTS;
   limits : AreRequestsTo l.requests.items l.earlier;
   rest : requests_from 1 0 [] (records_left l.fn.reader)
       ≡ requests_from l.row l.earlier l.requests.items (records_left l.reader);
