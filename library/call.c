@@ -1,13 +1,15 @@
 /* call.c: the command line of rtdvs over the library: `call run --tasks FILE --machine FILE ..`. It loads the files that
  * the words name, makes the call, writes what it left, and ends with the program's exit status. */
+#define _DEFAULT_SOURCE
 #include "rtdvs.h"
 
 #include <errno.h>
 #include <stdio.h>
 #include <stdlib.h>
 #include <string.h>
+#include <sys/mman.h>
 
-/* Room for the longest trace, 256 MiB: the system gives the memory as it is written. */
+/* The most bytes of a trace of a run. */
 static const size_t longest = (size_t)1 << 28;
 
 struct bytes {
@@ -42,6 +44,18 @@ static void make_room(struct bytes *b, size_t room)
         no_memory();
     b->at = at;
     b->room = room > b->room ? room : b->room;
+}
+
+/* Room for the longest trace, if there is that much: the system gives it in large pages, as they are written. */
+static void reserve(struct bytes *b)
+{
+    uint8_t *at = aligned_alloc((size_t)1 << 21, longest);
+    if (at == NULL)
+        return;
+    madvise(at, longest, MADV_HUGEPAGE);
+    free(b->at);
+    b->at = at;
+    b->room = longest;
 }
 
 static void add(struct bytes *b, const void *more, size_t len)
@@ -144,7 +158,7 @@ int main(int argc, char **argv)
     status = answer(&c);
     if (status != RTDVS_WORDS && status != RTDVS_NO_WORDS && status != RTDVS_DONE) {
         name_files(&c, argc, argv);
-        make_room(&c.out, longest);
+        reserve(&c.out);
         status = answer(&c);
     }
     end = write_out(&c, status);

@@ -7,10 +7,25 @@
 set -eu
 here=$(cd "$(dirname "$0")/.." && pwd)
 built=$here/crates/rtdvs_c/out/librtdvs_c.a
-[ -z "$(command -v rt)" ] || (cd "$here/crates/rtdvs_c" && rt lib) >&2
-[ -f "$built" ] || { echo "no $built: call rt lib in crates/rtdvs_c" >&2; exit 1; }
 kit=$(dirname "$(rt doc)")
 heap=$kit/c/liblibc_c.a
+
+# The crate over the libraries that rt ci leaves, which rt lib would prove again.
+build() {
+    set --
+    for crate in $(sed -n 's/^rtdvs_c staticlib://p' ../../crates.txt); do
+        set -- "$@" --extern "$crate=../$crate/out/rlib/$crate.rlib"
+    done
+    for libraries in ../*/out/rlib; do set -- "$@" -L "dependency=$libraries"; done
+    mkdir -p out
+    "$kit/bin/rattle" build --crate-name rtdvs_c src/lib.rt --crate-type staticlib --extern "std=$kit/rlibs/std.rlib" \
+        -L "dependency=$kit/rlibs" "$@" --antt-project "$kit/rattle/logic/antt-project.json" \
+        --logic-built "$kit/logic_built" --toolchain "$kit/toolchain" --backend llvm --jobs 2 -o "$built"
+}
+is_new() { [ -f "$built" ] && [ -z "$(find src specs proofs ../rtdvs_top/out/rlib -newer "$built")" ]; }
+cd "$here/crates/rtdvs_c"
+if [ -f ../rtdvs_top/out/rlib/stamp ]; then rt lib; else is_new || build; fi >&2
+cd "$OLDPWD"
 mkdir -p "${1:-$here/crates/rtdvs_c/out/lib}"
 folder=$(cd "${1:-$here/crates/rtdvs_c/out/lib}" && pwd)
 version=$(sed -n 's/^## \([0-9.]*\) (.*/\1/p' "$here/CHANGELOG.md" | head -n 1)
