@@ -8,6 +8,7 @@ least='completion 95
 copies 95
 failing 1700
 form 6
+library 105
 links 24
 main 51
 named 9

@@ -67,6 +67,13 @@ sums() { (cd "$work/root" && md5sum -c "$work/control/md5sums"); }
 lintian_finds_nothing() { lintian --fail-on error,warning "$package"; }
 completion() { same "$(bash -c '. "$1" && complete -p rtdvs' - "$1")" 'complete -F _rtdvs rtdvs'; }
 module() { diff -r -x __pycache__ "$root/lib/python3/dist-packages/rtdvs" python/src/rtdvs; }
+# The library: its header, and call.c over it.
+library() {
+    cmp "$root/include/rtdvs.h" library/rtdvs.h && cmp "$doc/library/call.c" library/call.c &&
+        cc -I "$root/include" "$doc/library/call.c" -L "$root/lib" -lrtdvs -o "$work/call" &&
+        (cd "$data/crates/example_runs/data/paper" && LD_LIBRARY_PATH=$root/lib "$work/call" run --tasks tasks.toml \
+            --machine machine.toml --demands demands.csv --scheduler edf --governor cc --ticks 16 | cmp - edf_cc_with_demands.trace)
+}
 # The same trace by the module, which finds the program on the path.
 call_from_python() (
     cd "$data/crates/example_runs/data/paper" || exit
@@ -120,6 +127,7 @@ holds 'the man page' man_page
 holds 'the files of the man page' man_files
 [ -z "$(command -v bash)" ] || holds 'the completion' completion "$root/share/bash-completion/completions/rtdvs"
 holds 'the Python module' module
+[ -z "$(command -v rt)" ] || [ -z "$(command -v cc)" ] || holds 'the library for C' library
 if "$python" -c 'import tomllib' 2>/dev/null; then
     holds 'a call by the Python module' call_from_python
     holds 'the calls by Python' calls_by_python

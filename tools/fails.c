@@ -26,8 +26,8 @@ static int how(const char *word) {
 
 #define REAL(name) ((__typeof__(&name))dlsym(RTLD_NEXT, #name))
 
-void *malloc(size_t n) { return fails(ALLOC) ? NULL : REAL(malloc)(n); }
-void *realloc(void *p, size_t n) { return fails(ALLOC) ? NULL : REAL(realloc)(p, n); }
+void *malloc(size_t n) { return fails(ALLOC) ? (errno = ENOMEM, NULL) : REAL(malloc)(n); }
+void *realloc(void *p, size_t n) { return fails(ALLOC) ? (errno = ENOMEM, NULL) : REAL(realloc)(p, n); }
 void *aligned_alloc(size_t a, size_t n) { return fails(ALLOC) ? NULL : REAL(aligned_alloc)(a, n); }
 
 int open(const char *name, int flags, ...) {

@@ -1,11 +1,12 @@
-# package.sh: makes a Debian package of the built program, its man page, completion, Python module, pages and examples:
+# package.sh: makes a Debian package of the built program, its man page, completion, Python module, pages and examples,
+# and of the library for C (library.sh), where there is rt:
 #     sh tools/package.sh PROGRAM [FOLDER]
 # It writes rtdvs_VERSION_ARCHITECTURE.deb into FOLDER, or here without one, and prints its name. VERSION and the date of
 # all files are those of the first version of CHANGELOG.md, so the same files give the same package. DEBFULLNAME and
 # DEBEMAIL name the maintainer, who else has an address at example.org. The program is stripped where there is `strip`. The examples are in share/rtdvs, in folders
 # of the repository's names. In share/doc/rtdvs are the pages for those who use the program; what they link to and the
 # package lacks is named there without a link.
-pages='COMMANDS CONVERTERS EVALUATION EXERCISES FORMATS GLOSSARY LEAST MESSAGES PROVED PYTHON RULES SERVERS SPEED SWEEPS TRACE UNITS'
+pages='COMMANDS CONVERTERS EVALUATION EXERCISES FORMATS GLOSSARY LEAST LIBRARY MESSAGES PROVED PYTHON RULES SERVERS SPEED SWEEPS TRACE UNITS'
 set -eu
 [ $# -ge 1 ] && [ -x "$1" ] || { echo "usage: sh tools/package.sh PROGRAM [FOLDER]" >&2; exit 2; }
 program=$(cd "$(dirname "$1")" && pwd)/$(basename "$1")
@@ -33,6 +34,23 @@ chmod 755 "$root"
 mkdir -p "$root/DEBIAN" "$module" "$root/usr/bin" "$share/man/man1" "$share/bash-completion/completions" "$doc/docs" \
     "$data/crates/example_runs"
 cp "$program" "$root/usr/bin/rtdvs"
+if [ -n "$(command -v rt)" ]; then
+    sh tools/library.sh "$root/usr/lib" /usr > "$root.made" 2>&1 || { cat "$root.made" >&2; rm -f "$root.made"; exit 1; }
+    rm -f "$root.made"
+    mkdir -p "$root/usr/include" "$share/pkgconfig" "$share/lintian/overrides" "$doc/library"
+    ln -sf "librtdvs.so.$version" "$root/usr/lib/librtdvs.so.${version%%.*}"
+    ln -sf "librtdvs.so.${version%%.*}" "$root/usr/lib/librtdvs.so"
+    mv "$root/usr/lib/rtdvs.h" "$root/usr/include"
+    mv "$root/usr/lib/rtdvs.pc" "$share/pkgconfig"
+    [ -z "$(command -v strip)" ] || strip --strip-unneeded -R .comment -R .note "$root/usr/lib/librtdvs.so.$version"
+    [ -z "$(command -v strip)" ] || strip --strip-debug --enable-deterministic-archives -R .comment -R .note "$root/usr/lib/librtdvs.a"
+    cp library/call.c "$doc/library"
+    # One package has the program, the library and its header.
+    printf 'rtdvs: %s\n' 'package-name-doesnt-match-sonames librtdvs*' 'link-to-shared-library-in-wrong-package *' \
+        > "$share/lintian/overrides/rtdvs"
+    echo "librtdvs ${version%%.*} rtdvs (>= $version)" > "$root/DEBIAN/shlibs"
+    echo 'activate-noawait ldconfig' > "$root/DEBIAN/triggers"
+fi
 [ -z "$(command -v strip)" ] || strip --strip-unneeded -R .comment -R .note "$root/usr/bin/rtdvs"
 gzip -9n < docs/rtdvs.1 > "$share/man/man1/rtdvs.1.gz"
 cp examples/rtdvs.bash "$share/bash-completion/completions/rtdvs"

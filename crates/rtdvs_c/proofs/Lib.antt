@@ -1,0 +1,4 @@
+mod KnownFiles
+mod TopCall
+mod Words
+pub mod EndedWords

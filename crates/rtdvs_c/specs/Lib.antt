@@ -1,0 +1,3 @@
+pub mod WordList
+pub mod Replies
+pub mod Proves

@@ -1,0 +1,104 @@
+// What a call replies.
+ghost use Rattle.std.specs.Prelude.{◌≡◌, ◌≢◌, map, string_bytes, IfOk, IsOk, Some};
+ghost use Rattle.statuses.specs.Status.{code_of};
+ghost use Rattle.probes.specs.Program.{program_probes};
+ghost use Rattle.words.specs.Reading.{command_of};
+ghost use Rattle.rtdvs_c.specs.Replies.{held_by, shown_reply};
+ghost use Rattle.rtdvs_c.specs.WordList.{asked_by};
+ghost use Rattle.rtdvs_c.specs.Proves.{IsReply};
+
+use crate::NO_WORDS;
+use crate::files::CallFiles;
+use crate::text::GrownText;
+use crate::word_list::{WordsFault, read_words};
+use probes::{Probe, ProgramProbes};
+use rtdvs_top::{Status, rtdvs};
+use std::alloc::{AllocError, Global};
+
+/// What a call replies: its exit status, the answer's text, and the lines of the notes.
+#[derive(Drop)]
+pub(crate) struct Reply {
+    pub(crate) code: u8,
+    pub(crate) text: Vec<u8>,
+    pub(crate) notes: Vec<u8>,
+}
+
+// The reply of a call that ended with this status, and with these texts. It fails where memory ran out, which is the
+// one reason why a put of these texts fails.
+fn ended(status: Status, out: GrownText, notes: GrownText) -> Result<Reply, AllocError>
+    ensures reply { IfOk result (λ reply. shown_reply reply
+        ≡ record { code = code_of status; text = out.bytes.items; notes = notes.bytes.items }) }
+    ensures written { IsOk result → status ≢ Status.Write }
+    ensures memory { IsOk result → status ≢ Status.NoMemory }
+    ensures noted { IsOk result → notes.faults ≡ 0 }
+{
+    if notes.faults > 0 {
+        return Err(AllocError);
+    }
+    match status {
+        Status::Write | Status::NoMemory => Err(AllocError),
+        status => Ok(Reply {
+            code: status.code(),
+            text: out.bytes,
+            notes: notes.bytes,
+        }),
+    }
+}
+
+// The reply to words that are UTF-8, of a call that has the program's probes.
+fn reply_with(
+    alloc: Global,
+    words: &[String],
+    files: CallFiles<'_>,
+    probes: &mut Vec<Box<dyn Probe>>,
+) -> Result<Reply, AllocError>
+    requires { map (λ b. seen b) probes.old.items ≡ program_probes }
+    ensures { IfOk result (λ reply. IsReply (held_by files.entry) (Some (command_of (map string_bytes words.now)))
+        (shown_reply reply)) }
+{
+    let mut shelf = files;
+    let mut out = GrownText::new(alloc);
+    let mut notes = GrownText::new(alloc);
+    let status = rtdvs(alloc, words, &mut shelf, &mut out, &mut notes, probes);
+    ended(status, out, notes)
+}
+
+// The reply to words that are UTF-8.
+fn reply_to_texts(
+    alloc: Global,
+    words: &[String],
+    files: CallFiles<'_>,
+) -> Result<Reply, AllocError>
+    ensures { IfOk result (λ reply. IsReply (held_by files.entry) (Some (command_of (map string_bytes words.now)))
+        (shown_reply reply)) }
+{
+    let ProgramProbes {
+        speeds,
+        units,
+        dones,
+    } = ProgramProbes::new();
+    let mut probes: Vec<Box<dyn Probe>> = Vec::new(alloc);
+    probes.push(Box::new(alloc, speeds)?)?;
+    probes.push(Box::new(alloc, units)?)?;
+    probes.push(Box::new(alloc, dones)?)?;
+    reply_with(alloc, words, files, &mut probes)
+}
+
+/// The reply to the words that the bytes are. It fails only where memory runs out.
+pub(crate) fn reply_to(
+    alloc: Global,
+    words: &[u8],
+    files: CallFiles<'_>,
+) -> Result<Reply, AllocError>
+    ensures { IfOk result (λ reply. IsReply (held_by files.entry) (asked_by words.now) (shown_reply reply)) }
+{
+    match read_words(alloc, words) {
+        Ok(words) => reply_to_texts(alloc, &words, files),
+        Err(WordsFault::NotUtf8) => Ok(Reply {
+            code: NO_WORDS,
+            text: Vec::new(alloc),
+            notes: Vec::new(alloc),
+        }),
+        Err(WordsFault::NoMemory) => Err(AllocError),
+    }
+}

@@ -1,0 +1,133 @@
+/* calls.c: many calls of the library in one process, for check_library.sh and speed_library.sh:
+ *     ./calls THREADS CALLS [OPTION FILE].. -- WORD..
+ * Each thread makes that many calls of these words. OPTION is `tasks`, `machine` or `list`, with a file's name. The first
+ * call, with NULL and length 0 for both buffers, measures. Of each four calls one then has no room for the answer, one has
+ * room for all but its last byte, and two have room for all of it and for the notes; what it leaves has to be the same
+ * each time, and the bytes after it have to stay. All memory is as long as what it holds, so that a tool sees a read or a
+ * write outside of it. It prints the status and both lengths, and ends with 1 where a call differs. */
+#include "../library/rtdvs.h"
+
+#include <pthread.h>
+#include <stdio.h>
+#include <stdlib.h>
+#include <string.h>
+
+struct bytes {
+    uint8_t *at;
+    size_t len;
+};
+
+static struct bytes words, file[3], out, notes;
+static long count;
+static uint8_t wanted;
+
+static void fail(const char *why)
+{
+    fprintf(stderr, "calls: %s\n", why);
+    exit(1);
+}
+
+static uint8_t *fresh(size_t len)
+{
+    uint8_t *at = len > 0 ? malloc(len) : NULL;
+    if (len > 0 && at == NULL)
+        fail("no memory");
+    return at;
+}
+
+static struct bytes load(const char *name)
+{
+    struct bytes b = { NULL, 0 };
+    FILE *f = fopen(name, "rb");
+    if (f == NULL || fseek(f, 0, SEEK_END) != 0)
+        fail(name);
+    b.len = (size_t)ftell(f);
+    b.at = fresh(b.len);
+    rewind(f);
+    if (b.len > 0 && fread(b.at, 1, b.len, f) != b.len)
+        fail(name);
+    fclose(f);
+    return b;
+}
+
+static uint8_t call(struct bytes o, struct bytes n, struct rtdvs_lengths *lengths)
+{
+    return rtdvs_call(words.at, words.len, file[0].at, file[0].len, file[1].at, file[1].len, file[2].at, file[2].len,
+                      o.at, o.len, n.at, n.len, lengths);
+}
+
+/* One call with this much room, and with two bytes more after it, which have to stay. */
+static void call_with(size_t room, size_t notes_room)
+{
+    struct rtdvs_lengths lengths = { 7, 7 };
+    struct bytes o = { fresh(room + 2), room }, n = { fresh(notes_room + 2), notes_room };
+    size_t fits = out.len < room ? out.len : room;
+    memset(o.at, 0xA5, room + 2);
+    memset(n.at, 0xA5, notes_room + 2);
+    uint8_t status = call(o, n, &lengths);
+    if (status != (room < out.len ? RTDVS_NO_ROOM : wanted))
+        fail("another status");
+    if (lengths.out != out.len || lengths.notes != notes.len)
+        fail("other lengths");
+    if (fits > 0 && memcmp(o.at, out.at, fits) != 0)
+        fail("another answer");
+    if (notes.len <= notes_room && notes.len > 0 && memcmp(n.at, notes.at, notes.len) != 0)
+        fail("other notes");
+    for (size_t i = fits; i < room + 2; i++)
+        if (o.at[i] != 0xA5)
+            fail("a byte after the answer");
+    free(o.at);
+    free(n.at);
+}
+
+static void *calls(void *unused)
+{
+    for (long i = 0; i < count; i++) {
+        if (i % 4 == 1)
+            call_with(0, 0);
+        else if (i % 4 == 2 && out.len > 0)
+            call_with(out.len - 1, notes.len);
+        else
+            call_with(out.len, notes.len);
+    }
+    return unused;
+}
+
+int main(int argc, char **argv)
+{
+    static const char *const names[] = { "tasks", "machine", "list" };
+    struct rtdvs_lengths lengths;
+    struct bytes none = { NULL, 0 };
+    pthread_t thread[64];
+    int at = 3, threads = argc > 3 ? atoi(argv[1]) : 0;
+
+    if (threads < 1 || threads > 64)
+        fail("usage: ./calls THREADS CALLS [OPTION FILE].. -- WORD..");
+    count = atol(argv[2]);
+    for (; at + 1 < argc && strcmp(argv[at], "--") != 0; at += 2)
+        for (int i = 0; i < 3; i++)
+            if (strcmp(argv[at], names[i]) == 0)
+                file[i] = load(argv[at + 1]);
+    for (int i = at + 1; i < argc; i++)
+        words.len += strlen(argv[i]) + 1;
+    words.at = fresh(words.len);
+    for (size_t i = (size_t)at + 1, k = 0; i < (size_t)argc; k += strlen(argv[i]) + 1, i++)
+        memcpy(words.at + k, argv[i], strlen(argv[i]) + 1);
+
+    wanted = call(none, none, &lengths);
+    out = (struct bytes){ fresh(lengths.out), lengths.out };
+    notes = (struct bytes){ fresh(lengths.notes), lengths.notes };
+    wanted = call(out, notes, &lengths);
+    for (int i = 0; i < threads; i++)
+        if (pthread_create(&thread[i], NULL, calls, NULL) != 0)
+            fail("no thread");
+    for (int i = 0; i < threads; i++)
+        pthread_join(thread[i], NULL);
+    printf("status %d, %zu and %zu bytes\n", wanted, out.len, notes.len);
+    free(words.at);
+    for (int i = 0; i < 3; i++)
+        free(file[i].at);
+    free(out.at);
+    free(notes.at);
+    return 0;
+}

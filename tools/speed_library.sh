@@ -1,0 +1,39 @@
+# speed_library.sh: the ratios of the library for C in SPEED.md, by bash and cc, in a folder with the inputs:
+#     bash speed_library.sh TOOLS PROGRAM LIBRARY
+# TOOLS is the folder of this script, PROGRAM the program, LIBRARY the folder that library.sh made. Times are processor
+# times of the user and the system, the least of five; for threads the time that passes.
+set -eu
+tools=$1 program=$2 library=$3
+cc -O2 -I "$tools/../library" "$tools/../library/call.c" "$library/librtdvs.so" -o call
+cc -O2 -pthread -D_POSIX_C_SOURCE=200809L "$tools/calls.c" "$library/librtdvs.so" -o calls
+cc -O2 "$tools/peer.c" -o peer
+export LD_LIBRARY_PATH=$library
+
+# FORM COMMAND..: the least time of five, where FORM is `cpu` or `passed`
+least() {
+    form=$1
+    shift
+    for _ in 1 2 3 4 5; do
+        TIMEFORMAT='%U %S %R'
+        { time "$@" > trace 2> notes; } 2>&1
+    done | awk -v form="$form" '{ t = form == "cpu" ? $1 + $2 : $3 } NR == 1 || t < low { low = t } END { print low }'
+}
+ratio() { awk -v a="$1" -v b="$2" 'BEGIN { printf "%.2f\n", a / b }'; }
+processes() { for _ in $(seq 1000); do "$program" "$@"; done; }
+
+small='--tasks tasks8.toml --machine machine.toml --scheduler edf --governor cc --ticks 16'
+named='--tasks tasks --machine machine --scheduler edf --governor cc'
+files='tasks tasks8.toml machine machine.toml'
+apart=$(least cpu processes run $small)
+within=$(least cpu ./calls 1 10000 $files -- run $named --ticks 16)
+echo "a small call as a process, over one in process: $(ratio "$apart" "$(ratio "$within" 10)")"
+
+long='--tasks tasks64.toml --machine machine.toml --scheduler edf --governor cc --ticks 38200000'
+by_peer=$(least cpu ./peer run $long)
+echo "lines of the long run: $(wc -l < trace)"
+echo "the long run to a file by the library, over peer.c: $(ratio "$(least cpu ./call run $long)" "$by_peer")"
+echo "the long run to a file by the program, over peer.c: $(ratio "$(least cpu "$program" run $long)" "$by_peer")"
+
+one=$(least passed ./calls 1 2000 $files -- run $named --ticks 200000)
+four=$(least passed ./calls 4 500 $files -- run $named --ticks 200000)
+echo "calls in one thread, over the same calls in four: $(ratio "$one" "$four")"
