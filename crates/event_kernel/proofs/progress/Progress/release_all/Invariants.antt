@@ -12,14 +12,15 @@ use Rattle.event_kernel.proofs.progress.Progress.release_all.Given as goal
 -- the rows of the first `released` tasks are released
 abbrev pub invariant-loop-task : goal.invariant-loop-task
 invariant-loop-task g l =
-    let p = l.fn.set.plan.now in
-    let dem = demands_of l.fn.set.plan.now l.fn.set.demands.now in
+    let set = l.fn.set in
+    let p = set.plan.now in
+    let dem = demands_of p set.demands.now in
     let past = course g.G.Governor.demand p dem l.fn.self.state.now in
     record {
       released : ℕ;
       within : released ≤ count p;
       so_far : HasReleased p dem past released l.any l.self.state;
-      current : IsCurrent g.G.Governor.stands l.fn.set l.self;
+      current : IsCurrent g.G.Governor.stands set l.self;
       of : IsOfPlan p l.self.state;
       trace : l.self.trace ≡ with_notes l.fn.self.trace (notes_upto p dem past released);
     }
