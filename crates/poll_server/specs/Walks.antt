@@ -33,7 +33,7 @@ pub record AreTaken (s : ServerView) (n : ℕ) (rows : List DemandRow) : Type 0 
   pub no_later : (k : ℕ) → n < k → named_units rows s.task k ≡ None
   pub no_other : (i k : ℕ) → i < count s.plan → (i ≡ s.task → ⊥) → named_units rows i k ≡ None
 
--- a server of a task of an admitted plan, with requests within the limits, and a number n of its jobs
+-- a server of a task of an admitted plan, with requests and n jobs within the limits
 pub record IsServer (s : ServerView) (n : ℕ) : Type 0 where
   pub plan : IsAdmitted s.plan
   pub task : s.task < count s.plan

@@ -20,7 +20,7 @@ pub(crate) struct Jobs<'a> {
     pub(crate) ends: &'a Ends,
 }
 
-// The job that the first requests reach, what is counted after it and the jobs before it, and the units of the requests.
+// The job that the first requests reach, what is counted after it, and the units of the requests.
 #[derive(Drop)]
 struct Reached {
     job: u64,

@@ -31,7 +31,8 @@ returns c =
     let t = c.replace_first.ensures in
     let head = front q.entries job c.in-Some.ensures.value in
     let out = subst (IsAbsent job.task) (ap (drop 1) head.1) t.out in
-    let put = t.entries ∙ ap (λ (l : List Entry). with_entry due_before (record { task = job.task; due = job.due + every; period = every }) (drop 1 l)) head.1 in
+    let put = t.entries
+    ∙ ap (λ (l : List Entry). with_entry due_before (record { task = job.task; due = job.due + every; period = every }) (drop 1 l)) head.1 in
     record {
       queue = record {
         one_each = t.limit ∙ c.requires.queue.one_each;
