@@ -118,7 +118,7 @@ def _edf_ahead(state: State) -> list[str]:
     lines = [*(_rates(plan) if state.now == 0 else []),
              f"rates {total(plan.rates)}, of {plan.machine.top_speed} * {plan.hyperperiod} = {most}; "
              f"the earliest deadline is {first}", "from the last deadline to the first:"]
-    kept, before = plan.rate, []
+    kept, before = sum(plan.rates), []
     for job in sorted(state.jobs, key=lambda job: (job.due, job.place), reverse=True):
         if job.due == first:
             before.append(job.left)
