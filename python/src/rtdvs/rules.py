@@ -458,11 +458,13 @@ class Wrong(Exception):
 class WrongDecision(Wrong):
     """The demand of a decision isn't that of its governor, or the speed isn't the lowest that meets it.
 
-    >>> WrongDecision("the demand is 4/1", (4, 1)).demand
+    In the second case `demand` is what the speed has to meet.
+
+    >>> WrongDecision("speed 4 is the lowest that meets 4/1", (4, 1)).demand
     (4, 1)
     """
 
-    def __init__(self, reason: str, demand: Demand) -> None:
+    def __init__(self, reason: str, demand: Demand | None = None) -> None:
         super().__init__(reason)
         self.demand = demand
 
@@ -599,12 +601,12 @@ class Checker:
             reason = "no release, and no completion in the tick before"
             raise Wrong(f"no decision is made at tick {note.tick}: {reason}")
         self.state.hand_out()
-        demand = num, den = governor(self.state)
+        num, den = governor(self.state)
         if note.num != num or note.den != den:
-            raise WrongDecision(f"the demand is {num}/{den}", demand)
+            raise WrongDecision(f"the demand is {num}/{den}")
         speed = self.state.plan.lowest(num, den).speed
         if note.speed != speed:
-            raise WrongDecision(f"speed {speed} is the lowest that meets {num}/{den}", demand)
+            raise WrongDecision(f"speed {speed} is the lowest that meets {num}/{den}", (num, den))
 
     def _can_run(self) -> Point:
         """The point in force, if the next segment can begin."""
