@@ -73,6 +73,13 @@ def _rates(plan: Plan) -> list[str]:
 
 
 def _static(state: State) -> list[str]:
+    """The terms of `static`; under RM the first of the levels with the most work per tick is named.
+
+    >>> tie = TaskSet((Task("a", 4, 4), Task("b", 5, 2), Task("c", 8, 4)))
+    >>> _static(State.begin(Plan(tie, EXAMPLE.machine, "rm")))[2:]  # doctest: +NORMALIZE_WHITESPACE
+    ['c and those before it in 8 ticks: 2 * 4 + 2 * 2 + 1 * 4 = 16',
+     'the most work per tick is that of b: 10/5']
+    """
     plan, lines = state.plan, []
     if plan.scheduler == "edf":
         return [*_rates(plan), f"{total(plan.rates)}, over the hyperperiod {plan.hyperperiod}"]

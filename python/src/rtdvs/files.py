@@ -110,6 +110,9 @@ class TaskSet(_File):
 
         >>> TaskSet((Task("a", 4, 1),)).named("a").period
         4
+        >>> TaskSet((Task("a", 4, 1),)).named("c")
+        Traceback (most recent call last):
+        KeyError: 'c'
         """
         return {task.name: task for task in self.tasks}[name]
 
@@ -120,6 +123,9 @@ class TaskSet(_File):
         >>> TaskSet.parse('task = [{ name = "a", period = 4, worst = 2, ofset = 1 }]')
         Traceback (most recent call last):
         rtdvs.files.FileFault: tasks: task 1: unknown key ofset
+        >>> text = b'\\xef\\xbb\\xbf[[task]]\\nname = "a"\\nperiod = 4\\nworst = 2'
+        >>> TaskSet.parse(text) == TaskSet.parse(text.decode())
+        True
         """
         tasks: dict[str, Task] = {}
         for place, entry in enumerate(_document(text, "tasks", "task").entries("task", MOST_TASKS), 1):
@@ -136,9 +142,9 @@ class TaskSet(_File):
     def read(cls, path: Path) -> Self:
         """The task set of a file; raises FileFault and OSError.
 
-        >>> TaskSet.read(Path("/"))
+        >>> TaskSet.read(Path("/dev/zero"))
         Traceback (most recent call last):
-        IsADirectoryError: [Errno 21] Is a directory: '/'
+        rtdvs.files.FileFault: tasks: too long
         """
         return cls.parse(load(path))
 
@@ -208,9 +214,9 @@ class Machine(_File):
     def read(cls, path: Path) -> Self:
         """The machine of a file; raises FileFault and OSError.
 
-        >>> Machine.read(Path("/"))
+        >>> Machine.read(Path("absent/machine.toml"))
         Traceback (most recent call last):
-        IsADirectoryError: [Errno 21] Is a directory: '/'
+        FileNotFoundError: [Errno 2] No such file or directory: 'absent/machine.toml'
         """
         return cls.parse(load(path))
 
@@ -245,6 +251,9 @@ class Demands(_File):
         >>> Demands.parse("task,job,units\\nb,1,3\\n", TaskSet((Task("a", 4, 2),)))
         Traceback (most recent call last):
         rtdvs.files.FileFault: demands: row 1: unknown task b
+        >>> text = '"task",job,"units"\\r"a",1,"2"\\r\\n\\n\\r\\na,7,"0"'
+        >>> Demands.parse(text, TaskSet((Task("a", 4, 2),))).units
+        {('a', 1): 2, ('a', 7): 0}
         """
         worsts = {task.name: task.worst for task in tasks}
         demands: dict[tuple[str, int], int] = {}
@@ -344,7 +353,7 @@ class Request:
 class Requests(_File):
     """The requests of a request file, no arrival before the one above it.
 
-    >>> Requests.parse("arrival,units\\n0,3\\n1,6\\n").requests[1]
+    >>> Requests.parse("\\ufeffarrival,units\\r\\n0,3\\r\\n1,6\\r\\n").requests[1]  # as some programs write it
     Request(arrival=1, units=6)
     """
 

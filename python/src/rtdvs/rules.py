@@ -22,6 +22,39 @@ Needs = Mapping[tuple[str, int], int]
 """The work units of jobs, by their tasks and numbers, with the charge."""
 
 
+class Wrong(Exception):
+    """The note that is read is wrong; the text is why.
+
+    >>> Checker(State.begin(EXAMPLE), 4, None, None).check(End(4, 0, 0))
+    Traceback (most recent call last):
+    rtdvs.rules.Wrong: the trace is at 0:0
+    """
+
+
+class WrongDecision(Wrong):
+    """The demand of a decision isn't that of its governor, or the speed isn't the lowest that meets it.
+
+    In the second case `demand` is what the speed has to meet.
+
+    >>> WrongDecision("speed 4 is the lowest that meets 4/1", (4, 1)).demand
+    (4, 1)
+    """
+
+    def __init__(self, reason: str, demand: Demand | None = None) -> None:
+        super().__init__(reason)
+        self.demand = demand
+
+
+class DeadlineMissed(Wrong, ValueError):
+    """A job isn't complete at its deadline.
+
+    >>> from rtdvs.simulate import simulate
+    >>> simulate(EXAMPLE.tasks, EXAMPLE.machine, "edf", 12, lambda state: (0, 1))
+    Traceback (most recent call last):
+    rtdvs.rules.DeadlineMissed: b job 1 was due at 6 and is not complete: it has had 8 units
+    """
+
+
 def ceiling(num: int, den: int) -> int:
     """The quotient, rounded up.
 
@@ -106,6 +139,9 @@ class Plan:
 
         >>> EXAMPLE.static
         (30, 12)
+        >>> tie = TaskSet((Task("a", 4, 4), Task("b", 5, 2), Task("c", 8, 4)))
+        >>> Plan(tie, EXAMPLE.machine, "rm").static  # of 4/4, (2 * 4 + 2)/5 and (2 * 4 + 2 * 2 + 4)/8
+        (10, 5)
         """
         if self.scheduler == "edf":
             return sum(self.rates), self.hyperperiod
@@ -273,19 +309,21 @@ class State:
         """
         return self.behind == 0 and self.now in (0, self.released, self.seen)
 
-    def late(self) -> str | None:
-        """That a job, whose deadline is now, isn't complete; None if there is no such job.
+    def all_met(self) -> None:
+        """Raises DeadlineMissed if a job, whose deadline is now, isn't complete.
 
-        >>> State(EXAMPLE, [Latest(Task("a", 4, 4), 0, 4, 4, 1, 3, 1, False)], 4, deadlines=[(4, 0)]).late()
-        'a job 1 was due at 4 and is not complete: it has had 3 units'
+        >>> job = Latest(Task("a", 4, 4), 0, worst=4, due=4, number=1, used=3, left=1, complete=False)
+        >>> State(EXAMPLE, [job], now=4, deadlines=[(4, 0)]).all_met()
+        Traceback (most recent call last):
+        rtdvs.rules.DeadlineMissed: a job 1 was due at 4 and is not complete: it has had 3 units
         """
         for due, place in self.deadlines:
             job = self.jobs[place]
             if due > self.now:
                 break
             if not job.complete:
-                return f"{job} was due at {due} and is not complete: it has had {job.used} units"
-        return None
+                late = f"was due at {due} and is not complete: it has had {job.used} units"
+                raise DeadlineMissed(f"{job} {late}")
 
     def priority(self, job: Latest) -> tuple[int, int]:
         """What sorts the open jobs: the deadline under EDF, the period under RM; then the place.
@@ -446,29 +484,6 @@ GOVERNORS: Mapping[Pair, Governor] = {
 # The walk over the notes
 
 
-class Wrong(Exception):
-    """The note that is read is wrong; the text is why.
-
-    >>> Checker(State.begin(EXAMPLE), 4, None, None).check(End(4, 0, 0))
-    Traceback (most recent call last):
-    rtdvs.rules.Wrong: the trace is at 0:0
-    """
-
-
-class WrongDecision(Wrong):
-    """The demand of a decision isn't that of its governor, or the speed isn't the lowest that meets it.
-
-    In the second case `demand` is what the speed has to meet.
-
-    >>> WrongDecision("speed 4 is the lowest that meets 4/1", (4, 1)).demand
-    (4, 1)
-    """
-
-    def __init__(self, reason: str, demand: Demand | None = None) -> None:
-        super().__init__(reason)
-        self.demand = demand
-
-
 @dataclass(slots=True)
 class Summary:
     """What the notes of a run of some ticks add up to.
@@ -556,11 +571,6 @@ class Checker:
             job = self.state.jobs[place]
             raise Wrong(f"the release of {job.task.name} job {job.number + 1} at tick {due} is missing")
 
-    def _all_met(self) -> None:
-        late = self.state.late()
-        if late:
-            raise Wrong(late)
-
     # The notes
 
     def _release(self, note: Release) -> None:
@@ -569,7 +579,7 @@ class Checker:
         if job.due != state.now or state.now >= self.ticks:
             raise Wrong(f"{note.task} is released next at tick {job.due}")
         if state.released != state.now:
-            self._all_met()
+            state.all_met()
         first = state.jobs[state.deadlines[0][1]]
         if first is not job:
             raise Wrong(f"the release of {first.task.name} comes first, by its place in the file")
@@ -708,7 +718,7 @@ class Checker:
                 raise Wrong(f"the energy lines are after the last tick, and the trace is at {position}")
             return
         self._is_at(self.ticks)
-        self._all_met()
+        self.state.all_met()
         if note.ticks != self.ticks:
             raise Wrong(f"the run has {self.ticks} ticks")
         run, idle = self.summary.run_energy, self.summary.idle_energy

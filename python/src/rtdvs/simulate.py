@@ -13,18 +13,8 @@ from rtdvs.commandline import (
     Commands, add_files, add_pair, add_parser, add_ticks, read_demands, read_machine, read_tasks,
 )
 from rtdvs.files import Demands, FileFault, Machine, TaskSet
-from rtdvs.rules import GOVERNORS, Governor, Latest, Needs, Plan, State
+from rtdvs.rules import GOVERNORS, DeadlineMissed as DeadlineMissed, Governor, Latest, Needs, Plan, State
 from rtdvs.trace import Decision, Done, End, Idle, Note, Release, Run, TaskEnergy, Trace
-
-
-class DeadlineMissed(ValueError):
-    """A job isn't complete at its deadline.
-
-    >>> from rtdvs.rules import EXAMPLE
-    >>> simulate(EXAMPLE.tasks, EXAMPLE.machine, "edf", 12, lambda state: (0, 1))
-    Traceback (most recent call last):
-    rtdvs.simulate.DeadlineMissed: b job 1 was due at 6 and is not complete: it has had 8 units
-    """
 
 
 @dataclass(frozen=True, slots=True)
@@ -43,15 +33,10 @@ class _Run:
             if self.state.is_decision:
                 yield self._decision()
             yield from self._segment()
-        self._all_met()
+        self.state.all_met()
 
     def _left(self, job: Latest) -> int:
         return self.needs.get((job.task.name, job.number), job.worst) - job.used
-
-    def _all_met(self) -> None:
-        late = self.state.late()
-        if late:
-            raise DeadlineMissed(late)
 
     def _done(self, job: Latest) -> Iterator[Note]:
         """The completion of a job that needs nothing more."""
@@ -61,7 +46,7 @@ class _Run:
 
     def _releases(self) -> Iterator[Note]:
         state = self.state
-        self._all_met()
+        self.state.all_met()
         while state.behind == 0 and state.first_deadline == state.now:
             job = state.jobs[state.deadlines[0][1]]
             state.release(job)
@@ -129,6 +114,12 @@ def simulate(tasks: TaskSet, machine: Machine, scheduler: str, ticks: int, gover
     idle 2:0 4:0 4 0
     energy t 4000000000
     end 4 4000000000 0
+    >>> simulate(tasks, machine, "edf", 4, lambda state: (-1, 1))
+    Traceback (most recent call last):
+    ValueError: the governor's demand at tick 0 is -1/1
+    >>> simulate(tasks, machine, "edf", 4, lambda state: (1, 0))
+    Traceback (most recent call last):
+    ValueError: the governor's demand at tick 0 is 1/0
     """
     plan = Plan(tasks, machine, scheduler)
     needs = plan.needs(demands or Demands({}))

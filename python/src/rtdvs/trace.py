@@ -554,6 +554,13 @@ class Trace(Head):
 
         >>> Trace.parse(SAMPLE).jobs()[0].laxity
         Fraction(1, 2)
+        >>> Trace.parse("trace 1\\nplan edf mine 2\\nrelease 0 a 1\\nend 2 0 0\\n").jobs()
+        Traceback (most recent call last):
+        rtdvs.trace.TraceFault: line 3: the period of a is not known
+        >>> text = "trace 1\\nplan edf mine 1\\nspeed 0 2 1/1\\nrun 0:0 1:0 a 1 2 5\\nend 1 5 0\\n"
+        >>> Trace.parse(text).jobs(TaskSet((Task("a", 4, 2),)))
+        Traceback (most recent call last):
+        rtdvs.trace.TraceFault: line 4: a job 1 is not released
         """
         periods = {task.name: task.period for task in tasks or self.tasks}
         jobs: dict[tuple[str, int], Job] = {}
