@@ -350,8 +350,8 @@ def call(capsys: Captured) -> Run:
 
 
 # The lines of docs/TRACE.md: 12 * 35 + 12 * 28 + 4 * 20 = 836, then 8 * 35 + 336 + 80 = 696. Under RM 8 ticks
-# at the static speed 4 are 32 units, for 12 + 12 + 4; by tick 4 `t3` has had 2 of its 4. Under look-ahead as on
-# a board: 4 * 280 = 1120, less the rates of the others; 364 * 6/280 = 7.8, and 1120/6 = 186.7.
+# at the static speed 4 are 32 units, for 12 + 12 + 4; by tick 4 `t3` has had 2 of its 4. Under look-ahead, as
+# on a board: 4 * 280 = 1120, less the rates of the others; 364 * 6/280 = 7.8, and 1120/6 = 186.7.
 BOARDS = [("edf_cc", 0, """\
 line 6, tick 0, release of t1 job 1, t2 job 1 and t3 job 1: 836/280, speed 3
     t1 job 1 is not complete, worst case 12: 12 * 280/8 = 420

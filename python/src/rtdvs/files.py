@@ -2,9 +2,9 @@
 
 Each is parsed by the rules of docs/FORMATS.md, in the order of docs/MESSAGES.md. The text of a FileFault is
 the line that the program prints for the same file. `tomllib` reads TOML 1.0: a file with TOML 1.1's additions
-(line breaks and a last comma in braces, the escapes `\\e` and `\\x`) is "not TOML" here, and the program reads it.
-A key of more than 80 parts, arrays more than 80 deep and dates out of the calendar are refused by both, not
-always with the same line.
+(line breaks and a last comma in braces, the escapes `\\e` and `\\x`) is "not TOML" here, and the program
+reads it. A key of more than 80 parts, arrays more than 80 deep and dates out of the calendar are refused by
+both, not always with the same line.
 """
 
 import csv
@@ -353,7 +353,7 @@ class Request:
 class Requests(_File):
     """The requests of a request file, no arrival before the one above it.
 
-    >>> Requests.parse("\\ufeffarrival,units\\r\\n0,3\\r\\n1,6\\r\\n").requests[1]  # as some programs write it
+    >>> Requests.parse("\\ufeffarrival,units\\r\\n0,3\\r\\n1,6\\r\\n").requests[1]
     Request(arrival=1, units=6)
     """
 

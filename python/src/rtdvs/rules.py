@@ -465,11 +465,11 @@ def edf_ahead(state: State) -> Demand:
     hyper = plan.hyperperiod
     spare, before = plan.machine.top_speed * hyper - sum(rates), 0
     for due, place in reversed(state.deadlines):
-        left, span = jobs[place].left, due - first
         spare += rates[place]
-        if left and span:
-            put_off = min(left, spare * span // hyper)
-            spare += -put_off * hyper // span  # less the rate, rounded up
+        left = jobs[place].left
+        if left and due > first:
+            put_off = min(left, spare * (due - first) // hyper)
+            spare += -put_off * hyper // (due - first)  # less the rate, rounded up
             left -= put_off
         before += left
     return before, first - state.now
@@ -531,7 +531,7 @@ class Checker:
         self.must = ""  # why it must be
         self.checks: Mapping[type[Note], Callable[[Any], None]] = {
             Release: self._release, Decision: self._decision, Run: self._run, Idle: self._idle,
-            TaskEnergy: self._close, End: self._close}
+            Done: self._done, TaskEnergy: self._close, End: self._close}
 
     def check(self, note: Note) -> None:
         """Raises Wrong if the note can't be the next one.
@@ -540,13 +540,10 @@ class Checker:
         Traceback (most recent call last):
         rtdvs.rules.Wrong: the release of a job 1 at tick 0 is missing
         """
-        if isinstance(note, Done):
-            self._done(note)
-            self.last, self.must = None, ""
-            return
-        if self.must:
-            raise Wrong(self.must)
-        self.last = None
+        if type(note) is not Done:
+            if self.must:
+                raise Wrong(self.must)
+            self.last = None
         self.checks[type(note)](note)
 
     # What holds at a position
@@ -624,8 +621,8 @@ class Checker:
         self._all_released()
         if state.now >= self.ticks:
             raise Wrong(f"the run ends at tick {self.ticks}")
-        late = self.governor and state.is_decision and state.decided != state.now
-        if state.point is None or late:
+        late = self.governor and state.decided != state.now and state.is_decision
+        if late or state.point is None:
             raise Wrong(f"the decision at tick {state.now} is missing")
         return state.point
 
@@ -710,6 +707,7 @@ class Checker:
             raise Wrong(f"{job} needs at least {least} units")
         state.complete(job)
         self.summary.complete += 1
+        self.last, self.must = None, ""
 
     def _close(self, note: TaskEnergy | End) -> None:
         if isinstance(note, TaskEnergy):

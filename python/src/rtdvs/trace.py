@@ -8,8 +8,9 @@ have passed; as a time it is an exact fraction of ticks, the units over the spee
 import io
 import re
 from collections.abc import Callable, Iterable, Iterator
-from dataclasses import asdict, dataclass, replace
+from dataclasses import asdict, dataclass, field, replace
 from fractions import Fraction
+from functools import lru_cache
 from pathlib import Path
 from typing import ClassVar, NamedTuple, Self, TextIO
 
@@ -225,6 +226,7 @@ _SHAPES = {  # of fields; all others are numbers
 }
 
 
+@lru_cache(maxsize=4)  # a line often begins where the one before it ends
 def _at(tick: str, offset: str) -> Position:
     return Position(int(tick), int(offset))
 
@@ -295,6 +297,7 @@ def spelled_lines(lines: Iterable[str]) -> Iterator[Item]:
         raise TraceFault(number + 1, "the trace ends before its end line")
 
 
+@dataclass(slots=True)
 class Order:
     """What the order of the lines needs: each task's energy so far, and which kinds of lines there were.
 
@@ -303,14 +306,11 @@ class Order:
     (None, 'there is no decision before it')
     """
 
-    __slots__ = ("version", "sums", "to_come", "begun", "decided")
-
-    def __init__(self) -> None:
-        self.version = 1
-        self.sums: dict[str, int] = {}
-        self.to_come: list[str] = []  # the tasks whose energy lines are to come, the next one last
-        self.begun = False
-        self.decided = False
+    version: int = 1
+    sums: dict[str, int] = field(default_factory=dict)
+    to_come: list[str] = field(default_factory=list)  # whose energy lines are to come, the next one last
+    begun: bool = False
+    decided: bool = False
 
     def fault(self, item: Item) -> str | None:
         """Why an item can't be the next one, or None.
@@ -324,7 +324,18 @@ class Order:
             self.begun, self.to_come = True, [*self.sums][::-1]
             if self.version == 2 and not self.sums:
                 return "the lines of the tasks are missing"
-        return self._closing_fault(item) if isinstance(item, (TaskEnergy, End)) else self._note_fault(item)
+        if isinstance(item, (TaskEnergy, End)):
+            return self._closing_fault(item)
+        if len(self.to_come) < len(self.sums):
+            return "a line between the energy lines and the end line"
+        if isinstance(item, Decision):
+            self.decided = True
+            return None if item.speed and item.den else "a speed of 0, or a fraction over 0"
+        if not self.decided and (isinstance(item, (Run, Idle)) or isinstance(item, Done) and item.at.offset):
+            return "there is no decision before it"
+        if self.sums and not isinstance(item, Idle):
+            return self._add(item)
+        return None
 
     def _first_fault(self, item: Head | Task) -> str | None:
         if isinstance(item, Head):
@@ -338,16 +349,7 @@ class Order:
         self.sums[item.name] = 0
         return fault
 
-    def _note_fault(self, note: Release | Decision | Run | Idle | Done) -> str | None:
-        if len(self.to_come) < len(self.sums):
-            return "a line between the energy lines and the end line"
-        if isinstance(note, Decision):
-            self.decided = True
-            return None if note.speed and note.den else "a speed of 0, or a fraction over 0"
-        if not self.decided and (isinstance(note, (Run, Idle)) or isinstance(note, Done) and note.at.offset):
-            return "there is no decision before it"
-        if isinstance(note, Idle) or not self.sums:
-            return None
+    def _add(self, note: Release | Run | Done) -> str | None:
         if note.task not in self.sums:
             return f"no task {note.task}"
         if isinstance(note, Run):
