@@ -120,10 +120,10 @@ def stored_calls() -> Traces:
 
 @pytest.mark.parametrize("traces", [stored_traces, runs_of_the_examples, stored_calls])
 def test_stored(traces: Callable[[], Traces]) -> None:
-    calls = 0
-    for calls, (inputs, text) in enumerate(traces(), 1):
+    runs = [*traces()]
+    for inputs, text in runs:
         inputs.assert_right(text)
-    assert calls > 10
+    assert len(runs) > 10
 
 
 # Altered by hand: the trace, lines of it with what is there instead, the first wrong line, and a part of the
@@ -131,7 +131,6 @@ def test_stored(traces: Callable[[], Traces]) -> None:
 
 CC, RM, TEMPLATE = "paper/edf_cc_with_demands", "paper/rm_cc_with_demands", "templates/edf_cc_with_demands"
 BY_HAND: list[tuple[str, dict[int, str | None], int, str]] = [
-    (CC, {1: "trace 3"}, 1, "neither trace 1 nor trace 2"),
     (CC, {2: "plan edf cc"}, 2, "not a plan line"),
     (CC, {2: "plan rm la 16"}, 2, "no scheduler and governor rm la"),
     (CC, {3: "release 0 t2 1"}, 3, "the release of t1 comes first"),
@@ -158,14 +157,11 @@ BY_HAND: list[tuple[str, dict[int, str | None], int, str]] = [
     (CC, {28: "end 16 328000000000 0"}, 28, "the trace is at 12:0"),
     (CC, {33: "end 16 364000000001 0"}, 33, "364000000000 for runs"),
     (CC, {33: None}, 33, "ends before its end line"),
-    (CC, {33: "end 16 364000000000 0\nend 16 364000000000 0"}, 34, "a line after the end line"),
     (RM, {13: "done 4:0 t3 1 2"}, 13, "needs 4 units"),
     (TEMPLATE, {4: "task logger 8 0 5"}, 4, "wanted task logger 8 0 6"),
     (TEMPLATE, {4: None}, 4, "wanted task logger 8 0 6"),
     (TEMPLATE, {4: "task logger 8 0 6\ntask more 8 0 6"}, 5, "not in the task file"),
     (TEMPLATE, {13: "idle 3:1 4:0 1 100000001"}, 13, "= 100000000"),  # 1 * 1000 * 1000 * 100
-    (TEMPLATE, {20: None}, 20, "the energy lines are one for each task"),
-    (TEMPLATE, {21: None}, 21, "the energy line of logger is missing"),
     (TEMPLATE, {21: "energy logger 5000000001"}, 21, "add up to 5000000000"),
 ]
 
@@ -272,9 +268,7 @@ def altered(rng: random.Random, lines: list[str]) -> tuple[list[str], int, str]:
         return lines[:place] + lines[place + 1:], place + 1, word
     if how == 1:
         return lines[:place + 1] + lines[place:], place + 2, word
-    ends = [found.start() + found[0].rindex(found[1]) + len(found[1]) - 1
-            for found in re.finditer(r"[ :/]([0-9]+)(?=[ :/\n])", text)]
-    at = rng.choice(ends)
+    at = rng.choice([found.start(1) for found in re.finditer(r"[ :/][0-9]*([0-9])(?=[ :/\n])", text)])
     digit = str((int(text[at]) + rng.randint(1, 9)) % 10)
     return [*lines[:place], text[:at] + digit + text[at + 1:], *lines[place + 1:]], place + 1, word
 

@@ -61,7 +61,10 @@ class _File:
         raise NotImplementedError
 
     def write(self, path: Path) -> None:
-        """Writes the file; raises OSError."""
+        """Writes the file; raises OSError.
+
+        >>> Machine((Point(2, 3000),)).write(Path("/dev/null"))
+        """
         path.write_text(self.text(), encoding="utf-8", newline="\n")
 
 

@@ -418,12 +418,20 @@ class Job:
 
     @property
     def response(self) -> Fraction | None:
-        """The ticks from the release to the completion."""
+        """The ticks from the release to the completion.
+
+        >>> Job("t", 1, release=2, deadline=10, completion=Fraction(7, 2)).response
+        Fraction(3, 2)
+        """
         return None if self.completion is None else self.completion - self.release
 
     @property
     def laxity(self) -> Fraction | None:
-        """The ticks from the completion to the deadline."""
+        """The ticks from the completion to the deadline.
+
+        >>> Job("t", 1, release=2, deadline=10, completion=Fraction(7, 2)).laxity
+        Fraction(13, 2)
+        """
         return None if self.completion is None else self.deadline - self.completion
 
 
@@ -491,38 +499,66 @@ class Trace(Head):
 
     @property
     def names(self) -> tuple[str, ...]:
-        """The tasks in file order; in version 1 in the order of the notes that name them."""
+        """The tasks in file order; in version 1 in the order of the notes that name them.
+
+        >>> Trace.parse(SAMPLE).names
+        ('t',)
+        """
         seen = (note.task for note in self.notes if isinstance(note, Release | Run | Done))
         return tuple(dict.fromkeys([*(task.name for task in self.tasks), *seen]))
 
     @property
     def run_energy(self) -> int:
-        """The energy of all runs, as the end line has it."""
+        """The energy of all runs, as the end line has it.
+
+        >>> Trace.parse(SAMPLE).run_energy
+        6000
+        """
         return self.end.run_energy
 
     @property
     def idle_energy(self) -> int:
-        """The energy of all idle units, as the end line has it."""
+        """The energy of all idle units, as the end line has it.
+
+        >>> Trace.parse(SAMPLE).idle_energy
+        0
+        """
         return self.end.idle_energy
 
     @property
     def energy(self) -> int:
-        """The energy of runs and idle units together."""
+        """The energy of runs and idle units together.
+
+        >>> Trace.parse(SAMPLE).energy
+        6000
+        """
         return self.run_energy + self.idle_energy
 
     @property
     def decisions(self) -> tuple[Decision, ...]:
-        """The decisions, in order."""
+        """The decisions, in order.
+
+        >>> Trace.parse(SAMPLE).decisions[1]
+        Decision(tick=1, speed=2, num=2, den=1)
+        """
         return tuple(note for note in self.notes if isinstance(note, Decision))
 
     @property
     def switches(self) -> int:
-        """The number of decisions after which the speed is another than before; the first one is none."""
+        """The number of decisions after which the speed is another than before; the first one is none.
+
+        >>> Trace.parse(SAMPLE).switches
+        1
+        """
         decisions = self.decisions
         return sum(one.speed != two.speed for one, two in zip(decisions, decisions[1:], strict=False))
 
     def residency(self) -> dict[int, Fraction]:
-        """The ticks at each speed that was chosen, in the order of their first use."""
+        """The ticks at each speed that was chosen, in the order of their first use.
+
+        >>> Trace.parse(SAMPLE).residency()
+        {3: Fraction(1, 1), 2: Fraction(1, 1)}
+        """
         decisions = self.decisions
         times: dict[int, Fraction] = {}
         ends = [*(each.tick for each in decisions[1:]), self.ticks]
@@ -532,7 +568,11 @@ class Trace(Head):
 
     @property
     def idle_time(self) -> Fraction:
-        """The ticks, and parts of ticks, in which no job runs."""
+        """The ticks, and parts of ticks, in which no job runs.
+
+        >>> Trace.parse(SAMPLE).idle_time
+        Fraction(1, 2)
+        """
         idle = ((note.units, speed) for note, speed in self.at_speeds() if isinstance(note, Idle))
         return sum((Fraction(units, speed) for units, speed in idle), Fraction(0))
 
