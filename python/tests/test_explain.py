@@ -94,7 +94,7 @@ def plain(text: bytes) -> bytes:
 
 
 def stored_calls() -> Traces:
-    """The `run` calls with status 0, by the files that stand before them, and their output."""
+    """The `run` calls with status 0, each with the files before it, and their output."""
     crate, name, files, call = TOP / "crates/stored_calls", "", dict[str, bytes](), 0
     block = rb"^rtdvs ?(.*)\n((?:(?:[|!].*|no line feed)\n)*)status (.*)$"
     answers = re.findall(block, (crate / "stdout").read_bytes(), re.M)
