@@ -334,7 +334,10 @@ class Order:
         if not self.decided and (isinstance(item, (Run, Idle)) or isinstance(item, Done) and item.at.offset):
             return "there is no decision before it"
         if self.sums and not isinstance(item, Idle):
-            return self._add(item)
+            if item.task not in self.sums:
+                return f"no task {item.task}"
+            if isinstance(item, Run):
+                self.sums[item.task] += item.energy
         return None
 
     def _first_fault(self, item: Head | Task) -> str | None:
@@ -348,13 +351,6 @@ class Order:
         fault = "two tasks of one name" if item.name in self.sums else None
         self.sums[item.name] = 0
         return fault
-
-    def _add(self, note: Release | Run | Done) -> str | None:
-        if note.task not in self.sums:
-            return f"no task {note.task}"
-        if isinstance(note, Run):
-            self.sums[note.task] += note.energy
-        return None
 
     def _closing_fault(self, note: TaskEnergy | End) -> str | None:
         if isinstance(note, End):
