@@ -77,14 +77,15 @@ class Model:
 
     def static(self) -> Fraction:
         """The static demand, without its denominator."""
-        tasks = self.tasks.tasks
         if self.pair[0] == "edf":
-            rates = [Fraction(self.worst(place), tasks[place].period) for place in self.places()]
-            return sum(rates, Fraction(0))
-        order = sorted(self.places(), key=lambda place: (tasks[place].period, place))
-        works = [(sum(ceil(Fraction(tasks[one].period, tasks[two].period)) * self.worst(two)
-                      for two in order[:rank + 1]), tasks[one].period) for rank, one in enumerate(order)]
-        return max(Fraction(work, period) for work, period in works)
+            return sum(self.rates(), Fraction(0))
+        order, periods = self.order(0), [task.period for task in self.tasks]
+        return max(Fraction(sum(ceil(Fraction(periods[one], periods[two])) * self.worst(two)
+                                for two in order[:rank + 1]), periods[one]) for rank, one in enumerate(order))
+
+    def rates(self) -> list[Fraction]:
+        """The worst cases per tick."""
+        return [Fraction(self.worst(place), task.period) for place, task in enumerate(self.tasks)]
 
     def lowest(self, demand: Fraction) -> int:
         speeds = [point.speed for point in self.machine.points]
@@ -110,8 +111,7 @@ class Model:
     def put_off(self, tick: int) -> list[tuple[int, int, int]]:
         """Under `la`: place, what it may need, and how much of that is before the earliest deadline."""
         first, hyper = self.first_deadline(tick), lcm(*(task.period for task in self.tasks))
-        rates = [Fraction(self.worst(place), self.tasks.tasks[place].period) for place in self.places()]
-        rows = []
+        rates, rows = self.rates(), []
         for place in reversed(self.order(tick)):
             might, span = self.might(place, tick), self.due(place, self.number(place, tick)) - first
             put_off = 0

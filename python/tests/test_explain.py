@@ -1,14 +1,16 @@
 """The checker of traces: right ones of the program, altered ones, and the command line."""
 
+import io
 import random
 import re
 import tracemalloc
 from collections.abc import Callable, Iterator
 from dataclasses import dataclass
+from itertools import product
 from pathlib import Path
 
 import pytest
-from examples import DATA, TOP, Captured, files, version_1
+from examples import DATA, SHORT, TOP, Captured, files, version_1
 from model import random_case
 
 from rtdvs.cli import main
@@ -18,7 +20,7 @@ from rtdvs.explain import Walk, WrongTrace, check, explain, last_line
 from rtdvs.files import Demands, FileFault, Machine, Point, Task, TaskSet
 from rtdvs.rules import GOVERNORS
 from rtdvs.simulate import simulate
-from rtdvs.trace import Trace
+from rtdvs.trace import lines_of
 
 EXERCISES = TOP / "examples" / "exercises"
 
@@ -40,21 +42,17 @@ class Inputs:
         """The first wrong line and why, or None."""
         try:
             check(self.tasks, self.machine, lines, self.demands if known else None, free)
+            return None
         except WrongTrace as fault:
             return fault.line, fault.reason
-        return None
-
-    def simulated(self, pair: tuple[str, str], ticks: int) -> Trace:
-        return simulate(self.tasks, self.machine, pair[0], ticks, GOVERNORS[pair], self.demands, pair[1])
 
     def assert_right(self, text: str) -> None:
         """The trace is right with its demand file, without it, and as one of any governor."""
         boards: list[str] = []
         lines = text.splitlines(True)
-        for known, free in [(True, False), (False, False), (True, True), (False, True)]:
-            demands = self.demands if known else None
-            explain(Walk(self.tasks, self.machine, lines, demands, free), boards.append)
-            assert self.refusal(lines, known, free) is None
+        for demands, free in product((self.demands, None), (False, True)):
+            summary = explain(Walk(self.tasks, self.machine, lines, demands, free), boards.append)
+            assert check(self.tasks, self.machine, lines, demands, free) == summary
         assert len(boards) == 2 * sum(line.startswith("speed ") for line in lines)
 
 
@@ -63,40 +61,31 @@ def folder(name: str, demands: bool = True) -> Inputs:
     return Inputs(tasks, machine, named if demands else None)
 
 
-# The traces of the repository
+# The traces of the repository: what each is a run of, and its text
 
-STORED = {
-    "rtdvs": (Inputs.read(TOP / "crates/rtdvs/data/tasks.toml", TOP / "crates/rtdvs/data/machine.toml"),
-              TOP / "crates/rtdvs/stdout"),
-    "exercise": (
-        Inputs.read(EXERCISES / "tasks.toml", DATA / "paper/machine.toml", EXERCISES / "demands.csv"),
-        EXERCISES / "solution.trace"),
-    "one_task": (Inputs.read(DATA / "long/one_task.toml", DATA / "long/one_point.toml"),
-                 DATA / "long/one_task.trace"),
-} | {
-    f"{path.parent.name}/{path.stem}": (folder(path.parent.name, "with_demands" in path.stem), path)
-    for path in sorted(DATA.glob("*/*.trace")) if path.stem != "one_task"
-}
+Traces = Iterator[tuple[Inputs, str]]
 
 
-@pytest.mark.parametrize("name", STORED)
-def test_stored_trace(name: str) -> None:
-    inputs, path = STORED[name]
-    inputs.assert_right(path.read_text())
+def stored_traces() -> Traces:
+    """Those that have a file of their own."""
+    one, own = DATA / "long", TOP / "crates/rtdvs"
+    yield Inputs.read(own / "data/tasks.toml", own / "data/machine.toml"), (own / "stdout").read_text()
+    yield Inputs.read(one / "one_task.toml", one / "one_point.toml"), (one / "one_task.trace").read_text()
+    yield (Inputs.read(EXERCISES / "tasks.toml", DATA / "paper/machine.toml", EXERCISES / "demands.csv"),
+           (EXERCISES / "solution.trace").read_text())
+    for path in SHORT:
+        yield folder(path.parent.name, "with_demands" in path.stem), path.read_text()
 
 
-def test_runs_of_the_examples() -> None:
+def runs_of_the_examples() -> Traces:
     """The `run` calls of the examples, with the output that is stored for them."""
-    calls = 0
     for block in (DATA.parent / "stdout").read_text().split("rtdvs run ")[1:]:
         call, output = block.split("\nstatus ")[0].split("\n", 1)
         files = dict(zip(call.split(), call.split()[1:], strict=False))
         text = re.sub("^probe .*\n", "", output + "\n", flags=re.M)
         if text.startswith("trace "):
             demands = DATA / files["--demands"] if "--demands" in files else None
-            Inputs.read(DATA / files["--tasks"], DATA / files["--machine"], demands).assert_right(text)
-            calls += 1
-    assert calls > 10
+            yield Inputs.read(DATA / files["--tasks"], DATA / files["--machine"], demands), text
 
 
 def plain(text: bytes) -> bytes:
@@ -104,8 +93,8 @@ def plain(text: bytes) -> bytes:
     return re.sub(rb"\\(x..|.)", lambda found: bytes.fromhex(found[1][1:].decode()) or found[1], text)
 
 
-def stored_calls() -> Iterator[tuple[dict[str, str], dict[str, bytes], str]]:
-    """The words of each `run` call with status 0, the files before it, and its output."""
+def stored_calls() -> Traces:
+    """The `run` calls with status 0, each with the files before it, and their output."""
     crate, name, files, call = TOP / "crates/stored_calls", "", dict[str, bytes](), 0
     block = rb"^rtdvs ?(.*)\n((?:(?:[|!].*|no line feed)\n)*)status (.*)$"
     answers = re.findall(block, (crate / "stdout").read_bytes(), re.M)
@@ -122,18 +111,19 @@ def stored_calls() -> Iterator[tuple[dict[str, str], dict[str, bytes], str]]:
             words = [word for word in line.decode("latin-1").split(" ")[1:] if word != "--probes"]
             if words[:1] == ["run"] and status == b"0":
                 lines = [each[1:] for each in output.decode().splitlines(True) if each.startswith("|")]
-                yield dict(zip(words[1::2], words[2::2], strict=True)), files, "".join(lines)
+                named = dict(zip(words[1::2], words[2::2], strict=True))
+                tasks = TaskSet.parse(files[named["--tasks"]])
+                demands = Demands.parse(files[named["--demands"]], tasks) if "--demands" in named else None
+                yield Inputs(tasks, Machine.parse(files[named["--machine"]]), demands), "".join(lines)
     assert call == len(answers)
 
 
-def test_stored_calls() -> None:
-    calls = 0
-    for words, files, text in stored_calls():
-        tasks = TaskSet.parse(files[words["--tasks"]])
-        demands = Demands.parse(files[words["--demands"]], tasks) if "--demands" in words else None
-        Inputs(tasks, Machine.parse(files[words["--machine"]]), demands).assert_right(text)
-        calls += 1
-    assert calls > 10
+@pytest.mark.parametrize("traces", [stored_traces, runs_of_the_examples, stored_calls])
+def test_stored(traces: Callable[[], Traces]) -> None:
+    runs = [*traces()]
+    for inputs, text in runs:
+        inputs.assert_right(text)
+    assert len(runs) > 10
 
 
 # Altered by hand: the trace, lines of it with what is there instead, the first wrong line, and a part of the
@@ -141,7 +131,6 @@ def test_stored_calls() -> None:
 
 CC, RM, TEMPLATE = "paper/edf_cc_with_demands", "paper/rm_cc_with_demands", "templates/edf_cc_with_demands"
 BY_HAND: list[tuple[str, dict[int, str | None], int, str]] = [
-    (CC, {1: "trace 3"}, 1, "neither trace 1 nor trace 2"),
     (CC, {2: "plan edf cc"}, 2, "not a plan line"),
     (CC, {2: "plan rm la 16"}, 2, "no scheduler and governor rm la"),
     (CC, {3: "release 0 t2 1"}, 3, "the release of t1 comes first"),
@@ -168,14 +157,11 @@ BY_HAND: list[tuple[str, dict[int, str | None], int, str]] = [
     (CC, {28: "end 16 328000000000 0"}, 28, "the trace is at 12:0"),
     (CC, {33: "end 16 364000000001 0"}, 33, "364000000000 for runs"),
     (CC, {33: None}, 33, "ends before its end line"),
-    (CC, {33: "end 16 364000000000 0\nend 16 364000000000 0"}, 34, "a line after the end line"),
     (RM, {13: "done 4:0 t3 1 2"}, 13, "needs 4 units"),
     (TEMPLATE, {4: "task logger 8 0 5"}, 4, "wanted task logger 8 0 6"),
     (TEMPLATE, {4: None}, 4, "wanted task logger 8 0 6"),
     (TEMPLATE, {4: "task logger 8 0 6\ntask more 8 0 6"}, 5, "not in the task file"),
     (TEMPLATE, {13: "idle 3:1 4:0 1 100000001"}, 13, "= 100000000"),  # 1 * 1000 * 1000 * 100
-    (TEMPLATE, {20: None}, 20, "the energy lines are one for each task"),
-    (TEMPLATE, {21: None}, 21, "the energy line of logger is missing"),
     (TEMPLATE, {21: "energy logger 5000000001"}, 21, "add up to 5000000000"),
 ]
 
@@ -217,19 +203,6 @@ run 4:0 5:0 x 2 4 100000000000
 done 5:0 x 2 4
 idle 5:0 8:0 12 0
 end 8 318000000000 0
-"""
-# Of the levels 4/4, (2 * 4 + 2)/5 and (2 * 4 + 2 * 2 + 4)/8 two are the greatest, and the first of them is
-# published.
-TIE_TASKS = "".join(f'[[task]]\nname = "{name}"\nperiod = {period}\nworst = {worst}\n'
-                    for name, period, worst in [("a", 4, 4), ("b", 5, 2), ("c", 8, 4)])
-TIE = """trace 1
-plan rm static 1
-release 0 a 1
-release 0 b 1
-release 0 c 1
-speed 0 2 10/5
-run 0:0 1:0 a 1 2 18000000000
-end 1 18000000000 0
 """
 
 
@@ -284,12 +257,6 @@ def test_any_governor() -> None:
         "legal, with its own demands")
 
 
-def test_of_equal_levels_the_first() -> None:
-    tie = Inputs(TaskSet.parse(TIE_TASKS), Machine.read(DATA / "paper/machine.toml"))
-    tie.assert_right(TIE)
-    assert_wrong(tie, edited(TIE, {6: "speed 0 2 16/8"}), 6, "that of b: 10/5")
-
-
 # Random plans
 
 def altered(rng: random.Random, lines: list[str]) -> tuple[list[str], int, str]:
@@ -301,9 +268,7 @@ def altered(rng: random.Random, lines: list[str]) -> tuple[list[str], int, str]:
         return lines[:place] + lines[place + 1:], place + 1, word
     if how == 1:
         return lines[:place + 1] + lines[place:], place + 2, word
-    ends = [found.start() + found[0].rindex(found[1]) + len(found[1]) - 1
-            for found in re.finditer(r"[ :/]([0-9]+)(?=[ :/\n])", text)]
-    at = rng.choice(ends)
+    at = rng.choice([found.start(1) for found in re.finditer(r"[ :/][0-9]*([0-9])(?=[ :/\n])", text)])
     digit = str((int(text[at]) + rng.randint(1, 9)) % 10)
     return [*lines[:place], text[:at] + digit + text[at + 1:], *lines[place + 1:]], place + 1, word
 
@@ -327,8 +292,9 @@ def test_random_plans(part: int, engine: Engine) -> None:
                 with pytest.raises(FileFault, match=f"^{denied}$"):
                     inputs.refusal(["trace 1\n", f"plan {pair[0]} {pair[1]} 1\n"])
                 continue
-            trace = inputs.simulated(pair, ticks)
-            assert text == (trace.text() if version == 2 else version_1(trace.text()))
+            trace = simulate(inputs.tasks, inputs.machine, pair[0], ticks, GOVERNORS[pair], inputs.demands,
+                             pair[1]).text()
+            assert text == (trace if version == 2 else version_1(trace))
             inputs.assert_right(text)
             if inputs.demands:
                 assert_altered(inputs, rng, text.splitlines(True))
@@ -342,25 +308,17 @@ def assert_altered(inputs: Inputs, rng: random.Random, lines: list[str]) -> None
             assert_wrong(inputs, wrong, wanted, "", free=True)
 
 
-def long_lines(jobs: int) -> Iterator[str]:
-    """A trace of jobs that follow each other, of 2 units at speed 1 each."""
-    yield from ["trace 1\n", f"plan edf none {2 * jobs}\n"]
-    for job in range(jobs):
-        begin, end = 2 * job, 2 * job + 2
-        yield from [f"release {begin} t {job + 1}\n", f"speed {begin} 1 1/1\n",
-                    f"run {begin}:0 {end}:0 t {job + 1} 2 2000\n", f"done {end}:0 t {job + 1} 2\n"]
-    yield f"end {2 * jobs} {2000 * jobs} 0\n"
-
-
 def test_a_long_trace_in_little_memory() -> None:
+    """Of jobs that follow each other, of 2 units at speed 1 each."""
     tasks, machine = TaskSet((Task("t", 2, 2),)), Machine((Point(1, 1),))
-    check(tasks, machine, long_lines(10))
+    text = simulate(tasks, machine, "edf", 10_000, GOVERNORS["edf", "none"], name="none").text()
+    lines = lines_of(io.StringIO(text))
     tracemalloc.start()
-    summary = check(tasks, machine, long_lines(5000))
+    summary = check(tasks, machine, lines)
     peak = tracemalloc.get_traced_memory()[1]
     tracemalloc.stop()
     assert (summary.released, summary.complete, summary.run_energy) == (5000, 5000, 10**7)
-    assert peak < 200_000  # bytes; the lines have 400,000
+    assert peak < 200_000 < len(text)  # bytes; each line is made when it is read
 
 
 # The command line
@@ -385,64 +343,66 @@ def call(capsys: Captured) -> Run:
     return run
 
 
-def test_command(call: Run) -> None:
-    """The lines of docs/TRACE.md: 12 * 35 + 12 * 28 + 4 * 20 = 836, then 8 * 35 + 336 + 80 = 696."""
-    status, lines, notes = call()
-    assert (status, notes, len([line for line in lines if line.startswith("line ")])) == (0, "", 8)
-    assert lines[:16] == [
-        "line 6, tick 0, release of t1 job 1, t2 job 1 and t3 job 1: 836/280, speed 3",
-        "    t1 job 1 is not complete, worst case 12: 12 * 280/8 = 420",
-        "    t2 job 1 is not complete, worst case 12: 12 * 280/10 = 336",
-        "    t3 job 1 is not complete, worst case 4: 4 * 280/14 = 80",
-        "    420 + 336 + 80 = 836, over the hyperperiod 280",
-        "    speed 2: 2 * 280 = 560, less than 836",
-        "    speed 3: 3 * 280 = 840, enough",
-        "    t1 job 1 runs: of 3 open it is due first, at 8",
-        "line 10, tick 3, since t1 job 1 was complete in tick 2: 696/280, speed 3",
-        "    t1 job 1 is complete with 8: 8 * 280/8 = 280",
-        "    t2 job 1 is not complete, worst case 12: 12 * 280/10 = 336",
-        "    t3 job 1 is not complete, worst case 4: 4 * 280/14 = 80",
-        "    280 + 336 + 80 = 696, over the hyperperiod 280",
-        "    speed 2: 2 * 280 = 560, less than 696",
-        "    speed 3: 3 * 280 = 840, enough",
-        "    t2 job 1 runs: of 2 open it is due first, at 10",
-    ]
+# The lines of docs/TRACE.md: 12 * 35 + 12 * 28 + 4 * 20 = 836, then 8 * 35 + 336 + 80 = 696. Under RM 8 ticks
+# at the static speed 4 are 32 units, for 12 + 12 + 4; by tick 4 `t3` has had 2 of its 4. Under look-ahead, as
+# on a board: 4 * 280 = 1120, less the rates of the others; 364 * 6/280 = 7.8, and 1120/6 = 186.7.
+BOARDS = [("edf_cc", 0, """\
+line 6, tick 0, release of t1 job 1, t2 job 1 and t3 job 1: 836/280, speed 3
+    t1 job 1 is not complete, worst case 12: 12 * 280/8 = 420
+    t2 job 1 is not complete, worst case 12: 12 * 280/10 = 336
+    t3 job 1 is not complete, worst case 4: 4 * 280/14 = 80
+    420 + 336 + 80 = 836, over the hyperperiod 280
+    speed 2: 2 * 280 = 560, less than 836
+    speed 3: 3 * 280 = 840, enough
+    t1 job 1 runs: of 3 open it is due first, at 8
+line 10, tick 3, since t1 job 1 was complete in tick 2: 696/280, speed 3
+    t1 job 1 is complete with 8: 8 * 280/8 = 280
+    t2 job 1 is not complete, worst case 12: 12 * 280/10 = 336
+    t3 job 1 is not complete, worst case 4: 4 * 280/14 = 80
+    280 + 336 + 80 = 696, over the hyperperiod 280
+    speed 2: 2 * 280 = 560, less than 696
+    speed 3: 3 * 280 = 840, enough
+    t2 job 1 runs: of 2 open it is due first, at 10
+"""), ("rm_cc", 18, """\
+line 13, tick 4, since t2 job 1 was complete in tick 3: 2/4, speed 2
+    handed out at tick 0, up to the earliest deadline 8, at the static speed 4: 8 * 4 = 32
+    t1 job 1 might need 12, is allotted 12 and is complete: 0 left
+    t2 job 1 might need 12, is allotted 12 and is complete: 0 left
+    t3 job 1 might need 4, is allotted 4 and has had 2 since: 2 left
+    0 + 0 + 2 = 2, over the time 8 - 4 = 4
+    speed 2: 2 * 4 = 8, enough
+    t3 job 1 runs: of 1 open it has the shortest period, 14
+"""), ("edf_la", 4, """\
+    rates 420 + 336 + 80 = 836, of 4 * 280 = 1120; the earliest deadline is 8
+    from the last deadline to the first:
+    t3 job 1, due at 14, may need 4 more: rates without t3: 836 - 80 = 756; room from 8 to 14: \
+(1120 - 756) * 6 / 280 = 2184/280, down to 7; 4 of 4 put off, 0 before 8; \
+t3 then needs 4 * 280 / 6 = 1120/6, up to 187: rates 756 + 187 = 943
+    t2 job 1, due at 10, may need 12 more: rates without t2: 943 - 336 = 607; room from 8 to 10: \
+(1120 - 607) * 2 / 280 = 1026/280, down to 3; 3 of 12 put off, 9 before 8; \
+t2 then needs 3 * 280 / 2 = 840/2 = 420: rates 607 + 420 = 1027
+    t1 job 1, due at 8, may need 12 more: due first, it puts off nothing, 12 before 8
+    0 + 9 + 12 = 21, over the time 8 - 0 = 8
+""")]
+
+
+@pytest.mark.parametrize(("pair", "first", "text"), BOARDS)
+def test_boards(pair: str, first: int, text: str, call: Run) -> None:
+    status, lines, notes = call(trace=str(DATA / f"paper/{pair}_with_demands.trace"))
+    wanted = text.splitlines()
+    assert (status, notes, lines[first:first + len(wanted)]) == (0, "", wanted)
+
+
+@pytest.mark.parametrize("word", ["extra", "run", "--frob"])
+def test_unexpected_words(word: str, call: Run) -> None:
+    status, lines, notes = call(word)
+    assert (status, lines) == (2, []) and notes.endswith(f"unrecognized arguments: {word}\n")
+
+
+def test_last_line(call: Run) -> None:
+    lines = call()[1]
+    assert len([line for line in lines if line.startswith("line ")]) == 8
     assert lines[-1] == f"{TOTALS}: all as the rules say, with the demands of the file"
-
-
-def test_rm_board(call: Run) -> None:
-    """8 ticks at the static speed 4 are 32 units, for 12 + 12 + 4; by tick 4 `t3` has had 2 of its 4."""
-    lines = call(trace=str(DATA / "paper/rm_cc_with_demands.trace"))[1]
-    first = lines.index("line 13, tick 4, since t2 job 1 was complete in tick 3: 2/4, speed 2")
-    assert lines[first + 1:first + 8] == [
-        "    handed out at tick 0, up to the earliest deadline 8, at the static speed 4: 8 * 4 = 32",
-        "    t1 job 1 might need 12, is allotted 12 and is complete: 0 left",
-        "    t2 job 1 might need 12, is allotted 12 and is complete: 0 left",
-        "    t3 job 1 might need 4, is allotted 4 and has had 2 since: 2 left",
-        "    0 + 0 + 2 = 2, over the time 8 - 4 = 4",
-        "    speed 2: 2 * 4 = 8, enough",
-        "    t3 job 1 runs: of 1 open it has the shortest period, 14",
-    ]
-
-
-def test_look_ahead_board(call: Run) -> None:
-    """As on a board: 4 * 280 = 1120, less the rates of the others; 364 * 6/280 = 7.8, and 1120/6 = 186.7."""
-    lines = call(trace=str(DATA / "paper/edf_la_with_demands.trace"))[1]
-    assert lines[4:10] == [
-        "    rates 420 + 336 + 80 = 836, of 4 * 280 = 1120; the earliest deadline is 8",
-        "    from the last deadline to the first:",
-        "    t3 job 1, due at 14, may need 4 more: rates without t3: 836 - 80 = 756; room from 8 to 14: "
-        "(1120 - 756) * 6 / 280 = 2184/280, down to 7; 4 of 4 put off, 0 before 8; "
-        "t3 then needs 4 * 280 / 6 = 1120/6, up to 187: rates 756 + 187 = 943",
-        "    t2 job 1, due at 10, may need 12 more: rates without t2: 943 - 336 = 607; room from 8 to 10: "
-        "(1120 - 607) * 2 / 280 = 1026/280, down to 3; 3 of 12 put off, 9 before 8; "
-        "t2 then needs 3 * 280 / 2 = 840/2 = 420: rates 607 + 420 = 1027",
-        "    t1 job 1, due at 8, may need 12 more: due first, it puts off nothing, 12 before 8",
-        "    0 + 9 + 12 = 21, over the time 8 - 0 = 8",
-    ]
-
-
-def test_quiet(call: Run) -> None:
     assert call("--quiet") == (0, [f"{TOTALS}: all as the rules say, with the demands of the file"], "")
     assert call("--quiet", demands=None) == (0, [f"{TOTALS}: all as the rules say, with its own demands"], "")
     assert call("--any") == (0, [f"{TOTALS}: legal, with the demands of the file"], "")
@@ -464,12 +424,9 @@ def test_a_wrong_trace_has_status_1(call: Run, tmp_path: Path) -> None:
     assert call("--quiet", **files) == (1, [], "line 8: b job 1 is not complete: it has had 0 units\n")
 
 
-TASK = '[[task]]\nname = "t1"\nperiod = 8\nworst = 33\n'
-
-
 def test_denied(call: Run, tmp_path: Path) -> None:
     path = tmp_path / "file"
-    path.write_text(TASK)
+    TaskSet((Task("t1", 8, 33),)).write(path)
     assert call(tasks=str(path), demands=None) == (2, [], "rtdvs: denied edf 33 32\n")
     assert call("--any", tasks=str(path), demands=None)[0] == 1  # no test is made; the trace has other tasks
 

@@ -13,28 +13,21 @@ from hypothesis import strategies as st
 from rtdvs.engine import Call, Engine, admit_call, constrain_call, least_call, poll_call, run_call
 from rtdvs.files import Deadlines, Demands, FileFault, Machine, Point, Request, Requests, Task, TaskSet
 
-TASKS = """[[task]]
-name = "a"
-period = 4
-worst = 2
+ENTRIES = {
+    "task": {"name": '"a"', "period": "4", "worst": "2"},
+    "point": {"speed": "2", "millivolts": "3000"},
+}
 
-[[task]]
-name = "b_2"
-period = 6
-worst = 3
-offset = 1
-"""
-MACHINE = """idle = 100
-charge = 0
 
-[[point]]
-speed = 2
-millivolts = 3000
+def entry(kind: str = "task", **changes: str) -> str:
+    """A table of a TOML file; a value that is empty is left out."""
+    values = ENTRIES[kind] | changes
+    return f"[[{kind}]]\n" + "".join(f"{key} = {value}\n" for key, value in values.items() if value)
 
-[[point]]
-speed = 3
-millivolts = 4000
-"""
+
+POINT = entry("point")
+TASKS = entry() + "\n" + entry(name='"b_2"', period="6", worst="3", offset="1")
+MACHINE = f"idle = 100\ncharge = 0\n\n{POINT}\n" + entry("point", speed="3", millivolts="4000")
 TABLES = {
     "demands": "task,job,units\na,1,2\nb_2,2,0\na,3,1\n",
     "deadlines": "task,deadline\na,3\nb_2,6\n",
@@ -61,14 +54,25 @@ def line_of(kind: str, content: bytes) -> str | None:
 
 # By hand
 
-def entry(**changes: str) -> str:
-    values = {"name": '"a"', "period": "4", "worst": "2"} | changes
-    return "[[task]]\n" + "".join(f"{key} = {value}\n" for key, value in values.items() if value)
+
+RANGES = {
+    "tasks: task 1": {"period": (1, 2**40), "worst": (1, 2**60), "offset": (0, 2**40)},
+    "machine: point 1": {"speed": (1, 10**6), "millivolts": (1, 20_000)},
+    "machine": {"idle": (0, 1000), "charge": (0, 10**6)},
+}
 
 
-def point(**changes: str) -> str:
-    values = {"speed": "2", "millivolts": "3000"} | changes
-    return "[[point]]\n" + "".join(f"{key} = {value}\n" for key, value in values.items() if value)
+def of_ranges() -> Iterator[tuple[str, str, str]]:
+    """Numbers that are missing, of another kind or out of their ranges: a file, its text, the refusal."""
+    for place, ranges in RANGES.items():
+        for key, (least, most) in ranges.items():
+            refused = dict.fromkeys(("4.0", "true", '"2"', "[1]", "{}"), f"wrong kind of {key}")
+            refused |= dict.fromkeys(map(str, (least - 1, most + 1)), f"{key} out of range")
+            if least:
+                refused[""] = f"missing {key}"
+            for value, reason in refused.items():
+                text = entry(place.split()[1], **{key: value}) if " " in place else f"{key} = {value}\n"
+                yield place.split(":")[0], text, f"{place}: {reason}"
 
 
 REFUSED_TASKS = {
@@ -88,47 +92,23 @@ REFUSED_TASKS = {
     entry(ofset="1", period="0"): "task 1: unknown key ofset",
     entry(name=""): "task 1: missing name",
     entry(name="5", period="0"): "task 1: wrong kind of name",
-    entry(name='"a b"'): "task 1: bad name",
-    entry(name='""'): "task 1: bad name",
-    entry(name=f'"{"a" * 33}"'): "task 1: bad name",
-    entry(name='"ä"'): "task 1: bad name",
-    entry(name='"a\\n"'): "task 1: bad name",
-    entry(period=""): "task 1: missing period",
-    entry(period="4.0"): "task 1: wrong kind of period",
-    entry(period="true"): "task 1: wrong kind of period",
     entry(period="0", worst="0"): "task 1: period out of range",
-    entry(period=str(2**40 + 1)): "task 1: period out of range",
-    entry(worst=""): "task 1: missing worst",
-    entry(worst='"2"'): "task 1: wrong kind of worst",
-    entry(worst=str(2**60 + 1)): "task 1: worst out of range",
-    entry(worst="-1"): "task 1: worst out of range",
-    entry(offset="0.5"): "task 1: wrong kind of offset",
-    entry(offset="-1"): "task 1: offset out of range",
-    entry(offset=str(2**40 + 1)): "task 1: offset out of range",
     entry(name='"c"') + entry() + entry() + "[[task]]": "tasks 2 and 3 have one name",
     entry(period=str(2**40)) + entry(name='"b"', period="257"):
         "periods have no common multiple up to 281474976710656",
-}
+} | {entry(name=f'"{name}"'): "task 1: bad name" for name in ("a b", "", "a" * 33, "ä", "a\\n")}
 REFUSED_MACHINES = {
     "": "no points",
     "point = {}": "wrong kind of point",
     "idle = 08": "not TOML",
-    "speed = 2\n" + point(): "unknown key speed",
-    "idle = 0.1": "wrong kind of idle",
-    "idle = 5000": "idle out of range",
+    "speed = 2\n" + POINT: "unknown key speed",
     "idle = -1\ncharge = -1": "idle out of range",
-    "charge = [1]": "wrong kind of charge",
-    "charge = 1000001": "charge out of range",
     "point = [1]": "point 1: wrong kind of entry",
-    point() + "idle = 0": "point 1: unknown key idle",
-    point(speed=""): "point 1: missing speed",
-    point(speed="2.5", millivolts=""): "point 1: wrong kind of speed",
-    point(speed="1000001"): "point 1: speed out of range",
-    point(millivolts=""): "point 1: missing millivolts",
-    point(millivolts="20001"): "point 1: millivolts out of range",
-    point() + point(millivolts="4000"): "point 2: not rising",
-    point() + point(speed="3", millivolts="2999"): "point 2: not rising",
-    "".join(point(speed=str(speed)) for speed in range(1, 34)): "33 points, at most 32",
+    POINT + "idle = 0": "point 1: unknown key idle",
+    entry("point", speed="2.5", millivolts=""): "point 1: wrong kind of speed",
+    POINT + entry("point", millivolts="4000"): "point 2: not rising",
+    POINT + entry("point", speed="3", millivolts="2999"): "point 2: not rising",
+    "".join(entry("point", speed=str(speed)) for speed in range(1, 34)): "33 points, at most 32",
 }
 REFUSED_TABLES = {
     "demands": {
@@ -167,11 +147,12 @@ REFUSED_TABLES = {
         "arrival,units\n" + "x\n" * 100_001: "requests: 100001 rows, at most 100000",
     },
 }
-BY_HAND = (
-    [("tasks", text, f"tasks: {line}") for text, line in REFUSED_TASKS.items()]
-    + [("machine", text, f"machine: {line}") for text, line in REFUSED_MACHINES.items()]
-    + [(kind, text, line) for kind, lines in REFUSED_TABLES.items() for text, line in lines.items()]
-)
+BY_HAND = [
+    *(("tasks", text, f"tasks: {line}") for text, line in REFUSED_TASKS.items()),
+    *(("machine", text, f"machine: {line}") for text, line in REFUSED_MACHINES.items()),
+    *((kind, text, line) for kind, lines in REFUSED_TABLES.items() for text, line in lines.items()),
+    *of_ranges(),
+]
 
 
 @pytest.mark.parametrize(("kind", "text", "line"), BY_HAND, ids=[line[:60] for _, _, line in BY_HAND])
@@ -190,42 +171,11 @@ def test_too_long(kind: str) -> None:
     assert line_of(kind, b"\n" * (2**24 + 1)) == f"{kind}: too long"
 
 
-def test_a_byte_order_mark_is_skipped() -> None:
-    assert TaskSet.parse(b"\xef\xbb\xbf" + TASKS.encode()) == SET == TaskSet.parse("\ufeff" + TASKS)
-    assert Requests.parse("\ufeffarrival,units\r\n1,2\r\n").requests == (Request(1, 2),)
-
-
-def test_quoted_fields() -> None:
-    text = '"task",job,"units"\r"a",1,"2"\r\n\n\r\nb_2,7,"0"'
-    assert Demands.parse(text, SET).units == {("a", 1): 2, ("b_2", 7): 0}
-
-
 def test_greatest_values() -> None:
     task = Task("A" * 32, 2**40, 2**60, 2**40)
     assert TaskSet.parse(TaskSet((task,)).text()).tasks == (task,)
     machine = Machine((Point(1, 1), Point(1_000_000, 20_000)), 1000, 1_000_000)
     assert Machine.parse(machine.text()) == machine
-
-
-@pytest.mark.parametrize("reader", [TaskSet.read, Machine.read, Requests.read])
-def test_files_that_are_not_there(reader: Callable[[Path], object], tmp_path: Path) -> None:
-    with pytest.raises(FileNotFoundError):
-        reader(tmp_path / "absent")
-    with pytest.raises(IsADirectoryError):
-        reader(tmp_path)
-
-
-def test_an_endless_file() -> None:
-    with pytest.raises(FileFault, match="tasks: too long"):
-        TaskSet.read(Path("/dev/zero"))
-
-
-def test_names() -> None:
-    assert SET.names == ("a", "b_2")
-    assert SET.named("b_2").offset == 1
-    assert SET.hyperperiod == 12
-    with pytest.raises(KeyError):
-        SET.named("c")
 
 
 # Against the program
@@ -368,11 +318,9 @@ def test_random_bytes_are_refused(content: bytes, kind: str) -> None:
     assert (line_of(kind, content) or f"{kind}: ").startswith(f"{kind}: ")
 
 
-def test_written_and_read(tmp_path: Path) -> None:
-    for folder in ("paper", "offsets", "controller", "server"):
-        tasks = TaskSet.read(DATA / folder / "tasks.toml")
-        machine = Machine.read(DATA / folder / "machine.toml")
-        tasks.write(tmp_path / "tasks.toml")
-        machine.write(tmp_path / "machine.toml")
-        assert TaskSet.read(tmp_path / "tasks.toml") == tasks
-        assert Machine.read(tmp_path / "machine.toml") == machine
+@pytest.mark.parametrize("folder", ["paper", "offsets", "controller", "server"])
+@pytest.mark.parametrize(("kind", "name"), [(TaskSet, "tasks.toml"), (Machine, "machine.toml")])
+def test_written_and_read(kind: type[TaskSet | Machine], name: str, folder: str, tmp_path: Path) -> None:
+    content = kind.read(DATA / folder / name)
+    content.write(tmp_path / name)
+    assert kind.read(tmp_path / name) == content

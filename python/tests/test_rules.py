@@ -2,7 +2,7 @@
 
 import re
 from fractions import Fraction
-from itertools import pairwise
+from itertools import accumulate, pairwise
 
 import pytest
 from examples import BOARD, DATA, Captured
@@ -13,29 +13,25 @@ from rtdvs.compare import PAIRS
 from rtdvs.explain import Walk, explain
 from rtdvs.files import Demands, FileFault, Task, TaskSet
 from rtdvs.rules import GOVERNORS, Plan, State
-from rtdvs.simulate import DeadlineMissed, simulate
+from rtdvs.simulate import simulate
 from rtdvs.trace import Decision, Run, Trace
 
 SEEDS = range(60)
 
 
-def pair_id(pair: tuple[str, str]) -> str:
-    return "-".join(pair)
-
-
 def case(seed: int, pair: tuple[str, str]) -> tuple[Model, int, Trace | None]:
     """A random plan with at most 40 ticks, and its simulated trace if it is admitted."""
     tasks, machine, demands, ticks = random_case(seed)
-    model, ticks = Model(tasks, machine, pair, demands), min(ticks, 40)
+    model, ticks, plan = Model(tasks, machine, pair, demands), min(ticks, 40), Plan(tasks, machine, pair[0])
     if not model.admitted():
         with pytest.raises(FileFault, match=f"denied {pair[0]} "):
-            Plan(tasks, machine, pair[0]).admit()
+            plan.admit()
         return model, ticks, None
-    Plan(tasks, machine, pair[0]).admit()
+    plan.admit()
     return model, ticks, simulate(tasks, machine, pair[0], ticks, GOVERNORS[pair], demands, pair[1])
 
 
-@pytest.mark.parametrize("pair", PAIRS, ids=pair_id)
+@pytest.mark.parametrize("pair", PAIRS)
 def test_schedule(pair: tuple[str, str]) -> None:
     for seed in SEEDS:
         model, ticks, trace = case(seed, pair)
@@ -48,19 +44,13 @@ def test_schedule(pair: tuple[str, str]) -> None:
                  for place, task in enumerate(model.tasks)}
         assert units == {task.name: sum(note.units for note in trace.notes if isinstance(note, Run)
                                         and note.task == task.name) for task in model.tasks}
-        speeds = dict(model_speeds(trace.decisions, ticks))
-        assert trace.run_energy == sum(sum(share) * volts[speeds[tick]] ** 2 * 1000
-                                       for tick, share in enumerate(model.shares))
-        idle = [(speeds[tick] - sum(share)) * volts[speeds[tick]] ** 2
-                for tick, share in enumerate(model.shares)]
-        assert trace.idle_energy == sum(idle) * model.machine.idle
-
-
-def model_speeds(decisions: tuple[Decision, ...], ticks: int) -> list[tuple[int, int]]:
-    """The speed of each tick."""
-    ends = [*(note.tick for note in decisions[1:]), ticks]
-    return [(tick, note.speed) for note, end in zip(decisions, ends, strict=True)
-            for tick in range(note.tick, end)]
+        chosen = {tick: speed for tick, _, speed in found}
+        speeds = [*accumulate(range(ticks), lambda speed, tick: chosen.get(tick, speed), initial=0)][1:]
+        run, idle = 0, 0
+        for speed, share in zip(speeds, model.shares, strict=True):
+            run += sum(share) * volts[speed] ** 2 * 1000
+            idle += (speed - sum(share)) * volts[speed] ** 2 * model.machine.idle
+        assert (trace.run_energy, trace.idle_energy) == (run, idle)
 
 
 # The board
@@ -144,7 +134,7 @@ def next_line(model: Model, tick: int) -> str:
     return f"{name} runs: of {1 + len(others)} open it {why} {keys[first]}{tie}"
 
 
-@pytest.mark.parametrize("pair", PAIRS, ids=pair_id)
+@pytest.mark.parametrize("pair", PAIRS)
 def test_board(pair: tuple[str, str]) -> None:
     for seed in SEEDS:
         model, ticks, trace = case(seed, pair)
@@ -214,15 +204,3 @@ def test_own_governor() -> None:
     assert (summary.released, summary.complete) == (5, 5)
     assert sum(note.units for note in trace.notes if isinstance(note, Run)) == 28
     assert trace.decisions[0] == Decision(0, 4, 13, 4)
-
-
-def test_a_slow_governor_misses() -> None:
-    # At 2 units a tick a takes the ticks 0 and 1, and b, due at 6, has 8 of its 9 units in the next four.
-    with pytest.raises(DeadlineMissed, match="b job 1 was due at 6 and is not complete: it has had 8 units"):
-        simulate(TASKS, BOARD, "edf", 12, lambda state: (0, 1))
-
-
-@pytest.mark.parametrize("demand", [(-1, 1), (1, 0)])
-def test_no_demand(demand: tuple[int, int]) -> None:
-    with pytest.raises(ValueError, match="the governor's demand at tick 0 is "):
-        simulate(TASKS, BOARD, "edf", 12, lambda state: demand)

@@ -123,14 +123,6 @@ def test_refused(text: str, line: int, part: str) -> None:
     assert found.value.line == line and part in found.value.reason
 
 
-def test_jobs_need_their_releases_and_periods() -> None:
-    trace = Trace.parse("trace 1\nplan edf mine 1\nspeed 0 2 1/1\nrun 0:0 1:0 a 1 2 5\nend 1 5 0\n")
-    with pytest.raises(TraceFault, match="line 4: a job 1 is not released"):
-        trace.jobs(PAPER)
-    with pytest.raises(TraceFault, match="line 3: the period of t1 is not known"):
-        Trace.read(WORKED).jobs()
-
-
 @given(st.sampled_from(TEXTS), st.data())
 def test_changed_bytes(text: str, data: st.DataObject) -> None:
     """A changed text is refused at a line of it or the one after, or is the text of its trace."""

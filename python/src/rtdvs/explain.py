@@ -23,16 +23,20 @@ from rtdvs.commandline import (
 )
 from rtdvs.files import Demands, Machine, Point, Task, TaskSet
 from rtdvs.rules import (
-    GOVERNORS, Checker, Demand, Governor, Latest, Plan, State, Summary, Wrong, WrongDecision, ceiling,
+    EXAMPLE, GOVERNORS, Checker, Governor, Latest, Plan, State, Summary, Wrong, WrongDecision, ceiling,
     edf_ahead, edf_cycle, full, rm_cycle, static,
 )
 from rtdvs.trace import (
-    Decision, Done, Head, Item, Order, Position, Release, TraceFault, lines_of, spelled_lines,
+    Decision, Done, Head, Item, Order, Position, Release, TraceFault, lines_of, spelled_lines, task_text,
 )
 
 
 class WrongTrace(TraceFault):
-    """The first wrong line of a trace, and why it is wrong."""
+    """The first wrong line of a trace, and why it is wrong.
+
+    >>> WrongTrace(3, "wanted job 1").reason
+    'wanted job 1'
+    """
 
 
 # The terms of each demand, for the board
@@ -69,19 +73,25 @@ def _rates(plan: Plan) -> list[str]:
 
 
 def _static(state: State) -> list[str]:
+    """The terms of `static`; under RM the first of the levels with the most work per tick is named.
+
+    >>> tie = TaskSet((Task("a", 4, 4), Task("b", 5, 2), Task("c", 8, 4)))
+    >>> _static(State.begin(Plan(tie, EXAMPLE.machine, "rm")))[2:]  # doctest: +NORMALIZE_WHITESPACE
+    ['c and those before it in 8 ticks: 2 * 4 + 2 * 2 + 1 * 4 = 16',
+     'the most work per tick is that of b: 10/5']
+    """
     plan, lines = state.plan, []
     if plan.scheduler == "edf":
         return [*_rates(plan), f"{total(plan.rates)}, over the hyperperiod {plan.hyperperiod}"]
-    order = [plan.tasks.tasks[place] for place in plan.by_period]
-    for rank, task in enumerate(order):
-        jobs = [(ceiling(task.period, each.period), each.worst + 2 * plan.machine.charge)
-                for each in order[:rank + 1]]
-        terms = " + ".join(f"{count} * {worst}" for count, worst in jobs)
-        work = sum(count * worst for count, worst in jobs)
-        lines.append(f"{task.name} and those before it in {task.period} ticks: {terms} = {work}")
-    levels = map(plan.level, range(len(order)))
-    name = next(task.name for task, work in levels if (work, task.period) == plan.static)
-    return [*lines, f"the most work per tick is that of {name}: {plan.static[0]}/{plan.static[1]}"]
+    names = dict[tuple[int, int], str]()
+    for rank in range(len(plan.tasks)):
+        task, work = plan.level(rank)
+        terms = [f"{ceiling(task.period, plan.tasks.tasks[place].period)} * {plan.worsts[place]}"
+                 for place in plan.by_period[:rank + 1]]
+        lines.append(f"{task.name} and those before it in {task.period} ticks: {' + '.join(terms)} = {work}")
+        names.setdefault((work, task.period), task.name)
+    num, den = plan.static
+    return [*lines, f"the most work per tick is that of {names[num, den]}: {num}/{den}"]
 
 
 def _edf_cycle(state: State) -> list[str]:
@@ -99,10 +109,9 @@ def _rm_cycle(state: State) -> list[str]:
     room = (end - start) * speed
     lines = [f"handed out at tick {start}, up to the earliest deadline {end}, at the static speed {speed}: "
              f"{end - start} * {speed} = {room}"]
-    might = {job.place: units for job, units in state.handed}
-    parts = []
-    for job in (state.jobs[place] for place in state.plan.by_period):
-        units = might.get(job.place, 0)
+    might, parts = {job.place: units for job, units in state.handed}, []
+    for place in state.plan.by_period:
+        job, units = state.jobs[place], might.get(place, 0)
         allotted = min(units, room)
         room -= allotted
         had = units - job.left
@@ -118,14 +127,13 @@ def _edf_ahead(state: State) -> list[str]:
     lines = [*(_rates(plan) if state.now == 0 else []),
              f"rates {total(plan.rates)}, of {plan.machine.top_speed} * {plan.hyperperiod} = {most}; "
              f"the earliest deadline is {first}", "from the last deadline to the first:"]
-    kept, before = plan.rate, []
-    for job in sorted(state.jobs, key=lambda job: (job.due, job.place), reverse=True):
-        if job.due == first:
-            before.append(job.left)
-            lines.append(f"{job}, due at {job.due}, may need {job.left} more: "
-                         f"due first, it puts off nothing, {job.left} before {first}")
-            continue
-        kept, now, line = _put_off(job, kept, state)
+    kept, before = sum(plan.rates), []
+    for due, place in reversed(state.deadlines):
+        job = state.jobs[place]
+        now, line = job.left, (f"{job}, due at {due}, may need {job.left} more: "
+                               f"due first, it puts off nothing, {job.left} before {first}")
+        if due > first:
+            kept, now, line = _put_off(job, kept, state)
         before.append(now)
         lines.append(line)
     return [*lines, f"{total(before)}, over the time {first} - {state.now} = {first - state.now}"]
@@ -215,7 +223,16 @@ def _next_job(state: State) -> str:
 
 
 def board(number: int, decision: Decision, events: Sequence[Release | Done], checker: Checker) -> str:
-    """The lines for a decision: its place in the trace, its cause, the terms of its demand, who then runs."""
+    """The lines for a decision: its place in the trace, its cause, the terms of its demand, who then runs.
+
+    >>> checker = Checker(State.begin(EXAMPLE), 4, full, None)
+    >>> print(board(4, Decision(0, 4, 4, 1), [], checker))
+    line 4, tick 0, the start: 4/1, speed 4
+        always the highest speed, 4
+        speed 2: 2 * 1 = 2, less than 4
+        speed 4: 4 * 1 = 4, enough
+        no job is open: idle units follow
+    """
     state, governor, lines = checker.state, checker.governor, ["as at tick 0"]
     if governor and (decision.tick == 0 or governor not in (full, static)):
         lines = TERMS[governor](state) + speeds(state.plan.machine.points, decision.num, decision.den)
@@ -229,7 +246,13 @@ def board(number: int, decision: Decision, events: Sequence[Release | Done], che
 
 @dataclass(frozen=True, slots=True)
 class Walk:
-    """A trace's lines and what they are checked against. With `any_governor` its demands are its own."""
+    """A trace's lines and what they are checked against. With `any_governor` its demands are its own.
+
+    >>> lines = ["trace 1\\n", "plan edf none 1\\n", "release 0 a 1\\n", "release 0 c 1\\n"]
+    >>> explain(Walk(EXAMPLE.tasks, EXAMPLE.machine, lines))
+    Traceback (most recent call last):
+    rtdvs.explain.WrongTrace: line 4: no task c
+    """
 
     tasks: TaskSet
     machine: Machine
@@ -238,15 +261,23 @@ class Walk:
     any_governor: bool = False
 
     def steps(self) -> Iterator[tuple[int, Item, Checker]]:
-        """Each line's number and content, after it was checked. Raises WrongTrace, FileFault."""
+        """Each line's number and content, after it was checked. Raises WrongTrace, FileFault.
+
+        >>> lines = ["trace 1\\n", "plan edf none 1\\n", "release 0 a 1\\n"]
+        >>> steps = Walk(EXAMPLE.tasks, EXAMPLE.machine, lines).steps()
+        >>> [next(steps)[:2] for line in lines[1:]][1]
+        (3, Release(tick=0, task='a', job=1))
+        """
         number, wanted, order = 1, list[Task](), Order()
         try:
             for number, item in enumerate(spelled_lines(self.lines), 2):
                 if isinstance(item, Head):
                     checker = self._checker(item)
-                    wanted = list(self.tasks)[::-1] if item.version == 2 else []
+                    wanted = [*self.tasks][::-1] if item.version == 2 else []
                 elif wanted:
-                    _same_task(item, wanted)
+                    if item != wanted[-1]:
+                        raise Wrong(f"wanted {task_text(wanted[-1])}")
+                    wanted.pop()
                 elif isinstance(item, Task):
                     raise Wrong(f"the task {item.name} is not in the task file")
                 else:
@@ -256,10 +287,10 @@ class Walk:
                     raise Wrong(fault)
                 yield number, item, checker
         except TraceFault as spelled:
-            raise WrongTrace(spelled.line, _task_line(wanted[-1]) if wanted else spelled.reason) from None
+            reason = f"wanted {task_text(wanted[-1])}" if wanted else spelled.reason
+            raise WrongTrace(spelled.line, reason) from None
         except WrongDecision as wrong:
-            reasons = "; ".join(_reasons(checker, item, wrong.demand))
-            raise WrongTrace(number, f"{wrong}: {reasons}") from None
+            raise WrongTrace(number, f"{wrong}: {'; '.join(_reasons(checker, wrong))}") from None
         except Wrong as wrong:
             raise WrongTrace(number, str(wrong)) from None
 
@@ -270,34 +301,30 @@ class Walk:
             if governor is None:
                 raise Wrong(f"no scheduler and governor {head.scheduler} {head.governor}")
             plan.admit()
-        charge = 2 * self.machine.charge
-        needs = None if self.demands is None else {
-            job: units + charge for job, units in self.demands.units.items()}
+        needs = None if self.demands is None else plan.needs(self.demands)
         return Checker(State.begin(plan), head.ticks, governor, needs)
 
 
-def _reasons(checker: Checker, decision: Item, demand: Demand) -> list[str]:
-    """The terms of the demand that is wanted, or its speeds if the decision has this demand."""
-    if checker.governor and isinstance(decision, Decision) and (decision.num, decision.den) != demand:
-        return TERMS[checker.governor](checker.state)
-    return speeds(checker.state.plan.machine.points, *demand)
-
-
-def _same_task(found: Item, wanted: list[Task]) -> None:
-    """Takes the next task, which is the last of the list, if it is that of the line."""
-    if found != wanted[-1]:
-        raise Wrong(_task_line(wanted[-1]))
-    wanted.pop()
-
-
-def _task_line(task: Task) -> str:
-    return f"wanted task {task.name} {task.period} {task.offset} {task.worst}"
+def _reasons(checker: Checker, wrong: WrongDecision) -> list[str]:
+    """The terms of the demand that is wanted, or its speeds if only the speed is wrong."""
+    if wrong.demand:
+        return speeds(checker.state.plan.machine.points, *wrong.demand)
+    return TERMS[checker.governor](checker.state) if checker.governor else []
 
 
 def explain(walk: Walk, show: Callable[[str], object] | None = None) -> Summary:
     """Checks a trace, and gives the text for each decision to `show`; without `show` no text is made.
 
     Raises WrongTrace for the first wrong line, and FileFault if the scheduler's test fails.
+
+    >>> lines = ["trace 1\\n", "plan edf none 1\\n", "release 0 t 1\\n", "speed 0 2 2/1\\n",
+    ...          "run 0:0 1:0 t 1 2 2000000000\\n", "end 1 2000000000 0\\n"]
+    >>> explain(Walk(TaskSet((Task("t", 2, 4),)), Machine((Point(2, 1000),)), lines), print).decisions
+    line 4, tick 0, release of t job 1: 2/1, speed 2
+        always the highest speed, 2
+        speed 2: 2 * 1 = 2, enough
+        t job 1 runs: of 1 open it is due first, at 2
+    1
     """
     events: list[Release | Done] = []
     for number, item, checker in walk.steps():
@@ -331,7 +358,11 @@ def check(tasks: TaskSet, machine: Machine, lines: Iterable[str], demands: Deman
 
 
 def last_line(summary: Summary, any_governor: bool, named: bool) -> str:
-    """The line for a right trace, which says whether the demands are those of a file."""
+    """The line for a right trace, which says whether the demands are those of a file.
+
+    >>> last_line(Summary(2, 1, 1, 2, 6000), any_governor=True, named=False)[-27:]
+    'legal, with its own demands'
+    """
     verdict = "legal" if any_governor else "all as the rules say"
     return f"{summary.text()}: {verdict}, with {'the demands of the file' if named else 'its own demands'}"
 
@@ -352,7 +383,14 @@ def _handle(args: argparse.Namespace) -> int:
 
 
 def add_command(commands: Commands) -> None:
-    """Adds the command `explain`."""
+    """Adds the command `explain`.
+
+    >>> parser = argparse.ArgumentParser()
+    >>> add_command(parser.add_subparsers())
+    >>> words = "explain --quiet --tasks t.toml --machine m.toml --trace run.trace"
+    >>> parser.parse_args(words.split()).quiet
+    True
+    """
     parser = add_parser(commands, "explain", _handle, "explain each decision of a trace, and check its lines",
                         "explain --tasks tasks.toml --machine machine.toml --trace run.trace")
     add_files(parser, ("tasks", "machine", "trace"), ("demands",))

@@ -1,6 +1,5 @@
 """What the picture of a trace has: bars, completions and releases, and how they are thinned in a long run."""
 
-from collections import defaultdict
 from collections.abc import Iterable, Iterator
 from dataclasses import dataclass
 from fractions import Fraction
@@ -11,7 +10,11 @@ from rtdvs.trace import Done, Idle, Release, Run, Trace
 
 @dataclass(frozen=True, slots=True)
 class Bar:
-    """A run or idle time from tick to tick, at a speed."""
+    """A run or idle time from tick to tick, at a speed in work units per tick.
+
+    >>> Bar(0.0, 1.5, speed=3).end
+    1.5
+    """
 
     begin: float
     end: float
@@ -20,7 +23,11 @@ class Bar:
 
 @dataclass(frozen=True, slots=True)
 class Completion:
-    """A job's completion: its tick, the release, the units used, the speed there and the job's greatest."""
+    """A job's completion: its tick, the release, the units used, the speed there and the job's greatest.
+
+    >>> Completion(at=1.5, release=0, used=4, speed=2, highest=3).used
+    4
+    """
 
     at: float
     release: int
@@ -30,20 +37,29 @@ class Completion:
 
 
 def periods(trace: Trace) -> dict[str, int]:
-    """Each task's period in ticks; in version 1 the distance of its first two releases, if it has two."""
+    """Each task's period in ticks; in version 1 the distance of its first two releases, if it has two.
+
+    >>> from rtdvs.trace import SAMPLE
+    >>> periods(Trace.parse(SAMPLE))
+    {'t': 2}
+    """
     if trace.tasks:
         return {task.name: task.period for task in trace.tasks}
-    ticks = releases(trace)
-    return {task: at[1] - at[0] for task, at in ticks.items() if len(at) > 1}
+    return {task: at[1] - at[0] for task, at in releases(trace).items() if len(at) > 1}
 
 
 def releases(trace: Trace) -> dict[str, list[int]]:
-    """The ticks of each task's releases."""
-    found: defaultdict[str, list[int]] = defaultdict(list)
+    """The ticks of each task's releases.
+
+    >>> from rtdvs.trace import SAMPLE
+    >>> releases(Trace.parse(SAMPLE))
+    {'t': [0]}
+    """
+    found: dict[str, list[int]] = {}
     for note in trace.notes:
         if isinstance(note, Release):
-            found[note.task].append(note.tick)
-    return dict(found)
+            found.setdefault(note.task, []).append(note.tick)
+    return found
 
 
 def bars(trace: Trace) -> dict[str, list[Bar]]:
@@ -53,36 +69,39 @@ def bars(trace: Trace) -> dict[str, list[Bar]]:
     >>> bars(Trace.parse(SAMPLE))["t"]
     [Bar(begin=0.0, end=1.0, speed=3), Bar(begin=1.0, end=1.5, speed=2)]
     """
-    found: defaultdict[str, list[Bar]] = defaultdict(list)
-    job, end = None, None
+    found: dict[str, list[Bar]] = {}
+    last = None
     for note, speed in trace.at_speeds():
         if not isinstance(note, Run | Idle):
             continue
-        mine = (note.task, note.job, speed) if isinstance(note, Run) else ("", 0, speed)
-        row = found[mine[0]]
-        begin = float(note.begin.time(speed))
-        if job == mine and end == note.begin:
-            begin = row.pop().begin
+        job = (note.task, note.job, speed) if isinstance(note, Run) else ("", 0, speed)
+        row = found.setdefault(job[0], [])
+        begin = row.pop().begin if last == (job, note.begin) else float(note.begin.time(speed))
         row.append(Bar(begin, float(note.end.time(speed)), speed))
-        job, end = mine, note.end
-    return dict(found)
+        last = job, note.end
+    return found
 
 
 def completions(trace: Trace) -> dict[str, list[Completion]]:
-    """The completions of each task's jobs."""
-    found: defaultdict[str, list[Completion]] = defaultdict(list)
-    latest: dict[str, int] = {}
-    highest: dict[str, int] = {}
+    """The completions of each task's jobs.
+
+    >>> from rtdvs.trace import SAMPLE
+    >>> completions(Trace.parse(SAMPLE))
+    {'t': [Completion(at=1.5, release=0, used=4, speed=2, highest=3)]}
+    """
+    found: dict[str, list[Completion]] = {}
+    latest: dict[str, tuple[int, int]] = {}  # the tick of the release, and the highest speed since then
     for note, speed in trace.at_speeds():
         if isinstance(note, Release):
-            latest[note.task], highest[note.task] = note.tick, 0
-        elif isinstance(note, Run):
-            highest[note.task] = max(highest.get(note.task, 0), speed)
-        elif isinstance(note, Done):
-            at = float(note.at.time(speed))
-            found[note.task].append(Completion(at, latest.get(note.task, 0), note.used,
-                                               speed if note.used else 0, highest.get(note.task, 0)))
-    return dict(found)
+            latest[note.task] = note.tick, 0
+        elif isinstance(note, Run | Done):
+            tick, highest = latest.get(note.task, (0, 0))
+            if isinstance(note, Run):
+                latest[note.task] = tick, max(highest, speed)
+                continue
+            done = Completion(float(note.at.time(speed)), tick, note.used, speed if note.used else 0, highest)
+            found.setdefault(note.task, []).append(done)
+    return found
 
 
 # Thinning
@@ -111,15 +130,15 @@ def join_narrow(row: Iterable[Bar], narrow: float, gap: float) -> Iterator[Bar]:
     """
     last: Bar | None = None
     for bar in row:
-        if bar.end - bar.begin < narrow and last is not None and _are_one(last, bar, gap):
+        is_narrow = bar.end - bar.begin < narrow
+        if is_narrow and last is not None and _are_one(last, bar, gap):
             last = Bar(last.begin, bar.end, max(last.speed, bar.speed))
             continue
         if last is not None:
             yield last
-        last = bar
-        if bar.end - bar.begin >= narrow:
+        last = bar if is_narrow else None
+        if not is_narrow:
             yield bar
-            last = None
     if last is not None:
         yield last
 

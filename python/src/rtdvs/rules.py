@@ -12,12 +12,47 @@ from functools import cached_property
 from operator import mul
 from typing import Any
 
-from rtdvs.files import FileFault, Machine, Point, Task, TaskSet
-from rtdvs.trace import Decision, Done, End, Idle, Note, Release, Run, TaskEnergy
+from rtdvs.files import Demands, FileFault, Machine, Point, Task, TaskSet
+from rtdvs.trace import Decision, Done, End, Idle, Note, Position, Release, Run, TaskEnergy
 
 Demand = tuple[int, int]
 Pair = tuple[str, str]
 """A scheduler and a governor."""
+Needs = Mapping[tuple[str, int], int]
+"""The work units of jobs, by their tasks and numbers, with the charge."""
+
+
+class Wrong(Exception):
+    """The note that is read is wrong; the text is why.
+
+    >>> Checker(State.begin(EXAMPLE), 4, None, None).check(End(4, 0, 0))
+    Traceback (most recent call last):
+    rtdvs.rules.Wrong: the trace is at 0:0
+    """
+
+
+class WrongDecision(Wrong):
+    """The demand of a decision isn't that of its governor, or the speed isn't the lowest that meets it.
+
+    In the second case `demand` is what the speed has to meet.
+
+    >>> WrongDecision("speed 4 is the lowest that meets 4/1", (4, 1)).demand
+    (4, 1)
+    """
+
+    def __init__(self, reason: str, demand: Demand | None = None) -> None:
+        super().__init__(reason)
+        self.demand = demand
+
+
+class DeadlineMissed(Wrong, ValueError):
+    """A job isn't complete at its deadline.
+
+    >>> from rtdvs.simulate import simulate
+    >>> simulate(EXAMPLE.tasks, EXAMPLE.machine, "edf", 12, lambda state: (0, 1))
+    Traceback (most recent call last):
+    rtdvs.rules.DeadlineMissed: b job 1 was due at 6 and is not complete: it has had 8 units
+    """
 
 
 def ceiling(num: int, den: int) -> int:
@@ -45,59 +80,103 @@ class Plan:
 
     @cached_property
     def hyperperiod(self) -> int:
-        """The least common multiple of the periods, in ticks."""
+        """The least common multiple of the periods, in ticks.
+
+        >>> EXAMPLE.hyperperiod
+        12
+        """
         return self.tasks.hyperperiod
 
     @cached_property
     def worsts(self) -> tuple[int, ...]:
-        """The worst case of each task in work units, with the charge for two switches."""
+        """The worst case of each task in work units, with the charge for two switches.
+
+        >>> Plan(TaskSet((Task("a", 4, 4),)), Machine((Point(2, 3000),), charge=3), "edf").worsts
+        (10,)
+        """
         return tuple(task.worst + 2 * self.machine.charge for task in self.tasks)
 
     @cached_property
     def weights(self) -> tuple[int, ...]:
-        """The jobs of each task in a hyperperiod."""
+        """The jobs of each task in a hyperperiod.
+
+        >>> EXAMPLE.weights
+        (3, 2)
+        """
         return tuple(self.hyperperiod // task.period for task in self.tasks)
 
     @cached_property
     def rates(self) -> tuple[int, ...]:
-        """The work units of each task in a hyperperiod, all jobs at their worst cases."""
-        return tuple(worst * weight for worst, weight in zip(self.worsts, self.weights, strict=True))
+        """The work units of each task in a hyperperiod, all jobs at their worst cases.
 
-    @cached_property
-    def rate(self) -> int:
-        """The work units of all tasks in a hyperperiod, all jobs at their worst cases."""
-        return sum(self.rates)
+        >>> EXAMPLE.rates
+        (12, 18)
+        """
+        return tuple(map(mul, self.worsts, self.weights))
 
     @cached_property
     def by_period(self) -> tuple[int, ...]:
-        """The places of the tasks in RM order."""
-        periods = [task.period for task in self.tasks]
-        return tuple(sorted(range(len(periods)), key=periods.__getitem__))
+        """The places of the tasks in RM order.
+
+        >>> EXAMPLE.by_period
+        (0, 1)
+        """
+        return tuple(sorted(range(len(self.tasks)), key=lambda place: self.tasks.tasks[place].period))
 
     def level(self, rank: int) -> tuple[Task, int]:
-        """The task at a place of the RM order, and the work of it and those before it in its period."""
+        """The task at a place of the RM order, and the work of it and those before it in its period.
+
+        >>> EXAMPLE.level(1)  # 2 * 4 + 9
+        (Task(name='b', period=6, worst=9, offset=0), 17)
+        """
         tasks = self.tasks.tasks
         task, jobs = tasks[self.by_period[rank]], self.by_period[:rank + 1]
         return task, sum(ceiling(task.period, tasks[place].period) * self.worsts[place] for place in jobs)
 
     @cached_property
     def static(self) -> Demand:
-        """The demand of `static`: under RM that of the first level with the most work per tick."""
+        """The demand of `static`: under RM that of the first level with the most work per tick.
+
+        >>> EXAMPLE.static
+        (30, 12)
+        >>> tie = TaskSet((Task("a", 4, 4), Task("b", 5, 2), Task("c", 8, 4)))
+        >>> Plan(tie, EXAMPLE.machine, "rm").static  # of 4/4, (2 * 4 + 2)/5 and (2 * 4 + 2 * 2 + 4)/8
+        (10, 5)
+        """
         if self.scheduler == "edf":
-            return self.rate, self.hyperperiod
-        levels = [self.level(rank) for rank in range(len(self.tasks))]
+            return sum(self.rates), self.hyperperiod
+        levels = map(self.level, range(len(self.tasks)))
         task, work = max(levels, key=lambda level: Fraction(level[1], level[0].period))
         return work, task.period
 
     @cached_property
     def static_speed(self) -> int:
-        """The lowest speed that meets the static demand."""
+        """The lowest speed that meets the static demand, in work units per tick.
+
+        >>> EXAMPLE.static_speed
+        4
+        """
         return self.lowest(*self.static).speed
 
     def lowest(self, num: int, den: int) -> Point:
-        """The slowest point that meets a demand, or the last if none does."""
-        points = self.machine.points
-        return next((point for point in points if num <= point.speed * den), points[-1])
+        """The slowest point that meets a demand, or the last if none does.
+
+        >>> EXAMPLE.lowest(4, 2), EXAMPLE.lowest(9, 2)
+        (Point(speed=2, millivolts=3000), Point(speed=4, millivolts=5000))
+        """
+        for point in self.machine.points:
+            if num <= point.speed * den:
+                return point
+        return self.machine.points[-1]
+
+    def needs(self, demands: Demands) -> Needs:
+        """What the named jobs need.
+
+        >>> EXAMPLE.needs(Demands({("a", 1): 2}))
+        {('a', 1): 2}
+        """
+        charge = 2 * self.machine.charge
+        return {job: units + charge for job, units in demands.units.items()}
 
     def admit(self) -> None:
         """Raises FileFault, with the program's line, if the scheduler's test fails.
@@ -107,11 +186,15 @@ class Plan:
         rtdvs.files.FileFault: denied rm a 9 8
         """
         top = self.machine.top_speed
-        if self.scheduler == "edf" and self.rate > top * self.hyperperiod:
-            raise FileFault(f"denied edf {self.rate} {top * self.hyperperiod}")
+        if self.scheduler == "edf" and sum(self.rates) > top * self.hyperperiod:
+            raise FileFault(f"denied edf {sum(self.rates)} {top * self.hyperperiod}")
         for task, work in map(self.level, range(len(self.tasks)) if self.scheduler == "rm" else ()):
             if work > top * task.period:
                 raise FileFault(f"denied rm {task.name} {work} {top * task.period}")
+
+
+EXAMPLE = Plan(TaskSet((Task("a", 4, 4), Task("b", 6, 9))), Machine((Point(2, 3000), Point(4, 5000))), "edf")
+"""A small plan, for the examples."""
 
 
 @dataclass(slots=True)
@@ -120,6 +203,9 @@ class Latest:
 
     `worst` has the charge. `used` are the work units that the job has had, and `left` those that it may still
     need by its worst case; `due` is a tick.
+
+    >>> print(State.begin(EXAMPLE).jobs[1])
+    b job 0
     """
 
     task: Task
@@ -135,7 +221,13 @@ class Latest:
         return f"{self.task.name} job {self.number}"
 
     def take(self, units: int) -> None:
-        """Gives the job some work units."""
+        """Gives the job some work units.
+
+        >>> job = Latest(Task("a", 4, 4), 0, worst=4, due=4, number=1, left=4, complete=False)
+        >>> job.take(3)
+        >>> job.used, job.left
+        (3, 1)
+        """
         self.used += units
         self.left -= units
 
@@ -148,6 +240,10 @@ class State:
     next deadline and the job of the highest priority first, each with the place of its task. `charged` are
     the worst cases of open jobs, and what complete ones had. `handed` are the jobs that were open at tick
     `handed_at`, the last one with releases, and what each might need there.
+
+    >>> state = State.begin(EXAMPLE)
+    >>> state.now, state.deadlines, state.open
+    (0, [(0, 0), (0, 1)], [])
     """
 
     plan: Plan
@@ -178,26 +274,74 @@ class State:
         return cls(plan, jobs, deadlines=deadlines, charged=[0] * len(jobs))
 
     @property
+    def position(self) -> Position:
+        """The tick, and the units of it that have passed.
+
+        >>> print(State.begin(EXAMPLE).position)
+        0:0
+        """
+        return Position(self.now, self.behind)
+
+    @property
     def first_deadline(self) -> int:
-        """The earliest deadline of the latest jobs, which is the tick of the next release."""
+        """The earliest deadline of the latest jobs, which is the tick of the next release.
+
+        >>> State.begin(EXAMPLE).first_deadline
+        0
+        """
         return self.deadlines[0][0]
 
     @property
     def first(self) -> Latest | None:
-        """The open job that runs next."""
+        """The open job that runs next, if there is one.
+
+        >>> State.begin(EXAMPLE).first is None
+        True
+        """
         return self.jobs[self.open[0][1]] if self.open else None
 
     @property
     def is_decision(self) -> bool:
-        """Whether a governor decides at this tick: at the start, a release, or after a completion."""
+        """Whether a governor decides at this tick: at the start, a release, or after a completion.
+
+        >>> State.begin(EXAMPLE).is_decision
+        True
+        """
         return self.behind == 0 and self.now in (0, self.released, self.seen)
 
+    def all_met(self) -> None:
+        """Raises DeadlineMissed if a job, whose deadline is now, isn't complete.
+
+        >>> job = Latest(Task("a", 4, 4), 0, worst=4, due=4, number=1, used=3, left=1, complete=False)
+        >>> State(EXAMPLE, [job], now=4, deadlines=[(4, 0)]).all_met()
+        Traceback (most recent call last):
+        rtdvs.rules.DeadlineMissed: a job 1 was due at 4 and is not complete: it has had 3 units
+        """
+        for due, place in self.deadlines:
+            job = self.jobs[place]
+            if due > self.now:
+                break
+            if not job.complete:
+                late = f"was due at {due} and is not complete: it has had {job.used} units"
+                raise DeadlineMissed(f"{job} {late}")
+
     def priority(self, job: Latest) -> tuple[int, int]:
-        """What sorts the open jobs: the deadline under EDF, the period under RM; then the place."""
+        """What sorts the open jobs: the deadline under EDF, the period under RM; then the place.
+
+        >>> state = State.begin(EXAMPLE)
+        >>> state.priority(state.jobs[1])
+        (0, 1)
+        """
         return (job.due if self.plan.scheduler == "edf" else job.task.period), job.place
 
     def release(self, job: Latest) -> None:
-        """Releases the next job of a task, whose deadline is the first of all."""
+        """Releases the next job of a task, whose deadline is the first of all.
+
+        >>> state = State.begin(EXAMPLE)
+        >>> state.release(state.jobs[0])
+        >>> state.deadlines, state.open, state.charged
+        ([(0, 1), (4, 0)], [(4, 0)], [4, 0])
+        """
         job.number, job.due = job.number + 1, job.due + job.task.period
         job.used, job.left, job.complete = 0, job.worst, False
         self.charged[job.place] = job.worst
@@ -207,21 +351,48 @@ class State:
         self.released = self.now
 
     def hand_out(self) -> None:
-        """Notes what the open jobs may need, before the decision of a tick with releases."""
+        """Notes what the open jobs may need, before the decision of a tick with releases.
+
+        >>> state = State.begin(EXAMPLE)
+        >>> state.release(state.jobs[0])
+        >>> state.hand_out()
+        >>> [units for job, units in state.handed]
+        [4]
+        """
         if self.released == self.now:
             self.handed_at = self.now
             self.handed = [(self.jobs[place], self.jobs[place].left) for _, place in self.open]
 
     def decide(self, point: Point) -> None:
+        """Puts a point in force from this tick on.
+
+        >>> state = State.begin(EXAMPLE)
+        >>> state.decide(Point(2, 3000))
+        >>> state.point, state.decided
+        (Point(speed=2, millivolts=3000), 0)
+        """
         self.point, self.decided = point, self.now
 
     def advance(self, units: int, speed: int) -> None:
-        """Lets the time of some work units pass at the speed in force."""
+        """Lets the time of some work units pass at the speed in force.
+
+        >>> state = State.begin(EXAMPLE)
+        >>> state.advance(7, speed=4)
+        >>> print(state.position)
+        1:3
+        """
         ticks, self.behind = divmod(self.behind + units, speed)
         self.now += ticks
 
     def complete(self, job: Latest) -> None:
-        """Marks an open job as complete; a governor sees it at this tick, or at the next one."""
+        """Marks an open job as complete; a governor sees it at this tick, or at the next one.
+
+        >>> state = State.begin(EXAMPLE)
+        >>> state.release(state.jobs[0])
+        >>> state.complete(state.jobs[0])
+        >>> state.open, state.charged, state.seen
+        ([], [0, 0], 0)
+        """
         self.open.remove(self.priority(job))
         job.left, job.complete = 0, True
         self.charged[job.place] = job.used
@@ -234,23 +405,43 @@ Governor = Callable[[State], Demand]
 
 
 def full(state: State) -> Demand:
-    """`none`: the highest speed."""
+    """`none`: the highest speed.
+
+    >>> full(State.begin(EXAMPLE))
+    (4, 1)
+    """
     return state.plan.machine.top_speed, 1
 
 
 def static(state: State) -> Demand:
-    """`static`: the demand of the scheduler's test."""
+    """`static`: the demand of the scheduler's test.
+
+    >>> static(State.begin(EXAMPLE))
+    (30, 12)
+    """
     return state.plan.static
 
 
 def edf_cycle(state: State) -> Demand:
-    """`cc` under EDF: open jobs count by their worst cases, complete ones by what they had."""
+    """`cc` under EDF: open jobs count by their worst cases, complete ones by what they had.
+
+    >>> state = State.begin(EXAMPLE)
+    >>> state.release(state.jobs[0])
+    >>> edf_cycle(state)  # 4 * 12/4
+    (12, 12)
+    """
     plan = state.plan
     return sum(map(mul, state.charged, plan.weights)), plan.hyperperiod
 
 
 def rm_cycle(state: State) -> Demand:
-    """`cc` under RM: what is left of the units that the static speed does up to the earliest deadline."""
+    """`cc` under RM: what is left of the units that the static speed does up to the earliest deadline.
+
+    >>> state = State.begin(Plan(EXAMPLE.tasks, EXAMPLE.machine, "rm"))
+    >>> [state.release(job) for job in state.jobs] and state.hand_out()
+    >>> rm_cycle(state)  # 4 + 9, in 4 ticks
+    (13, 4)
+    """
     end = state.first_deadline
     room, total = (end - state.handed_at) * state.plan.static_speed, 0
     for job, might in state.handed:
@@ -264,20 +455,23 @@ def rm_cycle(state: State) -> Demand:
 
 
 def edf_ahead(state: State) -> Demand:
-    """`la` under EDF: what can't be put off past the earliest deadline."""
+    """`la` under EDF: what can't be put off past the earliest deadline.
+
+    >>> state = State.begin(EXAMPLE)
+    >>> [state.release(job) for job in state.jobs] and edf_ahead(state)  # 4, and 3 of b's 9
+    (7, 4)
+    """
     plan, first, jobs, rates = state.plan, state.first_deadline, state.jobs, state.plan.rates
-    hyper, most = plan.hyperperiod, plan.machine.top_speed * plan.hyperperiod
-    kept, before = plan.rate, 0
+    hyper = plan.hyperperiod
+    spare, before = plan.machine.top_speed * hyper - sum(rates), 0
     for due, place in reversed(state.deadlines):
+        spare += rates[place]
         left = jobs[place].left
-        kept -= rates[place]
-        if left and due == first:
-            before += left
-        elif left:
-            room = (most - kept) * (due - first) // hyper
-            put_off = left if left < room else room
-            kept -= -put_off * hyper // (due - first)  # the rate, rounded up
-            before += left - put_off
+        if left and due > first:
+            put_off = min(left, spare * (due - first) // hyper)
+            spare += -put_off * hyper // (due - first)  # less the rate, rounded up
+            left -= put_off
+        before += left
     return before, first - state.now
 
 
@@ -290,24 +484,12 @@ GOVERNORS: Mapping[Pair, Governor] = {
 # The walk over the notes
 
 
-class Wrong(Exception):
-    """The note that is read is wrong; the text is why."""
-
-
-class WrongDecision(Wrong):
-    """The demand of a decision isn't that of its governor, or the speed isn't the lowest that meets it."""
-
-    def __init__(self, reason: str, demand: Demand) -> None:
-        super().__init__(reason)
-        self.demand = demand
-
-
 @dataclass(slots=True)
 class Summary:
     """What the notes of a run of some ticks add up to.
 
-    >>> Summary(2, 1, 1, 2, 6000).text()
-    '2 ticks, 1 jobs released, 1 complete, 2 decisions, energy 6000 running and 0 idle'
+    >>> Summary(ticks=2, released=1).complete
+    0
     """
 
     ticks: int
@@ -318,47 +500,50 @@ class Summary:
     idle_energy: int = 0
 
     def text(self) -> str:
-        """The numbers on one line."""
+        """The numbers on one line.
+
+        >>> Summary(2, 1, 1, 2, 6000).text()
+        '2 ticks, 1 jobs released, 1 complete, 2 decisions, energy 6000 running and 0 idle'
+        """
         jobs = f"{self.released} jobs released, {self.complete} complete, {self.decisions} decisions"
         return f"{self.ticks} ticks, {jobs}, energy {self.run_energy} running and {self.idle_energy} idle"
-
-
-ALL_HAD = "{} has had all of its {} units, and its done line is missing"
-NOT_DONE = "{} has no done line here, so it is not complete and gets {} units"
 
 
 class Checker:
     """Checks each note against the ones before it.
 
     Without a governor its decisions may be at any tick, with any demand and speed of the machine. Without
-    `needs`, the work units of named jobs with the charge, a job needs what its `done` note says, or its worst
-    case without one.
+    `needs` a job needs what its `done` note says, or its worst case without one.
+
+    >>> checker = Checker(State.begin(EXAMPLE), 4, full, None)
+    >>> checker.check(Release(0, "a", 1))
+    >>> checker.check(Release(0, "b", 2))
+    Traceback (most recent call last):
+    rtdvs.rules.Wrong: wanted job 1
     """
 
-    def __init__(self, state: State, ticks: int, governor: Governor | None,
-                 needs: Mapping[tuple[str, int], int] | None) -> None:
-        self.state = state
-        self.ticks = ticks
-        self.governor = governor
-        self.needs = needs
+    def __init__(self, state: State, ticks: int, governor: Governor | None, needs: Needs | None) -> None:
+        self.state, self.ticks, self.governor, self.needs = state, ticks, governor, needs
         self.named = {job.task.name: job for job in state.jobs}
         self.points = {point.speed: point for point in state.plan.machine.points}
         self.summary = Summary(ticks)
         self.last: Latest | None = None  # whose `done` note may be next
-        self.must: tuple[str, int] | None = None  # why it must be
+        self.must = ""  # why it must be
         self.checks: Mapping[type[Note], Callable[[Any], None]] = {
             Release: self._release, Decision: self._decision, Run: self._run, Idle: self._idle,
-            TaskEnergy: self._close, End: self._close}
+            Done: self._done, TaskEnergy: self._close, End: self._close}
 
     def check(self, note: Note) -> None:
-        """Raises Wrong if the note can't be the next one."""
-        if isinstance(note, Done):
-            self._done(note)
-            self.last = self.must = None
-            return
-        if self.must:
-            raise Wrong(self.must[0].format(self.last, self.must[1]))
-        self.last = None
+        """Raises Wrong if the note can't be the next one.
+
+        >>> Checker(State.begin(EXAMPLE), 4, full, None).check(Idle(Position(0, 0), Position(1, 0), 4, 0))
+        Traceback (most recent call last):
+        rtdvs.rules.Wrong: the release of a job 1 at tick 0 is missing
+        """
+        if type(note) is not Done:
+            if self.must:
+                raise Wrong(self.must)
+            self.last = None
         self.checks[type(note)](note)
 
     # What holds at a position
@@ -369,12 +554,9 @@ class Checker:
             raise Wrong(f"no task {task}")
         return job
 
-    def _place(self) -> str:
-        return f"{self.state.now}:{self.state.behind}"
-
     def _is_at(self, tick: int) -> None:
         if self.state.now != tick or self.state.behind:
-            raise Wrong(f"the trace is at {self._place()}")
+            raise Wrong(f"the trace is at {self.state.position}")
 
     def _need(self, job: Latest) -> int | None:
         """What a job needs, if that is known."""
@@ -386,14 +568,6 @@ class Checker:
             job = self.state.jobs[place]
             raise Wrong(f"the release of {job.task.name} job {job.number + 1} at tick {due} is missing")
 
-    def _all_met(self) -> None:
-        for due, place in self.state.deadlines:
-            if due > self.state.now:
-                return
-            job = self.state.jobs[place]
-            if not job.complete:
-                raise Wrong(f"{job} was due at {due} and is not complete: it has had {job.used} units")
-
     # The notes
 
     def _release(self, note: Release) -> None:
@@ -402,7 +576,7 @@ class Checker:
         if job.due != state.now or state.now >= self.ticks:
             raise Wrong(f"{note.task} is released next at tick {job.due}")
         if state.released != state.now:
-            self._all_met()
+            state.all_met()
         first = state.jobs[state.deadlines[0][1]]
         if first is not job:
             raise Wrong(f"the release of {first.task.name} comes first, by its place in the file")
@@ -412,7 +586,7 @@ class Checker:
         self.summary.released += 1
         self.last = job
         if self._need(job) == 0:
-            self.must = "{} needs nothing, and its done line is missing", 0
+            self.must = f"{job} needs nothing, and its done line is missing"
 
     def _decision(self, note: Decision) -> None:
         state = self.state
@@ -423,23 +597,23 @@ class Checker:
         point = self.points.get(note.speed)
         if point is None:
             raise Wrong(f"the machine has no speed {note.speed}")
-        if self.governor is not None:
-            if not state.is_decision:
-                raise Wrong(f"no decision is made at tick {note.tick}: "
-                            "no release, and no completion in the tick before")
-            state.hand_out()
-            self._demand(note, self.governor)
+        if self.governor:
+            self._governed(note, self.governor)
         state.decide(point)
         self.summary.decisions += 1
 
-    def _demand(self, note: Decision, governor: Governor) -> None:
-        demand = governor(self.state)
-        if (note.num, note.den) != demand:
-            raise WrongDecision(f"the demand is {demand[0]}/{demand[1]}", demand)
-        speed = self.state.plan.lowest(*demand).speed
+    def _governed(self, note: Decision, governor: Governor) -> None:
+        """Checks the tick of a decision, its demand and its speed."""
+        if not self.state.is_decision:
+            reason = "no release, and no completion in the tick before"
+            raise Wrong(f"no decision is made at tick {note.tick}: {reason}")
+        self.state.hand_out()
+        num, den = governor(self.state)
+        if note.num != num or note.den != den:
+            raise WrongDecision(f"the demand is {num}/{den}")
+        speed = self.state.plan.lowest(num, den).speed
         if note.speed != speed:
-            lowest = f"speed {speed} is the lowest that meets {demand[0]}/{demand[1]}"
-            raise WrongDecision(lowest, demand)
+            raise WrongDecision(f"speed {speed} is the lowest that meets {num}/{den}", (num, den))
 
     def _can_run(self) -> Point:
         """The point in force, if the next segment can begin."""
@@ -447,30 +621,27 @@ class Checker:
         self._all_released()
         if state.now >= self.ticks:
             raise Wrong(f"the run ends at tick {self.ticks}")
-        late = self.governor is not None and state.is_decision and state.decided != state.now
-        if state.point is None or late:
+        late = self.governor and state.decided != state.now and state.is_decision
+        if late or state.point is None:
             raise Wrong(f"the decision at tick {state.now} is missing")
         return state.point
 
-    def _span_end(self) -> int:
-        """The tick up to which nothing changes: a release, the end, or the decision after a completion."""
-        state, end = self.state, min(self.state.first_deadline, self.ticks)
-        return state.seen if self.governor is not None and state.now < state.seen < end else end
-
     def _segment(self, note: Run | Idle, speed: int) -> int:
         """Checks the place of a segment, and moves to its end; the units that there are for it."""
-        state, units, begin, end = self.state, note.units, note.begin, note.end
-        if begin.tick != state.now or begin.offset != state.behind:
-            raise Wrong(f"the trace is at {self._place()}")
-        tick = self._span_end()
-        room = (tick - state.now) * speed - state.behind
+        state, units = self.state, note.units
+        if note.begin != (state.now, state.behind):
+            raise Wrong(f"the trace is at {state.position}")
+        end = min(state.deadlines[0][0], self.ticks)
+        if self.governor and state.now < state.seen < end:
+            end = state.seen  # the decision after a completion
+        room = (end - state.now) * speed - state.behind
         if not 1 <= units <= room:
             events = {state.seen: "a decision", self.ticks: "the end", state.first_deadline: "a release"}
-            most = f"at speed {speed} there are {room} up to {events[tick]} at tick {tick}"
+            most = f"at speed {speed} there are {room} up to {events[end]} at tick {end}"
             raise Wrong(f"{units} units: {most}")
         state.advance(units, speed)
-        if end.tick != state.now or end.offset != state.behind:
-            raise Wrong(f"{units} units at speed {speed} end at {self._place()}")
+        if note.end != (state.now, state.behind):
+            raise Wrong(f"{units} units at speed {speed} end at {state.position}")
         return room
 
     def _energy(self, note: Run | Idle, millivolts: int, factor: int) -> None:
@@ -493,24 +664,24 @@ class Checker:
         return job
 
     def _run(self, note: Run) -> None:
-        point = self._can_run()
+        point, units = self._can_run(), note.units
         job = self._runs_next(note)
         need = self._need(job)
         left = (job.worst if need is None else need) - job.used
-        if note.units > left:
+        if units > left:
             raise Wrong(f"{job} has {left} units left")
         room = self._segment(note, point.speed)
         self._energy(note, point.millivolts, 1000)
-        whole, governed = min(left, room), self.governor is not None
-        if governed and need is not None and note.units != whole:
+        whole = min(left, room)
+        if self.governor and need is not None and units != whole:
             raise Wrong(f"{job} gets {whole} units here")
-        job.take(note.units)
+        job.take(units)
         self.summary.run_energy += note.energy
         self.last = job
-        if note.units == left:
-            self.must = ALL_HAD, job.used
-        elif governed and note.units < room:
-            self.must = NOT_DONE, whole
+        if units == left:
+            self.must = f"{job} has had all of its {job.used} units, and its done line is missing"
+        elif self.governor and units < room:
+            self.must = f"{job} has no done line here, so it is not complete and gets {whole} units"
 
     def _idle(self, note: Idle) -> None:
         point, state = self._can_run(), self.state
@@ -518,7 +689,7 @@ class Checker:
             job = state.jobs[min(place for _, place in state.open)]
             raise Wrong(f"{job} is not complete: it has had {job.used} units")
         room = self._segment(note, point.speed)
-        if self.governor is not None and note.units < room:
+        if self.governor and note.units < room:
             raise Wrong(f"{room} units are idle here")
         self._energy(note, point.millivolts, state.plan.machine.idle)
         self.summary.idle_energy += note.energy
@@ -527,9 +698,8 @@ class Checker:
         state, job = self.state, self._job(note.task)
         if self.last is not job or job.complete:
             raise Wrong(f"the line before isn't the last one of {note.task} job {note.job}")
-        at = note.at.tick == state.now and note.at.offset == state.behind
-        if not at or note.job != job.number or note.used != job.used:
-            raise Wrong(f"{job} is at {self._place()} and has had {job.used} units")
+        if note.at != (state.now, state.behind) or note.job != job.number or note.used != job.used:
+            raise Wrong(f"{job} is at {state.position} and has had {job.used} units")
         need, least = self._need(job), 2 * state.plan.machine.charge
         if need is not None and note.used != need:
             raise Wrong(f"{job} needs {need} units")
@@ -537,14 +707,16 @@ class Checker:
             raise Wrong(f"{job} needs at least {least} units")
         state.complete(job)
         self.summary.complete += 1
+        self.last, self.must = None, ""
 
     def _close(self, note: TaskEnergy | End) -> None:
         if isinstance(note, TaskEnergy):
             if self.state.now < self.ticks:
-                raise Wrong(f"the energy lines are after the last tick, and the trace is at {self._place()}")
+                position = self.state.position
+                raise Wrong(f"the energy lines are after the last tick, and the trace is at {position}")
             return
         self._is_at(self.ticks)
-        self._all_met()
+        self.state.all_met()
         if note.ticks != self.ticks:
             raise Wrong(f"the run has {self.ticks} ticks")
         run, idle = self.summary.run_energy, self.summary.idle_energy

@@ -6,38 +6,25 @@ as any other. The command has the program's governors; `rtdvs.simulate.simulate`
 """
 
 import argparse
-from collections.abc import Iterator, Mapping
+from collections.abc import Iterator
+from dataclasses import dataclass
 
 from rtdvs.commandline import (
     Commands, add_files, add_pair, add_parser, add_ticks, read_demands, read_machine, read_tasks,
 )
 from rtdvs.files import Demands, FileFault, Machine, TaskSet
-from rtdvs.rules import GOVERNORS, Governor, Latest, Plan, State
-from rtdvs.trace import Decision, Done, End, Idle, Note, Position, Release, Run, TaskEnergy, Trace
+from rtdvs.rules import GOVERNORS, DeadlineMissed as DeadlineMissed, Governor, Latest, Needs, Plan, State
+from rtdvs.trace import Decision, Done, End, Idle, Note, Release, Run, TaskEnergy, Trace
 
 
-class DeadlineMissed(ValueError):
-    """A job isn't complete at its deadline."""
-
-
-def _position(state: State) -> Position:
-    return Position(state.now, state.behind)
-
-
-def _done(state: State, job: Latest) -> Done:
-    state.complete(job)
-    return Done(_position(state), job.task.name, job.number, job.used)
-
-
+@dataclass(frozen=True, slots=True)
 class _Run:
     """A run: what its jobs need, which a governor doesn't see, and how the next notes come about."""
 
-    def __init__(self, state: State, ticks: int, governor: Governor,
-                 needs: Mapping[tuple[str, int], int]) -> None:
-        self.state = state
-        self.ticks = ticks
-        self.governor = governor
-        self.needs = needs
+    state: State
+    ticks: int
+    governor: Governor
+    needs: Needs
 
     def notes(self) -> Iterator[Note]:
         """All notes up to the last tick. Raises DeadlineMissed."""
@@ -46,29 +33,25 @@ class _Run:
             if self.state.is_decision:
                 yield self._decision()
             yield from self._segment()
-        self._all_met()
+        self.state.all_met()
 
     def _left(self, job: Latest) -> int:
-        charge = 2 * self.state.plan.machine.charge
-        units = self.needs.get((job.task.name, job.number))
-        return (job.worst if units is None else units + charge) - job.used
+        return self.needs.get((job.task.name, job.number), job.worst) - job.used
 
-    def _all_met(self) -> None:
-        for job in self.state.jobs:
-            if job.due == self.state.now and not job.complete:
-                late = f"was due at {job.due} and is not complete: it has had {job.used} units"
-                raise DeadlineMissed(f"{job} {late}")
+    def _done(self, job: Latest) -> Iterator[Note]:
+        """The completion of a job that needs nothing more."""
+        if self._left(job) == 0:
+            self.state.complete(job)
+            yield Done(self.state.position, job.task.name, job.number, job.used)
 
     def _releases(self) -> Iterator[Note]:
         state = self.state
-        if state.behind == 0 and state.first_deadline == state.now:
-            self._all_met()
+        self.state.all_met()
         while state.behind == 0 and state.first_deadline == state.now:
             job = state.jobs[state.deadlines[0][1]]
             state.release(job)
             yield Release(state.now, job.task.name, job.number)
-            if self._left(job) == 0:
-                yield _done(state, job)
+            yield from self._done(job)
 
     def _decision(self) -> Note:
         state = self.state
@@ -76,8 +59,9 @@ class _Run:
         num, den = self.governor(state)
         if num < 0 or den < 1:
             raise ValueError(f"the governor's demand at tick {state.now} is {num}/{den}")
-        state.decide(state.plan.lowest(num, den))
-        return Decision(state.now, state.point.speed if state.point else 0, num, den)
+        point = state.plan.lowest(num, den)
+        state.decide(point)
+        return Decision(state.now, point.speed, num, den)
 
     def _segment(self) -> Iterator[Note]:
         """The units of one job, or the idle ones, up to the next event; and the job's completion."""
@@ -86,27 +70,24 @@ class _Run:
         ends = [state.first_deadline, self.ticks, state.seen if state.seen > state.now else self.ticks]
         room = (min(ends) - state.now) * point.speed - state.behind
         units = room if job is None else min(room, self._left(job))
-        begin, price = _position(state), units * point.millivolts * point.millivolts
+        begin, price = state.position, units * point.millivolts * point.millivolts
         state.advance(units, point.speed)
         if job is None:
-            yield Idle(begin, _position(state), units, price * state.plan.machine.idle)
+            yield Idle(begin, state.position, units, price * state.plan.machine.idle)
             return
         job.take(units)
-        yield Run(begin, _position(state), job.task.name, job.number, units, price * 1000)
-        if self._left(job) == 0:
-            yield _done(state, job)
+        yield Run(begin, state.position, job.task.name, job.number, units, price * 1000)
+        yield from self._done(job)
 
 
 def _closing(tasks: TaskSet, notes: list[Note], ticks: int) -> Iterator[Note]:
     """The energy of each task, and the end."""
-    energies = {task.name: 0 for task in tasks}
-    idle = 0
+    energies = dict.fromkeys(tasks.names, 0)
     for note in notes:
         if isinstance(note, Run):
             energies[note.task] += note.energy
-        elif isinstance(note, Idle):
-            idle += note.energy
-    yield from (TaskEnergy(name, energy) for name, energy in energies.items())
+    yield from map(TaskEnergy, energies, energies.values())
+    idle = sum(note.energy for note in notes if isinstance(note, Idle))
     yield End(ticks, sum(energies.values()), idle)
 
 
@@ -133,9 +114,16 @@ def simulate(tasks: TaskSet, machine: Machine, scheduler: str, ticks: int, gover
     idle 2:0 4:0 4 0
     energy t 4000000000
     end 4 4000000000 0
+    >>> simulate(tasks, machine, "edf", 4, lambda state: (-1, 1))
+    Traceback (most recent call last):
+    ValueError: the governor's demand at tick 0 is -1/1
+    >>> simulate(tasks, machine, "edf", 4, lambda state: (1, 0))
+    Traceback (most recent call last):
+    ValueError: the governor's demand at tick 0 is 1/0
     """
-    state = State.begin(Plan(tasks, machine, scheduler))
-    notes = list(_Run(state, ticks, governor, demands.units if demands else {}).notes())
+    plan = Plan(tasks, machine, scheduler)
+    needs = plan.needs(demands or Demands({}))
+    notes = [*_Run(State.begin(plan), ticks, governor, needs).notes()]
     return Trace(2, scheduler, name, ticks, tasks.tasks, (*notes, *_closing(tasks, notes, ticks)))
 
 
@@ -152,7 +140,14 @@ def _handle(args: argparse.Namespace) -> int:
 
 
 def add_command(commands: Commands) -> None:
-    """Adds the command `simulate`."""
+    """Adds the command `simulate`.
+
+    >>> parser = argparse.ArgumentParser()
+    >>> add_command(parser.add_subparsers())
+    >>> files = "--tasks t.toml --machine m.toml"
+    >>> parser.parse_args(f"simulate {files} --scheduler edf --governor cc --ticks 16".split()).ticks
+    16
+    """
     parser = add_parser(commands, "simulate", _handle, "simulate a run under a governor in Python",
                         "simulate --tasks tasks.toml --machine machine.toml --scheduler edf --governor cc "
                         "--ticks 16")

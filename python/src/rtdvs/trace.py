@@ -8,10 +8,11 @@ have passed; as a time it is an exact fraction of ticks, the units over the spee
 import io
 import re
 from collections.abc import Callable, Iterable, Iterator
-from dataclasses import dataclass, replace
+from dataclasses import asdict, dataclass, field, replace
 from fractions import Fraction
+from functools import lru_cache
 from pathlib import Path
-from typing import NamedTuple, Self, TextIO
+from typing import ClassVar, NamedTuple, Self, TextIO
 
 from rtdvs.files import MOST_TASKS, Task, TaskSet
 
@@ -58,35 +59,55 @@ class Position(NamedTuple):
         return self.tick + Fraction(self.offset, speed) if self.offset else Fraction(self.tick)
 
 
-@dataclass(frozen=True, slots=True)
-class Release:
-    """A job is released."""
+class _Line:
+    """What all lines share: `form` is their text, with the names of their fields."""
 
+    __slots__ = ()
+    form: ClassVar[str]
+
+    def text(self) -> str:
+        """The text, without its last line feed."""
+        return self.form.format(self)
+
+
+@dataclass(frozen=True, slots=True)
+class Release(_Line):
+    """A job, by its number from 1 on, is released at a tick.
+
+    >>> Release(tick=0, task="t", job=1).text()
+    'release 0 t 1'
+    """
+
+    form = "release {0.tick} {0.task} {0.job}"
     tick: int
     task: str
     job: int
 
-    def text(self) -> str:
-        return f"release {self.tick} {self.task} {self.job}"
-
 
 @dataclass(frozen=True, slots=True)
-class Decision:
-    """A speed is chosen, in work units per tick, for the published demand num/den."""
+class Decision(_Line):
+    """A speed is chosen at a tick, for the published demand num/den; both in work units per tick.
 
+    >>> Decision(tick=3, speed=3, num=696, den=280).text()
+    'speed 3 3 696/280'
+    """
+
+    form = "speed {0.tick} {0.speed} {0.num}/{0.den}"
     tick: int
     speed: int
     num: int
     den: int
 
-    def text(self) -> str:
-        return f"speed {self.tick} {self.speed} {self.num}/{self.den}"
-
 
 @dataclass(frozen=True, slots=True)
-class Run:
-    """A job runs for some work units without interruption, and takes their energy."""
+class Run(_Line):
+    """A job runs for some work units without interruption, and takes their energy.
 
+    >>> Run(Position(0, 0), Position(2, 2), "t1", job=1, units=8, energy=128000000000).text()
+    'run 0:0 2:2 t1 1 8 128000000000'
+    """
+
+    form = "run {0.begin} {0.end} {0.task} {0.job} {0.units} {0.energy}"
     begin: Position
     end: Position
     task: str
@@ -94,72 +115,89 @@ class Run:
     units: int
     energy: int
 
-    def text(self) -> str:
-        return f"run {self.begin} {self.end} {self.task} {self.job} {self.units} {self.energy}"
-
 
 @dataclass(frozen=True, slots=True)
-class Idle:
-    """No job runs for some work units."""
+class Idle(_Line):
+    """No job runs for some work units.
 
+    >>> Idle(Position(6, 0), Position(8, 0), units=4, energy=0).text()
+    'idle 6:0 8:0 4 0'
+    """
+
+    form = "idle {0.begin} {0.end} {0.units} {0.energy}"
     begin: Position
     end: Position
     units: int
     energy: int
 
-    def text(self) -> str:
-        return f"idle {self.begin} {self.end} {self.units} {self.energy}"
-
 
 @dataclass(frozen=True, slots=True)
-class Done:
-    """A job is complete, after all of its work units."""
+class Done(_Line):
+    """A job is complete, after all of its work units.
 
+    >>> Done(Position(2, 2), "t1", job=1, used=8).text()
+    'done 2:2 t1 1 8'
+    """
+
+    form = "done {0.at} {0.task} {0.job} {0.used}"
     at: Position
     task: str
     job: int
     used: int
 
-    def text(self) -> str:
-        return f"done {self.at} {self.task} {self.job} {self.used}"
-
 
 @dataclass(frozen=True, slots=True)
-class TaskEnergy:
-    """The energy of all runs of a task; in version 2 only."""
+class TaskEnergy(_Line):
+    """The energy of all runs of a task; in version 2 only.
 
+    >>> TaskEnergy("t1", 192000000000).text()
+    'energy t1 192000000000'
+    """
+
+    form = "energy {0.task} {0.energy}"
     task: str
     energy: int
 
-    def text(self) -> str:
-        return f"energy {self.task} {self.energy}"
-
 
 @dataclass(frozen=True, slots=True)
-class End:
-    """The ticks of the run, and its energies."""
+class End(_Line):
+    """The ticks of the run, and its energies.
 
+    >>> End(ticks=16, run_energy=364000000000, idle_energy=0).text()
+    'end 16 364000000000 0'
+    """
+
+    form = "end {0.ticks} {0.run_energy} {0.idle_energy}"
     ticks: int
     run_energy: int
     idle_energy: int
 
-    def text(self) -> str:
-        return f"end {self.ticks} {self.run_energy} {self.idle_energy}"
-
 
 @dataclass(frozen=True, slots=True)
-class Head:
-    """What the first two lines say: the version of the text, and the run's scheduler, governor and ticks."""
+class Head(_Line):
+    """What the first two lines say: the version of the text, and the run's scheduler, governor and ticks.
 
+    >>> Head(1, "edf", "cc", 16).text()
+    'trace 1\\nplan edf cc 16'
+    """
+
+    form = "trace {0.version}\nplan {0.scheduler} {0.governor} {0.ticks}"
     version: int
     scheduler: str
     governor: str
     ticks: int
 
-    def text(self) -> str:
-        return f"trace {self.version}\nplan {self.scheduler} {self.governor} {self.ticks}"
+
+def task_text(task: Task) -> str:
+    """The line of a task in version 2, without its line feed.
+
+    >>> task_text(Task("t1", period=8, worst=12))
+    'task t1 8 0 12'
+    """
+    return _TASK.format(task)
 
 
+_TASK = "task {0.name} {0.period} {0.offset} {0.worst}"
 Note = Release | Decision | Run | Idle | Done | TaskEnergy | End
 Item = Head | Task | Note
 
@@ -170,57 +208,51 @@ Item = Head | Task | Note
 def _up_to(limit: int) -> str:
     """A pattern for the whole numbers from 1 to the limit.
 
-    >>> _up_to(4093)
-    '[1-9][0-9]{0,2}|[1-3][0-9]{3}|40[0-8][0-9]{1}|409[0-3]'
+    >>> _up_to(403)
+    '[1-9][0-9]{0,1}|[1-3][0-9]{2}|40[0-2][0-9]{0}|403'
     """
     text = str(limit)
-    parts = [f"[1-9][0-9]{{0,{len(text) - 2}}}"]
-    for place, digit in enumerate(text):
-        least, rest = int(place == 0), len(text) - place - 1
-        if int(digit) - (rest > 0) >= least:
-            tail = f"[0-9]{{{rest}}}" if rest else ""
-            parts.append(f"{text[:place]}[{least}-{int(digit) - (rest > 0)}]{tail}")
-    return "|".join(parts)
+    below = [f"{text[:place]}[{int(place == 0)}-{int(digit) - 1}][0-9]{{{len(text) - place - 1}}}"
+             for place, digit in enumerate(text) if int(digit) > (place == 0)]
+    return "|".join([f"[1-9][0-9]{{0,{len(text) - 2}}}", *below, text])
 
 
-_SHAPES = {  # of the fields of a line
-    "number": f"(0|{_up_to(2**64 - 1)})",
-    "counted": f"({_up_to(2**64 - 1)})",
-    "energy": f"(0|{_up_to(2**128 - 1)})",
-    "fraction": f"(0|{_up_to(2**128 - 1)})/(0|{_up_to(2**128 - 1)})",
-    "position": f"(0|{_up_to(2**64 - 1)}):(0|{_up_to(2**64 - 1)})",
-    "name": "([A-Za-z0-9_-]{1,32})",
-    "ticks": f"({_up_to(MOST_TICKS)})",
-    "scheduler": "(edf|rm)",
+_NAME = "([A-Za-z0-9_-]{1,32})"
+_COUNTED, _NUMBER, _GREAT = f"({_up_to(2**64 - 1)})", f"(0|{_up_to(2**64 - 1)})", f"(0|{_up_to(2**128 - 1)})"
+_SHAPES = {  # of fields; all others are numbers
+    "name": _NAME, "task": _NAME, "period": _COUNTED, "worst": _COUNTED,
+    "num": _GREAT, "den": _GREAT, "energy": _GREAT, "run_energy": _GREAT, "idle_energy": _GREAT,
+    **dict.fromkeys(("begin", "end", "at"), f"{_NUMBER}:{_NUMBER}"),
 }
 
 
-def _shape(word: str, *fields: str) -> re.Pattern[str]:
-    return re.compile(" ".join([word, *(_SHAPES[field] for field in fields)]) + "\n")
-
-
+@lru_cache(maxsize=4)  # a line often begins where the one before it ends
 def _at(tick: str, offset: str) -> Position:
     return Position(int(tick), int(offset))
 
 
-_PLAN = _shape("plan", "scheduler", "name", "ticks")
-_ITEMS: dict[str, tuple[re.Pattern[str], Callable[..., Item]]] = {
-    "task": (_shape("task", "name", "counted", "number", "counted"),
-             lambda name, period, offset, worst: Task(name, int(period), int(worst), int(offset))),
-    "release": (_shape("release", "number", "name", "number"),
-                lambda tick, task, job: Release(int(tick), task, int(job))),
-    "speed": (_shape("speed", "number", "number", "fraction"),
-              lambda *numbers: Decision(*map(int, numbers))),
-    "run": (_shape("run", "position", "position", "name", "number", "number", "energy"),
-            lambda *groups: Run(_at(*groups[:2]), _at(*groups[2:4]), groups[4], *map(int, groups[5:]))),
-    "idle": (_shape("idle", "position", "position", "number", "energy"),
-             lambda *groups: Idle(_at(*groups[:2]), _at(*groups[2:4]), *map(int, groups[4:]))),
-    "done": (_shape("done", "position", "name", "number", "number"),
-             lambda tick, offset, task, job, used: Done(_at(tick, offset), task, int(job), int(used))),
-    "energy": (_shape("energy", "name", "energy"), lambda task, energy: TaskEnergy(task, int(energy))),
-    "end": (_shape("end", "number", "energy", "energy"), lambda *numbers: End(*map(int, numbers))),
+_PLAN = re.compile(f"plan (edf|rm) {_NAME} ({_up_to(MOST_TICKS)})\n")
+_FORMS: dict[str, Callable[..., Item]] = {
+    _TASK: lambda name, period, offset, worst: Task(name, int(period), int(worst), int(offset)),
+    Release.form: lambda tick, task, job: Release(int(tick), task, int(job)),
+    Decision.form: lambda *numbers: Decision(*map(int, numbers)),
+    Run.form: lambda tick, offset, end, after, task, job, units, energy: Run(
+        _at(tick, offset), _at(end, after), task, int(job), int(units), int(energy)),
+    Idle.form: lambda tick, offset, end, after, units, energy: Idle(
+        _at(tick, offset), _at(end, after), int(units), int(energy)),
+    Done.form: lambda tick, offset, task, job, used: Done(_at(tick, offset), task, int(job), int(used)),
+    TaskEnergy.form: lambda task, energy: TaskEnergy(task, int(energy)),
+    End.form: lambda *numbers: End(*map(int, numbers)),
 }
-_NONE = re.compile("(?!)"), End  # a pattern that nothing matches
+
+
+def _shape(form: str) -> re.Pattern[str]:
+    """A pattern for a line of that form, with its line feed."""
+    return re.compile(re.sub(r"{0\.(\w+)}", lambda field: _SHAPES.get(str(field[1]), _NUMBER), form) + "\n")
+
+
+_LINES = {form.split()[0]: (_shape(form), make) for form, make in _FORMS.items()}
+_NO_LINE = re.compile("(?!)"), End  # a pattern that nothing matches
 
 
 def _head(lines: Iterator[str]) -> Head:
@@ -254,7 +286,7 @@ def spelled_lines(lines: Iterable[str]) -> Iterator[Item]:
     for number, line in enumerate(source, 3):
         if isinstance(item, End):
             raise TraceFault(number, "a line after the end line")
-        shape, make = _ITEMS.get(line[:line.find(" ")], _NONE)
+        shape, make = _LINES.get(line[:line.find(" ")], _NO_LINE)
         found = shape.fullmatch(line)
         if not found or number > MOST_LINES:
             more = f"a trace has at most {MOST_LINES} lines"
@@ -265,72 +297,70 @@ def spelled_lines(lines: Iterable[str]) -> Iterator[Item]:
         raise TraceFault(number + 1, "the trace ends before its end line")
 
 
+@dataclass(slots=True)
 class Order:
-    """What the order of the lines needs: the version, each task's energy, and what came before."""
+    """What the order of the lines needs: each task's energy so far, and which kinds of lines there were.
 
-    __slots__ = ("version", "sums", "to_come", "begun", "decided")
+    >>> order = Order()
+    >>> order.fault(Head(1, "edf", "mine", 2)), order.fault(Idle(Position(0, 0), Position(1, 0), 2, 0))
+    (None, 'there is no decision before it')
+    """
 
-    def __init__(self) -> None:
-        self.version = 1
-        self.sums: dict[str, int] = {}
-        self.to_come: list[str] = []  # the tasks whose energy lines are to come, the next one last
-        self.begun = False
-        self.decided = False
+    version: int = 1
+    sums: dict[str, int] = field(default_factory=dict)
+    to_come: list[str] = field(default_factory=list)  # whose energy lines are to come, the next one last
+    begun: bool = False
+    decided: bool = False
 
     def fault(self, item: Item) -> str | None:
         """Why an item can't be the next one, or None.
 
-        >>> order = Order()
-        >>> order.fault(Head(1, "edf", "mine", 2)), order.fault(Idle(Position(0, 0), Position(1, 0), 2, 0))
-        (None, 'there is no decision before it')
+        >>> Order().fault(TaskEnergy("a", 0))
+        'only version 2 has energy lines'
         """
+        if isinstance(item, (Head, Task)):
+            return self._first_fault(item)
+        if not self.begun:
+            self.begun, self.to_come = True, [*self.sums][::-1]
+            if self.version == 2 and not self.sums:
+                return "the lines of the tasks are missing"
+        if isinstance(item, (TaskEnergy, End)):
+            return self._closing_fault(item)
+        if len(self.to_come) < len(self.sums):
+            return "a line between the energy lines and the end line"
+        if isinstance(item, Decision):
+            self.decided = True
+            return None if item.speed and item.den else "a speed of 0, or a fraction over 0"
+        if not self.decided and (isinstance(item, (Run, Idle)) or isinstance(item, Done) and item.at.offset):
+            return "there is no decision before it"
+        if self.sums and not isinstance(item, Idle):
+            if item.task not in self.sums:
+                return f"no task {item.task}"
+            if isinstance(item, Run):
+                self.sums[item.task] += item.energy
+        return None
+
+    def _first_fault(self, item: Head | Task) -> str | None:
         if isinstance(item, Head):
             self.version = item.version
             return None
-        if isinstance(item, Task):
-            return self._task_fault(item)
-        if not self.begun:
-            self.begun, self.to_come = True, list(self.sums)[::-1]
-            if self.version == 2 and not self.sums:
-                return "the lines of the tasks are missing"
-        return self._closing_fault(item) if isinstance(item, (TaskEnergy, End)) else self._note_fault(item)
-
-    def _task_fault(self, task: Task) -> str | None:
         if self.version == 1 or self.begun:
             return "the lines of the tasks are after the plan line of version 2"
         if len(self.sums) == MOST_TASKS:
             return f"more than {MOST_TASKS} tasks"
-        fault = "two tasks of one name" if task.name in self.sums else None
-        self.sums[task.name] = 0
+        fault = "two tasks of one name" if item.name in self.sums else None
+        self.sums[item.name] = 0
         return fault
-
-    def _note_fault(self, note: Release | Decision | Run | Idle | Done) -> str | None:
-        if len(self.to_come) < len(self.sums):
-            return "a line between the energy lines and the end line"
-        if isinstance(note, Decision):
-            self.decided = True
-            return None if note.speed and note.den else "a speed of 0, or a fraction over 0"
-        if not self.decided and (isinstance(note, (Run, Idle)) or isinstance(note, Done) and note.at.offset):
-            return "there is no decision before it"
-        if self.version == 1 or isinstance(note, Idle):
-            return None
-        if note.task not in self.sums:
-            return f"no task {note.task}"
-        if isinstance(note, Run):
-            self.sums[note.task] += note.energy
-        return None
 
     def _closing_fault(self, note: TaskEnergy | End) -> str | None:
         if isinstance(note, End):
             return f"the energy line of {self.to_come[-1]} is missing" if self.to_come else None
         if self.version == 1:
             return "only version 2 has energy lines"
-        if not self.to_come or self.to_come[-1] != note.task:
+        if not self.to_come or self.to_come.pop() != note.task:
             return "the energy lines are one for each task, in the order of the file"
-        if self.sums[note.task] != note.energy:
-            return f"the run lines of {note.task} add up to {self.sums[note.task]}"
-        self.to_come.pop()
-        return None
+        total = self.sums[note.task]
+        return None if total == note.energy else f"the run lines of {note.task} add up to {total}"
 
 
 def parse_lines(lines: Iterable[str]) -> Iterator[Item]:
@@ -384,18 +414,26 @@ class Job:
 
     @property
     def response(self) -> Fraction | None:
-        """The ticks from the release to the completion."""
+        """The ticks from the release to the completion.
+
+        >>> Job("t", 1, release=2, deadline=10, completion=Fraction(7, 2)).response
+        Fraction(3, 2)
+        """
         return None if self.completion is None else self.completion - self.release
 
     @property
     def laxity(self) -> Fraction | None:
-        """The ticks from the completion to the deadline."""
+        """The ticks from the completion to the deadline.
+
+        >>> Job("t", 1, release=2, deadline=10, completion=Fraction(7, 2)).laxity
+        Fraction(13, 2)
+        """
         return None if self.completion is None else self.deadline - self.completion
 
 
 @dataclass(frozen=True, slots=True)
-class Trace:
-    """A whole trace. `tasks` are those of version 2, with declared worst cases; the last note is the End.
+class Trace(Head):
+    """A whole trace: its head, tasks and notes. Its tasks, with declared worst cases, are those of version 2.
 
     >>> trace = Trace.parse(SAMPLE)
     >>> trace.energy, trace.switches, trace.idle_time, trace.residency()
@@ -404,10 +442,6 @@ class Trace:
     True
     """
 
-    version: int
-    scheduler: str
-    governor: str
-    ticks: int
     tasks: tuple[Task, ...]
     notes: tuple[Note, ...]
 
@@ -434,61 +468,93 @@ class Trace:
 
     @classmethod
     def _of(cls, file: TextIO) -> Self:
-        items = parse_lines(lines_of(file))
-        head = next(items)
-        assert isinstance(head, Head)
-        body = [item for item in items if not isinstance(item, Head)]
-        tasks = tuple(item for item in body if isinstance(item, Task))
-        notes = tuple(item for item in body if not isinstance(item, Task))
-        return cls(head.version, head.scheduler, head.governor, head.ticks, tasks, notes)
+        head, *items = parse_lines(lines_of(file))
+        tasks = tuple(item for item in items if isinstance(item, Task))
+        notes = tuple(item for item in items if not isinstance(item, (Head, Task)))
+        return cls(**asdict(head), tasks=tasks, notes=notes)
 
     def text(self) -> str:
-        """The text of the trace, with its last line feed."""
-        head = Head(self.version, self.scheduler, self.governor, self.ticks).text()
-        tasks = [f"task {task.name} {task.period} {task.offset} {task.worst}" for task in self.tasks]
-        return "\n".join([head, *tasks, *(note.text() for note in self.notes), ""])
+        """The text of the trace, with its last line feed.
+
+        >>> Trace(1, "edf", "mine", 2, (), (End(2, 0, 0),)).text()
+        'trace 1\\nplan edf mine 2\\nend 2 0 0\\n'
+        """
+        notes = (note.text() for note in self.notes)
+        return "\n".join([Head.text(self), *map(task_text, self.tasks), *notes, ""])
 
     @property
     def end(self) -> End:
-        """The last note."""
+        """The last note.
+
+        >>> Trace.parse(SAMPLE).end
+        End(ticks=2, run_energy=6000, idle_energy=0)
+        """
         last = self.notes[-1]
         assert isinstance(last, End)
         return last
 
     @property
     def names(self) -> tuple[str, ...]:
-        """The tasks in file order; in version 1 in the order of the notes that name them."""
+        """The tasks in file order; in version 1 in the order of the notes that name them.
+
+        >>> Trace.parse(SAMPLE).names
+        ('t',)
+        """
         seen = (note.task for note in self.notes if isinstance(note, Release | Run | Done))
         return tuple(dict.fromkeys([*(task.name for task in self.tasks), *seen]))
 
     @property
     def run_energy(self) -> int:
-        """The energy of all runs, as the end line has it."""
+        """The energy of all runs, as the end line has it.
+
+        >>> Trace.parse(SAMPLE).run_energy
+        6000
+        """
         return self.end.run_energy
 
     @property
     def idle_energy(self) -> int:
-        """The energy of all idle units, as the end line has it."""
+        """The energy of all idle units, as the end line has it.
+
+        >>> Trace.parse(SAMPLE).idle_energy
+        0
+        """
         return self.end.idle_energy
 
     @property
     def energy(self) -> int:
-        """The energy of runs and idle units together."""
+        """The energy of runs and idle units together.
+
+        >>> Trace.parse(SAMPLE).energy
+        6000
+        """
         return self.run_energy + self.idle_energy
 
     @property
     def decisions(self) -> tuple[Decision, ...]:
-        """The decisions, in order."""
+        """The decisions, in order.
+
+        >>> Trace.parse(SAMPLE).decisions[1]
+        Decision(tick=1, speed=2, num=2, den=1)
+        """
         return tuple(note for note in self.notes if isinstance(note, Decision))
 
     @property
     def switches(self) -> int:
-        """The number of decisions after which the speed is another than before; the first one is none."""
+        """The number of decisions after which the speed is another than before; the first one is none.
+
+        >>> Trace.parse(SAMPLE).switches
+        1
+        """
         decisions = self.decisions
         return sum(one.speed != two.speed for one, two in zip(decisions, decisions[1:], strict=False))
 
     def residency(self) -> dict[int, Fraction]:
-        """The ticks at each speed that was chosen, in the order of their first use."""
+        """The ticks at each speed that was chosen, in the order of their first use.
+
+        >>> Trace.parse(SAMPLE).residency()
+        {3: Fraction(1, 1), 2: Fraction(1, 1)}
+        """
         decisions = self.decisions
         times: dict[int, Fraction] = {}
         ends = [*(each.tick for each in decisions[1:]), self.ticks]
@@ -498,7 +564,11 @@ class Trace:
 
     @property
     def idle_time(self) -> Fraction:
-        """The ticks, and parts of ticks, in which no job runs."""
+        """The ticks, and parts of ticks, in which no job runs.
+
+        >>> Trace.parse(SAMPLE).idle_time
+        Fraction(1, 2)
+        """
         idle = ((note.units, speed) for note, speed in self.at_speeds() if isinstance(note, Idle))
         return sum((Fraction(units, speed) for units, speed in idle), Fraction(0))
 
@@ -522,6 +592,13 @@ class Trace:
 
         >>> Trace.parse(SAMPLE).jobs()[0].laxity
         Fraction(1, 2)
+        >>> Trace.parse("trace 1\\nplan edf mine 2\\nrelease 0 a 1\\nend 2 0 0\\n").jobs()
+        Traceback (most recent call last):
+        rtdvs.trace.TraceFault: line 3: the period of a is not known
+        >>> text = "trace 1\\nplan edf mine 1\\nspeed 0 2 1/1\\nrun 0:0 1:0 a 1 2 5\\nend 1 5 0\\n"
+        >>> Trace.parse(text).jobs(TaskSet((Task("a", 4, 2),)))
+        Traceback (most recent call last):
+        rtdvs.trace.TraceFault: line 4: a job 1 is not released
         """
         periods = {task.name: task.period for task in tasks or self.tasks}
         jobs: dict[tuple[str, int], Job] = {}
