@@ -36,7 +36,7 @@ def path_id(path: Path) -> str:
 
 
 class Segment(NamedTuple):
-    """A run of a job, or idle time, which has no task and no job; begin and end are in ticks."""
+    """A run of a job, or idle time, which has no task and no job; begin and end are in ticks, places as written."""
 
     task: str
     job: str
@@ -45,6 +45,7 @@ class Segment(NamedTuple):
     units: int
     energy: int
     speed: int
+    places: list[str]
 
 
 class Lines:
@@ -70,7 +71,7 @@ class Lines:
                 task, job = fields[2:-2] or ("", "")
                 begin, end = time(fields[0], speed), time(fields[1], speed)
                 units, energy = map(int, fields[-2:])
-                self.segments.append(Segment(task, job, begin, end, units, energy, speed))
+                self.segments.append(Segment(task, job, begin, end, units, energy, speed, fields[:2]))
 
     def of(self, word: str) -> list[list[str]]:
         """The fields of the lines that begin with a word."""

@@ -16,7 +16,6 @@ from rtdvs.compare import Result, Row
 from rtdvs.engine import Engine
 from rtdvs.figures import plot_compare
 from rtdvs.files import FileFault
-from rtdvs.commandline import note_charge
 from rtdvs.marks import Bar, join_narrow, readable, round_step, steps, thin
 from rtdvs.plot import View, plot_trace, save_trace, settled, trace_height
 from rtdvs.trace import Trace
@@ -187,16 +186,6 @@ def test_without_matplotlib(tmp_path: Path, monkeypatch: pytest.MonkeyPatch,
     words = ["--trace", str(DATA / "paper" / "edf_none.trace"), "--output", str(tmp_path / "a.svg")]
     assert main(["plot", "trace", *words]) == 2
     assert "plot: matplotlib is not installed" in capsys.readouterr().err
-
-
-def test_charge_is_asked_for(capsys: Captured) -> None:
-    run = "release 0 a 1\nspeed 0 4 1/1\nrun 0:0 2:0 a 1 8 8\ndone 2:0 a 1 8\nenergy a 8\nend 2 8 0\n"
-    trace = Trace.parse(head(2, "task a 2 0 4\n") + run)
-    note_charge(trace, 1)
-    note = "note: a job 1 used 8 of 6 declared units: give the machine's charge by --charge\n"
-    assert capsys.readouterr().err == note
-    note_charge(trace, 2)
-    assert capsys.readouterr().err == ""
 
 
 places = st.lists(st.integers(0, 1000)).map(lambda ticks: sorted(ticks))
