@@ -273,7 +273,8 @@ def _handle(args: argparse.Namespace) -> int:
     if args.to in WRITERS and (args.table or args.charge is not None):
         raise FileFault(f"--table and --charge are for csv only, and not for {args.to}")
     trace, charge = Trace.parse(read_text(args.trace, "trace")), args.charge or 0
-    text = WRITERS[args.to](trace) if args.to in WRITERS else csv_text(trace, args.table or "segments", charge)
+    table = args.table or "segments"
+    text = WRITERS[args.to](trace) if args.to in WRITERS else csv_text(trace, table, charge)
     if args.table == "jobs":
         note_charge(trace, charge)
     write_output(args, text)

@@ -30,6 +30,7 @@ HEADING = ("k", "none", "RM static", "EDF static", "EDF cc", "RM cc", "EDF la")
 PUBLISHED = ("paper", "1.0", "1.0", "0.64", "0.52", "0.71", "0.44")
 FINER = (1, 3, 10, 100)
 
+
 def shares(engine: Engine, times: int, executor: Executor | None = None) -> tuple[Fraction, ...]:
     """The energies of the published pairs in ticks that are so much finer, each over the first.
 
@@ -49,7 +50,11 @@ def shares(engine: Engine, times: int, executor: Executor | None = None) -> tupl
 
 
 def lines(rows: Iterable[tuple[int, tuple[Fraction, ...]]]) -> Iterator[str]:
-    """The table line by line: its heading, a row for each k with six decimal places, the paper's own."""
+    """The table line by line: its heading, a row for each k with six decimal places, the paper's own.
+
+    >>> [row.split() for row in lines([(3, (Fraction(1), Fraction(5, 7)))])][1]
+    ['3', '1.000000', '0.714286']
+    """
     yield line(HEADING)
     for times, row in rows:
         yield line((str(times), *(decimal(share, 6) for share in row)))
@@ -66,8 +71,14 @@ def line(cells: tuple[str, ...]) -> str:
 
 
 def add_command(commands: Commands) -> None:
-    """Adds the command `paper-table`."""
-    parser = add_parser(commands, "paper-table", run,
+    """Adds the command `paper-table`.
+
+    >>> commands = argparse.ArgumentParser().add_subparsers()
+    >>> add_command(commands)
+    >>> list(commands.choices)
+    ['paper-table']
+    """
+    parser = add_parser(commands, "paper-table", _handle,
                         "the energies of the example of Pillai and Shin, in finer ticks too",
                         "paper-table --finer 3 30")
     parser.add_argument("--finer", type=whole_number(1), nargs="+", default=FINER, metavar="K",
@@ -75,7 +86,7 @@ def add_command(commands: Commands) -> None:
     add_engine_options(parser, jobs=True)
 
 
-def run(args: argparse.Namespace) -> int:
+def _handle(args: argparse.Namespace) -> int:
     engine = engine_of(args)
     with executor_of(args) as executor:
         rows = [(times, shares(engine, times, executor))
