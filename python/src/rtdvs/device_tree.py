@@ -32,6 +32,9 @@ class Choice:
     `table` is a label, or a path for a table without one; it may be empty if the file has one table.
     `supported_hw` is the version of the hardware, level by level, as the platform has it. `suffix` takes
     `opp-microvolt-SUFFIX`, `supply` is the place of the supply, from 1 on.
+
+    >>> Choice("cpu_table", supported_hw=(2, 0x10)).supply
+    1
     """
 
     table: str = ""
@@ -42,7 +45,11 @@ class Choice:
 
 @dataclass(frozen=True, slots=True)
 class OperatingPoint:
-    """A point of a table: its node's name, its frequency in hertz and its voltage in microvolts."""
+    """A point of a table: its node's name, its frequency in hertz and its voltage in microvolts.
+
+    >>> OperatingPoint("opp-600000000", hertz=600_000_000, microvolts=950_000).hertz
+    600000000
+    """
 
     name: str
     hertz: int
