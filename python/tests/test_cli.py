@@ -10,7 +10,7 @@ from fractions import Fraction
 from pathlib import Path
 
 import pytest
-from examples import DATA, Captured
+from examples import DATA, Captured, printed, refusal
 
 from rtdvs import cli, commandline
 from rtdvs.engine import Crashed, Engine, NoEngine, OverWorst
@@ -58,31 +58,28 @@ COMMANDS = [module.__name__.removeprefix("rtdvs.").replace("_", "-") for module 
 
 @pytest.mark.parametrize("command", COMMANDS)
 def test_help_of_each_command(command: str, capsys: Captured) -> None:
-    assert cli.main([command, "--help"]) == 0
-    out = capsys.readouterr().out
+    out = printed(capsys, [command, "--help"])
     assert out.startswith(f"usage: python3 -m rtdvs {command}")
     assert f"rtdvs {command} " in out.split("options:")[1], "no example in the epilog"
 
 
 @pytest.mark.parametrize("command", COMMANDS)
 def test_unknown_option_of_each_command(command: str, capsys: Captured) -> None:
-    assert cli.main([command, "--foo"]) == 2
-    assert capsys.readouterr().err.startswith("usage: python3 -m rtdvs ")
+    assert refusal(capsys, [command, "--foo"]).startswith("usage: python3 -m rtdvs ")
 
 
 @pytest.mark.parametrize("words", [[], ["--foo"], ["foo"], ["stub"], ["stub", "--tasks"], ["stub", "--foo"]])
 def test_usage(words: list[str], stub: Callable[[Handler], None], capsys: Captured) -> None:
     stub(lambda args: 0)
-    assert cli.main(words) == 2
-    assert "python3 -m rtdvs" in capsys.readouterr().err
+    assert "python3 -m rtdvs" in refusal(capsys, words)
 
 
 def test_two_files_from_one_input(stub: Callable[[Handler], None], capsys: Captured,
                                   monkeypatch: pytest.MonkeyPatch) -> None:
     stub(lambda args: 0)
     monkeypatch.setattr(sys, "stdin", standard_input(b"x"))
-    assert cli.main(["stub", "--tasks", "-", "--machine", "-"]) == 2
-    assert "only one file can be standard input" in capsys.readouterr().err
+    said = refusal(capsys, ["stub", "--tasks", "-", "--machine", "-"])
+    assert "only one file can be standard input" in said
 
 
 @pytest.mark.parametrize("status", [0, 1, 2])
@@ -103,14 +100,12 @@ FAULTS = [
 
 
 @pytest.mark.parametrize(("fault", "line"), FAULTS, ids=[line for _, line in FAULTS])
-def test_faults(fault: Exception, line: str, stub: Callable[[Handler], None],
-                capsys: Captured) -> None:
+def test_faults(fault: Exception, line: str, stub: Callable[[Handler], None], capsys: Captured) -> None:
     def handler(args: argparse.Namespace) -> int:
         raise fault
 
     stub(handler)
-    assert cli.main(["stub", "--tasks", "x"]) == 2
-    assert capsys.readouterr() == ("", f"rtdvs: {line}\n")
+    assert refusal(capsys, ["stub", "--tasks", "x"]) == f"rtdvs: {line}\n"
 
 
 def test_interrupted(stub: Callable[[Handler], None], capsys: Captured) -> None:
@@ -163,13 +158,11 @@ def bad_file(request: pytest.FixtureRequest, tmp_path: Path) -> Path:
 
 
 @pytest.mark.parametrize("words", READERS_OF_FILES)
-def test_bad_files(words: str, bad_file: Path, capsys: Captured,
-                   monkeypatch: pytest.MonkeyPatch) -> None:
+def test_bad_files(words: str, bad_file: Path, capsys: Captured, monkeypatch: pytest.MonkeyPatch) -> None:
     """Each is refused in one line, with status 2."""
     monkeypatch.chdir(DATA / "paper")
-    assert cli.main([str(bad_file) if word == "BAD" else word for word in words.split()]) == 2
-    out, err = capsys.readouterr()
-    assert out == "" and err.startswith("rtdvs: ") and err.count("\n") == 1, err
+    said = refusal(capsys, [str(bad_file) if word == "BAD" else word for word in words.split()])
+    assert said.startswith("rtdvs: ") and said.count("\n") == 1, said
 
 
 # Standard streams

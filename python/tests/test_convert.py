@@ -14,7 +14,7 @@ from pathlib import Path
 from typing import Any
 
 import pytest
-from examples import DATA, SHORT, TRACES, Captured, Lines, path_id, version_1
+from examples import DATA, SHORT, TRACES, Captured, Lines, path_id, refusal, version_1
 from hypothesis import given
 from hypothesis import strategies as st
 
@@ -217,9 +217,8 @@ def test_charge_is_in_the_declared_units(words: list[str], declared: int, tmp_pa
     (["--to", "csv", "--charge", "1.5"], "a whole number from 0 on, not 1.5"),
 ])
 def test_usage(words: list[str], line: str, capsys: Captured) -> None:
-    assert main(["convert", *words, "--trace", str(DATA / "templates" / "edf_cc_with_demands.trace")]) == 2
-    said = capsys.readouterr()
-    assert said.out == "" and line in said.err
+    trace = str(DATA / "templates" / "edf_cc_with_demands.trace")
+    assert line in refusal(capsys, ["convert", *words, "--trace", trace])
 
 
 @pytest.mark.parametrize("change", ["cut", "no plan", "more"])
@@ -227,10 +226,9 @@ def test_what_is_no_whole_trace_is_refused(change: str, tmp_path: Path, capsys: 
     lines = (DATA / "offsets" / "edf_cc.trace").read_text().splitlines(keepends=True)
     broken = {"cut": lines[:-1], "no plan": lines[:1] + lines[2:], "more": [*lines, lines[0]]}[change]
     (tmp_path / "broken").write_text("".join(broken))
-    assert main(["convert", "--to", "vcd", "--trace", str(tmp_path / "broken"), "--output",
-                 str(tmp_path / "out")]) == 2
-    said = capsys.readouterr()
-    assert said.out == "" and said.err.count("\n") == 1 and not (tmp_path / "out").exists()
+    words = ["--trace", str(tmp_path / "broken"), "--output", str(tmp_path / "out")]
+    assert refusal(capsys, ["convert", "--to", "vcd", *words]).count("\n") == 1
+    assert not (tmp_path / "out").exists()
 
 
 def test_frames() -> None:

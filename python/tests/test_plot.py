@@ -7,11 +7,10 @@ from pathlib import Path
 
 import pictures
 import pytest
-from examples import DATA, SHORT, TOP, Captured, path_id
+from examples import DATA, SHORT, TOP, Captured, path_id, refusal
 from hypothesis import given
 from hypothesis import strategies as st
 
-from rtdvs.cli import main
 from rtdvs.compare import Result, Row
 from rtdvs.engine import Engine
 from rtdvs.figures import plot_compare
@@ -166,26 +165,23 @@ def test_usage(words: list[str], line: str, monkeypatch: pytest.MonkeyPatch, tmp
                capsys: Captured) -> None:
     monkeypatch.chdir(TOP)
     trace = "crates/example_runs/data/paper/edf_none.trace"
-    assert main(["plot", "trace", "--trace", trace, "--output", str(tmp_path / "a.svg"), *words]) == 2
-    assert line in capsys.readouterr().err and not list(tmp_path.iterdir())
+    said = refusal(capsys, ["plot", "trace", "--trace", trace, "--output", str(tmp_path / "a.svg"), *words])
+    assert line in said and not list(tmp_path.iterdir())
 
 
 @pytest.mark.parametrize("table", ["", "a\tb\n",
                                    "panel\tcurve\tutilisation\tsets\tmean\tlow\thigh\na\tb\tx\t1\t1\t1\t1\n"])
 def test_tables_are_refused(table: str, tmp_path: Path, capsys: Captured) -> None:
     (tmp_path / "t.tsv").write_text(table)
-    assert main(["plot", "evaluation", "--table", str(tmp_path / "t.tsv"), "--output",
-                 str(tmp_path / "a.svg")]) == 2
-    assert "table: " in capsys.readouterr().err
+    words = ["--table", str(tmp_path / "t.tsv"), "--output", str(tmp_path / "a.svg")]
+    assert "table: " in refusal(capsys, ["plot", "evaluation", *words])
 
 
-def test_without_matplotlib(tmp_path: Path, monkeypatch: pytest.MonkeyPatch,
-                            capsys: Captured) -> None:
+def test_without_matplotlib(tmp_path: Path, monkeypatch: pytest.MonkeyPatch, capsys: Captured) -> None:
     modules: dict[str, object] = sys.modules    # type: ignore[assignment]
     monkeypatch.setitem(modules, "matplotlib", None)
     words = ["--trace", str(DATA / "paper" / "edf_none.trace"), "--output", str(tmp_path / "a.svg")]
-    assert main(["plot", "trace", *words]) == 2
-    assert "plot: matplotlib is not installed" in capsys.readouterr().err
+    assert "plot: matplotlib is not installed" in refusal(capsys, ["plot", "trace", *words])
 
 
 places = st.lists(st.integers(0, 1000)).map(lambda ticks: sorted(ticks))

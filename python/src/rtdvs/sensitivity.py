@@ -11,7 +11,6 @@ from collections.abc import Callable, Iterator
 from concurrent.futures import Executor
 from dataclasses import dataclass, replace
 from functools import partial
-from operator import call
 
 from rtdvs.commandline import (
     Commands, add_engine_options, add_files, add_parser, engine_of, executor_of, progress,
@@ -160,7 +159,11 @@ def limits_of(question: Question, executor: Executor | None = None) -> Iterator[
     searches: list[Callable[[], int | None]] = [
         partial(most_thousandths, question), partial(least_speed, question),
         *(partial(most_worst, question, place) for place in range(len(question.tasks)))]
-    return map(call, searches) if executor is None else executor.map(call, searches)
+    return map(_found, searches) if executor is None else executor.map(_found, searches)
+
+
+def _found(search: Callable[[], int | None]) -> int | None:
+    return search()
 
 
 def sensitivity(engine: Engine, tasks: TaskSet, machine: Machine, test: str,
