@@ -26,9 +26,7 @@ def stub(monkeypatch: pytest.MonkeyPatch) -> Callable[[Handler], None]:
     def replace(handler: Handler) -> None:
         def add_command(commands: "argparse._SubParsersAction[argparse.ArgumentParser]") -> None:
             parser = commands.add_parser("stub", help="a stand-in")
-            commandline.add_files(parser, ["tasks"], ["machine", "demands"])
-            commandline.add_output(parser)
-            commandline.add_engine_options(parser, jobs=True)
+            add_options(parser, ["tasks"], ["machine", "demands"])
             parser.set_defaults(handler=handler)
 
         module = types.ModuleType("stub")
@@ -41,10 +39,14 @@ def stub(monkeypatch: pytest.MonkeyPatch) -> Callable[[Handler], None]:
 def parsed(*words: str) -> argparse.Namespace:
     """The arguments of the stub's options."""
     parser = argparse.ArgumentParser()
-    commandline.add_files(parser, [], ["tasks", "machine", "demands"])
+    add_options(parser, [], ["tasks", "machine", "demands"])
+    return parser.parse_args(words)
+
+
+def add_options(parser: argparse.ArgumentParser, required: list[str], optional: list[str]) -> None:
+    commandline.add_files(parser, required, optional)
     commandline.add_output(parser)
     commandline.add_engine_options(parser, jobs=True)
-    return parser.parse_args(words)
 
 
 def standard_input(content: bytes) -> io.TextIOWrapper:

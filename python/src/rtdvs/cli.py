@@ -21,7 +21,7 @@ COMMANDS: tuple[ModuleType, ...] = (
 def parser() -> argparse.ArgumentParser:
     """The parser of all commands.
 
-    >>> parser().parse_args(["generate", "published", "--count", "5", "--tenths", "2", "--number", "1"]).tenths
+    >>> parser().parse_args("generate published --count 5 --tenths 2 --number 1".split()).tenths
     2
     """
     top = argparse.ArgumentParser(prog="python3 -m rtdvs", description=__doc__)

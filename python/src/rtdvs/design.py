@@ -39,8 +39,7 @@ from rtdvs.decimals import decimal
 from rtdvs.device_tree import Choice, OperatingPoint, operating_points
 from rtdvs.draws import jobs_of
 from rtdvs.files import (
-    LONGEST_HYPERPERIOD, MOST_MILLIVOLTS, MOST_SPEED, Demands, FileFault, Machine, Point, Task,
-    TaskSet,
+    LONGEST_HYPERPERIOD, MOST_MILLIVOLTS, MOST_SPEED, Demands, FileFault, Machine, Point, Task, TaskSet,
 )
 from rtdvs.trace import Trace
 
@@ -207,7 +206,7 @@ def rounded(number: Fraction, digits: int = 6) -> str:
     """
     context = Context(prec=digits)
     text = context.divide(Decimal(number.numerator), Decimal(number.denominator)).normalize(context)
-    return f"{text:f}" if -10 < text.adjusted() < 15 and not (text.adjusted() >= digits) else str(text)
+    return f"{text:f}" if -10 < text.adjusted() < min(15, digits) else str(text)
 
 
 def points_of(points: Iterable[OperatingPoint]) -> tuple[BoardPoint, ...]:
@@ -294,8 +293,8 @@ def design(board: Board, scale: Scale) -> Design:
     """
     tasks = TaskSet(tuple(_task_in(task, scale) for task in board.tasks))
     machine, changed = machine_of(board, scale)
-    return Design(TaskSet.parse(tasks.text()), machine, scale,
-                  (*_task_roundings(board.tasks, scale), *changed), _joule(board, machine, scale))
+    roundings = _changed(_task_roundings(board.tasks, scale)) + changed
+    return Design(TaskSet.parse(tasks.text()), machine, scale, roundings, _joule(board, machine, scale))
 
 
 def machine_of(board: Board, scale: Scale) -> tuple[Machine, tuple[Rounding, ...]]:
@@ -314,7 +313,7 @@ def machine_of(board: Board, scale: Scale) -> tuple[Machine, tuple[Rounding, ...
     _check_rising(points, speeds, volts)
     charge = math.ceil(board.switch / 1000 / scale.tick * speeds[-1])
     machine = Machine(tuple(map(Point, speeds, volts)), math.ceil(board.idle_share * 1000), charge)
-    return Machine.parse(machine.text()), tuple(_machine_roundings(board, points, machine, scale))
+    return Machine.parse(machine.text()), _changed(_machine_roundings(board, points, machine, scale))
 
 
 def is_measured(points: Iterable[BoardPoint]) -> bool:
@@ -471,27 +470,25 @@ def _task_in(task: BoardTask, scale: Scale) -> Task:
 def _task_roundings(tasks: Iterable[BoardTask], scale: Scale) -> Iterator[Rounding]:
     for task in tasks:
         taken = _task_in(task, scale)
-        yield from _changed(f"task {task.name}: period", task.period, taken.period * scale.tick, "ms")
-        yield from _changed(f"task {task.name}: offset", task.offset, taken.offset * scale.tick, "ms")
-        yield from _changed(f"task {task.name}: worst case", task.worst, taken.worst * scale.unit, "cycles")
+        yield Rounding(f"task {task.name}: period", task.period, taken.period * scale.tick, "ms")
+        yield Rounding(f"task {task.name}: offset", task.offset, taken.offset * scale.tick, "ms")
+        yield Rounding(f"task {task.name}: worst case", task.worst, taken.worst * scale.unit, "cycles")
 
 
 def _machine_roundings(board: Board, points: Sequence[BoardPoint], machine: Machine,
                        scale: Scale) -> Iterator[Rounding]:
     for point, taken in zip(points, machine.points):
         where = f"point {plain(point.megahertz)} MHz:"
-        yield from _changed(f"{where} speed", point.megahertz, taken.speed * scale.unit / scale.tick / 1000,
-                            "MHz")
+        yield Rounding(f"{where} speed", point.megahertz, taken.speed * scale.unit / scale.tick / 1000, "MHz")
         if not is_measured(points) and point.volts is not None:
-            yield from _changed(f"{where} volts", point.volts, Fraction(taken.millivolts, 1000), "V")
-    yield from _changed("idle share", board.idle_share, Fraction(machine.idle, 1000), "of a running cycle")
+            yield Rounding(f"{where} volts", point.volts, Fraction(taken.millivolts, 1000), "V")
+    yield Rounding("idle share", board.idle_share, Fraction(machine.idle, 1000), "of a running cycle")
     switch = machine.charge * scale.tick * 1000 / machine.points[-1].speed
-    yield from _changed("switch", board.switch, switch, "microseconds")
+    yield Rounding("switch", board.switch, switch, "microseconds")
 
 
-def _changed(quantity: str, given: Fraction, taken: Fraction, unit: str) -> Iterator[Rounding]:
-    if given != taken:
-        yield Rounding(quantity, given, taken, unit)
+def _changed(roundings: Iterable[Rounding]) -> tuple[Rounding, ...]:
+    return tuple(rounding for rounding in roundings if rounding.given != rounding.taken)
 
 
 def _millivolts(point: BoardPoint) -> int:
@@ -503,12 +500,8 @@ def _millivolts(point: BoardPoint) -> int:
 def _effective_millivolts(points: Sequence[BoardPoint]) -> list[int]:
     """Whole millivolts, their squares nearly in proportion to a cycle's energies; the dearest has 20000."""
     energies = [(point.milliwatts or Fraction(0)) / point.megahertz for point in points]
-    squares = [energy / max(energies) * MOST_MILLIVOLTS**2 for energy in energies]
-    return [_nearest_root(square) for square in squares]
-
-
-def _nearest_root(square: Fraction) -> int:
-    return (math.isqrt(math.floor(4 * square)) + 1) // 2
+    squares = (energy / max(energies) * MOST_MILLIVOLTS**2 for energy in energies)
+    return [(math.isqrt(math.floor(4 * square)) + 1) // 2 for square in squares]
 
 
 def _check_rising(points: Sequence[BoardPoint], speeds: Sequence[int], volts: Sequence[int]) -> None:

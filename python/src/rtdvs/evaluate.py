@@ -13,6 +13,7 @@ from concurrent.futures import Executor, Future, ProcessPoolExecutor, as_complet
 from dataclasses import dataclass
 from fractions import Fraction
 from pathlib import Path
+from statistics import mean
 
 from rtdvs.commandline import (
     Commands, add_engine_options, add_parser, engine_of, exact_fraction, progress, whole_number,
@@ -349,21 +350,6 @@ def point(rising: list[Fraction]) -> str:
     cut = len(rising) // 10
     values = (mean(rising), rising[cut], rising[-1 - cut])
     return f"{len(rising)}\t" + "\t".join(decimal(value, 4) for value in values) + "\n"
-
-
-def mean(values: list[Fraction]) -> Fraction:
-    """The exact mean, by halves: so few sums have large denominators.
-
-    >>> mean([Fraction(1, 2), Fraction(1, 3), Fraction(1, 6)])
-    Fraction(1, 3)
-    """
-    def total(part: list[Fraction]) -> Fraction:
-        if len(part) == 1:
-            return part[0]
-        middle = len(part) // 2
-        return total(part[:middle]) + total(part[middle:])
-
-    return total(values) / len(values)
 
 
 # What has to hold

@@ -210,12 +210,10 @@ def _add_demands(kinds: Commands) -> None:
 
 def _run_demands(args: argparse.Namespace) -> int:
     """Prints a demand file for all jobs of a run; with a seed each job draws its own share."""
-    tasks = read_tasks(args)
-    if args.share is None:
-        demands = taken_uniform(tasks, args.seed, args.ticks)
-    else:
-        require(args.share <= 1, "share is 0 to 1")
-        demands = taken(tasks, args.share, args.ticks)
+    tasks, share = read_tasks(args), args.share
+    require(share is None or share <= 1, "share is 0 to 1")
+    demands = (taken_uniform(tasks, args.seed, args.ticks) if share is None
+               else taken(tasks, share, args.ticks))
     write_output(args, demands.text())
     return 0
 

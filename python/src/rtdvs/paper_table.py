@@ -12,9 +12,9 @@ from fractions import Fraction
 from rtdvs.commandline import (
     Commands, add_engine_options, add_parser, engine_of, executor_of, progress, whole_number,
 )
-from rtdvs.compare import Case, energy_of, runs
+from rtdvs.compare import Case, energy_of
 from rtdvs.decimals import decimal
-from rtdvs.engine import Denied, Engine
+from rtdvs.engine import Engine, run_call
 from rtdvs.files import Demands, Machine, Point, Task, TaskSet
 
 EXAMPLE = Case(
@@ -41,11 +41,9 @@ def shares(engine: Engine, times: int, executor: Executor | None = None) -> tupl
     >>> shares(find_engine(), 3)[3:]
     (Fraction(13, 25), Fraction(5, 7), Fraction(11, 25))
     """
-    energies = []
-    for text in runs(engine, EXAMPLE.finer(times), PAIRS, executor):
-        if isinstance(text, Denied):
-            raise text
-        energies.append(energy_of(text))
+    case = EXAMPLE.finer(times)
+    calls = (run_call(case.tasks, case.machine, *pair, case.ticks, case.demands) for pair in PAIRS)
+    energies = [energy_of(answer.text()) for answer in engine.answers(calls, executor)]
     return tuple(Fraction(energy, energies[0]) for energy in energies)
 
 
