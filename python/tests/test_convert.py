@@ -15,15 +15,15 @@ from typing import Any
 
 import pytest
 from examples import DATA, SHORT, TRACES, Captured, Lines, path_id, refusal, version_1
-from hypothesis import given
+from hypothesis import assume, given
 from hypothesis import strategies as st
+from model import random_case
 
 from rtdvs.cli import main
 from rtdvs.convert import csv_text, events_text, frame, millionths, vcd_text
 from rtdvs.engine import Engine
-from rtdvs.files import Machine, Point, Task, TaskSet
 from rtdvs.rules import GOVERNORS
-from rtdvs.simulate import simulate
+from rtdvs.simulate import DeadlineMissed, simulate
 from rtdvs.trace import Position, Trace
 
 STEP = Fraction(1, 10**6)
@@ -165,23 +165,14 @@ def test_examples_in_version_2(path: Path, engine: Engine) -> None:
     check_all(engine.migrate(path.parent / "tasks.toml", path.parent / "machine.toml", path))
 
 
-@st.composite
-def runs(draw: st.DrawFn) -> str:
-    """The trace of a random run, in either version; the worst cases fill the processor to a half at most."""
-    top = draw(st.sampled_from([4, 7, 60, 128, 999983]))
-    periods = draw(st.lists(st.sampled_from([2, 3, 4, 6, 8, 12]), min_size=1, max_size=5))
-    mosts = [max(1, top * period // (2 * len(periods))) for period in periods]
-    tasks = TaskSet(tuple(Task(f"t{place}", period, draw(st.integers(1, most)), draw(st.integers(0, 3)))
-                          for place, (period, most) in enumerate(zip(periods, mosts))))
-    machine = Machine((Point(max(1, top // 2), 1100), Point(top, 1900)), draw(st.sampled_from([0, 150])))
-    pair = draw(st.sampled_from(sorted(pair for pair in GOVERNORS if pair[0] == "edf")))
-    text = simulate(tasks, machine, *pair[:1], draw(st.integers(1, 40)), GOVERNORS[pair], None, "mine").text()
-    return text if draw(st.booleans()) else version_1(text)
-
-
-@given(runs())
-def test_any_run_is_read_back(text: str) -> None:
-    check_all(text)
+@given(st.integers(0, 2**32), st.sampled_from(sorted(GOVERNORS)), st.booleans())
+def test_any_run_is_read_back(seed: int, pair: tuple[str, str], is_version_1: bool) -> None:
+    tasks, machine, demands, ticks = random_case(seed)
+    try:
+        run = simulate(tasks, machine, pair[0], min(ticks, 60), GOVERNORS[pair], demands)
+    except DeadlineMissed:
+        assume(False)
+    check_all(version_1(run.text()) if is_version_1 else run.text())
 
 
 def test_rows_of_the_page() -> None:
