@@ -4,10 +4,11 @@ import argparse
 import io
 import subprocess
 import sys
-import types
 from collections.abc import Callable
 from fractions import Fraction
 from pathlib import Path
+from types import SimpleNamespace
+from unittest.mock import Mock
 
 import pytest
 from examples import DATA, Captured, printed, refusal
@@ -29,9 +30,7 @@ def stub(monkeypatch: pytest.MonkeyPatch) -> Callable[[Handler], None]:
             add_options(parser, ["tasks"], ["machine", "demands"])
             parser.set_defaults(handler=handler)
 
-        module = types.ModuleType("stub")
-        module.add_command = add_command  # type: ignore[attr-defined]
-        monkeypatch.setattr(cli, "COMMANDS", (module,))
+        monkeypatch.setattr(cli, "COMMANDS", (SimpleNamespace(add_command=add_command),))
 
     return replace
 
@@ -103,18 +102,12 @@ FAULTS = [
 
 @pytest.mark.parametrize(("fault", "line"), FAULTS, ids=[line for _, line in FAULTS])
 def test_faults(fault: Exception, line: str, stub: Callable[[Handler], None], capsys: Captured) -> None:
-    def handler(args: argparse.Namespace) -> int:
-        raise fault
-
-    stub(handler)
+    stub(Mock(side_effect=fault))
     assert refusal(capsys, ["stub", "--tasks", "x"]) == f"rtdvs: {line}\n"
 
 
 def test_interrupted(stub: Callable[[Handler], None], capsys: Captured) -> None:
-    def handler(args: argparse.Namespace) -> int:
-        raise KeyboardInterrupt
-
-    stub(handler)
+    stub(Mock(side_effect=KeyboardInterrupt))
     assert cli.main(["stub", "--tasks", "x"]) == 130
     assert capsys.readouterr() == ("", "")
 
@@ -281,15 +274,9 @@ def test_executor_of_options() -> None:
         assert [*executor.map(abs, [-1, 2])] == [1, 2]
 
 
-class Terminal(io.StringIO):
-    """A standard error that is a terminal."""
-
-    def isatty(self) -> bool:
-        return True
-
-
 def test_progress_on_a_terminal(monkeypatch: pytest.MonkeyPatch) -> None:
-    terminal = Terminal()
+    terminal = io.StringIO()
+    monkeypatch.setattr(terminal, "isatty", lambda: True)
     monkeypatch.setattr(sys, "stderr", terminal)
     monkeypatch.setattr(commandline, "monotonic", iter(range(1, 100)).__next__)
     assert [*commandline.progress("ab", 4, "runs")] == ["a", "b"]

@@ -8,7 +8,7 @@ import pytest
 from examples import Captured, printed, refusal
 
 from rtdvs.draws import Listed, SetName, published_sets, uunifast
-from rtdvs.engine import Denied, Engine
+from rtdvs.engine import Engine
 from rtdvs.explain import check
 from rtdvs.files import Demands, Machine, TaskSet
 from rtdvs.generate import BOARD, exercise
@@ -44,13 +44,9 @@ def test_a_solution_is_right(engine: Engine, tmp_path: Path, scheduler: str, gov
     assert f"{tasks.hyperperiod} ticks" in question
 
 
-def test_what_rm_denies_is_no_exercise(engine: Engine) -> None:
-    for seed in range(1, 6):
-        one = exercise(engine, seed, "rm")
-        try:
-            engine.admit(one.tasks, BOARD, "rm")
-        except Denied:
-            pytest.fail(f"seed {seed}")
+@pytest.mark.parametrize("seed", range(1, 6))
+def test_what_rm_denies_is_no_exercise(engine: Engine, seed: int) -> None:
+    assert engine.admit(exercise(engine, seed, "rm").tasks, BOARD, "rm").scheduler == "rm"
 
 
 def test_the_exercise_is_printed(program: Path, tmp_path: Path, capsys: Captured) -> None:

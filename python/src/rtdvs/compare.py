@@ -239,11 +239,11 @@ def cells(row: Row, speeds: Sequence[int]) -> tuple[str, ...]:
     result = row.result
     if result is None:
         return row.scheduler, row.governor, row.refusal
-    before = (result.share, result.above_bound)
-    after = (result.idle, result.least_laxity, result.jitter,
-             *(result.residency.get(speed, 0) for speed in speeds))
-    return (row.scheduler, row.governor, str(result.energy), *(decimal(share, 4) for share in before),
-            str(result.switches), *(decimal(share, 4) for share in after))
+    residency = (result.residency.get(speed, Fraction(0)) for speed in speeds)
+    values = (result.energy, result.share, result.above_bound, result.switches, result.idle,
+              result.least_laxity, result.jitter, *residency)
+    texts = (str(value) if isinstance(value, int) else decimal(value, 4) for value in values)
+    return row.scheduler, row.governor, *texts
 
 
 def finer_table(rows: Sequence[Row], finer: Mapping[int, Sequence[Fraction | None]]) -> str:

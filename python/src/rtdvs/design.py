@@ -429,10 +429,8 @@ def _task(where: str, table: Mapping[str, Any]) -> BoardTask:
         raise _fault(f"{where}missing name" if name is None else f"{where}name is no text")
     if ("worst_ms" in table) == ("worst_cycles" in table):
         raise _fault(f"{where}give either worst_cycles, or worst_ms and at_mhz")
-    if "worst_ms" in table:
-        worst = _needed(where, table, "worst_ms") * _needed(where, table, "at_mhz") * 1000
-    else:
-        worst = _needed(where, table, "worst_cycles")
+    worst = (_needed(where, table, "worst_ms") * _needed(where, table, "at_mhz") * 1000
+             if "worst_ms" in table else _needed(where, table, "worst_cycles"))
     usual = _quantity(where, table, "usual_cycles")
     if usual is not None and usual > worst:
         raise _fault(f"{where}usual_cycles are over the worst case")
