@@ -5,8 +5,8 @@ import json
 import locale
 import shutil
 import subprocess
-from collections.abc import Iterable, Iterator
-from decimal import Decimal
+from collections.abc import Iterator
+from decimal import Context, Decimal
 from fractions import Fraction
 from functools import partial
 from itertools import pairwise
@@ -37,6 +37,10 @@ def ticks(time: Fraction | int | None) -> str:
     return str(Decimal(round(time * 10**6)).scaleb(-6))
 
 
+def rounded(number: Fraction | int, digits: int = 9) -> Fraction:
+    return Fraction(Context(prec=digits).divide(*map(Decimal, number.as_integer_ratio())))
+
+
 def times(lines: Lines, task: str, job: str) -> list[Fraction | int | None]:
     """A job's deadline, which is the next release in version 1, its completion, response and laxity."""
     release, done = lines.releases[task, job], lines.ends.get((task, job))
@@ -58,15 +62,9 @@ def check_tables(text: str) -> None:
              declared.get(key[0], "")] for key, release in lines.releases.items()]
     assert list(csv.reader(csv_text(trace, "jobs").splitlines()))[1:] == jobs
     decisions = list(csv.reader(csv_text(trace, "decisions").splitlines()))[1:]
-    assert [row[:4] for row in decisions] == [
-        [tick, speed, *demand.split("/")] for tick, speed, demand in lines.of("speed")]
-    assert same_demands((row[4] for row in decisions), lines)
-
-
-def same_demands(found: Iterable[str | Fraction], lines: Lines) -> bool:
-    """To nine digits."""
-    return all(abs(Fraction(one) - demand) <= demand / 10**8
-               for one, (_, _, demand) in zip(found, lines.decisions, strict=True))
+    assert [(*row[:4], Fraction(row[4])) for row in decisions] == [
+        (tick, speed, *demand.split("/"), rounded(Fraction(demand)))
+        for tick, speed, demand in lines.of("speed")]
 
 
 def check_events(text: str) -> None:
@@ -83,10 +81,9 @@ def check_events(text: str) -> None:
     marks = {(event["name"], tracks[event["tid"]]): event["ts"] for event in kinds["i"]}
     assert marks == {(f"release {job}", task): tick for (task, job), tick in lines.releases.items()} | {
         (f"done {job}", task): round(end, 6) for (task, job), end in lines.ends.items()}
-    counts = {name: [(event["ts"], event["args"]["units per tick"]) for event in kinds["C"]
-                     if event["name"] == name] for name in ("speed", "demand")}
-    assert counts["speed"] == [(tick, speed) for tick, speed, _ in lines.decisions]
-    assert same_demands((demand for _, demand in counts["demand"]), lines)
+    assert [(event["name"], event["ts"], event["args"]["units per tick"]) for event in kinds["C"]] == [
+        count for tick, speed, demand in lines.decisions
+        for count in (("speed", tick, speed), ("demand", tick, rounded(demand)))]
 
 
 def read_waves(text: str) -> Waves:
@@ -130,7 +127,7 @@ def areas(lines: Lines) -> Iterator[tuple[tuple[str, ...], Fraction, Fraction]]:
     for (task, number), at in lines.releases.items():
         yield ("tasks", f"{task}/open"), Fraction(lines.ends.get((task, number), lines.ticks) - at), STEP
     for ticks, _, demand in lines.spans():
-        yield ("demand",), demand * ticks, demand * ticks / 10**8
+        yield ("demand",), rounded(demand) * ticks, Fraction(0)
 
 
 def check_waves(text: str, vcd: str) -> None:
@@ -138,14 +135,13 @@ def check_waves(text: str, vcd: str) -> None:
     tasks = {*lines.period} or {task for task, _ in lines.releases}
     assert waves.keys() == {(name,) for name in ("idle", "job", "speed", "demand", "energy")} | {
         ("tasks", task + end) for task in tasks for end in ("", "/open")}
-    last, spent = waves.pop(("energy",))[-1]
-    energy = lines.run_energy + lines.idle_energy
-    assert last == lines.ticks * 10**6 and abs(spent - energy) <= Fraction(energy, 10**14)
+    energy = rounded(lines.run_energy + lines.idle_energy, 15)
+    assert waves.pop(("energy",))[-1] == (lines.ticks * 10**6, energy)
     off = {wire: area(changes) for wire, changes in waves.items()}
     slack = dict.fromkeys(waves, Fraction(0))
-    for wire, wanted, rounded in areas(lines):
+    for wire, wanted, rounding in areas(lines):
         off[wire] -= wanted
-        slack[wire] += rounded
+        slack[wire] += rounding
     assert all(abs(off[wire]) <= slack[wire] for wire in waves)
 
 

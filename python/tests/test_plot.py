@@ -62,16 +62,11 @@ def same_picture(made: Path, stored: Path) -> None:
     assert named == {name: count for name, count in marks(stored).items() if name in named} and len(named) > 4
 
 
-def test_stored_traces(engine: Engine, tmp_path: Path) -> None:
-    made = list(pictures.draw_traces(engine, tmp_path))
-    for path in made:
-        same_picture(path, TOP / "examples" / "pictures" / path.name)
-    stored = {path.name for path in (TOP / "examples" / "pictures").iterdir()}
-    assert stored == {path.name for path in made} | {"compare.svg"}
-
-
-def test_stored_comparison(engine: Engine, tmp_path: Path) -> None:
-    same_picture(pictures.draw_compare(engine, tmp_path), TOP / "examples" / "pictures" / "compare.svg")
+def test_stored_pictures(engine: Engine, tmp_path: Path) -> None:
+    stored = TOP / "examples" / "pictures"
+    for path in pictures.draw_pictures(engine, tmp_path):
+        same_picture(path, stored / path.name)
+    assert sorted(path.name for path in stored.iterdir()) == sorted(path.name for path in tmp_path.iterdir())
 
 
 def test_stored_figures(tmp_path: Path) -> None:
