@@ -117,17 +117,14 @@ def test_what_cannot_be_drawn(count: int, utilisation: Fraction, seed: int, opti
     assert str(fault.value) == reason
 
 
-@pytest.mark.parametrize("periods", [(), (0,), (2**40 + 1,), (2**25 - 39, 2**25 - 1)])
-def test_lists_of_periods_that_no_set_can_have(periods: tuple[int, ...]) -> None:
+@pytest.mark.parametrize(("kind", "values"), [
+    (Listed, [()]), (Listed, [(0,)]), (Listed, [(2**40 + 1,)]), (Listed, [(2**25 - 39, 2**25 - 1)]),
+    (LogUniform, [0, 10, 720720]), (LogUniform, [-5, 10, 720720]), (LogUniform, [11, 10, 720720]),
+    (LogUniform, [1, 2**40 + 1, 1]), (LogUniform, [1, 2, 0]),
+])
+def test_periods_that_no_set_can_have(kind: type[Listed | LogUniform], values: list[Any]) -> None:
     with pytest.raises(DrawFault):
-        Listed(periods)
-
-
-@pytest.mark.parametrize("bounds", [
-    (0, 10, 720720), (-5, 10, 720720), (11, 10, 720720), (1, 2**40 + 1, 1), (1, 2, 0)])
-def test_bounds_of_periods_that_no_set_can_have(bounds: tuple[int, int, int]) -> None:
-    with pytest.raises(DrawFault):
-        LogUniform(*bounds)
+        kind(*values)
 
 
 def published_in_floats(most: int) -> Iterator[tuple[str, Drawn]]:
