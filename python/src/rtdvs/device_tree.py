@@ -160,6 +160,7 @@ def _tokens(text: str) -> Iterator[str]:
 
 
 def _parse(text: str) -> Iterable[_Node]:
+    """The nodes, each before those in it."""
     top = _Node(PurePosixPath("/"))
     tree, nodes, words = _Tree({top.path: top}), [top], list[str]()
     for token in _tokens(text):
@@ -177,7 +178,9 @@ def _parse(text: str) -> Iterable[_Node]:
         words = []
     if len(nodes) > 1:
         raise _fault(f"no end of node {nodes[-1].key or '/'}")
-    return tree.nodes.values()
+    places = {path: place for place, path in enumerate(tree.nodes)}
+    return sorted(tree.nodes.values(), key=lambda node: [
+        places[path] for path in (*reversed(node.path.parents), node.path) if path in places])
 
 
 def _cells(words: Sequence[str]) -> Iterator[_Cells]:
