@@ -1,11 +1,13 @@
 """What the tests share: the example folders, the example of Pillai and Shin (2001), a trace's lines."""
 
+from collections.abc import Sequence
 from fractions import Fraction
 from pathlib import Path
 from typing import NamedTuple
 
 import pytest
 
+from rtdvs.cli import main
 from rtdvs.files import Demands, Machine, Point, Task, TaskSet
 
 Captured = pytest.CaptureFixture[str]
@@ -35,8 +37,25 @@ def path_id(path: Path) -> str:
     return f"{path.parent.name}/{path.stem}"
 
 
+def printed(capsys: Captured, words: Sequence[str]) -> str:
+    """What a command prints that ends with 0 and has nothing to say."""
+    status, (out, err) = main(words), capsys.readouterr()
+    assert (status, err) == (0, "")
+    return out
+
+
+def refusal(capsys: Captured, words: Sequence[str]) -> str:
+    """What a command says that ends with 2 and prints nothing."""
+    status, (out, err) = main(words), capsys.readouterr()
+    assert (status, out) == (2, "")
+    return err
+
+
 class Segment(NamedTuple):
-    """A run of a job, or idle time, which has no task and no job; begin and end are in ticks."""
+    """A run of a job, or idle time, which has no task and no job; begin and end are in ticks.
+
+    `places` are these as positions.
+    """
 
     task: str
     job: str
@@ -45,6 +64,7 @@ class Segment(NamedTuple):
     units: int
     energy: int
     speed: int
+    places: list[str]
 
 
 class Lines:
@@ -70,7 +90,7 @@ class Lines:
                 task, job = fields[2:-2] or ("", "")
                 begin, end = time(fields[0], speed), time(fields[1], speed)
                 units, energy = map(int, fields[-2:])
-                self.segments.append(Segment(task, job, begin, end, units, energy, speed))
+                self.segments.append(Segment(task, job, begin, end, units, energy, speed, fields[:2]))
 
     def of(self, word: str) -> list[list[str]]:
         """The fields of the lines that begin with a word."""

@@ -1,6 +1,7 @@
 """Makes the pictures of the pages again: PYTHONPATH=python/src python3 python/tests/pictures.py"""
 
 from collections.abc import Iterator
+from itertools import chain
 from pathlib import Path
 
 from examples import TOP, files
@@ -21,20 +22,16 @@ TRACES = {  # a picture's name: the folder, the pair, the ticks, the view and th
 FIGURES = {"demands": 2, "idle": 2, "machines": 3, "tasks": 3}     # the evaluation's, and their columns
 
 
-def draw_traces(engine: Engine, target: Path) -> Iterator[Path]:
-    """Draws the pictures of traces into a folder."""
+def draw_pictures(engine: Engine, target: Path) -> Iterator[Path]:
+    """Draws traces, and the comparison of the pairs on the controller, into a folder."""
     for name, (folder, pair, ticks, view, width) in TRACES.items():
         tasks, machine, demands = files(folder)
         trace = Trace.parse(engine.run(tasks, machine, *pair, ticks, demands))
         save_trace(trace, target / f"{name}.svg", view, width)
         yield target / f"{name}.svg"
-
-
-def draw_compare(engine: Engine, target: Path) -> Path:
-    """Draws the comparison of the pairs on the controller into a folder."""
     tasks, machine, demands = files("controller")
     save_compare(compare(engine, tasks, machine, 2000, demands), target / "compare.svg")
-    return target / "compare.svg"
+    yield target / "compare.svg"
 
 
 def draw_figures(target: Path) -> Iterator[Path]:
@@ -46,9 +43,6 @@ def draw_figures(target: Path) -> Iterator[Path]:
 
 
 if __name__ == "__main__":
-    program = find_engine()
-    for made in draw_traces(program, TOP / "examples" / "pictures"):
-        print(made)
-    print(draw_compare(program, TOP / "examples" / "pictures"))
-    for made in draw_figures(TOP / "examples" / "evaluation"):
+    pages = TOP / "examples"
+    for made in chain(draw_pictures(find_engine(), pages / "pictures"), draw_figures(pages / "evaluation")):
         print(made)

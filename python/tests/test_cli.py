@@ -4,13 +4,14 @@ import argparse
 import io
 import subprocess
 import sys
-import types
 from collections.abc import Callable
 from fractions import Fraction
 from pathlib import Path
+from types import SimpleNamespace
+from unittest.mock import Mock
 
 import pytest
-from examples import DATA, Captured
+from examples import DATA, Captured, printed, refusal
 
 from rtdvs import cli, commandline
 from rtdvs.engine import Crashed, Engine, NoEngine, OverWorst
@@ -26,14 +27,10 @@ def stub(monkeypatch: pytest.MonkeyPatch) -> Callable[[Handler], None]:
     def replace(handler: Handler) -> None:
         def add_command(commands: "argparse._SubParsersAction[argparse.ArgumentParser]") -> None:
             parser = commands.add_parser("stub", help="a stand-in")
-            commandline.add_files(parser, ["tasks"], ["machine", "demands"])
-            commandline.add_output(parser)
-            commandline.add_engine_options(parser, jobs=True)
+            add_options(parser, ["tasks"], ["machine", "demands"])
             parser.set_defaults(handler=handler)
 
-        module = types.ModuleType("stub")
-        module.add_command = add_command  # type: ignore[attr-defined]
-        monkeypatch.setattr(cli, "COMMANDS", (module,))
+        monkeypatch.setattr(cli, "COMMANDS", (SimpleNamespace(add_command=add_command),))
 
     return replace
 
@@ -41,10 +38,14 @@ def stub(monkeypatch: pytest.MonkeyPatch) -> Callable[[Handler], None]:
 def parsed(*words: str) -> argparse.Namespace:
     """The arguments of the stub's options."""
     parser = argparse.ArgumentParser()
-    commandline.add_files(parser, [], ["tasks", "machine", "demands"])
+    add_options(parser, [], ["tasks", "machine", "demands"])
+    return parser.parse_args(words)
+
+
+def add_options(parser: argparse.ArgumentParser, required: list[str], optional: list[str]) -> None:
+    commandline.add_files(parser, required, optional)
     commandline.add_output(parser)
     commandline.add_engine_options(parser, jobs=True)
-    return parser.parse_args(words)
 
 
 def standard_input(content: bytes) -> io.TextIOWrapper:
@@ -58,31 +59,28 @@ COMMANDS = [module.__name__.removeprefix("rtdvs.").replace("_", "-") for module 
 
 @pytest.mark.parametrize("command", COMMANDS)
 def test_help_of_each_command(command: str, capsys: Captured) -> None:
-    assert cli.main([command, "--help"]) == 0
-    out = capsys.readouterr().out
+    out = printed(capsys, [command, "--help"])
     assert out.startswith(f"usage: python3 -m rtdvs {command}")
     assert f"rtdvs {command} " in out.split("options:")[1], "no example in the epilog"
 
 
 @pytest.mark.parametrize("command", COMMANDS)
 def test_unknown_option_of_each_command(command: str, capsys: Captured) -> None:
-    assert cli.main([command, "--foo"]) == 2
-    assert capsys.readouterr().err.startswith("usage: python3 -m rtdvs ")
+    assert refusal(capsys, [command, "--foo"]).startswith("usage: python3 -m rtdvs ")
 
 
 @pytest.mark.parametrize("words", [[], ["--foo"], ["foo"], ["stub"], ["stub", "--tasks"], ["stub", "--foo"]])
 def test_usage(words: list[str], stub: Callable[[Handler], None], capsys: Captured) -> None:
     stub(lambda args: 0)
-    assert cli.main(words) == 2
-    assert "python3 -m rtdvs" in capsys.readouterr().err
+    assert "python3 -m rtdvs" in refusal(capsys, words)
 
 
 def test_two_files_from_one_input(stub: Callable[[Handler], None], capsys: Captured,
                                   monkeypatch: pytest.MonkeyPatch) -> None:
     stub(lambda args: 0)
     monkeypatch.setattr(sys, "stdin", standard_input(b"x"))
-    assert cli.main(["stub", "--tasks", "-", "--machine", "-"]) == 2
-    assert "only one file can be standard input" in capsys.readouterr().err
+    said = refusal(capsys, ["stub", "--tasks", "-", "--machine", "-"])
+    assert "only one file can be standard input" in said
 
 
 @pytest.mark.parametrize("status", [0, 1, 2])
@@ -103,21 +101,13 @@ FAULTS = [
 
 
 @pytest.mark.parametrize(("fault", "line"), FAULTS, ids=[line for _, line in FAULTS])
-def test_faults(fault: Exception, line: str, stub: Callable[[Handler], None],
-                capsys: Captured) -> None:
-    def handler(args: argparse.Namespace) -> int:
-        raise fault
-
-    stub(handler)
-    assert cli.main(["stub", "--tasks", "x"]) == 2
-    assert capsys.readouterr() == ("", f"rtdvs: {line}\n")
+def test_faults(fault: Exception, line: str, stub: Callable[[Handler], None], capsys: Captured) -> None:
+    stub(Mock(side_effect=fault))
+    assert refusal(capsys, ["stub", "--tasks", "x"]) == f"rtdvs: {line}\n"
 
 
 def test_interrupted(stub: Callable[[Handler], None], capsys: Captured) -> None:
-    def handler(args: argparse.Namespace) -> int:
-        raise KeyboardInterrupt
-
-    stub(handler)
+    stub(Mock(side_effect=KeyboardInterrupt))
     assert cli.main(["stub", "--tasks", "x"]) == 130
     assert capsys.readouterr() == ("", "")
 
@@ -163,13 +153,11 @@ def bad_file(request: pytest.FixtureRequest, tmp_path: Path) -> Path:
 
 
 @pytest.mark.parametrize("words", READERS_OF_FILES)
-def test_bad_files(words: str, bad_file: Path, capsys: Captured,
-                   monkeypatch: pytest.MonkeyPatch) -> None:
+def test_bad_files(words: str, bad_file: Path, capsys: Captured, monkeypatch: pytest.MonkeyPatch) -> None:
     """Each is refused in one line, with status 2."""
     monkeypatch.chdir(DATA / "paper")
-    assert cli.main([str(bad_file) if word == "BAD" else word for word in words.split()]) == 2
-    out, err = capsys.readouterr()
-    assert out == "" and err.startswith("rtdvs: ") and err.count("\n") == 1, err
+    said = refusal(capsys, [str(bad_file) if word == "BAD" else word for word in words.split()])
+    assert said.startswith("rtdvs: ") and said.count("\n") == 1, said
 
 
 # Standard streams
@@ -286,15 +274,9 @@ def test_executor_of_options() -> None:
         assert [*executor.map(abs, [-1, 2])] == [1, 2]
 
 
-class Terminal(io.StringIO):
-    """A standard error that is a terminal."""
-
-    def isatty(self) -> bool:
-        return True
-
-
 def test_progress_on_a_terminal(monkeypatch: pytest.MonkeyPatch) -> None:
-    terminal = Terminal()
+    terminal = io.StringIO()
+    monkeypatch.setattr(terminal, "isatty", lambda: True)
     monkeypatch.setattr(sys, "stderr", terminal)
     monkeypatch.setattr(commandline, "monotonic", iter(range(1, 100)).__next__)
     assert [*commandline.progress("ab", 4, "runs")] == ["a", "b"]

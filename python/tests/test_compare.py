@@ -6,11 +6,10 @@ from itertools import combinations, pairwise
 from pathlib import Path
 
 import pytest
-from examples import DATA, Captured, Lines, files
+from examples import DATA, Captured, Lines, files, printed, refusal
 from hypothesis import given, settings
 from hypothesis import strategies as st
 
-from rtdvs.cli import main
 from rtdvs.compare import PAIRS, Result, compare, table
 from rtdvs.engine import Denied, Engine, TooManyJobs
 from rtdvs.files import Demands, Machine, Point, Task, TaskSet
@@ -78,16 +77,14 @@ def options(example: str, program: Path) -> list[str]:
 
 
 def test_the_paper_by_hand(program: Path, capsys: Captured) -> None:
-    call = options("paper", program)
-    assert main([*call, "16", "--demands", str(DATA / "paper" / "demands.csv"), "--jobs", "2"]) == 0
-    assert words(capsys.readouterr().out) == words(PAPER)
+    call = [*options("paper", program), "16", "--demands", str(DATA / "paper" / "demands.csv")]
+    assert words(printed(capsys, [*call, "--jobs", "2"])) == words(PAPER)
 
 
 def test_finer_ticks_of_the_paper(program: Path, capsys: Captured) -> None:
     """In ticks 3 times finer EDF la needs 308 of the 700 and RM cc 500, in the natural ones 315 and 514."""
-    call = options("paper", program)
-    assert main([*call, "16", "--demands", str(DATA / "paper" / "demands.csv"), "--finer", "1", "3"]) == 0
-    _, _, second = capsys.readouterr().out.partition("\n\n")
+    call = [*options("paper", program), "16", "--demands", str(DATA / "paper" / "demands.csv")]
+    _, _, second = printed(capsys, [*call, "--finer", "1", "3"]).partition("\n\n")
     shares = [row[3] for row in words(second)[1:]]
     assert words(second)[0] == ["scheduler", "governor", "finer_1", "finer_3"]
     assert shares == ["1.0000", "1.0000", "1.0000", "0.9778", "1.0000", "1.0000", "0.9728"]
@@ -130,8 +127,7 @@ def recounted(text: str, tasks: TaskSet, machine: Machine, base: int) -> Result:
     )
 
 
-def check(engine: Engine, tasks: TaskSet, machine: Machine, ticks: int,
-          demands: Demands | None) -> None:
+def check(engine: Engine, tasks: TaskSet, machine: Machine, ticks: int, demands: Demands | None) -> None:
     base = 0
     for row, pair in zip(compare(engine, tasks, machine, ticks, demands), PAIRS, strict=True):
         assert (row.scheduler, row.governor) == pair
@@ -212,16 +208,12 @@ def test_other_refusals_end_it(engine: Engine) -> None:
 
 
 @pytest.mark.parametrize("name", ["absent", "."])
-def test_a_file_that_is_not_there(program: Path, tmp_path: Path, name: str,
-                                  capsys: Captured) -> None:
-    call = options("paper", program)
-    call[call.index("--tasks") + 1] = str(tmp_path / name)
-    assert main([*call, "16"]) == 2
-    out, notes = capsys.readouterr()
-    assert out == "" and notes.count("\n") == 1
+def test_a_file_that_is_not_there(program: Path, tmp_path: Path, name: str, capsys: Captured) -> None:
+    call = [*options("paper", program), "16", "--tasks", str(tmp_path / name)]
+    assert refusal(capsys, call).count("\n") == 1
 
 
 def test_a_trace_that_is_none(program: Path, capsys: Captured) -> None:
     demands = DATA / "paper" / "demands.csv"
-    assert main([*options("paper", program), "16", "--trace", str(demands)]) == 2
-    assert capsys.readouterr() == ("", f"rtdvs: {demands}: line 1: neither trace 1 nor trace 2\n")
+    assert refusal(capsys, [*options("paper", program), "16", "--trace", str(demands)]) == (
+        f"rtdvs: {demands}: line 1: neither trace 1 nor trace 2\n")

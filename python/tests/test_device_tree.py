@@ -1,6 +1,5 @@
 """Device trees: each expected point is read off the text by hand, or is what the text was made of."""
 
-
 import pytest
 from examples import TOP
 from hypothesis import given
@@ -30,6 +29,8 @@ OLD = """/ { cpus { #address-cells = <1>;
         >; clock-latency = <61036>; // transition
     };
 }; };"""
+PLAIN = CHIPS.replace("MHZ(600)", "600000000").replace("0x1 0xffff", "8 8")
+BOARD = (TOP / "examples" / "board.dts").read_text()
 
 
 def pairs(text: str, choice: Choice = Choice()) -> list[tuple[int, int]]:
@@ -42,29 +43,18 @@ def table(*statements: str) -> str:
     return "/ { t { %s second { %s; }; }; };" % (first, "; ".join(statements))
 
 
-@pytest.mark.parametrize(("choice", "points"), [
-    (Choice("little"), [(500000000, 825000), (747500000, 900000), (1400000000, 1187250)]),
-    (Choice("big", suffix="slow"), [(600000000, 850000), (1800000000, 1100000)]),
-    (Choice("big", suffix="fast"), [(600000000, 800000), (1800000000, 1050000)]),
-    (Choice("soc/opp-table"), [(10**9, 900000), (5 * 10**9, 1100000)]),
+@pytest.mark.parametrize(("text", "choice", "name", "points"), [
+    (BOARD, Choice("little"), "little", [(500000000, 825000), (747500000, 900000), (1400000000, 1187250)]),
+    (BOARD, Choice("big", suffix="slow"), "big", [(600000000, 850000), (1800000000, 1100000)]),
+    (BOARD, Choice("big", suffix="fast"), "big", [(600000000, 800000), (1800000000, 1050000)]),
+    (BOARD, Choice("soc/opp-table"), "soc/opp-table", [(10**9, 900000), (5 * 10**9, 1100000)]),
+    (PLAIN, Choice(supported_hw=(2, 0x10)), "cpu_table", [(300000000, 950000)]),
+    (PLAIN, Choice(supported_hw=(1, 1)), "cpu_table", [(300000000, 1100000)]),
+    (PLAIN, Choice(supported_hw=(4, 0x30)), "cpu_table", [(300000000, 950000), (300000000, 1100000)]),
+    (OLD, Choice(), "cpu0", [(396000000, 975000), (996000000, 1250000)]),
 ])
-def test_board(choice: Choice, points: list[tuple[int, int]]) -> None:
-    assert pairs((TOP / "examples" / "board.dts").read_text(), choice) == points
-
-
-@pytest.mark.parametrize(("hardware", "points"), [
-    ((2, 0x10), [(300000000, 950000)]),
-    ((1, 1), [(300000000, 1100000)]),
-    ((4, 0x30), [(300000000, 950000), (300000000, 1100000)]),
-])
-def test_hardware_is_chosen(hardware: tuple[int, ...], points: list[tuple[int, int]]) -> None:
-    assert pairs(CHIPS.replace("MHZ(600)", "600000000").replace("0x1 0xffff", "8 8"),
-                 Choice(supported_hw=hardware)) == points
-
-
-def test_old_points() -> None:
-    assert operating_points(OLD)[0] == "cpu0"
-    assert pairs(OLD) == [(396000000, 975000), (996000000, 1250000)]
+def test_points(text: str, choice: Choice, name: str, points: list[tuple[int, int]]) -> None:
+    assert (operating_points(text, choice)[0], pairs(text, choice)) == (name, points)
 
 
 @pytest.mark.parametrize(("statement", "hertz"), [

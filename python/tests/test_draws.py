@@ -2,6 +2,8 @@
 
 from collections.abc import Iterator
 from fractions import Fraction
+from functools import partial
+from itertools import product
 from math import exp, log, sqrt
 from typing import Any
 
@@ -115,17 +117,14 @@ def test_what_cannot_be_drawn(count: int, utilisation: Fraction, seed: int, opti
     assert str(fault.value) == reason
 
 
-@pytest.mark.parametrize("periods", [(), (0,), (2**40 + 1,), (2**25 - 39, 2**25 - 1)])
-def test_lists_of_periods_that_no_set_can_have(periods: tuple[int, ...]) -> None:
+@pytest.mark.parametrize(("kind", "values"), [
+    (Listed, [()]), (Listed, [(0,)]), (Listed, [(2**40 + 1,)]), (Listed, [(2**25 - 39, 2**25 - 1)]),
+    (LogUniform, [0, 10, 720720]), (LogUniform, [-5, 10, 720720]), (LogUniform, [11, 10, 720720]),
+    (LogUniform, [1, 2**40 + 1, 1]), (LogUniform, [1, 2, 0]),
+])
+def test_periods_that_no_set_can_have(kind: type[Listed | LogUniform], values: list[Any]) -> None:
     with pytest.raises(DrawFault):
-        Listed(periods)
-
-
-@pytest.mark.parametrize("bounds", [
-    (0, 10, 720720), (-5, 10, 720720), (11, 10, 720720), (1, 2**40 + 1, 1), (1, 2, 0)])
-def test_bounds_of_periods_that_no_set_can_have(bounds: tuple[int, int, int]) -> None:
-    with pytest.raises(DrawFault):
-        LogUniform(*bounds)
+        kind(*values)
 
 
 def published_in_floats(most: int) -> Iterator[tuple[str, Drawn]]:
@@ -138,21 +137,15 @@ def published_in_floats(most: int) -> Iterator[tuple[str, Drawn]]:
         return low + next(random) * 9 * low
 
     choices = [d for d in range(400, 400001) if 720720 % d == 0]
-    for count in (5, 8, 10, 15):
-        for tenths in range(1, 11):
-            for number in range(1, most + 1):
-                pairs = [(min(choices, key=lambda d: abs(d - time_drawn)), time())
-                         for time_drawn in iter_times(time, count)]
-                rates = sum(weight / period for period, weight in pairs)
-                yield f"{count}_{tenths}_{number}", [(period, int(tenths * 10000 * weight / rates))
-                                                     for period, weight in pairs]
+    for count, tenths, number in product((5, 8, 10, 15), range(1, 11), range(1, most + 1)):
+        pairs = [(min(choices, key=partial(away, time() * 400)), time()) for _ in range(count)]
+        rates = sum(weight / period for period, weight in pairs)
+        yield f"{count}_{tenths}_{number}", [(period, int(tenths * 10000 * weight / rates))
+                                             for period, weight in pairs]
 
 
-def iter_times(time: object, count: int) -> Iterator[float]:
-    """Times in ticks, each drawn when it is asked for, since a weight is drawn between two of them."""
-    assert callable(time)
-    for _ in range(count):
-        yield time() * 400
+def away(one: float, other: float) -> float:
+    return abs(one - other)
 
 
 def test_published_sets_by_the_rule() -> None:

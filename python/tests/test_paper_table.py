@@ -17,7 +17,7 @@ from fractions import Fraction
 from pathlib import Path
 
 import pytest
-from examples import DATA, Captured
+from examples import DATA, Captured, printed
 
 from rtdvs.cli import main
 from rtdvs.engine import Engine
@@ -55,8 +55,7 @@ def test_the_example_is_that_of_the_files() -> None:
 
 
 def test_printed(program: Path, capsys: Captured) -> None:
-    assert main(["paper-table", "--program", str(program), "--finer", "1", "3", "100"]) == 0
-    assert capsys.readouterr().out == (
+    assert printed(capsys, ["paper-table", "--program", str(program), "--finer", "1", "3", "100"]) == (
         "     k        none   RM static  EDF static      EDF cc       RM cc      EDF la\n"
         "     1    1.000000    1.000000    0.640000    0.520000    0.734286    0.450000\n"
         "     3    1.000000    1.000000    0.640000    0.520000    0.714286    0.440000\n"

@@ -7,16 +7,14 @@ from pathlib import Path
 
 import pictures
 import pytest
-from examples import DATA, SHORT, TOP, Captured, path_id
+from examples import DATA, SHORT, TOP, Captured, path_id, refusal
 from hypothesis import given
 from hypothesis import strategies as st
 
-from rtdvs.cli import main
 from rtdvs.compare import Result, Row
 from rtdvs.engine import Engine
 from rtdvs.figures import plot_compare
 from rtdvs.files import FileFault
-from rtdvs.commandline import note_charge
 from rtdvs.marks import Bar, join_narrow, readable, round_step, steps, thin
 from rtdvs.plot import View, plot_trace, save_trace, settled, trace_height
 from rtdvs.trace import Trace
@@ -64,16 +62,11 @@ def same_picture(made: Path, stored: Path) -> None:
     assert named == {name: count for name, count in marks(stored).items() if name in named} and len(named) > 4
 
 
-def test_stored_traces(engine: Engine, tmp_path: Path) -> None:
-    made = list(pictures.draw_traces(engine, tmp_path))
-    for path in made:
-        same_picture(path, TOP / "examples" / "pictures" / path.name)
-    stored = {path.name for path in (TOP / "examples" / "pictures").iterdir()}
-    assert stored == {path.name for path in made} | {"compare.svg"}
-
-
-def test_stored_comparison(engine: Engine, tmp_path: Path) -> None:
-    same_picture(pictures.draw_compare(engine, tmp_path), TOP / "examples" / "pictures" / "compare.svg")
+def test_stored_pictures(engine: Engine, tmp_path: Path) -> None:
+    stored = TOP / "examples" / "pictures"
+    for path in pictures.draw_pictures(engine, tmp_path):
+        same_picture(path, stored / path.name)
+    assert sorted(path.name for path in stored.iterdir()) == sorted(path.name for path in tmp_path.iterdir())
 
 
 def test_stored_figures(tmp_path: Path) -> None:
@@ -167,36 +160,23 @@ def test_usage(words: list[str], line: str, monkeypatch: pytest.MonkeyPatch, tmp
                capsys: Captured) -> None:
     monkeypatch.chdir(TOP)
     trace = "crates/example_runs/data/paper/edf_none.trace"
-    assert main(["plot", "trace", "--trace", trace, "--output", str(tmp_path / "a.svg"), *words]) == 2
-    assert line in capsys.readouterr().err and not list(tmp_path.iterdir())
+    said = refusal(capsys, ["plot", "trace", "--trace", trace, "--output", str(tmp_path / "a.svg"), *words])
+    assert line in said and not list(tmp_path.iterdir())
 
 
 @pytest.mark.parametrize("table", ["", "a\tb\n",
                                    "panel\tcurve\tutilisation\tsets\tmean\tlow\thigh\na\tb\tx\t1\t1\t1\t1\n"])
 def test_tables_are_refused(table: str, tmp_path: Path, capsys: Captured) -> None:
     (tmp_path / "t.tsv").write_text(table)
-    assert main(["plot", "evaluation", "--table", str(tmp_path / "t.tsv"), "--output",
-                 str(tmp_path / "a.svg")]) == 2
-    assert "table: " in capsys.readouterr().err
+    words = ["--table", str(tmp_path / "t.tsv"), "--output", str(tmp_path / "a.svg")]
+    assert "table: " in refusal(capsys, ["plot", "evaluation", *words])
 
 
-def test_without_matplotlib(tmp_path: Path, monkeypatch: pytest.MonkeyPatch,
-                            capsys: Captured) -> None:
+def test_without_matplotlib(tmp_path: Path, monkeypatch: pytest.MonkeyPatch, capsys: Captured) -> None:
     modules: dict[str, object] = sys.modules    # type: ignore[assignment]
     monkeypatch.setitem(modules, "matplotlib", None)
     words = ["--trace", str(DATA / "paper" / "edf_none.trace"), "--output", str(tmp_path / "a.svg")]
-    assert main(["plot", "trace", *words]) == 2
-    assert "plot: matplotlib is not installed" in capsys.readouterr().err
-
-
-def test_charge_is_asked_for(capsys: Captured) -> None:
-    run = "release 0 a 1\nspeed 0 4 1/1\nrun 0:0 2:0 a 1 8 8\ndone 2:0 a 1 8\nenergy a 8\nend 2 8 0\n"
-    trace = Trace.parse(head(2, "task a 2 0 4\n") + run)
-    note_charge(trace, 1)
-    note = "note: a job 1 used 8 of 6 declared units: give the machine's charge by --charge\n"
-    assert capsys.readouterr().err == note
-    note_charge(trace, 2)
-    assert capsys.readouterr().err == ""
+    assert "plot: matplotlib is not installed" in refusal(capsys, ["plot", "trace", *words])
 
 
 places = st.lists(st.integers(0, 1000)).map(lambda ticks: sorted(ticks))

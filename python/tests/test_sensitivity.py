@@ -6,14 +6,14 @@ from math import ceil
 from pathlib import Path
 
 import pytest
-from examples import BOARD, PAPER, Captured
+from examples import BOARD, PAPER, Captured, printed, refusal
 from hypothesis import given, settings
 from hypothesis import strategies as st
 
-from rtdvs.cli import main
 from rtdvs.engine import Denied, Engine
 from rtdvs.files import Machine, Point, Task, TaskSet
 from rtdvs.sensitivity import Limits, sensitivity
+
 
 @pytest.mark.parametrize(("tasks", "machine", "test", "wanted"), [
     # In 280 ticks the tasks ask for 12 * 35 + 12 * 28 + 4 * 20 = 836 of 1120 units. The 284 left are 8 * 35,
@@ -43,8 +43,7 @@ from rtdvs.sensitivity import Limits, sensitivity
     # The highest speed of a machine file does 10^6 units in the one tick.
     (TaskSet((Task("a", 1, 10**6 + 1),)), Machine((Point(7, 1),)), "edf", Limits(None, (7,), None)),
 ])
-def test_by_hand(engine: Engine, tasks: TaskSet, machine: Machine, test: str,
-                 wanted: Limits) -> None:
+def test_by_hand(engine: Engine, tasks: TaskSet, machine: Machine, test: str, wanted: Limits) -> None:
     assert sensitivity(engine, tasks, machine, test) == wanted
 
 
@@ -114,24 +113,24 @@ TASK_TEXT = '[[task]]\nname = "a"\nperiod = 10\nworst = 6\n'
 ])
 def test_a_file_that_the_program_refuses(program: Path, tmp_path: Path, capsys: Captured,
                                          tasks: str, machine: str, line: str) -> None:
-    assert call(program, tmp_path, tasks, machine, "edf") == 2
-    assert capsys.readouterr() == ("", f"rtdvs: {line}\n")
+    assert refusal(capsys, call(program, tmp_path, tasks, machine, "edf")) == f"rtdvs: {line}\n"
 
 
-def test_quoted_keys_and_inline_tables(program: Path, tmp_path: Path, capsys: Captured) -> None:
-    tasks = 'task = [{ "name" = "a", period = 10, worst = 6 }, { name = "b", period = 10, worst = 10 }]'
-    machine = '"charge" = 2\npoint = [{ speed = 2, millivolts = 1 }]'
-    assert call(program, tmp_path, tasks, machine, "edf") == 0
-    assert capsys.readouterr().out == "all 700\ntask a 6 2\ntask b 10 6\nspeed 2 3\n"
+@pytest.mark.parametrize(("tasks", "machine", "test", "lines"), [
+    # Quoted keys and inline tables.
+    ('task = [{ "name" = "a", period = 10, worst = 6 }, { name = "b", period = 10, worst = 10 }]',
+     '"charge" = 2\npoint = [{ speed = 2, millivolts = 1 }]', "edf",
+     "all 700\ntask a 6 2\ntask b 10 6\nspeed 2 3\n"),
+    # No number is enough.
+    (TASK_TEXT, "charge = 20\n" + MACHINE_TEXT, "rm", "all -\ntask a 6 -\nspeed 4 5\n"),
+])
+def test_printed(program: Path, tmp_path: Path, capsys: Captured, tasks: str, machine: str, test: str,
+                 lines: str) -> None:
+    assert printed(capsys, call(program, tmp_path, tasks, machine, test)) == lines
 
 
-def test_a_dash_if_no_number_is_enough(program: Path, tmp_path: Path, capsys: Captured) -> None:
-    assert call(program, tmp_path, TASK_TEXT, "charge = 20\n" + MACHINE_TEXT, "rm") == 0
-    assert capsys.readouterr().out == "all -\ntask a 6 -\nspeed 4 5\n"
-
-
-def call(program: Path, folder: Path, tasks: str, machine: str, test: str) -> int:
+def call(program: Path, folder: Path, tasks: str, machine: str, test: str) -> list[str]:
     (folder / "tasks.toml").write_text(tasks)
     (folder / "machine.toml").write_text(machine)
-    return main(["sensitivity", "--program", str(program), "--tasks", str(folder / "tasks.toml"), "--machine",
-                 str(folder / "machine.toml"), "--test", test])
+    return ["sensitivity", "--program", str(program), "--test", test, "--tasks", str(folder / "tasks.toml"),
+            "--machine", str(folder / "machine.toml")]

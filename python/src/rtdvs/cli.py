@@ -19,7 +19,11 @@ COMMANDS: tuple[ModuleType, ...] = (
 
 
 def parser() -> argparse.ArgumentParser:
-    """The parser of all commands."""
+    """The parser of all commands.
+
+    >>> parser().parse_args("generate published --count 5 --tenths 2 --number 1".split()).tenths
+    2
+    """
     top = argparse.ArgumentParser(prog="python3 -m rtdvs", description=__doc__)
     commands = top.add_subparsers(title="commands", metavar="COMMAND", required=True)
     for module in COMMANDS:
@@ -72,7 +76,14 @@ def _refused(line: str) -> int:
 
 
 def entry() -> None:
-    """Ends the process with the status of its command line."""
+    """Ends the process with the status of its command line.
+
+    >>> from unittest.mock import patch
+    >>> with patch("sys.argv", ["rtdvs", "--foo"]):
+    ...     entry()
+    Traceback (most recent call last):
+    SystemExit: 2
+    """
     status = main()
     try:
         sys.stdout.flush()

@@ -35,6 +35,7 @@ PAIRS = (("edf", "none"), ("edf", "static"), ("edf", "cc"), ("edf", "la"),
 HEADING = ("scheduler", "governor", "energy", "of_none", "above_bound", "switches", "idle", "least_laxity",
            "jitter")
 
+
 @dataclass(frozen=True, slots=True)
 class Result:
     """A run of a pair.
@@ -45,6 +46,10 @@ class Result:
     share of the run, and so is each speed's `residency`. `least_laxity` and `jitter`, in ticks, are over all
     complete jobs: the least time from a completion to its deadline, and the greatest difference between two
     responses of one task. None without such a job.
+
+    >>> idle = Result(12, None, None, 0, Fraction(1), None, None, residency={3: Fraction(1)})
+    >>> cells(Row("rm", "cc", idle), [3])[2:]
+    ('12', '-', '-', '0', '1.0000', '-', '-', '1.0000')
     """
 
     energy: int
@@ -59,7 +64,11 @@ class Result:
 
 @dataclass(frozen=True, slots=True)
 class Row:
-    """A pair with its result; a pair that is denied has no result, but the line of the refusal."""
+    """A pair with its result; a pair that is denied has no result, but the line of the refusal.
+
+    >>> Row("rm", "cc", None, "denied rm y 7 6").refusal
+    'denied rm y 7 6'
+    """
 
     scheduler: str
     governor: str
@@ -69,7 +78,12 @@ class Row:
 
 @dataclass(frozen=True, slots=True)
 class Case:
-    """The files of a comparison, and its ticks."""
+    """The files of a comparison, and its ticks.
+
+    >>> from rtdvs import Point, Task
+    >>> Case(TaskSet((Task("a", 5, 7),)), Machine((Point(2, 1000),)), ticks=20).finer(3).ticks
+    60
+    """
 
     tasks: TaskSet
     machine: Machine
@@ -93,14 +107,24 @@ class Case:
 
 def runs(engine: Engine, case: Case, pairs: Iterable[tuple[str, str]],
          executor: Executor | None = None) -> Iterator[str | Denied]:
-    """The text of each pair's trace, or its denial; raises the program's other refusals."""
+    """The text of each pair's trace, or its denial; raises the program's other refusals.
+
+    >>> from rtdvs import Point, Task, find_engine
+    >>> case = Case(TaskSet((Task("a", 4, 4),)), Machine((Point(1, 1000),)), 8)
+    >>> [energy_of(str(text)) for text in runs(find_engine(), case, PAIRS[:2])]
+    [8000000000, 8000000000]
+    """
     calls = (run_call(case.tasks, case.machine, scheduler, governor, case.ticks, case.demands)
              for scheduler, governor in pairs)
     return map(text_or_denial, engine.answers(calls, executor))
 
 
 def text_or_denial(answer: Answer) -> str | Denied:
-    """Standard output of the answer, or the Denied that it stands for; raises any other refusal."""
+    """Standard output of the answer, or the Denied that it is; raises any other refusal.
+
+    >>> text_or_denial(Answer(1, b"", b"denied rm y 7 6\\n"))
+    Denied('denied rm y 7 6')
+    """
     try:
         return answer.text()
     except Denied as denied:
@@ -118,12 +142,27 @@ def energy_of(trace: str) -> int:
 
 
 def units_of(trace: Trace) -> int:
-    """The work units of all runs, with the charge."""
+    """The work units of all runs, with the charge.
+
+    >>> from rtdvs.trace import SAMPLE
+    >>> units_of(Trace.parse(SAMPLE))
+    4
+    """
     return sum(note.units for note in trace.notes if isinstance(note, Run))
 
 
 def result(trace: Trace, tasks: TaskSet, least: Least, base: int) -> Result:
-    """What a trace comes to, with the bound for its units; `base` is the energy that shares are of, or 0."""
+    """The result of a trace, with the bound for its units; `base` is the energy that shares are of, or 0.
+
+    Raises TraceFault if a job isn't of the set.
+
+    >>> from rtdvs import Task
+    >>> from rtdvs.trace import SAMPLE
+    >>> tasks, least = TaskSet((Task("t", 2, 4),)), Least(1, 2, 2, 3, 0, 4000, 1000, 0)
+    >>> found = result(Trace.parse(SAMPLE), tasks, least, 9000)
+    >>> found.share, found.above_bound, found.switches
+    (Fraction(2, 3), Fraction(1, 2), 1)
+    """
     of_tasks = task_statistics(trace, tasks)
     laxities = [each.least_laxity for each in of_tasks if each.least_laxity is not None]
     jitters = [each.jitter for each in of_tasks if each.jitter is not None]
@@ -181,26 +220,38 @@ def finer_energies(engine: Engine, case: Case, times: int,
 
 
 def table(rows: Sequence[Row]) -> str:
-    """The rows below their heading, all shares and ticks with four decimal places."""
+    """The rows below their heading, all shares and ticks with four decimal places.
+
+    >>> table([Row("rm", "cc", None, "denied rm y 7 6")]).splitlines()[1]
+    'rm         cc        denied rm y 7 6'
+    """
     speeds = sorted({speed for row in rows if row.result for speed in row.result.residency})
     heading = (*HEADING, *(f"at_{speed}" for speed in speeds))
     return aligned([heading, *(cells(row, speeds) for row in rows)], left=2)
 
 
 def cells(row: Row, speeds: Sequence[int]) -> tuple[str, ...]:
-    """The fields of a row's line."""
+    """The fields of a row's line, with a share of the run for each of the speeds.
+
+    >>> cells(Row("rm", "cc", None, "denied rm y 7 6"), [2, 3])
+    ('rm', 'cc', 'denied rm y 7 6')
+    """
     result = row.result
     if result is None:
         return row.scheduler, row.governor, row.refusal
-    before = (result.share, result.above_bound)
-    after = (result.idle, result.least_laxity, result.jitter,
-             *(result.residency.get(speed, 0) for speed in speeds))
-    return (row.scheduler, row.governor, str(result.energy), *(decimal(share, 4) for share in before),
-            str(result.switches), *(decimal(share, 4) for share in after))
+    residency = (result.residency.get(speed, Fraction(0)) for speed in speeds)
+    values = (result.energy, result.share, result.above_bound, result.switches, result.idle,
+              result.least_laxity, result.jitter, *residency)
+    texts = (str(value) if isinstance(value, int) else decimal(value, 4) for value in values)
+    return row.scheduler, row.governor, *texts
 
 
 def finer_table(rows: Sequence[Row], finer: Mapping[int, Sequence[Fraction | None]]) -> str:
-    """The energies in finer ticks, as shares of those of the rows."""
+    """The energies in finer ticks, as shares of those of the rows, with four decimal places.
+
+    >>> finer_table([Row("rm", "cc", None, "denied rm y 7 6")], {10: [None]}).splitlines()[1]
+    'rm         cc               -'
+    """
     heading = ("scheduler", "governor", *(f"finer_{times}" for times in finer))
     shares = [[energy / row.result.energy if energy is not None and row.result and row.result.energy else None
                for row, energy in zip(rows, energies)] for energies in finer.values()]
@@ -209,8 +260,14 @@ def finer_table(rows: Sequence[Row], finer: Mapping[int, Sequence[Fraction | Non
 
 
 def add_command(commands: Commands) -> None:
-    """Adds the command `compare`."""
-    parser = add_parser(commands, "compare", run, "energies and times under each scheduler and governor",
+    """Adds the command `compare`.
+
+    >>> commands = argparse.ArgumentParser().add_subparsers()
+    >>> add_command(commands)
+    >>> list(commands.choices)
+    ['compare']
+    """
+    parser = add_parser(commands, "compare", _handle, "energies and times under each scheduler and governor",
                         "compare --tasks tasks.toml --machine machine.toml --ticks 16 --finer 2 10")
     add_files(parser, ["tasks", "machine"], ["demands"])
     add_ticks(parser)
@@ -221,7 +278,7 @@ def add_command(commands: Commands) -> None:
     add_engine_options(parser, jobs=True)
 
 
-def run(args: argparse.Namespace) -> int:
+def _handle(args: argparse.Namespace) -> int:
     engine, tasks = engine_of(args), read_tasks(args)
     case = Case(tasks, read_machine(args), args.ticks, read_demands(args, tasks))
     traces = [read_trace(source, case) for source in args.trace]
@@ -237,7 +294,12 @@ def run(args: argparse.Namespace) -> int:
 
 
 def read_trace(source: Input, case: Case) -> Trace:
-    """The trace of a file; a FileFault with the file's name if it is refused."""
+    """The trace of a file; a FileFault with the file's name if it is refused, and OSError.
+
+    >>> read_trace(b"trace 3\\n", Case(TaskSet(()), Machine(()), 8))
+    Traceback (most recent call last):
+    rtdvs.files.FileFault: -: line 1: neither trace 1 nor trace 2
+    """
     try:
         trace = Trace.parse(read_text(source, "trace"))
         trace.jobs(case.tasks)

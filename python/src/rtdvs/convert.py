@@ -6,10 +6,10 @@ Energies are whole numbers. In events and waves a tick is a microsecond.
 """
 
 import argparse
-import json
-from collections.abc import Iterable, Iterator
-from dataclasses import astuple
+from collections.abc import Iterator, Sequence
 from fractions import Fraction
+from itertools import chain, groupby
+from operator import itemgetter
 from typing import TYPE_CHECKING
 
 from rtdvs.commandline import (
@@ -24,6 +24,7 @@ if TYPE_CHECKING:
 
 MILLION = 10**6
 IDLE_TRACK = 65
+REALS = {"j": "job", "s": "speed", "d": "demand", "e": "energy"}
 
 
 # Numbers as text
@@ -107,14 +108,14 @@ def csv_text(trace: Trace, table: str = "segments", charge: int = 0) -> str:
     task,job,release,deadline,done,response,laxity,used,declared
     t,1,0,2,1.500000,1.500000,0.500000,4,4
     """
-    texts = ([*map(_cell, row)] for row in rows(trace, table, charge))
-    if table == "decisions":
-        texts = ([*map(str, astuple(note)), significant(note.num, note.den, 9)] for note in trace.decisions)
+    texts = ([_text(cell, table) for cell in row] for row in rows(trace, table, charge))
     return "".join(f"{','.join(row)}\n" for row in (TABLES[table], *texts))
 
 
-def _cell(cell: Cell) -> str:
-    return "" if cell is None else ticks(cell) if isinstance(cell, Fraction) else str(cell)
+def _text(cell: Cell, table: str) -> str:
+    if isinstance(cell, Fraction):
+        return significant(*cell.as_integer_ratio(), 9) if table == "decisions" else ticks(cell)
+    return "" if cell is None else str(cell)
 
 
 def frame(trace: Trace, table: str = "segments", joule: Fraction | None = None,
@@ -130,11 +131,8 @@ def frame(trace: Trace, table: str = "segments", joule: Fraction | None = None,
     """
     import pandas
 
-    found = [[float(cell) if isinstance(cell, Fraction) else cell for cell in row]
-             for row in rows(trace, table, charge)]
-    columns = zip(*found) if found else [()] * len(TABLES[table])
-    made = pandas.DataFrame({name: pandas.Series(list(values), dtype=kind)
-                             for (name, kind), values in zip(TABLES[table].items(), columns)})
+    cells = pandas.DataFrame(list(rows(trace, table, charge)), columns=list(TABLES[table]), dtype=object)
+    made = cells.astype(TABLES[table])
     if joule is not None and "energy" in made:
         made["joules"] = [float(energy * joule) for energy in made["energy"]]
     return made
@@ -149,50 +147,43 @@ def events_text(trace: Trace) -> str:
     A track for each task and one for idle time, with the release and the end of each job; counters for the
     speed and the published demand. Energies are text, since a number in JSON may lose digits past 2^53.
 
+    >>> import json
     >>> from rtdvs.trace import SAMPLE
     >>> len(json.loads(events_text(Trace.parse(SAMPLE)))["traceEvents"])
     14
     """
-    return '{"traceEvents":[\n' + ",\n".join(f'{{"pid":1,{event}}}' for event in _events(trace)) + "\n]}\n"
+    return '{"traceEvents":[\n' + ",\n".join(_events(trace)) + "\n]}\n"
 
 
 def _events(trace: Trace) -> Iterator[str]:
-    run = json.dumps(f"{trace.scheduler} {trace.governor}")
-    yield _about("M", "process_name", 0) + f',"args":{{"name":{run}}}'
-    tracks = {name: number for number, name in enumerate(trace.names, 1)}
-    for name, number in ("idle", IDLE_TRACK), *tracks.items():
-        yield from _track(name, number)
+    tracks = {"": IDLE_TRACK} | {name: number for number, name in enumerate(trace.names, 1)}
+    yield _event("M", "process_name", 0, args=_object(name=f'"{trace.scheduler} {trace.governor}"'))
+    for name, number in tracks.items():
+        yield _event("M", "thread_name", number, args=_object(name=f'"{name or "idle"}"'))
+        yield _event("M", "thread_sort_index", number, args=_object(sort_index=number))
     for note, speed in trace.at_speeds():
         if isinstance(note, Decision):
-            yield from _counters(note)
-        elif isinstance(note, Release | Run | Idle | Done):
-            yield _event(note, speed, IDLE_TRACK if isinstance(note, Idle) else tracks[note.task])
+            for name, value in ("speed", str(note.speed)), ("demand", significant(note.num, note.den, 9)):
+                yield _event("C", name, 0, ts=note.tick, args=_object(**{"units per tick": value}))
+        elif isinstance(note, Release):
+            yield _event("i", f"release {note.job}", tracks[note.task], s='"t"', ts=note.tick)
+        elif isinstance(note, Done):
+            yield _event("i", f"done {note.job}", tracks[note.task], s='"t"', ts=ticks(note.at.time(speed)),
+                         args=_object(used=note.used))
+        elif isinstance(note, Run | Idle):
+            name, job = (note.task, f"{note.task} {note.job}") if isinstance(note, Run) else ("", "idle")
+            begin, end = note.begin.time(speed), note.end.time(speed)
+            yield _event("X", job, tracks[name], ts=ticks(begin), dur=ticks(end - begin),
+                         args=_object(units=note.units, energy=f'"{note.energy}"'))
 
 
-def _about(phase: str, name: str, track: int) -> str:
-    return f'"ph":"{phase}","name":"{name}","tid":{track}'
+def _event(phase: str, name: str, track: int, **fields: int | str) -> str:
+    return _object(pid=1, ph=f'"{phase}"', name=f'"{name}"', tid=track, **fields)
 
 
-def _track(name: str, number: int) -> Iterator[str]:
-    yield _about("M", "thread_name", number) + f',"args":{{"name":"{name}"}}'
-    yield _about("M", "thread_sort_index", number) + f',"args":{{"sort_index":{number}}}'
-
-
-def _counters(note: Decision) -> Iterator[str]:
-    for name, value in ("speed", str(note.speed)), ("demand", significant(note.num, note.den, 9)):
-        yield _about("C", name, 0) + f',"ts":{note.tick},"args":{{"units per tick":{value}}}'
-
-
-def _event(note: Release | Run | Idle | Done, speed: int, track: int) -> str:
-    if isinstance(note, Release):
-        return _about("i", f"release {note.job}", track) + f',"s":"t","ts":{note.tick}'
-    if isinstance(note, Done):
-        return _about("i", f"done {note.job}",
-                      track) + f',"s":"t","ts":{ticks(note.at.time(speed))},"args":{{"used":{note.used}}}'
-    name = "idle" if isinstance(note, Idle) else f"{note.task} {note.job}"
-    begin, end = note.begin.time(speed), note.end.time(speed)
-    span = f',"ts":{ticks(begin)},"dur":{ticks(end - begin)}'
-    return _about("X", name, track) + span + f',"args":{{"units":{note.units},"energy":"{note.energy}"}}'
+def _object(**values: int | str) -> str:
+    """An object of values that are JSON already: as floats they would be rounded."""
+    return "{" + ",".join(f'"{key}":{value}' for key, value in values.items()) + "}"
 
 
 # Waves
@@ -210,62 +201,66 @@ def vcd_text(trace: Trace) -> str:
     >>> vcd_text(Trace.parse(SAMPLE)).splitlines()[-3:]
     ['1r0', '#2000000', 'r6000 e']
     """
-    names = trace.names
-    return "".join(f"{line}\n" for line in (*_vcd_head(names), *_changes(trace, names)))
+    moments = groupby(_changes(trace), itemgetter(0))
+    changes = ([f"#{time}", *(line for _, line in moment)] for time, moment in moments)
+    return "".join(f"{line}\n" for line in chain(_definitions(trace.names), *changes))
 
 
-def _vcd_head(names: tuple[str, ...]) -> Iterator[str]:
-    yield "$timescale 1 ps $end"
-    yield "$var wire 1 r0 idle $end"
-    yield from (f"$var real 64 {letter} {name} $end"
-                for letter, name in (("j", "job"), ("s", "speed"), ("d", "demand"), ("e", "energy")))
+def _definitions(names: Sequence[str]) -> Iterator[str]:
+    yield from ("$timescale 1 ps $end", "$var wire 1 r0 idle $end")
+    yield from (f"$var real 64 {letter} {name} $end" for letter, name in REALS.items())
     yield "$scope module tasks $end"
     for number, name in enumerate(names, 1):
-        yield f"$var wire 1 r{number} {name} $end"
-        yield f"$var wire 1 o{number} {name}/open $end"
-    yield from ("$upscope $end", "$enddefinitions $end", "#0", "$dumpvars", "1r0", "r0 j", "r0 s", "r0 d",
-                "r0 e")
-    for number in range(1, len(names) + 1):
+        yield from (f"$var wire 1 r{number} {name} $end", f"$var wire 1 o{number} {name}/open $end")
+    yield from ("$upscope $end", "$enddefinitions $end")
+
+
+def _initial(tasks: int) -> Iterator[str]:
+    """Each wire's value at tick 0, which is idle."""
+    yield from ("$dumpvars", "1r0", *(f"r0 {letter}" for letter in REALS))
+    for number in range(1, tasks + 1):
         yield from (f"0r{number}", f"0o{number}")
     yield "$end"
 
 
-def _changes(trace: Trace, names: tuple[str, ...]) -> Iterator[str]:
-    """The changes of the wires, and a line for each time that is another than before."""
-    now = 0
-    for time, lines in _moments(trace, {name: number for number, name in enumerate(names, 1)}):
-        if time != now:
-            yield f"#{time}"
-        now = time
-        yield from lines
-
-
-def _moments(trace: Trace, wires: dict[str, int]) -> Iterator[tuple[int, Iterable[str]]]:
+def _changes(trace: Trace) -> Iterator[tuple[int, str]]:
+    """The changes of the wires, each with its time."""
+    wires = {name: number for number, name in enumerate(("", *trace.names))}
     running = spent = 0
+    yield from ((0, line) for line in _initial(len(trace.names)))
     for note, speed in trace.at_speeds():
         if isinstance(note, Release):
-            yield note.tick * MILLION, [f"1o{wires[note.task]}"]
+            yield note.tick * MILLION, f"1o{wires[note.task]}"
         elif isinstance(note, Decision):
-            yield note.tick * MILLION, [f"r{note.speed} s", f"r{significant(note.num, note.den, 9)} d"]
+            yield note.tick * MILLION, f"r{note.speed} s"
+            yield note.tick * MILLION, f"r{significant(note.num, note.den, 9)} d"
         elif isinstance(note, Done):
-            yield millionths(note.at, speed), [f"0o{wires[note.task]}"]
+            yield millionths(note.at, speed), f"0o{wires[note.task]}"
         elif isinstance(note, Run | Idle):
             wire, job = (wires[note.task], note.job) if isinstance(note, Run) else (0, 0)
-            switch = [f"0r{running}", f"1r{wire}"] if wire != running else []
+            switch = (f"0r{running}", f"1r{wire}") if wire != running else ()
             running, spent = wire, spent + note.energy
-            yield millionths(note.begin, speed), [f"r{job} j", *switch]
-            yield millionths(note.end, speed), [f"r{significant(spent, 1, 15)} e"]
+            yield from ((millionths(note.begin, speed), line) for line in (f"r{job} j", *switch))
+            yield millionths(note.end, speed), f"r{significant(spent, 1, 15)} e"
 
 
 # The command
 
+WRITERS = {"chrome": events_text, "vcd": vcd_text}
+
 
 def add_command(commands: Commands) -> None:
-    """Adds the command `convert`."""
-    parser = add_parser(commands, "convert", run, "a trace as CSV, trace events or waves",
+    """Adds the command `convert`.
+
+    >>> commands = argparse.ArgumentParser().add_subparsers()
+    >>> add_command(commands)
+    >>> commands.choices["convert"].parse_args(["--to", "vcd", "--trace", "a.trace"]).trace
+    PosixPath('a.trace')
+    """
+    parser = add_parser(commands, "convert", _handle, "a trace as CSV, trace events or waves",
                         "convert --to csv --table jobs --trace paper.trace --output jobs.csv\n"
                         "convert --to vcd --trace paper.trace --output paper.vcd")
-    parser.add_argument("--to", choices=("csv", "chrome", "vcd"), required=True,
+    parser.add_argument("--to", choices=("csv", *WRITERS), required=True,
                         help="a table, trace events in JSON (Perfetto), or a value change dump (GTKWave)")
     parser.add_argument("--table", choices=tuple(TABLES), help="the table for csv; segments by default")
     parser.add_argument("--charge", type=whole_number(0), metavar="UNITS",
@@ -274,15 +269,13 @@ def add_command(commands: Commands) -> None:
     add_output(parser)
 
 
-def run(args: argparse.Namespace) -> int:
-    if args.to != "csv" and (args.table or args.charge is not None):
+def _handle(args: argparse.Namespace) -> int:
+    if args.to in WRITERS and (args.table or args.charge is not None):
         raise FileFault(f"--table and --charge are for csv only, and not for {args.to}")
-    trace = Trace.parse(read_text(args.trace, "trace"))
-    if args.to == "csv":
-        text = csv_text(trace, args.table or "segments", args.charge or 0)
-    else:
-        text = vcd_text(trace) if args.to == "vcd" else events_text(trace)
+    trace, charge = Trace.parse(read_text(args.trace, "trace")), args.charge or 0
+    table = args.table or "segments"
+    text = WRITERS[args.to](trace) if args.to in WRITERS else csv_text(trace, table, charge)
     if args.table == "jobs":
-        note_charge(trace, args.charge or 0)
+        note_charge(trace, charge)
     write_output(args, text)
     return 0

@@ -35,18 +35,22 @@ from rtdvs.commandline import (
     Commands, add_engine_options, add_output, add_pair, add_parser, engine_of, exact_fraction,
     input_path, read_text, whole_number, write_output,
 )
+from rtdvs.decimals import decimal
 from rtdvs.device_tree import Choice, OperatingPoint, operating_points
 from rtdvs.draws import jobs_of
 from rtdvs.files import (
-    LONGEST_HYPERPERIOD, MOST_MILLIVOLTS, MOST_SPEED, Demands, FileFault, Machine, Point, Task,
-    TaskSet,
+    LONGEST_HYPERPERIOD, MOST_MILLIVOLTS, MOST_SPEED, Demands, FileFault, Machine, Point, Task, TaskSet,
 )
 from rtdvs.trace import Trace
 
 
 @dataclass(frozen=True, slots=True)
 class BoardTask:
-    """A task: period and offset in milliseconds; the worst case, and what a job usually takes, in cycles."""
+    """A task: period and offset in milliseconds; the worst case, and what a job usually takes, in cycles.
+
+    >>> BoardTask("a", period=Fraction(5, 2), worst=Fraction(1000)).offset
+    Fraction(0, 1)
+    """
 
     name: str
     period: Fraction
@@ -57,7 +61,11 @@ class BoardTask:
 
 @dataclass(frozen=True, slots=True)
 class BoardPoint:
-    """An operating point: its frequency in MHz, its voltage in volts, and its measured milliwatts."""
+    """An operating point: its frequency in MHz, its voltage in volts, and its measured milliwatts.
+
+    >>> BoardPoint(Fraction(600), volts=Fraction(19, 20)).milliwatts is None
+    True
+    """
 
     megahertz: Fraction
     volts: Fraction | None = None
@@ -69,6 +77,9 @@ class Board:
     """A board: a switch takes `switch` microseconds, an idle cycle `idle_share` of a running one's energy.
 
     `battery` is in milliwatt hours.
+
+    >>> Board((), (BoardPoint(Fraction(600)),), switch=Fraction(20)).idle_share
+    Fraction(0, 1)
     """
 
     tasks: tuple[BoardTask, ...]
@@ -104,7 +115,11 @@ class Board:
 
 @dataclass(frozen=True, slots=True)
 class Scale:
-    """A tick in milliseconds and a work unit in cycles."""
+    """A tick in milliseconds and a work unit in cycles.
+
+    >>> Scale(tick=Fraction(1, 2), unit=Fraction(1000)).tick
+    Fraction(1, 2)
+    """
 
     tick: Fraction
     unit: Fraction
@@ -120,7 +135,11 @@ class Scale:
 
 @dataclass(frozen=True, slots=True)
 class Rounding:
-    """A quantity that was changed to fit, and what was taken in its place, in one unit."""
+    """A quantity that was changed to fit, and what was taken in its place, in one unit.
+
+    >>> Rounding("switch", given=Fraction(5, 2), taken=Fraction(3), unit="microseconds").taken
+    Fraction(3, 1)
+    """
 
     quantity: str
     given: Fraction
@@ -138,7 +157,15 @@ class Rounding:
 
 @dataclass(frozen=True, slots=True)
 class Design:
-    """The files for a board, their scale and roundings; the joules of an energy of 1, if power is known."""
+    """The files for a board, their scale and roundings; the joules of an energy of 1, if power is known.
+
+    >>> board = Board.parse('''
+    ... task = [{name = "a", period_ms = 1, worst_cycles = 1000}]
+    ... point = [{mhz = 1000, volts = 1, milliwatts = 500}]''')
+    >>> made = design(board, Scale(Fraction(1), Fraction(1000)))
+    >>> made.joules(4 * 10**11), made.mean_milliwatts(4 * 10**11, 1), made.ticks_of(Fraction(5, 2))
+    (Fraction(1, 2000000), Fraction(1, 2), 2)
+    """
 
     tasks: TaskSet
     machine: Machine
@@ -167,14 +194,8 @@ def plain(number: Fraction) -> str:
     >>> plain(Fraction(5, 4)), plain(Fraction(1, 3)), plain(Fraction(7))
     ('1.25', '1/3', '7')
     """
-    rest, places = number.denominator, 0
-    while 10**places % rest and places < 30:
-        places += 1
-    if 10**places % rest:
-        return str(number)
-    digits = str(abs(number.numerator) * (10**places // rest)).zfill(places + 1)
-    text = digits if places == 0 else f"{digits[:-places]}.{digits[-places:]}"
-    return f"-{text}" if number < 0 else text
+    places = next((places for places in range(31) if 10**places % number.denominator == 0), None)
+    return str(number) if places is None else decimal(number, places)
 
 
 def rounded(number: Fraction, digits: int = 6) -> str:
@@ -185,7 +206,7 @@ def rounded(number: Fraction, digits: int = 6) -> str:
     """
     context = Context(prec=digits)
     text = context.divide(Decimal(number.numerator), Decimal(number.denominator)).normalize(context)
-    return f"{text:f}" if -10 < text.adjusted() < 15 and not (text.adjusted() >= digits) else str(text)
+    return f"{text:f}" if -10 < text.adjusted() < min(15, digits) else str(text)
 
 
 def points_of(points: Iterable[OperatingPoint]) -> tuple[BoardPoint, ...]:
@@ -246,7 +267,12 @@ def choose_unit(board: Board, tick: Fraction) -> Fraction:
 
 
 def choose_scale(board: Board, tick: Fraction | None = None, unit: Fraction | None = None) -> Scale:
-    """The scale of a board; a tick in milliseconds and a unit in cycles may be given."""
+    """The scale of a board; a tick in milliseconds and a unit in cycles may be given. Raises FileFault.
+
+    >>> one = BoardTask("a", Fraction(5), Fraction(70000))
+    >>> choose_scale(Board((one,), (BoardPoint(Fraction(100)),))).text()
+    'a tick is 0.5 ms, a unit 50 cycles'
+    """
     chosen = choose_tick(board) if tick is None else tick
     return Scale(chosen, choose_unit(board, chosen) if unit is None else unit)
 
@@ -267,12 +293,18 @@ def design(board: Board, scale: Scale) -> Design:
     """
     tasks = TaskSet(tuple(_task_in(task, scale) for task in board.tasks))
     machine, changed = machine_of(board, scale)
-    return Design(TaskSet.parse(tasks.text()), machine, scale,
-                  (*_task_roundings(board.tasks, scale), *changed), _joule(board, machine, scale))
+    roundings = _changed(_task_roundings(board.tasks, scale)) + changed
+    return Design(TaskSet.parse(tasks.text()), machine, scale, roundings, _joule(board, machine, scale))
 
 
 def machine_of(board: Board, scale: Scale) -> tuple[Machine, tuple[Rounding, ...]]:
-    """The machine of a board's points in a scale, and what was rounded; raises FileFault."""
+    """The machine of a board's points in a scale, and what was rounded; raises FileFault.
+
+    >>> points = BoardPoint(Fraction(1), Fraction(1)), BoardPoint(Fraction(5, 2), Fraction(2))
+    >>> machine, roundings = machine_of(Board((), points), Scale(Fraction(1), Fraction(1000)))
+    >>> machine.points[1], [rounding.text() for rounding in roundings]
+    (Point(speed=2, millivolts=2000), ['point 2.5 MHz: speed 2.5 MHz taken as 2 MHz'])
+    """
     points = sorted(board.points, key=lambda point: point.megahertz)
     if not points:
         raise _fault("no points")
@@ -281,16 +313,27 @@ def machine_of(board: Board, scale: Scale) -> tuple[Machine, tuple[Rounding, ...
     _check_rising(points, speeds, volts)
     charge = math.ceil(board.switch / 1000 / scale.tick * speeds[-1])
     machine = Machine(tuple(map(Point, speeds, volts)), math.ceil(board.idle_share * 1000), charge)
-    return Machine.parse(machine.text()), tuple(_machine_roundings(board, points, machine, scale))
+    return Machine.parse(machine.text()), _changed(_machine_roundings(board, points, machine, scale))
 
 
 def is_measured(points: Iterable[BoardPoint]) -> bool:
-    """Whether milliwatts are given at each point; they're then used in place of volts."""
+    """Whether milliwatts are given at each point; they're then used in place of volts.
+
+    >>> is_measured([BoardPoint(Fraction(600), milliwatts=Fraction(400)), BoardPoint(Fraction(800))])
+    False
+    """
     return all(point.milliwatts is not None for point in points)
 
 
 def usual_demands(board: Board, made: Design, ticks: int) -> Demands:
-    """The demands of all jobs of these ticks: what jobs usually take, rounded up to units."""
+    """The demands of all jobs of these ticks: what jobs usually take, rounded up to units.
+
+    >>> board = Board.parse('''
+    ... task = [{name = "a", period_ms = 5, worst_cycles = 2000, usual_cycles = 1001}]
+    ... point = [{mhz = 1, volts = 1}]''')
+    >>> usual_demands(board, design(board, Scale(Fraction(1), Fraction(1000))), 6).units
+    {('a', 1): 2, ('a', 2): 2}
+    """
     usual = {task.name: task.usual for task in board.tasks if task.usual is not None}
     return Demands({
         (task.name, job): math.ceil(usual[task.name] / made.scale.unit)
@@ -386,10 +429,8 @@ def _task(where: str, table: Mapping[str, Any]) -> BoardTask:
         raise _fault(f"{where}missing name" if name is None else f"{where}name is no text")
     if ("worst_ms" in table) == ("worst_cycles" in table):
         raise _fault(f"{where}give either worst_cycles, or worst_ms and at_mhz")
-    if "worst_ms" in table:
-        worst = _needed(where, table, "worst_ms") * _needed(where, table, "at_mhz") * 1000
-    else:
-        worst = _needed(where, table, "worst_cycles")
+    worst = (_needed(where, table, "worst_ms") * _needed(where, table, "at_mhz") * 1000
+             if "worst_ms" in table else _needed(where, table, "worst_cycles"))
     usual = _quantity(where, table, "usual_cycles")
     if usual is not None and usual > worst:
         raise _fault(f"{where}usual_cycles are over the worst case")
@@ -427,27 +468,25 @@ def _task_in(task: BoardTask, scale: Scale) -> Task:
 def _task_roundings(tasks: Iterable[BoardTask], scale: Scale) -> Iterator[Rounding]:
     for task in tasks:
         taken = _task_in(task, scale)
-        yield from _changed(f"task {task.name}: period", task.period, taken.period * scale.tick, "ms")
-        yield from _changed(f"task {task.name}: offset", task.offset, taken.offset * scale.tick, "ms")
-        yield from _changed(f"task {task.name}: worst case", task.worst, taken.worst * scale.unit, "cycles")
+        yield Rounding(f"task {task.name}: period", task.period, taken.period * scale.tick, "ms")
+        yield Rounding(f"task {task.name}: offset", task.offset, taken.offset * scale.tick, "ms")
+        yield Rounding(f"task {task.name}: worst case", task.worst, taken.worst * scale.unit, "cycles")
 
 
 def _machine_roundings(board: Board, points: Sequence[BoardPoint], machine: Machine,
                        scale: Scale) -> Iterator[Rounding]:
     for point, taken in zip(points, machine.points):
         where = f"point {plain(point.megahertz)} MHz:"
-        yield from _changed(f"{where} speed", point.megahertz, taken.speed * scale.unit / scale.tick / 1000,
-                            "MHz")
+        yield Rounding(f"{where} speed", point.megahertz, taken.speed * scale.unit / scale.tick / 1000, "MHz")
         if not is_measured(points) and point.volts is not None:
-            yield from _changed(f"{where} volts", point.volts, Fraction(taken.millivolts, 1000), "V")
-    yield from _changed("idle share", board.idle_share, Fraction(machine.idle, 1000), "of a running cycle")
+            yield Rounding(f"{where} volts", point.volts, Fraction(taken.millivolts, 1000), "V")
+    yield Rounding("idle share", board.idle_share, Fraction(machine.idle, 1000), "of a running cycle")
     switch = machine.charge * scale.tick * 1000 / machine.points[-1].speed
-    yield from _changed("switch", board.switch, switch, "microseconds")
+    yield Rounding("switch", board.switch, switch, "microseconds")
 
 
-def _changed(quantity: str, given: Fraction, taken: Fraction, unit: str) -> Iterator[Rounding]:
-    if given != taken:
-        yield Rounding(quantity, given, taken, unit)
+def _changed(roundings: Iterable[Rounding]) -> tuple[Rounding, ...]:
+    return tuple(rounding for rounding in roundings if rounding.given != rounding.taken)
 
 
 def _millivolts(point: BoardPoint) -> int:
@@ -459,12 +498,8 @@ def _millivolts(point: BoardPoint) -> int:
 def _effective_millivolts(points: Sequence[BoardPoint]) -> list[int]:
     """Whole millivolts, their squares nearly in proportion to a cycle's energies; the dearest has 20000."""
     energies = [(point.milliwatts or Fraction(0)) / point.megahertz for point in points]
-    squares = [energy / max(energies) * MOST_MILLIVOLTS**2 for energy in energies]
-    return [_nearest_root(square) for square in squares]
-
-
-def _nearest_root(square: Fraction) -> int:
-    return (math.isqrt(math.floor(4 * square)) + 1) // 2
+    squares = (energy / max(energies) * MOST_MILLIVOLTS**2 for energy in energies)
+    return [(math.isqrt(math.floor(4 * square)) + 1) // 2 for square in squares]
 
 
 def _check_rising(points: Sequence[BoardPoint], speeds: Sequence[int], volts: Sequence[int]) -> None:
@@ -488,8 +523,14 @@ def _joule(board: Board, machine: Machine, scale: Scale) -> Fraction | None:
 
 
 def add_command(commands: Commands) -> None:
-    """Adds the command `design`."""
-    parser = add_parser(commands, "design", run,
+    """Adds the command `design`.
+
+    >>> commands = argparse.ArgumentParser().add_subparsers()
+    >>> add_command(commands)
+    >>> list(commands.choices)
+    ['design']
+    """
+    parser = add_parser(commands, "design", _handle,
                         "files in ticks and work units from milliseconds, cycles and volts",
                         "design --board board.toml --folder drone\n"
                         "design --board board.toml --trace drone.trace\n"
@@ -533,7 +574,7 @@ def _hardware(word: str) -> tuple[int, ...]:
     return tuple(int(level, 16 if level[:2].lower() == "0x" else 10) for level in levels)
 
 
-def run(args: argparse.Namespace) -> int:
+def _handle(args: argparse.Namespace) -> int:
     for option in ("tick_ms", "unit_cycles", "settle_ms"):
         if getattr(args, option) is not None and getattr(args, option) <= 0:
             raise _fault(f"--{option.replace('_', '-')} has to be above 0")

@@ -6,8 +6,10 @@ is used.
 """
 
 import re
-from collections.abc import Iterator, Mapping, Sequence
+from collections.abc import Iterable, Iterator, Sequence
 from dataclasses import dataclass, field
+from operator import and_
+from pathlib import PurePosixPath
 
 from rtdvs.files import FileFault
 
@@ -30,6 +32,9 @@ class Choice:
     `table` is a label, or a path for a table without one; it may be empty if the file has one table.
     `supported_hw` is the version of the hardware, level by level, as the platform has it. `suffix` takes
     `opp-microvolt-SUFFIX`, `supply` is the place of the supply, from 1 on.
+
+    >>> Choice("cpu_table", supported_hw=(2, 0x10)).supply
+    1
     """
 
     table: str = ""
@@ -40,7 +45,11 @@ class Choice:
 
 @dataclass(frozen=True, slots=True)
 class OperatingPoint:
-    """A point of a table: its node's name, its frequency in hertz and its voltage in microvolts."""
+    """A point of a table: its node's name, its frequency in hertz and its voltage in microvolts.
+
+    >>> OperatingPoint("opp-600000000", hertz=600_000_000, microvolts=950_000).hertz
+    600000000
+    """
 
     name: str
     hertz: int
@@ -54,23 +63,62 @@ class _Cells:
     bits: int
     words: tuple[str, ...]
 
+    def numbers(self) -> list[int]:
+        return [_number(word, self.bits) for word in self.words]
+
 
 @dataclass(slots=True)
 class _Node:
-    path: str
+    """A node without those in it: its path, its first label, and the value of each property."""
+
+    path: PurePosixPath
     label: str = ""
     properties: dict[str, tuple[_Cells, ...]] = field(default_factory=dict)
-    children: "dict[str, _Node]" = field(default_factory=dict)
 
     @property
     def key(self) -> str:
-        return self.label or self.path
+        return self.label or str(self.path).strip("/")
+
+    def numbers(self, key: str) -> list[int]:
+        """The numbers of a property, none if it is absent."""
+        return [number for cells in self.properties.get(key, ()) for number in cells.numbers()]
 
 
 @dataclass(slots=True)
 class _Tree:
-    top: _Node
-    labels: dict[str, _Node]
+    """The nodes by path, and the path of each label."""
+
+    nodes: dict[PurePosixPath, _Node]
+    labels: dict[str, PurePosixPath] = field(default_factory=dict)
+
+    def path(self, parent: _Node, name: str) -> PurePosixPath:
+        """The path of a node by its name in another one, or by a reference, which may be to another file."""
+        if not name.startswith("&"):
+            return parent.path / name
+        path = PurePosixPath("/", name[2:-1]) if name.startswith("&{") else self.labels.get(name[1:])
+        return path if path in self.nodes else PurePosixPath("/", name)
+
+    def opened(self, parent: _Node, words: Sequence[str]) -> _Node:
+        """The node that begins with these words."""
+        name = words[-1] if words else ""
+        path = self.path(parent, name)
+        node = self.nodes.setdefault(path, _Node(path, name.partition("&")[2]))
+        for label, mark in zip(words, words[1:]):
+            if mark == ":":
+                node.label = node.label or label
+                self.labels[label] = path
+        return node
+
+    def follow(self, node: _Node, words: Sequence[str]) -> None:
+        """Keeps a property of a node, or deletes what a statement names."""
+        if words[0] == "/delete-property/":
+            node.properties.pop(words[-1], None)
+        elif words[0] == "/delete-node/":
+            gone = self.path(node, words[-1])
+            self.nodes = {path: kept for path, kept in self.nodes.items() if not path.is_relative_to(gone)}
+        else:
+            at = words.index("=") if "=" in words[1:] else len(words)
+            node.properties[words[at - 1]] = tuple(_cells(words[at + 1:]))
 
 
 def operating_points(text: str, choice: Choice = Choice()) -> tuple[str, tuple[OperatingPoint, ...]]:
@@ -83,7 +131,8 @@ def operating_points(text: str, choice: Choice = Choice()) -> tuple[str, tuple[O
     >>> operating_points("/ { " + board + " };")[1][0]
     OperatingPoint(name='396000', hertz=396000000, microvolts=975000)
     """
-    tables = _tables(_parse(text))
+    nodes = _parse(text)
+    tables = _tables(nodes)
     names = ", ".join(tables) or "none"
     if not choice.table and len(tables) != 1:
         raise _fault(f"one table has to be chosen of these: {names}" if tables
@@ -91,7 +140,7 @@ def operating_points(text: str, choice: Choice = Choice()) -> tuple[str, tuple[O
     table = choice.table or next(iter(tables))
     if table not in tables:
         raise _fault(f"no table {table}; the tables are: {names}")
-    points = sorted(_points(tables[table], choice), key=lambda point: point.hertz)
+    points = sorted(_points(tables[table], nodes, choice), key=lambda point: point.hertz)
     if not points:
         raise _fault(f"no point of {table} is for this hardware")
     return table, tuple(points)
@@ -110,158 +159,93 @@ def _tokens(text: str) -> Iterator[str]:
             yield match.group()
 
 
-def _parse(text: str) -> _Tree:
-    tree = _Tree(_Node(""), {})
-    nodes = [tree.top]
-    pending: list[str] = []
+def _parse(text: str) -> Iterable[_Node]:
+    """The nodes, each before those in it."""
+    top = _Node(PurePosixPath("/"))
+    tree, nodes, words = _Tree({top.path: top}), [top], list[str]()
     for token in _tokens(text):
+        if token not in ("{", "}", ";"):
+            words.append(token)
+            continue
         if token == "{":
-            nodes.append(_open_node(tree, nodes[-1], pending))
-        elif token == "}" and len(nodes) == 1:
-            raise _fault("a bracket } too many")
+            nodes.append(tree.opened(nodes[-1], words))
         elif token == "}":
             nodes.pop()
-        elif token == ";":
-            _keep_statement(tree, nodes[-1], pending)
-        else:
-            pending.append(token)
-            continue
-        pending = []
+        elif words:
+            tree.follow(nodes[-1], words)
+        if not nodes:
+            raise _fault("a bracket } too many")
+        words = []
     if len(nodes) > 1:
         raise _fault(f"no end of node {nodes[-1].key or '/'}")
-    return tree
-
-
-def _open_node(tree: _Tree, parent: _Node, words: Sequence[str]) -> _Node:
-    labels = [word for word, mark in zip(words, words[1:]) if mark == ":"]
-    name = words[-1] if words else ""
-    node = _referred(tree, name) if name.startswith("&") else None
-    if node is None:
-        path = f"{parent.path}/{name}" if parent.path else name.strip("/")
-        label = name.removeprefix("&") if name.startswith("&") else ""
-        node = parent.children.setdefault(name, _Node(path, label))
-    for label in labels:
-        node.label = node.label or label
-        tree.labels[label] = node
-    return node
-
-
-def _referred(tree: _Tree, name: str) -> _Node | None:
-    """The node that `&label` or `&{/path}` names, if this file has it."""
-    if not name.startswith("&{"):
-        return tree.labels.get(name[1:])
-    node: _Node | None = tree.top.children.get("/")
-    for part in name[2:-1].strip("/").split("/"):
-        node = node.children.get(part) if node and part else node
-    return node
-
-
-def _keep_statement(tree: _Tree, node: _Node, words: Sequence[str]) -> None:
-    if words[:1] == ["/delete-property/"]:
-        node.properties.pop(words[-1], None)
-    elif words[:1] == ["/delete-node/"]:
-        _delete_node(tree, node, words[-1])
-    elif len(words) > 1 and "=" in words:
-        at = words.index("=")
-        node.properties[words[at - 1]] = tuple(_cells(words[at + 1:]))
-    elif words:
-        node.properties[words[-1]] = ()
-
-
-def _delete_node(tree: _Tree, parent: _Node, name: str) -> None:
-    gone = _referred(tree, name) if name.startswith("&") else parent.children.get(name)
-    for node in [parent, *_nodes(tree.top)]:
-        node.children = {name: child for name, child in node.children.items() if child is not gone}
+    places = {path: place for place, path in enumerate(tree.nodes)}
+    return sorted(tree.nodes.values(), key=lambda node: [
+        places[path] for path in (*reversed(node.path.parents), node.path) if path in places])
 
 
 def _cells(words: Sequence[str]) -> Iterator[_Cells]:
-    bits = 32
-    inside: list[str] | None = None
-    for before, word in zip(("", *words), words):
-        if before == "/bits/" and word.isdecimal():
-            bits = int(word)
-        elif word == "<":
-            inside = []
-        elif word == ">" and inside is not None:
-            yield _Cells(bits, tuple(inside))
-            bits, inside = 32, None
-        elif inside is not None:
-            inside.append(word)
+    while "<" in words and ">" in words[words.index("<"):]:
+        start = words.index("<")
+        stop = words.index(">", start)
+        is_sized = words[:start][-2:-1] == ["/bits/"] and words[start - 1].isdecimal()
+        yield _Cells(int(words[start - 1]) if is_sized else 32, tuple(words[start + 1:stop]))
+        words = words[stop + 1:]
 
 
-def _nodes(top: _Node) -> Iterator[_Node]:
-    waiting = [top]
-    while waiting:
-        node = waiting.pop(0)
-        yield node
-        waiting[:0] = node.children.values()
+def _tables(nodes: Iterable[_Node]) -> dict[str, _Node]:
+    parents = {node.path.parent for node in nodes if "opp-hz" in node.properties}
+    return {node.key: node for node in nodes if "operating-points" in node.properties or node.path in parents}
 
 
-def _tables(tree: _Tree) -> Mapping[str, _Node]:
-    return {node.key: node for node in _nodes(tree.top)
-            if "operating-points" in node.properties
-            or any("opp-hz" in child.properties for child in node.children.values())}
-
-
-def _points(table: _Node, choice: Choice) -> Iterator[OperatingPoint]:
-    if "operating-points" in table.properties:
-        yield from _old_points(table.properties["operating-points"])
+def _points(table: _Node, nodes: Iterable[_Node], choice: Choice) -> Iterator[OperatingPoint]:
+    if "operating-points" not in table.properties:
+        yield from (OperatingPoint(node.path.name, _hertz(node), _microvolts(node, choice)) for node in nodes
+                    if node.path.parent == table.path and "opp-hz" in node.properties
+                    and _is_supported(node, choice.supported_hw))
         return
-    for name, node in table.children.items():
-        if "opp-hz" in node.properties and _is_supported(name, node, choice.supported_hw):
-            yield OperatingPoint(name, _hertz(name, node), _microvolts(name, node, choice))
-
-
-def _old_points(groups: Sequence[_Cells]) -> Iterator[OperatingPoint]:
-    numbers = [_number(word, cells.bits) for cells in groups for word in cells.words]
+    numbers = table.numbers("operating-points")
     if len(numbers) % 2:
         raise _fault("operating-points has no pairs of kHz and microvolts")
     for kilohertz, microvolts in zip(numbers[::2], numbers[1::2]):
         yield OperatingPoint(str(kilohertz), kilohertz * 1000, microvolts)
 
 
-def _is_supported(name: str, node: _Node, hardware: Sequence[int]) -> bool:
-    masks = [_number(word, cells.bits) for cells in node.properties.get("opp-supported-hw", ())
-             for word in cells.words]
-    if not hardware and masks:
-        raise _fault(f"{name} is for some hardware only; choose the hardware by --supported-hw")
-    if not hardware:
-        return True
-    if len(masks) % len(hardware):
-        raise _fault(f"{name} has {len(masks)} numbers in opp-supported-hw, "
+def _is_supported(node: _Node, hardware: Sequence[int]) -> bool:
+    masks = node.numbers("opp-supported-hw")
+    if masks and not hardware:
+        raise _fault(f"{node.path.name} is for some hardware only; choose the hardware by --supported-hw")
+    if hardware and len(masks) % len(hardware):
+        raise _fault(f"{node.path.name} has {len(masks)} numbers in opp-supported-hw, "
                      f"which are no groups of {len(hardware)}")
-    groups = [masks[at:at + len(hardware)] for at in range(0, len(masks), len(hardware))]
-    return any(all(mask & level for mask, level in zip(group, hardware)) for group in groups)
+    groups = zip(*[iter(masks)] * len(hardware))
+    return not hardware or any(all(map(and_, group, hardware)) for group in groups)
 
 
-def _hertz(name: str, node: _Node) -> int:
-    cells = next(iter(node.properties["opp-hz"]), _Cells(32, ()))
-    numbers = [_number(word, cells.bits) for word in cells.words]
-    if cells.bits == 64 and numbers:
-        return numbers[0]
-    if cells.bits == 32 and len(numbers) == 2:
-        return numbers[0] << 32 | numbers[1]
-    raise _fault(f"{name} has an opp-hz that is neither a number of 64 bits nor two of 32")
+def _hertz(node: _Node) -> int:
+    match [(cells.bits, cells.numbers()) for cells in node.properties["opp-hz"][:1]]:
+        case [(64, [hertz, *_])]:
+            return hertz
+        case [(32, [high, low])]:
+            return high << 32 | low
+    raise _fault(f"{node.path.name} has an opp-hz that is neither a number of 64 bits nor two of 32")
 
 
-def _microvolts(name: str, node: _Node, choice: Choice) -> int:
+def _microvolts(node: _Node, choice: Choice) -> int:
     key = f"opp-microvolt-{choice.suffix}" if choice.suffix else "opp-microvolt"
-    groups = node.properties.get(key, node.properties.get("opp-microvolt"))
-    if groups is None:
-        raise _fault(f"{name} has no {key}")
-    if choice.supply > len(groups) or not groups[choice.supply - 1].words:
-        raise _fault(f"{name} has no supply {choice.supply}")
-    cells = groups[choice.supply - 1]
-    return _number(cells.words[0], cells.bits)
+    supplies = node.properties.get(key, node.properties.get("opp-microvolt"))
+    if supplies is None:
+        raise _fault(f"{node.path.name} has no {key}")
+    match supplies[choice.supply - 1:choice.supply]:
+        case [_Cells(bits, (word, *_))]:
+            return _number(word, bits)
+    raise _fault(f"{node.path.name} has no supply {choice.supply}")
 
 
 def _number(word: str, bits: int) -> int:
     match = _NUMBER.fullmatch(word)
     if match is None:
         raise _fault(f"not a number: {word}")
-    digits = match[1].lower()
-    base = 16 if digits.startswith("0x") else 8 if digits.startswith("0") else 10
-    value = int(digits, base)
-    if value >= 1 << bits:
+    base = 16 if match[1][:2].lower() == "0x" else 8 if match[1].startswith("0") else 10
+    if int(match[1], base) >> bits:
         raise _fault(f"not a number of {bits} bits: {word}")
-    return value
+    return int(match[1], base)

@@ -27,12 +27,23 @@ PUBLISHED_MILLISECOND = 400
 PUBLISHED_TOP = 100_000
 """The highest speed of the published machines, in work units per tick."""
 
+
 class DrawFault(ValueError):
-    """What is asked for can't be drawn; the text says why."""
+    """What is asked for can't be drawn; the text says why.
+
+    >>> uunifast(0, Fraction(1, 2), 1)
+    Traceback (most recent call last):
+    rtdvs.draws.DrawFault: count is 1 to 64
+    """
 
 
 def require(condition: bool, reason: str) -> None:
-    """Raises a DrawFault with the reason unless the condition holds."""
+    """Raises a DrawFault with the reason unless the condition holds.
+
+    >>> require(1 > 2, "count is 1 to 64")
+    Traceback (most recent call last):
+    rtdvs.draws.DrawFault: count is 1 to 64
+    """
     if not condition:
         raise DrawFault(reason)
 
@@ -107,6 +118,7 @@ class Listed:
                 f"the periods have no common multiple up to {LONGEST_HYPERPERIOD}")
 
     def draw(self, count: int, stream: Iterator[int]) -> list[int]:
+        """A number of periods in ticks, by the next states."""
         return [self.periods[drawn(stream, len(self.periods))] for _ in range(count)]
 
 
@@ -131,6 +143,7 @@ class LogUniform:
         require(1 <= self.multiple <= LONGEST_HYPERPERIOD, f"multiple is 1 to {LONGEST_HYPERPERIOD}")
 
     def draw(self, count: int, stream: Iterator[int]) -> list[int]:
+        """A number of periods in ticks, by the next states; raises DrawFault if none divides the multiple."""
         choices = divisors(self.multiple, self.low, self.high)
         require(len(choices) > 0, "no period from low to high divides the multiple")
         width = log(self.high / self.low)
@@ -182,7 +195,11 @@ def uunifast(count: int, utilisation: Fraction, seed: int, periods: Listed | Log
 
 
 def numbered(periods: Sequence[int], worsts: Sequence[int]) -> TaskSet:
-    """The tasks t1, t2 .. with these periods and worst cases."""
+    """The tasks t1, t2 .. with these periods in ticks and worst cases in work units.
+
+    >>> numbered([8, 10], [12, 13]).named("t2")
+    Task(name='t2', period=10, worst=13, offset=0)
+    """
     return TaskSet(tuple(Task(f"t{place}", period, worst)
                          for place, (period, worst) in enumerate(zip(periods, worsts), 1)))
 
@@ -204,6 +221,7 @@ class SetName:
 
     @classmethod
     def parse(cls, text: str) -> "SetName":
+        """The name of a text; raises ValueError."""
         count, tenths, number = map(int, text.split("_"))
         return cls(count, tenths, number)
 

@@ -13,6 +13,7 @@ from concurrent.futures import Executor, Future, ProcessPoolExecutor, as_complet
 from dataclasses import dataclass
 from fractions import Fraction
 from pathlib import Path
+from statistics import mean
 
 from rtdvs.commandline import (
     Commands, add_engine_options, add_parser, engine_of, exact_fraction, progress, whole_number,
@@ -37,6 +38,9 @@ class Panel:
     """A part of a figure: sets of `count` tasks on a machine, whose jobs take a share of their worst cases.
 
     The share is a decimal, or `uniform`: each job draws its own.
+
+    >>> FIGURES["tasks"][0]
+    Panel(count=5, machine='table1_idle0', take='1', title='5 tasks')
     """
 
     count: int
@@ -76,7 +80,11 @@ MACHINES = {
 
 @dataclass(frozen=True, slots=True)
 class Sweep:
-    """How sets are drawn, and which are run: their numbers of tasks, and utilisations in tenths."""
+    """How sets are drawn, and which are run: their numbers of tasks, and utilisations in tenths.
+
+    >>> [str(name) for name, tasks in Sweep(most=2, counts=[8], tenths=[7]).sets()]
+    ['8_7_1', '8_7_2']
+    """
 
     draws: str = "published"
     most: int = 100
@@ -113,11 +121,13 @@ class Record:
     energy: Fraction | None
 
     def text(self) -> str:
+        """The line of the record, with its line feed."""
         energy = "denied" if self.energy is None else str(self.energy)
         return "\t".join([str(self.name), self.machine, self.take, self.curve, energy]) + "\n"
 
     @classmethod
     def parse(cls, line: str) -> "Record":
+        """The record of a line; raises ValueError."""
         name, kind, take, curve, energy = line.rstrip("\n").split("\t")
         return cls(SetName.parse(name), kind, take, curve, None if energy == "denied" else Fraction(energy))
 
@@ -126,7 +136,12 @@ class Record:
 
 
 def demands_of(name: SetName, tasks: TaskSet, take: str, seed: int) -> Demands | None:
-    """The demands of all jobs for a share of their worst cases; None for all of it."""
+    """The demands of all jobs for a share of their worst cases; None for all of it.
+
+    >>> from rtdvs import Task
+    >>> demands_of(SetName(8, 7, 1), TaskSet((Task("a", 360360, 7),)), "0.5", 2001).units
+    {('a', 1): 3, ('a', 2): 3}
+    """
     if take == "1":
         return None
     if take == "uniform":
@@ -135,7 +150,11 @@ def demands_of(name: SetName, tasks: TaskSet, take: str, seed: int) -> Demands |
 
 
 def panels_of(name: SetName) -> tuple[tuple[str, str], ...]:
-    """The machines and shares for which the figures need a set."""
+    """The machines and shares for which the figures need a set.
+
+    >>> panels_of(SetName(5, 1, 1))
+    (('table1_idle0', '1'),)
+    """
     panels = (panel for figure in FIGURES.values() for panel in figure)
     return tuple(dict.fromkeys((panel.machine, panel.take) for panel in panels if panel.count == name.count))
 
@@ -166,15 +185,21 @@ def recount(board: Machine, text: str) -> None:
 
 
 def measure(engine: Engine, seed: int, named: tuple[SetName, TaskSet]) -> list[Record]:
-    """All runs of one set; those of a set with number 1 are recounted. Raises refusals other than RM's."""
+    """All runs of one set; those of a set with number 1 are recounted. Raises refusals other than RM's.
+
+    >>> from rtdvs import Task, find_engine
+    >>> named = SetName(5, 1, 2), TaskSet((Task("a", 10010, 10**8),))
+    >>> [record.curve for record in measure(find_engine(), 2001, named)][:3]
+    ['bound', 'edf none', 'edf static']
+    """
     name, tasks = named
     cases = ((kind, take, Case(tasks, MACHINES[kind], PUBLISHED_TICKS, demands_of(name, tasks, take, seed)))
              for kind, take in panels_of(name))
     return [Record(name, kind, take, curve, energy) for kind, take, case in cases
-            for curve, energy in energies(engine, case, name.number == 1)]
+            for curve, energy in _energies(engine, case, name.number == 1)]
 
 
-def energies(engine: Engine, case: Case, recounted: bool = False) -> Iterator[tuple[str, Fraction | None]]:
+def _energies(engine: Engine, case: Case, recounted: bool = False) -> Iterator[tuple[str, Fraction | None]]:
     """The energy of each curve: the seven pairs, and the bound for their units, which all pairs share."""
     for (scheduler, governor), text in zip(PAIRS, runs(engine, case, PAIRS)):
         if isinstance(text, Denied):
@@ -204,41 +229,50 @@ def evaluate(engine: Engine, folder: Path, sweep: Sweep,
     """Runs the sets of a sweep that have no results in the folder; yields each name with results.
 
     The executor's workers have to reach the program; the caller's process writes the results. The first
-    failure ends the sweep, and a later call goes on. Raises FileFault if the folder is another sweep's.
+    failure ends the sweep, and a later call goes on. Raises FileFault if the folder is another sweep's,
+    OSError and what the program refuses.
+
+    >>> from concurrent.futures import ThreadPoolExecutor
+    >>> from tempfile import TemporaryDirectory
+    >>> from rtdvs import find_engine
+    >>> sweep = Sweep(most=1, counts=[5], tenths=[1])
+    >>> with TemporaryDirectory() as folder, ThreadPoolExecutor(1) as executor:
+    ...     [str(name) for name in evaluate(find_engine(), Path(folder), sweep, executor)]
+    ['5_1_1']
     """
-    claim(folder, sweep)
+    _claim(folder, sweep)
     waiting: dict[Future[list[Record]], SetName] = {}
     try:
         for name, tasks in sweep.sets():
-            if result_file(folder, name).exists():
+            if _result_file(folder, name).exists():
                 yield name
             else:
                 waiting[executor.submit(measure, engine, sweep.seed, (name, tasks))] = name
         for future in as_completed(waiting):
             text = "".join(record.text() for record in future.result())
-            write_whole(result_file(folder, waiting[future]), text)
+            _write_whole(_result_file(folder, waiting[future]), text)
             yield waiting[future]
     finally:
         for future in waiting:
             future.cancel()
 
 
-def claim(folder: Path, sweep: Sweep) -> None:
+def _claim(folder: Path, sweep: Sweep) -> None:
     """Makes the folder one of this sweep."""
     file = folder / "sweep"
     (folder / "results").mkdir(parents=True, exist_ok=True)
     if not file.exists():
-        write_whole(file, sweep.text())
+        _write_whole(file, sweep.text())
     found = file.read_text(encoding="utf-8")
     if found != sweep.text():
         raise FileFault(f"{folder}: it has results of {found.rstrip()}, not of {sweep.text().rstrip()}")
 
 
-def result_file(folder: Path, name: SetName) -> Path:
+def _result_file(folder: Path, name: SetName) -> Path:
     return folder / "results" / f"{name}.tsv"
 
 
-def write_whole(file: Path, text: str) -> None:
+def _write_whole(file: Path, text: str) -> None:
     """Writes a file that is there only when it is whole."""
     part = file.with_name(file.name + ".part")
     part.write_text(text, encoding="utf-8")
@@ -246,13 +280,22 @@ def write_whole(file: Path, text: str) -> None:
 
 
 def read_records(folder: Path, names: Iterable[SetName]) -> list[Record]:
-    """The results of these sets, in their order."""
+    """The results of these sets, in their order; raises OSError.
+
+    >>> read_records(Path("sweep"), [SetName(8, 7, 1)])
+    Traceback (most recent call last):
+    FileNotFoundError: [Errno 2] No such file or directory: 'sweep/results/8_7_1.tsv'
+    """
     return [Record.parse(line) for name in names
-            for line in result_file(folder, name).read_text(encoding="utf-8").splitlines()]
+            for line in _result_file(folder, name).read_text(encoding="utf-8").splitlines()]
 
 
 def finished(folder: Path) -> list[SetName]:
-    """The sets that have results in the folder, in order."""
+    """The sets that have results in the folder, in order.
+
+    >>> finished(Path("absent"))
+    []
+    """
     return sorted(SetName.parse(file.stem) for file in (folder / "results").glob("*.tsv"))
 
 
@@ -263,7 +306,13 @@ Place = tuple[int, str, str, str, int]
 
 
 def shares(records: Iterable[Record]) -> dict[Place, list[Fraction]]:
-    """The rising energies of each point, each over that of the same set under EDF with `none`."""
+    """The rising energies of each point, each over that of the same set under EDF with `none`.
+
+    >>> energies = {"edf none": Fraction(4), "edf cc": Fraction(3), "rm cc": None}
+    >>> records = [Record(SetName(8, 7, 1), "table1_idle0", "1", *pair) for pair in energies.items()]
+    >>> shares(records)[8, "table1_idle0", "1", "edf cc", 7]
+    [Fraction(3, 4)]
+    """
     rows = list(records)
     base = {(row.name, row.machine, row.take): row.energy for row in rows if row.curve == CURVES[0]}
     found: defaultdict[Place, list[Fraction]] = defaultdict(list)
@@ -276,10 +325,13 @@ def shares(records: Iterable[Record]) -> dict[Place, list[Fraction]]:
 
 
 def figure_table(panels: Iterable[Panel], found: Mapping[Place, list[Fraction]]) -> str:
-    """The table of a figure: a line for each panel, curve and utilisation.
+    r"""The table of a figure: a line for each panel, curve and utilisation.
 
     It has the number of sets that were admitted, the mean over them and the ends of the middle 80 %, each
     with four decimal places. Without an admitted set these three are left out.
+
+    >>> figure_table(FIGURES["tasks"], {}).splitlines()[1]
+    '5 tasks\tedf none\t0.1\t0\t\t\t'
     """
     lines = (f"{panel.title}\t{curve}\t{decimal(Fraction(tenths, 10), 1)}\t"
              + point(found.get((panel.count, panel.machine, panel.take, curve, tenths), []))
@@ -300,21 +352,6 @@ def point(rising: list[Fraction]) -> str:
     return f"{len(rising)}\t" + "\t".join(decimal(value, 4) for value in values) + "\n"
 
 
-def mean(values: list[Fraction]) -> Fraction:
-    """The exact mean, by halves: so few sums have large denominators.
-
-    >>> mean([Fraction(1, 2), Fraction(1, 3), Fraction(1, 6)])
-    Fraction(1, 3)
-    """
-    def total(part: list[Fraction]) -> Fraction:
-        if len(part) == 1:
-            return part[0]
-        middle = len(part) // 2
-        return total(part[:middle]) + total(part[middle:])
-
-    return total(values) / len(values)
-
-
 # What has to hold
 
 
@@ -323,6 +360,9 @@ def faults(records: Iterable[Record]) -> Iterator[str]:
 
     Each set has all its runs. No energy is below the bound; with the idle share 0 none is above that of EDF
     with `none`.
+
+    >>> list(faults([Record(SetName(8, 7, 1), "table1_idle0", "1", "bound", Fraction(7, 2))]))
+    ['8_7_1 table1_idle0 1: runs are missing']
     """
     groups: defaultdict[tuple[SetName, str, str], dict[str, Fraction | None]] = defaultdict(dict)
     for record in records:
@@ -332,10 +372,10 @@ def faults(records: Iterable[Record]) -> Iterator[str]:
         if sorted(by_curve) != sorted(CURVES):
             yield f"{place}: runs are missing"
             continue
-        yield from (f"{place}: {curve}: {reason}" for curve, reason in energy_faults(kind, by_curve))
+        yield from (f"{place}: {curve}: {reason}" for curve, reason in _energy_faults(kind, by_curve))
 
 
-def energy_faults(kind: str, by_curve: Mapping[str, Fraction | None]) -> Iterator[tuple[str, str]]:
+def _energy_faults(kind: str, by_curve: Mapping[str, Fraction | None]) -> Iterator[tuple[str, str]]:
     """The curves of one set whose energies can't be, each with the reason."""
     base, bound = by_curve[CURVES[0]], by_curve["bound"]
     for curve, energy in by_curve.items():
@@ -349,15 +389,25 @@ def energy_faults(kind: str, by_curve: Mapping[str, Fraction | None]) -> Iterato
 
 
 def summary(records: Collection[Record], wrong: Collection[str]) -> str:
-    """The numbers of results, of groups of a set's runs, of denied runs and of faults."""
+    """The numbers of results, of groups of a set's runs, of denied runs and of faults.
+
+    >>> summary([Record(SetName(8, 7, 1), "table1_idle0", "1", "rm cc", None)], ["runs are missing"])
+    '1 lines, 1 groups, 1 denied under RM, 1 faults'
+    """
     groups = {(record.name, record.machine, record.take) for record in records}
     denied = sum(record.energy is None for record in records)
     return f"{len(records)} lines, {len(groups)} groups, {denied} denied under RM, {len(wrong)} faults"
 
 
 def add_command(commands: Commands) -> None:
-    """Adds the command `evaluate`."""
-    parser = add_parser(commands, "evaluate", run, "energy over utilisation, of random sets",
+    """Adds the command `evaluate`.
+
+    >>> commands = argparse.ArgumentParser().add_subparsers()
+    >>> add_command(commands)
+    >>> list(commands.choices)
+    ['evaluate']
+    """
+    parser = add_parser(commands, "evaluate", _handle, "energy over utilisation, of random sets",
                         "evaluate --folder sweep --jobs 4 --counts 5 --utilisations 0.1 0.2")
     parser.add_argument("--folder", type=Path, required=True, help="where results and tables are kept")
     parser.add_argument("--sets", type=whole_number(1, 999), default=100, metavar="N",
@@ -382,7 +432,7 @@ def tenth(word: str) -> int:
     return int(tenths)
 
 
-def run(args: argparse.Namespace) -> int:
+def _handle(args: argparse.Namespace) -> int:
     sweep = Sweep(args.draws, args.sets, counts=args.counts, tenths=args.utilisations)
     total = len(set(args.counts)) * len(set(args.utilisations)) * args.sets
     with ProcessPoolExecutor(args.jobs) as executor:
@@ -391,7 +441,7 @@ def run(args: argparse.Namespace) -> int:
     records = read_records(args.folder, finished(args.folder))
     found = shares(records)
     for figure, panels in FIGURES.items():
-        write_whole(args.folder / f"{figure}.tsv", figure_table(panels, found))
+        _write_whole(args.folder / f"{figure}.tsv", figure_table(panels, found))
     wrong = list(faults(records))
     for fault in wrong:
         print(fault)

@@ -25,6 +25,11 @@ def plot_compare(rows: Sequence[Row], energy: "Axes", time: "Axes") -> None:
     """Draws a comparison into two axes: energies as shares of EDF with `none`, and the time at each speed.
 
     A mark is at the bound for the row's units. A pair that is denied has its line in place of a bar.
+
+    >>> energy, time = new_figure(96, 96).subplots(2)
+    >>> plot_compare([Row("rm", "cc", None, "denied rm y 7 6")], energy, time)
+    >>> energy.texts[0].get_text()
+    'denied rm y 7 6'
     """
     for axes in (energy, time):
         bare(axes, "x")
@@ -46,7 +51,12 @@ def plot_compare(rows: Sequence[Row], energy: "Axes", time: "Axes") -> None:
 
 
 def save_compare(rows: Sequence[Row], path: Path, background: str = "none") -> None:
-    """Draws a comparison into a file; raises OSError."""
+    """Draws a comparison into a file, as SVG, PDF or PNG by its name; raises FileFault, OSError.
+
+    >>> save_compare([Row("rm", "cc", None, "denied rm y 7 6")], Path("a.gif"))
+    Traceback (most recent call last):
+    rtdvs.files.FileFault: a picture is a file .svg, .pdf or .png, and not a.gif
+    """
     with settings():
         high = 24 * len(rows) + 70
         figure = new_figure(810, high)
@@ -82,7 +92,11 @@ def _draw_times(axes: "Axes", place: int, row: Row, shades: Mapping[int, float])
 
 @dataclass(frozen=True, slots=True)
 class Mean:
-    """A point of a figure: the number of sets; their mean energy and the middle 80 %, () without sets."""
+    """A point of a figure: the number of sets; their mean energy and the middle 80 %, () without sets.
+
+    >>> Mean("5 tasks", "rm cc", Fraction(1), sets=0, energies=()).sets
+    0
+    """
 
     panel: str
     curve: str
@@ -125,6 +139,11 @@ def plot_means(means: Sequence[Mean], axes: "Axes") -> None:
     that RM admits.
 
     A curve has no point if fewer than a tenth of the sets are admitted.
+
+    >>> axes = new_figure(96, 96).add_subplot()
+    >>> plot_means([Mean("5 tasks", "bound", Fraction(1, 10), 100, 3 * (Fraction(1, 2),))], axes)
+    >>> axes.get_title()
+    '5 tasks'
     """
     bare(axes, "y")
     axes.set(xlim=(0, 1.03), ylim=(0, 1))
@@ -163,7 +182,14 @@ def _style(curve: str) -> dict[str, Any]:
 
 
 def save_means(means: Sequence[Mean], path: Path, columns: int = 3, background: str = "none") -> None:
-    """Draws a figure of the evaluation into a file, a panel for each of its panels; raises OSError."""
+    """Draws a figure of the evaluation into a file, a panel for each of its panels.
+
+    The file is SVG, PDF or PNG by its name; raises FileFault, OSError.
+
+    >>> save_means([Mean("5 tasks", "rm cc", Fraction(1), 0, ())], Path("a.gif"))
+    Traceback (most recent call last):
+    rtdvs.files.FileFault: a picture is a file .svg, .pdf or .png, and not a.gif
+    """
     with settings():
         panels = list(dict.fromkeys(mean.panel for mean in means))
         wide, rows = 44 + columns * 314, -(-len(panels) // columns)

@@ -12,9 +12,9 @@ from fractions import Fraction
 from rtdvs.commandline import (
     Commands, add_engine_options, add_parser, engine_of, executor_of, progress, whole_number,
 )
-from rtdvs.compare import Case, energy_of, runs
+from rtdvs.compare import Case, energy_of
 from rtdvs.decimals import decimal
-from rtdvs.engine import Denied, Engine
+from rtdvs.engine import Engine, run_call
 from rtdvs.files import Demands, Machine, Point, Task, TaskSet
 
 EXAMPLE = Case(
@@ -30,6 +30,7 @@ HEADING = ("k", "none", "RM static", "EDF static", "EDF cc", "RM cc", "EDF la")
 PUBLISHED = ("paper", "1.0", "1.0", "0.64", "0.52", "0.71", "0.44")
 FINER = (1, 3, 10, 100)
 
+
 def shares(engine: Engine, times: int, executor: Executor | None = None) -> tuple[Fraction, ...]:
     """The energies of the published pairs in ticks that are so much finer, each over the first.
 
@@ -40,16 +41,18 @@ def shares(engine: Engine, times: int, executor: Executor | None = None) -> tupl
     >>> shares(find_engine(), 3)[3:]
     (Fraction(13, 25), Fraction(5, 7), Fraction(11, 25))
     """
-    energies = []
-    for text in runs(engine, EXAMPLE.finer(times), PAIRS, executor):
-        if isinstance(text, Denied):
-            raise text
-        energies.append(energy_of(text))
+    case = EXAMPLE.finer(times)
+    calls = (run_call(case.tasks, case.machine, *pair, case.ticks, case.demands) for pair in PAIRS)
+    energies = [energy_of(answer.text()) for answer in engine.answers(calls, executor)]
     return tuple(Fraction(energy, energies[0]) for energy in energies)
 
 
 def lines(rows: Iterable[tuple[int, tuple[Fraction, ...]]]) -> Iterator[str]:
-    """The table line by line: its heading, a row for each k with six decimal places, the paper's own."""
+    """The table line by line: its heading, a row for each k with six decimal places, the paper's own.
+
+    >>> [row.split() for row in lines([(3, (Fraction(1), Fraction(5, 7)))])][1]
+    ['3', '1.000000', '0.714286']
+    """
     yield line(HEADING)
     for times, row in rows:
         yield line((str(times), *(decimal(share, 6) for share in row)))
@@ -66,8 +69,14 @@ def line(cells: tuple[str, ...]) -> str:
 
 
 def add_command(commands: Commands) -> None:
-    """Adds the command `paper-table`."""
-    parser = add_parser(commands, "paper-table", run,
+    """Adds the command `paper-table`.
+
+    >>> commands = argparse.ArgumentParser().add_subparsers()
+    >>> add_command(commands)
+    >>> list(commands.choices)
+    ['paper-table']
+    """
+    parser = add_parser(commands, "paper-table", _handle,
                         "the energies of the example of Pillai and Shin, in finer ticks too",
                         "paper-table --finer 3 30")
     parser.add_argument("--finer", type=whole_number(1), nargs="+", default=FINER, metavar="K",
@@ -75,7 +84,7 @@ def add_command(commands: Commands) -> None:
     add_engine_options(parser, jobs=True)
 
 
-def run(args: argparse.Namespace) -> int:
+def _handle(args: argparse.Namespace) -> int:
     engine = engine_of(args)
     with executor_of(args) as executor:
         rows = [(times, shares(engine, times, executor))

@@ -63,6 +63,9 @@ class View:
     The ticks from `first` to `last` (the end of the run by default); `top`, the speed of full height (by
     default the fastest of the trace, and pictures to be compared need the same one); `charge`, the machine's,
     which each worst case has twice.
+
+    >>> View(first=10, last=20).charge
+    0
     """
 
     first: int = 0
@@ -202,7 +205,13 @@ def trace_height(trace: Trace, view: View = View()) -> float:
 
 def save_trace(trace: Trace, path: Path, view: View = View(), width: int = 1000,
                background: str = "none") -> None:
-    """Draws a trace into a file, `width` pixels wide; raises FileFault, OSError."""
+    """Draws a trace into a file, `width` pixels wide; raises FileFault, OSError.
+
+    >>> from rtdvs.trace import SAMPLE
+    >>> save_trace(Trace.parse(SAMPLE), Path("a.svg"), width=200)
+    Traceback (most recent call last):
+    rtdvs.files.FileFault: --width has to be at least 347
+    """
     with settings():
         names = trace.names
         facts = [_facts(trace, name, view.charge) for name in names]
@@ -420,8 +429,14 @@ def _sign(label: str, colour: str, marker: object, **style: Any) -> Any:
 
 
 def add_command(commands: Commands) -> None:
-    """Adds the command `plot`."""
-    parser = add_parser(commands, "plot", run, "pictures of traces, of comparisons and of the evaluation",
+    """Adds the command `plot`.
+
+    >>> commands = argparse.ArgumentParser().add_subparsers()
+    >>> add_command(commands)
+    >>> list(commands.choices)
+    ['plot']
+    """
+    parser = add_parser(commands, "plot", _handle, "pictures of traces, of comparisons and of the evaluation",
                         "plot trace --trace paper.trace --top 4 --output paper.svg\n"
                         "plot compare --tasks tasks.toml --machine machine.toml --ticks 99 --output a.pdf\n"
                         "plot evaluation --table examples/evaluation/tasks.tsv --output tasks.svg")
@@ -453,7 +468,7 @@ def _add_file(parser: argparse.ArgumentParser, draw: Callable[[argparse.Namespac
     parser.set_defaults(draw=draw)
 
 
-def run(args: argparse.Namespace) -> int:
+def _handle(args: argparse.Namespace) -> int:
     try:
         _check_background(args.background)
         args.draw(args)

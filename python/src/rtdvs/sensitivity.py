@@ -22,12 +22,16 @@ from rtdvs.files import MOST_SPEED, Machine, Point, TaskSet
 
 TESTS = ("edf", "rm", "response")
 
+
 @dataclass(frozen=True, slots=True)
 class Limits:
     """The last numbers that a test admits, each with all others as they are; None if no number is enough.
 
     `thousandths` multiply all worst cases, each product rounded up to whole units. `worsts` are work units,
     in the order of the tasks. `speed` is the lowest whole highest speed, in work units per tick.
+
+    >>> Limits(thousandths=1200, worsts=(10, 14), speed=2).worsts
+    (10, 14)
     """
 
     thousandths: int | None
@@ -37,7 +41,14 @@ class Limits:
 
 @dataclass(frozen=True, slots=True)
 class Question:
-    """A test of a set on a machine: edf and rm are those of `admit`, response is the exact one under RM."""
+    """A test of a set on a machine: edf and rm are those of `admit`, response is the exact one under RM.
+
+    >>> from rtdvs import Task, find_engine
+    >>> one = TaskSet((Task("a", 10, 6),))
+    >>> question = Question(find_engine(), one, Machine((Point(2, 1000),)), "edf")
+    >>> question.admits(), question.with_worsts([21]).admits()
+    (True, False)
+    """
 
     engine: Engine
     tasks: TaskSet
@@ -57,6 +68,7 @@ class Question:
         return True
 
     def with_worsts(self, worsts: list[int]) -> "Question":
+        """The same with other worst cases, in work units, in the order of the tasks."""
         tasks = tuple(replace(task, worst=worst) for task, worst in zip(self.tasks, worsts))
         return replace(self, tasks=TaskSet(tasks))
 
@@ -80,7 +92,14 @@ def last(above: int, holds: Callable[[int], bool]) -> int | None:
 
 
 def most_thousandths(question: Question) -> int | None:
-    """The most thousandths that all worst cases can be multiplied by."""
+    """The most thousandths that all worst cases can be multiplied by; raises as `admits`.
+
+    >>> from rtdvs import Task, find_engine
+    >>> one = TaskSet((Task("a", 10, 6),))
+    >>> question = Question(find_engine(), one, Machine((Point(2, 1000),)), "edf")
+    >>> most_thousandths(question)
+    3333
+    """
     def holds(thousandths: int) -> bool:
         worsts = [-(-task.worst * thousandths // 1000) for task in question.tasks]
         return question.with_worsts(worsts).admits()
@@ -91,7 +110,14 @@ def most_thousandths(question: Question) -> int | None:
 
 
 def most_worst(question: Question, place: int) -> int | None:
-    """The most work units that the task at this place, from 0, can have."""
+    """The most work units that the task at this place, from 0, can have; raises as `admits`.
+
+    >>> from rtdvs import Task, find_engine
+    >>> one = TaskSet((Task("a", 10, 6),))
+    >>> question = Question(find_engine(), one, Machine((Point(2, 1000),)), "edf")
+    >>> most_worst(question, 0)
+    20
+    """
     def holds(units: int) -> bool:
         worsts = [task.worst for task in question.tasks]
         worsts[place] = units
@@ -101,7 +127,16 @@ def most_worst(question: Question, place: int) -> int | None:
 
 
 def least_speed(question: Question) -> int | None:
-    """The lowest whole speed with which the set is admitted if it is the only one."""
+    """The lowest whole speed, in work units per tick, with which the set is admitted if it is the only one.
+
+    Raises as `admits`.
+
+    >>> from rtdvs import Task, find_engine
+    >>> one = TaskSet((Task("a", 10, 6),))
+    >>> question = Question(find_engine(), one, Machine((Point(2, 1000),)), "edf")
+    >>> least_speed(question)
+    1
+    """
     def too_slow(speed: int) -> bool:
         return not replace(question, machine=Machine((Point(speed, 1),), 0, question.machine.charge)).admits()
 
@@ -110,14 +145,24 @@ def least_speed(question: Question) -> int | None:
 
 
 def limits_of(question: Question, executor: Executor | None = None) -> Iterator[int | None]:
-    """The thousandths, the lowest highest speed and each task's worst case, in this order."""
+    """The thousandths, the lowest highest speed and each task's worst case in work units, in this order.
+
+    Raises what the program refuses, but for a set that is denied.
+
+    >>> from rtdvs import Task, find_engine
+    >>> one = TaskSet((Task("a", 10, 6),))
+    >>> question = Question(find_engine(), one, Machine((Point(2, 1000),)), "edf")
+    >>> list(limits_of(question))
+    [3333, 1, 20]
+    """
+    question.admits()
     searches: list[Callable[[], int | None]] = [
         partial(most_thousandths, question), partial(least_speed, question),
         *(partial(most_worst, question, place) for place in range(len(question.tasks)))]
-    return map(found_by, searches) if executor is None else executor.map(found_by, searches)
+    return map(_found, searches) if executor is None else executor.map(_found, searches)
 
 
-def found_by(search: Callable[[], int | None]) -> int | None:
+def _found(search: Callable[[], int | None]) -> int | None:
     return search()
 
 
@@ -133,14 +178,21 @@ def sensitivity(engine: Engine, tasks: TaskSet, machine: Machine, test: str,
     >>> sensitivity(find_engine(), tasks, Machine((Point(2, 1000),)), "edf")
     Limits(thousandths=1200, worsts=(10, 14), speed=2)
     """
-    question = Question(engine, tasks, machine, test)
-    question.admits()
-    thousandths, speed, *worsts = limits_of(question, executor)
+    thousandths, speed, *worsts = limits_of(Question(engine, tasks, machine, test), executor)
     return Limits(thousandths, tuple(worsts), speed)
 
 
 def table(question: Question, limits: Limits) -> str:
-    """A line for all tasks, for each task and for the speed: what is, and the limit; `-` for None."""
+    """A line for all tasks, for each task and for the speed: what is, and the limit; `-` for None.
+
+    >>> from rtdvs import Task, find_engine
+    >>> one = TaskSet((Task("a", 10, 6),))
+    >>> question = Question(find_engine(), one, Machine((Point(2, 1000),)), "edf")
+    >>> print(table(question, Limits(3333, (20,), None)), end="")
+    all 3333
+    task a 6 20
+    speed 2 -
+    """
     worsts = "".join(f"task {task.name} {task.worst} {decimal(most, 0)}\n"
                      for task, most in zip(question.tasks, limits.worsts))
     speed = f"speed {question.machine.top_speed} {decimal(limits.speed, 0)}\n"
@@ -148,8 +200,14 @@ def table(question: Question, limits: Limits) -> str:
 
 
 def add_command(commands: Commands) -> None:
-    """Adds the command `sensitivity`."""
-    parser = add_parser(commands, "sensitivity", run, "how far a set is from the limit of a test",
+    """Adds the command `sensitivity`.
+
+    >>> commands = argparse.ArgumentParser().add_subparsers()
+    >>> add_command(commands)
+    >>> list(commands.choices)
+    ['sensitivity']
+    """
+    parser = add_parser(commands, "sensitivity", _handle, "how far a set is from the limit of a test",
                         "sensitivity --tasks tasks.toml --machine machine.toml --test edf")
     add_files(parser, ["tasks", "machine"])
     parser.add_argument("--test", choices=TESTS, required=True,
@@ -157,11 +215,10 @@ def add_command(commands: Commands) -> None:
     add_engine_options(parser, jobs=True)
 
 
-def run(args: argparse.Namespace) -> int:
+def _handle(args: argparse.Namespace) -> int:
     question = Question(engine_of(args), read_tasks(args), read_machine(args), args.test)
-    question.admits()
     with executor_of(args) as executor:
-        found = progress(limits_of(question, executor), len(question.tasks) + 2, "limits")
-        thousandths, speed, *worsts = found
+        found = limits_of(question, executor)
+        thousandths, speed, *worsts = progress(found, len(question.tasks) + 2, "limits")
     print(table(question, Limits(thousandths, tuple(worsts), speed)), end="")
     return 0

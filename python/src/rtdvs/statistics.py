@@ -26,7 +26,11 @@ COLUMNS = ("task", "jobs", "complete", "mean_response", "greatest_response", "ji
 
 @dataclass(frozen=True, slots=True)
 class TaskStatistics:
-    """What a task's jobs did. Times are exact, in ticks, and None without a complete job."""
+    """What a task's jobs did. Times are exact, in ticks, and None without a complete job.
+
+    >>> statistics_of("t", [Job("t", 1, 0, 4, completion=Fraction(5, 2))]).row(1)
+    ('t', '1', '1', '2.5', '2.5', '0.0', '1.5', '0', '0')
+    """
 
     task: str
     jobs: int
@@ -90,7 +94,13 @@ def _handle(args: argparse.Namespace) -> int:
 
 
 def add_command(commands: Commands) -> None:
-    """Adds the command `statistics`."""
+    """Adds the command `statistics`.
+
+    >>> commands = argparse.ArgumentParser().add_subparsers()
+    >>> add_command(commands)
+    >>> list(commands.choices)
+    ['statistics']
+    """
     parser = add_parser(commands, "statistics", _handle, "print times, preemptions and energy of each task",
                         "statistics --tasks tasks.toml --trace run.trace")
     add_files(parser, ("tasks", "trace"))
