@@ -127,10 +127,9 @@ def test_a_call_that_ends_in_time(stand_in: Path, monkeypatch: pytest.MonkeyPatc
 
 
 @pytest.mark.parametrize(("words", "status"), [(["workload", "--seed", "7"], 0), (["admit"], 9)])
-def test_command_line(words: list[str], status: int, stand_in: Path, monkeypatch: pytest.MonkeyPatch,
+def test_command_line(words: list[str], status: int, stand_in: Path,
                       capfdbinary: pytest.CaptureFixture[bytes]) -> None:
-    monkeypatch.setattr(sys, "argv", ["", str(stand_in), *words])
-    assert main() == status
+    assert main([str(stand_in), *words]) == status
     wanted = {0: (b"7\n", b""), 9: (b"", b"no memory\n")}[status]
     sys.stderr.flush()
     assert tuple(capfdbinary.readouterr()) == wanted

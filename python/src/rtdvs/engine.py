@@ -48,8 +48,9 @@ HOW_TO_GET_ONE = (
     "no program: build it with `rt run -- workload --seed 1` in crates/rtdvs, install the Debian package, "
     "or name it by --program or by the variable RTDVS"
 )
-BY_LIBRARY = (sys.executable, "-P", "-c", "import sys; sys.path.append(sys.argv.pop(1)); "
-              "from rtdvs.library import main; sys.exit(main())", str(HERE.parent))
+BY_LIBRARY = (sys.executable, "-P", "-c", "import sys; sys.path.append(sys.argv[1]); "
+              "from rtdvs.library import main; sys.exit(main(sys.argv[2:]))", str(HERE.parent))
+"""A command in place of the program; the library's path comes before the program's words."""
 
 
 # Engines
@@ -89,7 +90,7 @@ class Engine:
         >>> from rtdvs import Machine, Point, Task, TaskSet
         >>> tasks, machine = TaskSet((Task("a", 4, 2),)), Machine((Point(1, 1000),))
         >>> find_engine().run(tasks, machine, "edf", "none", ticks=4).splitlines()[-1]
-        'end 4 2000000 0'
+        'end 4 2000000000 0'
         """
         return self.answer(run_call(tasks, machine, scheduler, governor, ticks, demands, version)).text()
 
@@ -140,7 +141,7 @@ class Engine:
         >>> from rtdvs import Machine, Point, Task, TaskSet
         >>> tasks, machine = TaskSet((Task("a", 4, 2),)), Machine((Point(1, 1000),))
         >>> find_engine().replay(tasks, machine, find_engine().run(tasks, machine, "edf", "none", ticks=4))
-        Replayed(released=1, finished=1, run_energy=2000000, idle_energy=0)
+        Replayed(released=1, finished=1, run_energy=2000000000, idle_energy=0)
         """
         return parse_replayed(self.answer(replay_call(tasks, machine, trace)).text())
 
@@ -160,7 +161,7 @@ class Engine:
 
         >>> from rtdvs import Machine, Point
         >>> find_engine().least(Machine((Point(1, 1000),)), units=2, ticks=4).energy
-        2000000
+        2000000000
         """
         return parse_least(self.answer(least_call(machine, units, ticks)).text())
 
@@ -179,14 +180,18 @@ class LibraryEngine(Engine):
 
     Such a call can't be stopped. With a time limit, each is made in a Python process of its own, which can.
 
-    >>> LibraryEngine(Path("/absent/librtdvs.so")).workload(1)
+    >>> LibraryEngine(Path("/absent.so")).workload(1)  # doctest: +ELLIPSIS
     Traceback (most recent call last):
-    rtdvs.errors.NoEngine: /absent/librtdvs.so: cannot open shared object file: No such file or directory: \
-build the library again (docs/LIBRARY.md), or name another one or the program by --program or by the variable RTDVS
+    rtdvs.errors.NoEngine: /absent.so: cannot open shared object file: ...
     """
 
     def answer(self, call: Call) -> Answer:
-        """Makes the call. Any exit status is an answer; raises NoEngine and TimedOut."""
+        """Makes the call. Any exit status is an answer; raises NoEngine and TimedOut.
+
+        >>> LibraryEngine(Path("/absent.so"), timeout=1).answer(Call("least"))  # doctest: +ELLIPSIS
+        Traceback (most recent call last):
+        rtdvs.errors.NoEngine: /absent.so: cannot open shared object file: ...
+        """
         if self.timeout is None:
             return library.answer(self.program, call.words())
         library.opened(self.program)
@@ -232,14 +237,26 @@ class TryEngine(Engine):
     """`rt try` in the program's crate, which `program` names: slow, without a proof, at most 1 MiB an answer.
 
     It compiles for a minute, so a list of calls is made by one `answers`.
+
+    >>> TryEngine(Path("crates/rtdvs"), timeout=600).program
+    PosixPath('crates/rtdvs')
     """
 
     def answer(self, call: Call) -> Answer:
-        """Makes the call; raises NoEngine, and Crashed if it has no answer."""
+        """Makes the call; raises NoEngine, and Crashed if it has no answer.
+
+        >>> TryEngine(Path("/absent")).answer(Call("least"))
+        Traceback (most recent call last):
+        rtdvs.errors.NoEngine: rt: No such file or directory
+        """
         return next(self.answers([call]))
 
     def answers(self, calls: Iterable[Call], executor: Executor | None = None) -> Iterator[Answer]:
-        """Compiles once and makes all calls, one after the other; the executor isn't used."""
+        """Compiles once and makes all calls, one after the other; the executor isn't used.
+
+        >>> [*TryEngine(Path("crates/rtdvs")).answers([])]
+        []
+        """
         made = [*calls]
         if not made:
             return

@@ -35,7 +35,11 @@ WHAT_TO_DO = ("build the library again (docs/LIBRARY.md), or name another one or
 
 
 class Lengths(ctypes.Structure):
-    """`struct rtdvs_lengths`: how many bytes the answer and the notes have."""
+    """`struct rtdvs_lengths`: how many bytes the answer and the notes have.
+
+    >>> Lengths(out=18).notes
+    0
+    """
 
     _fields_ = [("out", ctypes.c_size_t), ("notes", ctypes.c_size_t)]
 
@@ -48,9 +52,9 @@ def opened(path: Path) -> ctypes.CDLL:
 
     Raises NoEngine for a file that is no library, or is one with another function; the text says what to do.
 
-    >>> opened(Path("/absent/librtdvs.so"))
+    >>> opened(Path("/absent.so"))
     Traceback (most recent call last):
-    rtdvs.errors.NoEngine: /absent/librtdvs.so: cannot open shared object file: No such file or directory: \
+    rtdvs.errors.NoEngine: /absent.so: cannot open shared object file: No such file or directory: \
 build the library again (docs/LIBRARY.md), or name another one or the program by --program or by the variable RTDVS
     """
     try:
@@ -73,10 +77,9 @@ def answer(path: Path, words: Sequence[Word]) -> Answer:
     A word that names a file is a path, which is read here, or the content. Raises NoEngine, and ValueError for a word
     with a zero byte. The answer has status 9 where memory runs out in the library.
 
-    >>> answer(Path("/absent/librtdvs.so"), ["workload", "--seed", "1"])
+    >>> answer(Path("/absent.so"), ["workload", "--seed", "1"])  # doctest: +ELLIPSIS
     Traceback (most recent call last):
-    rtdvs.errors.NoEngine: /absent/librtdvs.so: cannot open shared object file: No such file or directory: \
-build the library again (docs/LIBRARY.md), or name another one or the program by --program or by the variable RTDVS
+    rtdvs.errors.NoEngine: /absent.so: cannot open shared object file: ...
     """
     return _answer(opened(path), words)
 
@@ -168,9 +171,16 @@ def _ended(word: bytes) -> bytes:
 
 # As a program
 
-def main() -> int:
-    """The program's command line, by the library that the first argument names; returns the exit status."""
-    found = answer(Path(sys.argv[1]), sys.argv[2:])
+def main(arguments: Sequence[str]) -> int:
+    """The program's command line, by the library that the first argument names: prints, and returns the exit status.
+
+    Raises as `answer` does.
+
+    >>> main(["/absent.so", "workload", "--seed", "1"])  # doctest: +ELLIPSIS
+    Traceback (most recent call last):
+    rtdvs.errors.NoEngine: /absent.so: cannot open shared object file: ...
+    """
+    found = answer(Path(arguments[0]), arguments[1:])
     sys.stdout.buffer.write(found.out)
     sys.stdout.flush()
     sys.stderr.buffer.write(found.notes)
