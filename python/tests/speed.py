@@ -6,13 +6,13 @@ For each list of calls, made one after the other and by four threads, a line has
 processes included, and the time that passes; the last number is the program's processor time over the library's.
 """
 
-import os
 import sys
 import time
 from collections.abc import Iterator, Sequence
 from concurrent.futures import Executor, ThreadPoolExecutor
 from itertools import product
 from pathlib import Path
+from resource import RUSAGE_CHILDREN, RUSAGE_SELF, getrusage
 
 from examples import BOARD, DATA, PAPER
 
@@ -33,7 +33,8 @@ LISTS = {"small calls": [run(16)] * 1000, "calls of 1000 ticks": [run(1000)] * 1
 
 def processor_time() -> float:
     """The seconds of this process and of its children that have ended."""
-    return sum(os.times()[:4])
+    used = [getrusage(whose) for whose in (RUSAGE_SELF, RUSAGE_CHILDREN)]
+    return sum(usage.ru_utime + usage.ru_stime for usage in used)
 
 
 def cost(engine: Engine, calls: Sequence[Call], executor: Executor | None) -> tuple[float, float]:

@@ -1,6 +1,7 @@
 """The shared library: how the package calls it, by a stand-in, and that it answers as the program does, byte for byte."""
 
 import os
+import re
 import subprocess
 import sys
 import time
@@ -9,6 +10,7 @@ from concurrent.futures import ThreadPoolExecutor
 from pathlib import Path
 
 import pytest
+import speed
 from conftest import compiled
 from examples import BOARD, DATA, PAPER
 from hypothesis import given
@@ -296,3 +298,13 @@ def test_threads_and_processes(library: Path) -> None:
 def test_a_time_limit_changes_no_answer(library: Path) -> None:
     call = admit_call(DATA / "paper" / "tasks.toml", BOARD, "edf")
     assert LibraryEngine(library, 60).answer(call) == LibraryEngine(library).answer(call)
+
+
+def test_the_measurement(stand_in: Path) -> None:
+    """A line for each list and number of threads."""
+    engine = LibraryEngine(stand_in)
+    found = [*speed.lines(engine, engine, {"short calls": [workload_call(4)] * 9})]
+    assert [re.sub(r"[0-9.]+ us|[0-9.]+$|[0-9]+ and", "_", line) for line in found] == [
+        f"9 short calls{kind}: program _ _, library _ _, ratio _" for kind in ("", ", four at a time")]
+    with pytest.raises(RuntimeError, match="not done"):
+        speed.cost(engine, [Call("admit")], None)

@@ -323,7 +323,7 @@ def find_engine(program: Path | None = None, timeout: float | None = None) -> En
     libraries = (_named(path, timeout) for path in LIBRARIES if path.is_file())
     paths = (shutil.which(path) for path in (CRATE / "out" / "rtdvs", "rtdvs"))
     programs = (Engine(Path(path).absolute(), timeout) for path in paths if path)
-    for engine in chain(programs, libraries) if timeout else chain(libraries, programs):
+    for engine in chain(libraries, programs) if timeout is None else chain(programs, libraries):
         return engine
     if CRATE.is_dir() and shutil.which("rt"):
         return TryEngine(CRATE, timeout)
