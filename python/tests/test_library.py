@@ -12,10 +12,11 @@ from pathlib import Path
 import pytest
 import speed
 from conftest import compiled
-from examples import BOARD, DATA, PAPER
+from examples import BOARD, DATA, PAPER, Captured
 from hypothesis import given
 from hypothesis import strategies as st
 
+from rtdvs import cli
 from rtdvs import library as library_module
 from rtdvs.calls import (
     Answer, Call, Word, admit_call, constrain_call, least_call, migrate_call, poll_call, replay_call,
@@ -293,6 +294,16 @@ def test_threads_and_processes(library: Path) -> None:
     engine = LibraryEngine(library)
     with ThreadPoolExecutor(4) as executor:
         assert [*engine.answers(calls, executor)] == [*engine.answers(calls)]
+
+
+def test_tools_by_the_library(program: Path, library: Path, capsys: Captured) -> None:
+    """`--program` names either."""
+    files = [f"--{kind}={DATA / 'paper' / kind}.toml" for kind in ("tasks", "machine")]
+    printed = []
+    for path in (program, library):
+        assert cli.main(["compare", "--program", str(path), *files, "--ticks", "16"]) == 0
+        printed.append(capsys.readouterr())
+    assert printed[0] == printed[1] and printed[0].out
 
 
 def test_a_time_limit_changes_no_answer(library: Path) -> None:

@@ -176,9 +176,9 @@ class Engine:
 
 @dataclass(frozen=True)
 class LibraryEngine(Engine):
-    """The shared library, which `program` names: calls in this process, of many threads at a time.
+    """The shared library, which `program` names: calls in this process, of several threads at a time.
 
-    Such a call can't be stopped. With a time limit, each is made in a Python process of its own, which can.
+    Such a call can't be stopped. With a time limit each call has a Python process of its own, which is killed after it.
 
     >>> LibraryEngine(Path("/absent.so")).workload(1)  # doctest: +ELLIPSIS
     Traceback (most recent call last):

@@ -1,7 +1,7 @@
 """Calls in this process, by the shared library librtdvs.so: no process is started, and no file is written.
 
-A call gives up the interpreter's lock, so threads call at the same time. Nothing stops a call before its end, and Ctrl-C
-is seen after it.
+A call releases the interpreter's lock, so threads can call at the same time. Nothing stops a call before its end; an
+interrupt by Ctrl-C is raised after it.
 """
 
 import ctypes
@@ -50,7 +50,7 @@ class Lengths(ctypes.Structure):
 def opened(path: Path) -> ctypes.CDLL:
     """The library at an absolute path, which a process opens and tries once.
 
-    Raises NoEngine for a file that is no library, or is one with another function; the text says what to do.
+    Raises NoEngine for a file that isn't a library, or is one of another version; the text says what to do.
 
     >>> opened(Path("/absent.so"))
     Traceback (most recent call last):
@@ -74,8 +74,8 @@ build the library again (docs/LIBRARY.md), or name another one or the program by
 def answer(path: Path, words: Sequence[Word]) -> Answer:
     """The program's answer to these words, by the library at an absolute path.
 
-    A word that names a file is a path, which is read here, or the content. Raises NoEngine, and ValueError for a word
-    with a zero byte. The answer has status 9 where memory runs out in the library.
+    A file is named by a path, which is read here, or given as its content. Raises NoEngine, and ValueError for a word
+    with a zero byte. The answer has status 9 if memory runs out in the library.
 
     >>> answer(Path("/absent.so"), ["workload", "--seed", "1"])  # doctest: +ELLIPSIS
     Traceback (most recent call last):
