@@ -6,7 +6,7 @@ import subprocess
 import sys
 import time
 from collections.abc import Sequence
-from concurrent.futures import ThreadPoolExecutor
+from concurrent.futures import Executor, ProcessPoolExecutor, ThreadPoolExecutor
 from pathlib import Path
 
 import pytest
@@ -25,7 +25,7 @@ from rtdvs.calls import (
 from rtdvs.engine import Engine, LibraryEngine, find_engine
 from rtdvs.errors import Crashed, NoEngine, OutOfMemory, TimedOut
 from rtdvs.files import Deadlines, Demands, Machine, Point, Request, Requests, Task, TaskSet
-from rtdvs.library import answer, main, opened
+from rtdvs.library import answer, main
 
 
 # What a library is given, and what it leaves
@@ -99,13 +99,16 @@ def test_memory_that_runs_out(stand_in: Path) -> None:
 
 
 def test_threads_call_at_the_same_time(stand_in: Path) -> None:
-    """A call that waits lets others go on: 8 that wait 0.2 seconds each."""
-    calls = [workload_call(1)] * 8
-    opened(stand_in)
-    before = time.monotonic()
-    with ThreadPoolExecutor(8) as executor:
-        assert [found.out for found in LibraryEngine(stand_in).answers(calls, executor)] == [b"1\n"] * 8
-    assert time.monotonic() - before < 1.2
+    """A call that waits lets others go on: 8 that wait 0.2 seconds each, tried again where the system is busy."""
+    engine = LibraryEngine(stand_in)
+
+    def passed() -> float:
+        before = time.monotonic()
+        with ThreadPoolExecutor(8) as executor:
+            assert [found.out for found in engine.answers([workload_call(1)] * 8, executor)] == [b"1\n"] * 8
+        return time.monotonic() - before
+
+    assert any(passed() < 1.2 for _ in range(5))
 
 
 # Time limits
@@ -289,10 +292,11 @@ def test_a_long_run(program: Path, library: Path) -> None:
     assert len(found.out) > 2**20 and found == Engine(program).answer(call)
 
 
-def test_threads_and_processes(library: Path) -> None:
+@pytest.mark.parametrize("kind", [ThreadPoolExecutor, ProcessPoolExecutor])
+def test_answers_on_executors(kind: type[Executor], library: Path) -> None:
     calls = [run_call(PAPER, BOARD, "edf", "cc", ticks) for ticks in range(1, 400)]
     engine = LibraryEngine(library)
-    with ThreadPoolExecutor(4) as executor:
+    with kind(4) as executor:  # type: ignore[call-arg]
         assert [*engine.answers(calls, executor)] == [*engine.answers(calls)]
 
 
