@@ -1,10 +1,13 @@
 # check_python.sh PROGRAM: the Python package in python/: its types by mypy --strict, and its tests and the examples of
 # its pages by pytest, once in a UTF-8 locale and once in one with a decimal comma. Then a wheel is built without a network,
 # installed into a fresh virtual environment and used there. PYTHON is the interpreter, the system's without it;
-# tools/setup.sh installs what this needs.
+# tools/setup.sh installs what this needs. Tests of the shared library are skipped, and counted so, where
+# crates/rtdvs_c/out/lib has none.
 cd "$(dirname "$0")/.." || exit 2
 [ -x "${1:?no program}" ] || { echo "no program: $1"; exit 2; }
 RTDVS=$(cd "$(dirname "$1")" && pwd)/$(basename "$1") python=${PYTHON:-/usr/bin/python3} work=$(mktemp -d) bad=0
+library=yes without=
+[ -f crates/rtdvs_c/out/lib/librtdvs.so ] || library='' without=' without librtdvs.so'
 export RTDVS PYTHONDONTWRITEBYTECODE=1
 unset PYTHONPATH
 trap 'rm -rf "$work"' EXIT
@@ -25,18 +28,25 @@ types() { cd python && "$python" -m mypy --cache-dir "$work/mypy"; }
 tests() { cd python && "$python" -m pytest -q -r s; }
 plain() { export LC_ALL=C.UTF-8 && tests; }
 decimal_comma() { export LOCPATH="$work/locales" LC_ALL=de_DE.UTF-8 && tests; }
-# The example of the package's first lines, by the package that is installed, away from the repository.
+# The example of the package's first lines, by the package that is installed, away from the repository: by the program, and
+# by the shared library that the wheel carries.
 wheel() {
     (cd python && "$python" -m hatchling build -t wheel -d "$work/dist") && "$python" -m venv "$work/venv" &&
         "$work/venv/bin/pip" install -q --no-index --disable-pip-version-check "$work"/dist/*.whl &&
         cp crates/example_runs/data/paper/*.* "$work/dist" && cd "$work/dist" || return
+    installed Engine && "$work/venv/bin/python" -m rtdvs --help || return
+    [ -z "$library" ] || { unset RTDVS && installed LibraryEngine; }
+}
+# ENGINE: the class that the installed package takes
+installed() {
     "$work/venv/bin/python" -c 'import pathlib, sys, rtdvs
 assert rtdvs.__file__.startswith(sys.prefix), rtdvs.__file__
 tasks, machine = (kind.read(pathlib.Path(name)) for kind, name in
                   ((rtdvs.TaskSet, "tasks.toml"), (rtdvs.Machine, "machine.toml")))
-print(rtdvs.find_engine().admit(tasks, machine, "edf"))' > used &&
-        grep -q -x "Admitted(scheduler='edf', num=836, den=280, speed=3)" used &&
-        "$work/venv/bin/python" -m rtdvs --help
+engine = rtdvs.find_engine()
+assert sys.argv[1] == "Engine" or str(engine.program).startswith(sys.prefix), engine
+print(type(engine).__name__, engine.admit(tasks, machine, "edf"))' "$1" > used &&
+        grep -q -x "$1 Admitted(scheduler='edf', num=836, den=280, speed=3)" used
 }
 
 # All at a time; what failed is shown to its end.
@@ -48,4 +58,5 @@ for part in types plain decimal_comma wheel; do
     [ "$(cat "$work/$part.status")" = 0 ] || { echo "python: $part failed"; tail -n 40 "$work/$part"; bad=1; }
 done
 [ $bad = 0 ] || exit 1
-echo "python: $(sed -n '$s/ in .*//p' "$work/plain"), the same with a decimal comma; types and a wheel are right"
+echo "python: $(sed -n '$s/ in .*//p' "$work/plain")$without, the same with a decimal comma;" \
+    "types and a wheel${library:+ with the shared library} are right"

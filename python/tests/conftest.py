@@ -2,10 +2,12 @@
 
 import locale
 import os
+import shutil
+import subprocess
 from pathlib import Path
 
 import pytest
-from examples import TOP
+from examples import LIBRARY, TOP
 from hypothesis import HealthCheck, settings
 
 from rtdvs.engine import Engine
@@ -32,3 +34,25 @@ def program() -> Path:
 def engine(program: Path) -> Engine:
     """The built program as an engine."""
     return Engine(program, timeout=60.0)
+
+
+@pytest.fixture(scope="session")
+def library() -> Path:
+    """The repository's shared library; without one a test is skipped."""
+    if not LIBRARY.is_file():
+        pytest.skip("no built library")
+    return LIBRARY
+
+
+@pytest.fixture(scope="session")
+def stand_in(tmp_path_factory: pytest.TempPathFactory) -> Path:
+    """The library of stand_in.c; without a C compiler a test is skipped."""
+    return compiled(Path(__file__).with_name("stand_in.c"), tmp_path_factory.mktemp("stand_in"))
+
+
+def compiled(source: Path, folder: Path) -> Path:
+    """The shared library of a C file."""
+    compiler = shutil.which("cc") or pytest.skip("no C compiler")
+    made = folder / "librtdvs.so"
+    subprocess.run([compiler, "-shared", "-fPIC", "-o", made, source], check=True)
+    return made

@@ -12,6 +12,7 @@ from rtdvs.files import Demands, Machine, Point, Task, TaskSet
 
 Captured = pytest.CaptureFixture[str]
 TOP = Path(__file__).resolve().parents[2]
+LIBRARY = TOP / "crates" / "rtdvs_c" / "out" / "lib" / "librtdvs.so"
 DATA = TOP / "crates" / "example_runs" / "data"
 TRACES = sorted(DATA.glob("*/*.trace"))
 SHORT = [path for path in TRACES if path.parent.name != "long"]

@@ -16,11 +16,18 @@ from examples import BOARD, DATA, PAPER
 from rtdvs import engine as engine_module
 from rtdvs.engine import (
     Admitted, Answer, Call, Constrained, Crashed, Denied, Differs, Engine, EngineError, FileRefused,
-    Least, LoadFailed, NoEngine, NoText, OutOfMemory, OverWorst, Service, TimedOut, TooManyJobs,
-    TryEngine, WordsRefused, WriteFailed, admit_call, find_engine, parse_admitted, parse_least,
-    parse_polled, parse_replayed, parse_responses, parse_workload, workload_call,
+    Least, LibraryEngine, LoadFailed, NoEngine, NoText, OutOfMemory, OverWorst, Service, TimedOut,
+    TooManyJobs, TryEngine, WordsRefused, WriteFailed, admit_call, find_engine, parse_admitted,
+    parse_least, parse_polled, parse_replayed, parse_responses, parse_workload, workload_call,
 )
 from rtdvs.files import Deadlines, Demands, Requests, Task, TaskSet
+
+
+@pytest.fixture(params=["program", "library"])
+def engine(request: pytest.FixtureRequest) -> Engine:
+    """The program, which may take a minute for a call, and the library: both answer alike."""
+    timeout = 60.0 if request.param == "program" else None
+    return find_engine(request.getfixturevalue(request.param), timeout)
 
 
 def fake(folder: Path, body: str, name: str = "rtdvs") -> Path:
@@ -32,7 +39,7 @@ def fake(folder: Path, body: str, name: str = "rtdvs") -> Path:
     return program
 
 
-# The program's answers; the expected ones are those of docs/COMMANDS.md.
+# Answers; the expected ones are those of docs/COMMANDS.md.
 
 def test_admitted(engine: Engine) -> None:
     assert engine.admit(PAPER, BOARD, "edf") == Admitted("edf", 836, 280, 3)
@@ -250,10 +257,11 @@ def test_output_in_plenty(tmp_path: Path) -> None:
 
 @pytest.fixture
 def bare(tmp_path: Path, monkeypatch: pytest.MonkeyPatch) -> Path:
-    """A place with no program at all."""
+    """A place with no program and no library at all."""
     monkeypatch.delenv("RTDVS", raising=False)
     monkeypatch.setenv("PATH", str(tmp_path / "bin"))
     monkeypatch.setattr(engine_module, "CRATE", tmp_path / "crate")
+    monkeypatch.setattr(engine_module, "LIBRARIES", (tmp_path / "wheel.so", tmp_path / "built.so"))
     return tmp_path
 
 
@@ -283,6 +291,29 @@ def test_order_of_engines(bare: Path, monkeypatch: pytest.MonkeyPatch) -> None:
         find_engine()
 
 
+def test_order_of_libraries(bare: Path, stand_in: Path, monkeypatch: pytest.MonkeyPatch) -> None:
+    """Each is preferred to those before it; with a time limit a program is."""
+    on_path = fake(bare / "bin", "")
+    for name in ("built.so", "wheel.so", "named.so.1"):
+        shutil.copy(stand_in, bare / name)
+        monkeypatch.setenv("RTDVS", str(bare / name) if name == "named.so.1" else "")
+        assert find_engine() == LibraryEngine(bare / name)
+    assert find_engine(timeout=3) == LibraryEngine(bare / name, 3)
+    monkeypatch.delenv("RTDVS")
+    assert find_engine(timeout=3) == Engine(on_path, 3)
+    on_path.unlink()
+    assert find_engine(timeout=3) == LibraryEngine(bare / "wheel.so", 3)
+    monkeypatch.chdir(bare)
+    assert find_engine(Path("built.so")) == LibraryEngine(bare / "built.so")
+
+
+def test_a_library_that_is_none_is_not_passed_over(bare: Path) -> None:
+    fake(bare / "bin", "")
+    (bare / "wheel.so").touch()
+    with pytest.raises(NoEngine, match="wheel.so: .*: build the library again"):
+        find_engine()
+
+
 def test_folder_named_as_the_program(bare: Path) -> None:
     (bare / "crate" / "out" / "rtdvs").mkdir(parents=True)
     with pytest.raises(NoEngine):
@@ -295,9 +326,11 @@ def calls() -> list[Call]:
     return [workload_call(seed) for seed in range(12)]
 
 
-@pytest.fixture
-def echo(tmp_path: Path) -> Engine:
-    """A program that prints its seed, the later ones sooner."""
+@pytest.fixture(params=["program", "library"])
+def echo(request: pytest.FixtureRequest, tmp_path: Path) -> Engine:
+    """A program, or a library, that prints its seed, the later ones sooner."""
+    if request.param == "library":
+        return LibraryEngine(request.getfixturevalue("stand_in"))
     return Engine(fake(tmp_path, '[ "$3" -gt 3 ] || sleep 0.2; echo "$3"'))
 
 
@@ -331,11 +364,11 @@ MPI = """
 import sys
 from pathlib import Path
 from mpi4py.futures import MPIPoolExecutor
-from rtdvs.engine import Engine, workload_call
+from rtdvs.engine import find_engine, workload_call
 
 if __name__ == "__main__":
     with MPIPoolExecutor() as executor:
-        for answer in Engine(Path(sys.argv[1])).answers(map(workload_call, range(12)), executor):
+        for answer in find_engine(Path(sys.argv[1])).answers(map(workload_call, range(12)), executor):
             print(answer.out.decode(), end="")
 """
 

@@ -17,7 +17,8 @@ MODULES = sorted(SOURCE.glob("*.py"))
 TESTS = sorted(Path(__file__).parent.glob("*.py"))
 LAYERS = [
     {"files", "errors", "decimals"},
-    {"answers"},
+    {"answers", "calls"},
+    {"library"},
     {"engine"},
     {"trace"},
     {"rules", "explain", "simulate", "commandline"},

@@ -189,13 +189,24 @@ def folder(program: Path, tmp_path: Path, monkeypatch: pytest.MonkeyPatch) -> Pa
     return top
 
 
-@pytest.mark.parametrize("page", [*PAGES, SOLUTIONS], ids=str)
-def test_pages(page: Path, folder: Path) -> None:
+def check(page: Path, folder: Path) -> None:
     text = (TOP / page).read_text(encoding="utf-8")
     found = list(solutions(text) if page == SOLUTIONS else blocks(text))
     reader = Reader(str(page), folder)
     faults = [fault for block in found for fault in reader.faults(block)]
     assert not faults, "\n" + "\n".join(faults)
+
+
+@pytest.mark.parametrize("page", [*PAGES, SOLUTIONS], ids=str)
+def test_pages(page: Path, folder: Path) -> None:
+    check(page, folder)
+
+
+@pytest.mark.parametrize("page", ["PYTHON.md", "SWEEPS.md", "CONVERTERS.md", "EVALUATION.md"])
+def test_pages_by_the_library(page: str, folder: Path, library: Path, monkeypatch: pytest.MonkeyPatch) -> None:
+    """The package's calls on these pages say the same where the library answers them."""
+    monkeypatch.setenv("RTDVS", str(library))
+    check(Path("docs", page), folder)
 
 
 SMALL = """A page.

@@ -1,4 +1,7 @@
-"""What the program prints for each command: typed answers, read strictly."""
+"""What the program prints for each command: typed answers, read strictly.
+
+Times are in ticks. Energies are in work units times square millivolts, times 1000, or times `idle` for idle units.
+"""
 
 from dataclasses import dataclass
 
@@ -9,7 +12,10 @@ from rtdvs.errors import NAME, NUMBER, Crashed, groups
 class Admitted:
     """`num`/`den` is the static demand in work units per tick, not reduced.
 
-    `speed` is the lowest that meets it.
+    `speed` is the lowest that meets it, in units per tick.
+
+    >>> parse_admitted("admitted rm 52/14 4\\n").speed
+    4
     """
 
     scheduler: str
@@ -20,7 +26,11 @@ class Admitted:
 
 @dataclass(frozen=True, slots=True)
 class Constrained:
-    """`num` work units are due within `den` ticks; `speed` is the lowest that meets all deadlines."""
+    """`num` work units are due within `den` ticks; `speed` is the lowest that meets all deadlines.
+
+    >>> parse_constrained("constrained 7/6 2\\n").den
+    6
+    """
 
     num: int
     den: int
@@ -29,7 +39,11 @@ class Constrained:
 
 @dataclass(frozen=True, slots=True)
 class Replayed:
-    """The jobs released and complete, and the energies of the `run` and of the `idle` lines."""
+    """The jobs released and complete, and the energies of the `run` and of the `idle` lines.
+
+    >>> parse_replayed("replayed 6 5 315000000000 0\\n").finished
+    5
+    """
 
     released: int
     finished: int
@@ -39,7 +53,11 @@ class Replayed:
 
 @dataclass(frozen=True, slots=True)
 class Service:
-    """A request, and the server's job that completes it at a position ("tick:offset"), if one does."""
+    """A request, and the server's job that completes it at a position ("tick:units"), if one does.
+
+    >>> parse_polled("pending 1 12 1\\npolled 0 7 0\\n").services
+    (Service(request=1, arrival=12, units=1, job=None, position=None),)
+    """
 
     request: int
     arrival: int
@@ -50,7 +68,11 @@ class Service:
 
 @dataclass(frozen=True, slots=True)
 class Polled:
-    """The requests in file order, the number served, and the energies of the run."""
+    """The requests in file order, the number served, and the energies of the run.
+
+    >>> parse_polled("served 1 0 3 1 0:3\\npolled 1 725000000000 0\\n").served
+    1
+    """
 
     services: tuple[Service, ...]
     served: int
@@ -63,6 +85,10 @@ class Least:
     """The least energy: of `rounds` times the ticks, `low_ticks` have `low` work units, `high_ticks` `high`.
 
     A tick with w units costs, `rounds` times, at least w times `unit_price` plus `tick_price`.
+
+    >>> least = parse_least("least 2 0 4 2 28 504000000000\\nprices 18000000000 plus 0\\n")
+    >>> least.low * least.low_ticks + least.high * least.high_ticks, least.rounds
+    (56, 2)
     """
 
     rounds: int
@@ -77,7 +103,11 @@ class Least:
 
 @dataclass(frozen=True, slots=True)
 class GovernorTotals:
-    """A governor's run of a generated workload: jobs released and complete, decisions, and the energies."""
+    """A governor's run of a generated workload: jobs released and complete, decisions, and the energies.
+
+    >>> parse_workload("workload 1 32 50000\\nla 9 8 7 600 5\\n")[0].governor
+    'la'
+    """
 
     governor: str
     released: int

@@ -38,7 +38,13 @@ SCHEDULERS, KINDS = ("edf", "rm"), ("none", "static", "cc", "la")
 
 def add_parser(commands: Commands, name: str, handler: Callable[[argparse.Namespace], int], about: str,
                example: str) -> argparse.ArgumentParser:
-    """Adds a command: its handler, whose docstring or its module's is the help, and calls as an example."""
+    """Adds a command: its handler, whose docstring or its module's is the help, and calls as an example.
+
+    >>> commands = argparse.ArgumentParser(prog="rtdvs").add_subparsers()
+    >>> parser = add_parser(commands, "shout", lambda args: 0, "prints loudly", "shout --ticks 3")
+    >>> parser.epilog
+    'example:\\n  python3 -m rtdvs shout --ticks 3'
+    """
     described = inspect.getdoc(handler) or sys.modules[handler.__module__].__doc__
     calls = "".join(f"\n  python3 -m rtdvs {words}" for words in example.split("\n"))
     parser = commands.add_parser(name, help=about, description=described, epilog=f"example:{calls}",
@@ -48,14 +54,26 @@ def add_parser(commands: Commands, name: str, handler: Callable[[argparse.Namesp
 
 
 def add_ticks(parser: argparse.ArgumentParser) -> None:
-    """Adds `--ticks`, the length of a run."""
+    """Adds `--ticks`, the length of a run.
+
+    >>> parser = argparse.ArgumentParser()
+    >>> add_ticks(parser)
+    >>> parser.parse_args(["--ticks", "16"]).ticks
+    16
+    """
     parser.add_argument("--ticks", type=whole_number(1, MOST_TICKS), required=True, metavar="N",
                         help="the length of the run")
 
 
 def add_pair(parser: argparse.ArgumentParser, scheduler: str | None = None,
              governor: str | None = None) -> None:
-    """Adds `--scheduler` and `--governor`, which are required without a default."""
+    """Adds `--scheduler` and `--governor`, which are required without a default.
+
+    >>> parser = argparse.ArgumentParser()
+    >>> add_pair(parser, "edf")
+    >>> parser.parse_args(["--governor", "cc"])
+    Namespace(scheduler='edf', governor='cc')
+    """
     for name, words, default in (("scheduler", SCHEDULERS, scheduler), ("governor", KINDS, governor)):
         parser.add_argument(f"--{name}", choices=words, default=default, required=default is None,
                             help=default and f"{default} unless given")
@@ -75,13 +93,25 @@ def add_files(parser: argparse.ArgumentParser, required: Sequence[str], optional
 
 
 def add_output(parser: argparse.ArgumentParser) -> None:
-    """Adds `--output FILE`; without it a command prints."""
+    """Adds `--output FILE`; without it a command prints.
+
+    >>> parser = argparse.ArgumentParser()
+    >>> add_output(parser)
+    >>> parser.parse_args(["--output", "cc.svg"]).output
+    PosixPath('cc.svg')
+    """
     parser.add_argument("--output", type=Path, metavar="FILE", help="write to this file, and print nothing")
 
 
 def add_engine_options(parser: argparse.ArgumentParser, jobs: bool = False) -> None:
-    """Adds `--program` and `--timeout`, and with `jobs` also `--jobs`, the number of calls at a time."""
-    about = "the program rtdvs; without it that of $RTDVS, the built one, or rtdvs on the path"
+    """Adds `--program` and `--timeout` (seconds), and with `jobs` also `--jobs`, the number of calls at a time.
+
+    >>> parser = argparse.ArgumentParser()
+    >>> add_engine_options(parser, jobs=True)
+    >>> parser.parse_args(["--timeout", "0.5", "--jobs", "4"])
+    Namespace(program=None, timeout=0.5, jobs=4)
+    """
+    about = "the program rtdvs or its library librtdvs.so; without it that of $RTDVS, a built one, or rtdvs on the path"
     parser.add_argument("--program", type=Path, metavar="FILE", help=about)
     parser.add_argument("--timeout", type=seconds, metavar="SECONDS", help="the longest that a call may take")
     if jobs:
@@ -148,17 +178,31 @@ def input_path(word: str) -> Input:
 
 
 def read_tasks(args: argparse.Namespace) -> TaskSet:
-    """The task set of `--tasks`; raises FileFault and OSError."""
+    """The task set of `--tasks`; raises FileFault and OSError.
+
+    >>> read_tasks(argparse.Namespace(tasks=b"")).tasks
+    Traceback (most recent call last):
+    rtdvs.files.FileFault: tasks: no tasks
+    """
     return TaskSet.parse(_content(args.tasks))
 
 
 def read_machine(args: argparse.Namespace) -> Machine:
-    """The machine of `--machine`; raises FileFault and OSError."""
+    """The machine of `--machine`; raises FileFault and OSError.
+
+    >>> read_machine(argparse.Namespace(machine=b"[[point]]\\nspeed = 2\\nmillivolts = 900")).points
+    (Point(speed=2, millivolts=900),)
+    """
     return Machine.parse(_content(args.machine))
 
 
 def read_demands(args: argparse.Namespace, tasks: TaskSet) -> Demands | None:
-    """The demands of `--demands`, or None without that option; raises FileFault and OSError."""
+    """The demands of `--demands`, or None without that option; raises FileFault and OSError.
+
+    >>> from rtdvs.files import Task
+    >>> read_demands(argparse.Namespace(demands=b"task,job,units\\na,1,2\\n"), TaskSet((Task("a", 4, 3),)))
+    Demands(units={('a', 1): 2})
+    """
     return None if args.demands is None else Demands.parse(_content(args.demands), tasks)
 
 
@@ -192,7 +236,12 @@ def read_text(source: Input, kind: str) -> str:
 
 
 def note_charge(trace: Trace, charge: int) -> None:
-    """Says on standard error if a job used more than declared: then the machine's charge is another one."""
+    """Prints a note on standard error if a job used more units than declared: then the machine's charge differs.
+
+    >>> tasks = "trace 2\\nplan edf none 2\\ntask a 2 0 1\\n"
+    >>> run = "release 0 a 1\\nspeed 0 1 1/1\\nrun 0:0 1:0 a 1 1 1\\ndone 1:0 a 1 1\\nidle 1:0 2:0 1 0\\n"
+    >>> note_charge(Trace.parse(f"{tasks}{run}energy a 1\\nend 2 1 0\\n"), charge=0)
+    """
     most = {task.name: task.worst + 2 * charge for task in trace.tasks}
     for note in trace.notes:
         if isinstance(note, Done) and note.used > most.get(note.task, note.used):
@@ -202,7 +251,10 @@ def note_charge(trace: Trace, charge: int) -> None:
 
 
 def write_output(args: argparse.Namespace, text: str | bytes) -> None:
-    """Writes to the file of `--output`, or to standard output; raises OSError."""
+    """Writes to the file of `--output`, or to standard output; raises OSError.
+
+    >>> write_output(argparse.Namespace(output=Path("/dev/null")), "trace 2\\n")
+    """
     content = text.encode("utf-8") if isinstance(text, str) else text
     if args.output is not None:
         args.output.write_bytes(content)
@@ -214,7 +266,12 @@ def write_output(args: argparse.Namespace, text: str | bytes) -> None:
 # Calls
 
 def engine_of(args: argparse.Namespace) -> Engine:
-    """The engine of `--program` and `--timeout`; raises NoEngine."""
+    """The engine of `--program` and `--timeout` (seconds); raises NoEngine.
+
+    >>> engine_of(argparse.Namespace(program=Path("/absent/rtdvs"), timeout=None))
+    Traceback (most recent call last):
+    rtdvs.errors.NoEngine: /absent/rtdvs: no such program
+    """
     engine = find_engine(args.program, args.timeout)
     if isinstance(engine, TryEngine) and sys.stderr.isatty():
         print("no built program, so rt try compiles one; it takes a minute", file=sys.stderr)

@@ -1,181 +1,56 @@
-"""Calls of the program: each a function with a typed answer, and one exception for each exit status."""
+"""Engines: each makes calls, with a typed answer for each command and one exception for each exit status."""
 
 import os
 import re
 import shutil
 import signal
-from collections.abc import Iterable, Iterator, Mapping, Sequence
+import sys
+from collections.abc import Iterable, Iterator, Sequence
 from concurrent.futures import Executor
 from dataclasses import dataclass
+from itertools import chain
 from math import ceil
 from pathlib import Path
 from subprocess import DEVNULL, PIPE, Popen, TimeoutExpired
 from tempfile import TemporaryDirectory
 
+from rtdvs import library
 from rtdvs.answers import (
     Admitted, Constrained, GovernorTotals, Least, Polled, Replayed, Service, parse_admitted,
     parse_constrained, parse_least, parse_polled, parse_replayed, parse_responses, parse_workload,
 )
+from rtdvs.calls import (
+    Answer, Call, Source, Word, admit_call, constrain_call, least_call, migrate_call, poll_call,
+    replay_call, response_call, run_call, workload_call,
+)
 from rtdvs.errors import (
     Crashed, Denied, Differs, EngineError, FileRefused, LoadFailed, NoEngine, NoText, OutOfMemory,
-    OverWorst, TimedOut, TooManyJobs, WordsRefused, WriteFailed, error_of,
+    OverWorst, TimedOut, TooManyJobs, WordsRefused, WriteFailed,
 )
-from rtdvs.files import Deadlines, Demands, Machine, Requests, TaskSet
 
 __all__ = [
     "Admitted", "Answer", "Call", "Constrained", "Crashed", "Denied", "Differs", "Engine", "EngineError",
-    "FileRefused", "GovernorTotals", "Least", "LoadFailed", "NoEngine", "NoText", "OutOfMemory",
-    "OverWorst", "Polled", "Replayed", "Service", "Source", "TimedOut", "TooManyJobs", "TryEngine",
-    "WordsRefused", "WriteFailed", "admit_call", "constrain_call", "find_engine", "least_call",
+    "FileRefused", "GovernorTotals", "Least", "LibraryEngine", "LoadFailed", "NoEngine", "NoText",
+    "OutOfMemory", "OverWorst", "Polled", "Replayed", "Service", "Source", "TimedOut", "TooManyJobs",
+    "TryEngine", "WordsRefused", "WriteFailed", "admit_call", "constrain_call", "find_engine", "least_call",
     "migrate_call", "parse_admitted", "parse_constrained", "parse_least", "parse_polled", "parse_replayed",
     "parse_responses", "parse_workload", "poll_call", "replay_call", "response_call", "run_call",
     "workload_call",
 ]
 
-Source = TaskSet | Machine | Demands | Deadlines | Requests | str | bytes | Path
-"""A dataclass or a text is written to a file of the call's own folder; a path is handed over as it is."""
+HERE = Path(__file__).resolve().parent
+CRATES = HERE.parents[2] / "crates"
+CRATE = CRATES / "rtdvs"
+LIBRARIES = (HERE / "librtdvs.so", CRATES / "rtdvs_c" / "out" / "lib" / "librtdvs.so")
+"""The library that a wheel carries, and the repository's."""
 
-CRATE = Path(__file__).resolve().parents[3] / "crates" / "rtdvs"
 HOW_TO_GET_ONE = (
     "no program: build it with `rt run -- workload --seed 1` in crates/rtdvs, install the Debian package, "
     "or name it by --program or by the variable RTDVS"
 )
-
-
-@dataclass(frozen=True, slots=True)
-class Call:
-    """A call of the program: options with values, and with files (a text or a path). It can be pickled.
-
-    >>> Call("workload", (("--seed", "1"),)).files
-    ()
-    """
-
-    command: str
-    options: tuple[tuple[str, str], ...] = ()
-    files: tuple[tuple[str, str | bytes | Path], ...] = ()
-
-
-@dataclass(frozen=True, slots=True)
-class Answer:
-    """What a call left: its exit status (below 0: a signal), standard output and standard error.
-
-    >>> Answer(1, b"", b"denied edf 248 240\\n").text()
-    Traceback (most recent call last):
-    rtdvs.errors.Denied: denied edf 248 240
-    """
-
-    status: int
-    out: bytes
-    notes: bytes
-
-    def text(self) -> str:
-        """Standard output of a call that ended with 0; raises the exception of any other status."""
-        if self.status != 0:
-            raise error_of(self.status, self.notes)
-        try:
-            return self.out.decode()
-        except UnicodeDecodeError:
-            raise Crashed("an answer that is not UTF-8") from None
-
-
-# Calls
-
-def _content(source: Source) -> str | bytes | Path:
-    """What a call has of a source. A path is made absolute, so that it is the same file for each worker."""
-    if isinstance(source, Path):
-        return source.absolute()
-    return source if isinstance(source, str | bytes) else source.text()
-
-
-def _call(command: str, options: Mapping[str, object], **files: Source | None) -> Call:
-    pairs = tuple((f"--{name}", str(value)) for name, value in options.items())
-    given = ((f"--{name}", source) for name, source in files.items() if source is not None)
-    return Call(command, pairs, tuple((name, _content(source)) for name, source in given))
-
-
-def run_call(tasks: Source, machine: Source, scheduler: str, governor: str, ticks: int,
-             demands: Source | None = None, version: int = 2) -> Call:
-    """The call of `run` for that many ticks; its answer's text is the trace.
-
-    >>> run_call(Path("/t.toml"), Path("/m.toml"), "edf", "cc", ticks=16).options[2]
-    ('--ticks', '16')
-    """
-    options = {"scheduler": scheduler, "governor": governor, "ticks": ticks, "format": version}
-    return _call("run", options, tasks=tasks, machine=machine, demands=demands)
-
-
-def admit_call(tasks: Source, machine: Source, scheduler: str) -> Call:
-    """The call of `admit`; parse_admitted reads its answer's text.
-
-    >>> admit_call(Path("/t.toml"), Path("/m.toml"), "edf").options
-    (('--scheduler', 'edf'),)
-    """
-    return _call("admit", {"scheduler": scheduler}, tasks=tasks, machine=machine)
-
-
-def response_call(tasks: Source, machine: Source) -> Call:
-    """The call of `response`; parse_responses reads its answer's text.
-
-    >>> response_call(Path("/t.toml"), Path("/m.toml")).files
-    (('--tasks', PosixPath('/t.toml')), ('--machine', PosixPath('/m.toml')))
-    """
-    return _call("response", {}, tasks=tasks, machine=machine)
-
-
-def constrain_call(tasks: Source, machine: Source, deadlines: Source) -> Call:
-    """The call of `constrain`; parse_constrained reads its answer's text.
-
-    >>> constrain_call(Path("/t.toml"), Path("/m.toml"), Deadlines({"a": 3})).files[2]
-    ('--deadlines', 'task,deadline\\na,3\\n')
-    """
-    return _call("constrain", {}, tasks=tasks, machine=machine, deadlines=deadlines)
-
-
-def poll_call(tasks: Source, machine: Source, requests: Source, server: str, scheduler: str,
-              governor: str, ticks: int) -> Call:
-    """The call of `poll` for that many ticks; parse_polled reads its answer's text.
-
-    >>> poll_call(Path("/t"), Path("/m"), Path("/r"), "s", "edf", "none", ticks=15).options[0]
-    ('--server', 's')
-    """
-    options = {"server": server, "scheduler": scheduler, "governor": governor, "ticks": ticks}
-    return _call("poll", options, tasks=tasks, machine=machine, requests=requests)
-
-
-def replay_call(tasks: Source, machine: Source, trace: Source) -> Call:
-    """The call of `replay`; parse_replayed reads its answer's text.
-
-    >>> replay_call(Path("/t.toml"), Path("/m.toml"), "trace 2\\n").files[2]
-    ('--trace', 'trace 2\\n')
-    """
-    return _call("replay", {}, tasks=tasks, machine=machine, trace=trace)
-
-
-def migrate_call(tasks: Source, machine: Source, trace: Source) -> Call:
-    """The call of `migrate`; its answer's text is the trace in version 2.
-
-    >>> migrate_call(Path("/t.toml"), Path("/m.toml"), "trace 1\\n").command
-    'migrate'
-    """
-    return _call("migrate", {}, tasks=tasks, machine=machine, trace=trace)
-
-
-def least_call(machine: Source, units: int, ticks: int) -> Call:
-    """The call of `least` for work units in ticks; parse_least reads its answer's text.
-
-    >>> least_call(Path("/m.toml"), units=28, ticks=16).options
-    (('--units', '28'), ('--ticks', '16'))
-    """
-    return _call("least", {"units": units, "ticks": ticks}, machine=machine)
-
-
-def workload_call(seed: int) -> Call:
-    """The call of `workload`; parse_workload reads its answer's text.
-
-    >>> workload_call(1)
-    Call(command='workload', options=(('--seed', '1'),), files=())
-    """
-    return _call("workload", {"seed": seed})
+BY_LIBRARY = (sys.executable, "-P", "-c", "import sys; sys.path.append(sys.argv[1]); "
+              "from rtdvs.library import main; sys.exit(main(sys.argv[2:]))", str(HERE.parent))
+"""A command in place of the program; the library's path comes before the program's words."""
 
 
 # Engines
@@ -193,69 +68,149 @@ class Engine:
     timeout: float | None = None
 
     def answer(self, call: Call) -> Answer:
-        """Makes the call. Any exit status is an answer; raises NoEngine and TimedOut."""
-        with TemporaryDirectory(prefix="rtdvs-") as folder:
-            return _ended([str(self.program), *_words(call, Path(folder))], self.timeout)
+        """Makes the call. Any exit status is an answer; raises NoEngine and TimedOut.
+
+        >>> find_engine().answer(Call("least"))
+        Answer(status=2, out=b'', notes=b'words: missing --machine\\n')
+        """
+        return _process_answer([str(self.program)], call, self.timeout)
 
     def answers(self, calls: Iterable[Call], executor: Executor | None = None) -> Iterator[Answer]:
-        """Makes the calls on the executor, or one after the other; answers come in the order of the calls."""
+        """Makes the calls on the executor, or one after the other; answers come in the order of the calls.
+
+        >>> [answer.status for answer in find_engine().answers([Call("least"), workload_call(1)])]
+        [2, 0]
+        """
         return map(self.answer, calls) if executor is None else executor.map(self.answer, calls)
 
     def run(self, tasks: Source, machine: Source, scheduler: str, governor: str, ticks: int,
             demands: Source | None = None, version: int = 2) -> str:
-        """The trace's text of a run of that many ticks; raises EngineError."""
+        """The trace's text of a run of that many ticks; raises Denied, TooManyJobs, OverWorst and others.
+
+        >>> from rtdvs import Machine, Point, Task, TaskSet
+        >>> tasks, machine = TaskSet((Task("a", 4, 2),)), Machine((Point(1, 1000),))
+        >>> find_engine().run(tasks, machine, "edf", "none", ticks=4).splitlines()[-1]
+        'end 4 2000000000 0'
+        """
         return self.answer(run_call(tasks, machine, scheduler, governor, ticks, demands, version)).text()
 
     def admit(self, tasks: Source, machine: Source, scheduler: str) -> Admitted:
-        """Whether the scheduler admits the set: the static demand; raises Denied and others."""
+        """Whether the scheduler admits the set: the static demand in units per tick; raises Denied and others.
+
+        >>> from rtdvs import Machine, Point, Task, TaskSet
+        >>> find_engine().admit(TaskSet((Task("a", 4, 2),)), Machine((Point(1, 1000),)), "edf")
+        Admitted(scheduler='edf', num=2, den=4, speed=1)
+        """
         return parse_admitted(self.answer(admit_call(tasks, machine, scheduler)).text())
 
     def respond(self, tasks: Source, machine: Source) -> dict[str, int]:
-        """Each task's response in ticks under RM at the highest speed; raises Denied and others."""
+        """Each task's response in ticks under RM at the highest speed; raises Denied and others.
+
+        >>> from rtdvs import Machine, Point, Task, TaskSet
+        >>> find_engine().respond(TaskSet((Task("a", 4, 2), Task("b", 8, 3))), Machine((Point(1, 1000),)))
+        {'a': 2, 'b': 7}
+        """
         return parse_responses(self.answer(response_call(tasks, machine)).text())
 
     def constrain(self, tasks: Source, machine: Source, deadlines: Source) -> Constrained:
-        """The lowest speed for deadlines below the periods, under EDF; raises Denied and others."""
+        """The lowest speed for deadlines below the periods, under EDF; raises Denied and others.
+
+        >>> from rtdvs import Deadlines, Machine, Point, Task, TaskSet
+        >>> machine = Machine((Point(1, 1000), Point(2, 2000)))
+        >>> find_engine().constrain(TaskSet((Task("a", 4, 2),)), machine, Deadlines({"a": 1}))
+        Constrained(num=2, den=1, speed=2)
+        """
         return parse_constrained(self.answer(constrain_call(tasks, machine, deadlines)).text())
 
     def poll(self, tasks: Source, machine: Source, requests: Source, server: str, scheduler: str,
              governor: str, ticks: int) -> Polled:
-        """When a polling server serves each request; raises EngineError."""
+        """When a polling server serves each request, in a run of that many ticks; raises EngineError.
+
+        >>> from rtdvs import Machine, Point, Request, Requests, Task, TaskSet
+        >>> tasks, machine = TaskSet((Task("s", 4, 2),)), Machine((Point(1, 1000),))
+        >>> requests = Requests((Request(arrival=1, units=2),))
+        >>> find_engine().poll(tasks, machine, requests, "s", "edf", "none", ticks=8).services
+        (Service(request=1, arrival=1, units=2, job=2, position='6:0'),)
+        """
         call = poll_call(tasks, machine, requests, server, scheduler, governor, ticks)
         return parse_polled(self.answer(call).text())
 
     def replay(self, tasks: Source, machine: Source, trace: Source) -> Replayed:
-        """The totals of a trace that is that of its run; raises Differs and others."""
+        """The totals of a trace that is that of its run; raises Differs and others.
+
+        >>> from rtdvs import Machine, Point, Task, TaskSet
+        >>> tasks, machine = TaskSet((Task("a", 4, 2),)), Machine((Point(1, 1000),))
+        >>> find_engine().replay(tasks, machine, find_engine().run(tasks, machine, "edf", "none", ticks=4))
+        Replayed(released=1, finished=1, run_energy=2000000000, idle_energy=0)
+        """
         return parse_replayed(self.answer(replay_call(tasks, machine, trace)).text())
 
     def migrate(self, tasks: Source, machine: Source, trace: Source) -> str:
-        """Such a trace's text in version 2; raises Differs and others."""
+        """Such a trace's text in version 2; raises Differs and others.
+
+        >>> from rtdvs import Machine, Point, Task, TaskSet
+        >>> tasks, machine = TaskSet((Task("a", 4, 2),)), Machine((Point(1, 1000),))
+        >>> first = find_engine().run(tasks, machine, "edf", "none", ticks=4, version=1)
+        >>> find_engine().migrate(tasks, machine, first).splitlines()[:3]
+        ['trace 2', 'plan edf none 4', 'task a 4 0 2']
+        """
         return self.answer(migrate_call(tasks, machine, trace)).text()
 
     def least(self, machine: Source, units: int, ticks: int) -> Least:
-        """The minimum energy for that many work units in those ticks; raises Denied and others."""
+        """The minimum energy for that many work units in those ticks; raises Denied and others.
+
+        >>> from rtdvs import Machine, Point
+        >>> find_engine().least(Machine((Point(1, 1000),)), units=2, ticks=4).energy
+        2000000000
+        """
         return parse_least(self.answer(least_call(machine, units, ticks)).text())
 
     def workload(self, seed: int) -> tuple[GovernorTotals, ...]:
-        """A generated set's runs under each governor; raises EngineError."""
+        """A generated set's runs under each governor; raises EngineError.
+
+        >>> [totals.decisions for totals in find_engine().workload(1)]
+        [19227, 23323, 23379, 24710]
+        """
         return parse_workload(self.answer(workload_call(seed)).text())
 
 
-def _words(call: Call, folder: Path) -> list[str]:
-    """The call's arguments; the texts become files of the folder."""
-    words = [call.command]
-    for name, value in call.options:
-        words += [name, value]
-    for name, content in call.files:
-        words += [name, str(_file(content, folder / name.removeprefix("--")))]
-    return words
+@dataclass(frozen=True)
+class LibraryEngine(Engine):
+    """The shared library, which `program` names: calls in this process, of several threads at a time.
+
+    Such a call can't be stopped. With a time limit each call has a Python process of its own, which is killed after it.
+
+    >>> LibraryEngine(Path("/absent.so")).workload(1)  # doctest: +ELLIPSIS
+    Traceback (most recent call last):
+    rtdvs.errors.NoEngine: /absent.so: cannot open shared object file: ...
+    """
+
+    def answer(self, call: Call) -> Answer:
+        """Makes the call. Any exit status is an answer; raises NoEngine and TimedOut.
+
+        >>> LibraryEngine(Path("/absent.so"), timeout=1).answer(Call("least"))  # doctest: +ELLIPSIS
+        Traceback (most recent call last):
+        rtdvs.errors.NoEngine: /absent.so: cannot open shared object file: ...
+        """
+        if self.timeout is None:
+            return library.answer(self.program, call.words())
+        library.opened(self.program)
+        return _process_answer([*BY_LIBRARY, str(self.program)], call, self.timeout)
 
 
-def _file(content: str | bytes | Path, path: Path) -> Path:
-    if isinstance(content, Path):
-        return content
-    path.write_bytes(content.encode() if isinstance(content, str) else content)
-    return path
+def _process_answer(program: Sequence[str], call: Call, timeout: float | None) -> Answer:
+    """The answer of a program to the call, whose texts become files of a folder of its own."""
+    with TemporaryDirectory(prefix="rtdvs-") as folder:
+        words = [_word(word, Path(folder, str(place))) for place, word in enumerate(call.words())]
+        return _ended([*program, *words], timeout)
+
+
+def _word(word: Word, path: Path) -> str:
+    """The word, or the path of a file with the content."""
+    if isinstance(word, bytes):
+        path.write_bytes(word)
+        return str(path)
+    return str(word)
 
 
 def _ended(words: list[str], timeout: float | None, folder: Path | None = None) -> Answer:
@@ -282,14 +237,26 @@ class TryEngine(Engine):
     """`rt try` in the program's crate, which `program` names: slow, without a proof, at most 1 MiB an answer.
 
     It compiles for a minute, so a list of calls is made by one `answers`.
+
+    >>> TryEngine(Path("crates/rtdvs"), timeout=600).program
+    PosixPath('crates/rtdvs')
     """
 
     def answer(self, call: Call) -> Answer:
-        """Makes the call; raises NoEngine, and Crashed if it has no answer."""
+        """Makes the call; raises NoEngine, and Crashed if it has no answer.
+
+        >>> TryEngine(Path("/absent")).answer(Call("least"))
+        Traceback (most recent call last):
+        rtdvs.errors.NoEngine: rt: No such file or directory
+        """
         return next(self.answers([call]))
 
     def answers(self, calls: Iterable[Call], executor: Executor | None = None) -> Iterator[Answer]:
-        """Compiles once and makes all calls, one after the other; the executor isn't used."""
+        """Compiles once and makes all calls, one after the other; the executor isn't used.
+
+        >>> [*TryEngine(Path("crates/rtdvs")).answers([])]
+        []
+        """
         made = [*calls]
         if not made:
             return
@@ -303,14 +270,14 @@ class TryEngine(Engine):
 
 def _write_cases(calls: Sequence[Call], folder: Path) -> dict[str, Path]:
     """Writes each call's arguments as a case, and each text once; gives the files by the arguments' names."""
-    names: dict[str | bytes | Path, str] = {}
+    names: dict[bytes | Path, str] = {}
     (folder / "cases").mkdir()
     for place, call in enumerate(calls):
-        files = ((option, names.setdefault(file, f"file{len(names)}")) for option, file in call.files)
-        words = [call.command, *(word for pair in (*call.options, *files) for word in pair)]
+        words = (word if isinstance(word, str) else names.setdefault(word, f"file{len(names)}")
+                 for word in call.words())
         (folder / "cases" / f"{place:06}").touch()
         (folder / "cases" / f"{place:06}.args").write_bytes("".join(f"{word}\n" for word in words).encode())
-    data = {name: _file(content, folder / name) for content, name in names.items()}
+    data = {name: Path(_word(word, folder / name)) for word, name in names.items()}
     return {name: path for name, path in data.items() if path.is_file()}
 
 
@@ -339,31 +306,36 @@ def _last_words(notes: Sequence[bytes]) -> str:
 # Which engine
 
 def find_engine(program: Path | None = None, timeout: float | None = None) -> Engine:
-    """The engine of a program, with a limit of seconds for each call; raises NoEngine.
+    """The engine of a program or a shared library, with a limit of seconds for each call; raises NoEngine.
 
-    The first of these: the argument's, that of the variable RTDVS, the repository's built one, `rtdvs` on the
-    path, and `rt try`, which compiles the repository's sources for each list of calls.
+    The first of these: the argument's, that of the variable RTDVS (a library's name has `.so`), the library of the
+    wheel, the repository's built library, its built program, `rtdvs` on the path, and `rt try`, which compiles the
+    repository's sources for each list of calls. With a limit programs come before libraries: they are stopped at
+    less cost.
 
     >>> find_engine(Path("/absent/rtdvs"))
     Traceback (most recent call last):
     rtdvs.errors.NoEngine: /absent/rtdvs: no such program
     """
-    variable = os.environ.get("RTDVS")
-    if program is None and variable:
-        program = Path(variable)
-    if program is not None:
-        return Engine(_executable(program), timeout)
-    found = shutil.which(CRATE / "out" / "rtdvs") or shutil.which("rtdvs")
-    if found is not None:
-        return Engine(Path(found).absolute(), timeout)
+    named = program or os.environ.get("RTDVS")
+    if named:
+        return _named(Path(named), timeout)
+    libraries = (_named(path, timeout) for path in LIBRARIES if path.is_file())
+    paths = (shutil.which(path) for path in (CRATE / "out" / "rtdvs", "rtdvs"))
+    programs = (Engine(Path(path).absolute(), timeout) for path in paths if path)
+    for engine in chain(libraries, programs) if timeout is None else chain(programs, libraries):
+        return engine
     if CRATE.is_dir() and shutil.which("rt"):
         return TryEngine(CRATE, timeout)
     raise NoEngine(HOW_TO_GET_ONE)
 
 
-def _executable(program: Path) -> Path:
-    """A program's absolute path: a file, or one on the path."""
-    found = shutil.which(program.absolute()) or shutil.which(program)
+def _named(path: Path, timeout: float | None) -> Engine:
+    """The engine of a library that can be opened, or of a program: a file, or one on the path."""
+    if ".so" in path.suffixes:
+        library.opened(path.absolute())
+        return LibraryEngine(path.absolute(), timeout)
+    found = shutil.which(path.absolute()) or shutil.which(path)
     if found is None:
-        raise NoEngine(f"{program}: no such program")
-    return Path(found).absolute()
+        raise NoEngine(f"{path}: no such program")
+    return Engine(Path(found).absolute(), timeout)

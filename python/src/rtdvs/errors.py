@@ -8,13 +8,21 @@ KINDS = ("tasks", "machine", "demands", "deadlines", "requests", "trace")
 
 
 class EngineError(Exception):
-    """A call has no answer; the text is the program's line, and `status` its exit status, if it ended."""
+    """A call has no answer; the text is the program's line, and `status` its exit status, if it ended.
+
+    >>> error_of(5, b"limit: 100001 jobs, at most 100000\\n").status
+    5
+    """
 
     status: ClassVar[int | None] = None
 
     @property
     def line(self) -> str:
-        """The program's line on standard error; three lines for Differs."""
+        """The program's line on standard error; three lines for Differs.
+
+        >>> error_of(2, b"words: no command\\n").line
+        'words: no command'
+        """
         return str(self)
 
 
@@ -40,7 +48,11 @@ class Denied(EngineError):
 
 
 class WordsRefused(EngineError):
-    """Status 2: an argument is refused."""
+    """Status 2: an argument is refused.
+
+    >>> error_of(2, b"words: 3: bad value 016\\n")
+    WordsRefused('words: 3: bad value 016')
+    """
 
     status = 2
 
@@ -50,7 +62,11 @@ class WordsRefused(EngineError):
 
 
 class LoadFailed(EngineError):
-    """Status 3: a file can't be loaded; `kind` is tasks, machine, demands, deadlines, requests or trace."""
+    """Status 3: a file can't be loaded; `kind` is tasks, machine, demands, deadlines, requests or trace.
+
+    >>> LoadFailed("load: demands").kind
+    'demands'
+    """
 
     status = 3
 
@@ -60,7 +76,11 @@ class LoadFailed(EngineError):
 
 
 class FileRefused(EngineError):
-    """Status 4: a file is refused; `kind` as in LoadFailed."""
+    """Status 4: a file is refused; `kind` as in LoadFailed.
+
+    >>> FileRefused("tasks: task 2: missing worst").kind
+    'tasks'
+    """
 
     status = 4
 
@@ -70,7 +90,11 @@ class FileRefused(EngineError):
 
 
 class TooManyJobs(EngineError):
-    """Status 5: a run would have more jobs than the most that the program takes."""
+    """Status 5: a run would have more jobs than the most that the program takes.
+
+    >>> TooManyJobs("limit: 100001 jobs, at most 100000").most
+    100000
+    """
 
     status = 5
 
@@ -95,7 +119,11 @@ class OverWorst(EngineError):
 
 
 class Differs(EngineError):
-    """Status 7: a trace isn't that of its run: the line that differs, as the run and as the trace have it."""
+    """Status 7: a trace isn't that of its run: the line that differs, as the run and as the trace have it.
+
+    >>> Differs("differs: line 10\\nwanted: speed 3 2 8/5\\nfound: speed 3 3 8/5").line_number
+    10
+    """
 
     status = 7
 
@@ -106,33 +134,57 @@ class Differs(EngineError):
 
 
 class WriteFailed(EngineError):
-    """Status 8: a write to standard output failed."""
+    """Status 8: a write to standard output failed.
+
+    >>> error_of(8, b"write: out failed\\n")
+    WriteFailed('write: out failed')
+    """
 
     status = 8
 
 
 class OutOfMemory(EngineError):
-    """Status 9: memory ran out."""
+    """Status 9: memory ran out.
+
+    >>> error_of(9, b"")
+    OutOfMemory('no memory')
+    """
 
     status = 9
 
 
 class NoText(EngineError):
-    """Status 10: the system doesn't give the arguments as text."""
+    """Status 10: the system doesn't give the arguments as text.
+
+    >>> error_of(10, b"")
+    NoText('the arguments are not text for the system')
+    """
 
     status = 10
 
 
 class NoEngine(EngineError):
-    """No program is found, or it can't be started; the text says what to build or install."""
+    """No program or library is found, or it can't be started; the text says what to build or install.
+
+    >>> NoEngine("/absent/rtdvs: no such program").status is None
+    True
+    """
 
 
 class Crashed(EngineError):
-    """The program ended by a signal or with another status, or printed what it never prints."""
+    """The program ended by a signal or with another status, or printed what it never prints.
+
+    >>> error_of(42, b"")
+    Crashed('the program ended with status 42')
+    """
 
 
 class TimedOut(EngineError):
-    """The program didn't end within the time limit."""
+    """The program didn't end within the time limit, in seconds.
+
+    >>> TimedOut("no answer within 0.5 seconds").status is None
+    True
+    """
 
 
 _DENIALS = {
@@ -158,12 +210,15 @@ def _denial(line: str) -> tuple[str, dict[str, str]]:
 
 
 def groups(pattern: str, text: str) -> tuple[str, ...]:
-    """The groups of a pattern that fits all of the text; ValueError if it doesn't."""
+    """The groups of a pattern that fits all of the text; ValueError if it doesn't.
+
+    >>> groups(f"load: {NAME}", "load: tasks")
+    ('tasks',)
+    """
     match = re.fullmatch(pattern, text)
     if not match:
         raise ValueError(text)
     return match.groups()
-
 
 
 def error_of(status: int, notes: bytes) -> EngineError:
