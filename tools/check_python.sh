@@ -1,18 +1,18 @@
 # check_python.sh PROGRAM: the Python package in python/: its types by mypy --strict, and its tests and the examples of
 # its pages by pytest, once in a UTF-8 locale and once in one with a decimal comma. Then a wheel is built without a network,
 # installed into a fresh virtual environment and used there. PYTHON is the interpreter, the system's without it;
-# tools/setup.sh installs what this needs. Tests of the shared library are skipped, and counted so, where
-# crates/rtdvs_c/out/lib has none.
+# tools/setup.sh installs what this needs. With rt it makes the shared library first; without rt and without one in
+# crates/rtdvs_c/out/lib the tests of it are skipped, and counted so.
 cd "$(dirname "$0")/.." || exit 2
 [ -x "${1:?no program}" ] || { echo "no program: $1"; exit 2; }
 RTDVS=$(cd "$(dirname "$1")" && pwd)/$(basename "$1") python=${PYTHON:-/usr/bin/python3} work=$(mktemp -d) bad=0
+trap 'rm -rf "$work"' EXIT
+trap 'exit 2' HUP INT PIPE TERM
 library=yes without=
+[ -z "$(command -v rt)" ] || sh tools/library.sh > "$work/made" 2>&1 || { tail -n 5 "$work/made"; echo 'python: no library'; exit 1; }
 [ -f crates/rtdvs_c/out/lib/librtdvs.so ] || library='' without=' without librtdvs.so'
 export RTDVS PYTHONDONTWRITEBYTECODE=1
 unset PYTHONPATH
-trap 'rm -rf "$work"' EXIT
-trap 'exit 2' HUP INT PIPE TERM
-
 skip() { echo "python: skipped, no $1"; exit 0; }
 "$python" -c 'import tomllib' 2>/dev/null || skip 'Python 3.11 or later'
 for module in pytest hypothesis mypy matplotlib pandas hatchling ensurepip; do
