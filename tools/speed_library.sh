@@ -1,7 +1,7 @@
 # speed_library.sh: the ratios of the library for C in SPEED.md, by bash and cc, in a folder with the inputs:
 #     bash speed_library.sh TOOLS PROGRAM LIBRARY
 # TOOLS is the folder of this script, PROGRAM the program, LIBRARY the folder that library.sh made. Times are processor
-# times of the user and the system, the least of five; for threads the time that passes.
+# times of the user and the system, the middle one of fifteen; for threads the time that passes.
 set -eu
 tools=$1 program=$2 library=$3
 cc -O2 -I "$tools/../library" "$tools/../library/call.c" "$library/librtdvs.so" -o call
@@ -9,31 +9,31 @@ cc -O2 -pthread -D_POSIX_C_SOURCE=200809L "$tools/calls.c" "$library/librtdvs.so
 cc -O2 "$tools/peer.c" -o peer
 export LD_LIBRARY_PATH=$library
 
-# FORM COMMAND..: the least time of five, where FORM is `cpu` or `passed`
-least() {
+# FORM COMMAND..: the middle time of fifteen, where FORM is `cpu` or `passed`
+middle() {
     form=$1
     shift
-    for _ in 1 2 3 4 5; do
+    for _ in $(seq 15); do
         TIMEFORMAT='%U %S %R'
         { time "$@" > trace 2> notes; } 2>&1
-    done | awk -v form="$form" '{ t = form == "cpu" ? $1 + $2 : $3 } NR == 1 || t < low { low = t } END { print low }'
+    done | awk -v form="$form" '{ print form == "cpu" ? $1 + $2 : $3 }' | sort -n | sed -n 8p
 }
 ratio() { awk -v a="$1" -v b="$2" 'BEGIN { printf "%.2f\n", a / b }'; }
-processes() { for _ in $(seq 1000); do "$program" "$@"; done; }
+processes() { for _ in $(seq 200); do "$program" "$@"; done; }
 
 small='--tasks tasks8.toml --machine machine.toml --scheduler edf --governor cc --ticks 16'
 named='--tasks tasks --machine machine --scheduler edf --governor cc'
 files='tasks tasks8.toml machine machine.toml'
-apart=$(least cpu processes run $small)
-within=$(least cpu ./calls 1 10000 $files -- run $named --ticks 16)
+apart=$(middle cpu processes run $small)
+within=$(middle cpu ./calls 1 2000 $files -- run $named --ticks 16)
 echo "a small call as a process, over one in process: $(ratio "$apart" "$(ratio "$within" 10)")"
 
 long='--tasks tasks64.toml --machine machine.toml --scheduler edf --governor cc --ticks 38200000'
-by_peer=$(least cpu ./peer run $long)
+by_peer=$(middle cpu ./peer run $long)
 echo "lines of the long run: $(wc -l < trace)"
-echo "the long run to a file by the library, over peer.c: $(ratio "$(least cpu ./call run $long)" "$by_peer")"
-echo "the long run to a file by the program, over peer.c: $(ratio "$(least cpu "$program" run $long)" "$by_peer")"
+echo "the long run to a file by the library, over peer.c: $(ratio "$(middle cpu ./call run $long)" "$by_peer")"
+echo "the long run to a file by the program, over peer.c: $(ratio "$(middle cpu "$program" run $long)" "$by_peer")"
 
-one=$(least passed ./calls 1 2000 $files -- run $named --ticks 200000)
-four=$(least passed ./calls 4 500 $files -- run $named --ticks 200000)
+one=$(middle passed ./calls 1 2000 $files -- run $named --ticks 200000)
+four=$(middle passed ./calls 4 500 $files -- run $named --ticks 200000)
 echo "calls in one thread, over the same calls in four: $(ratio "$one" "$four")"

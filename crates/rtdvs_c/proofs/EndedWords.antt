@@ -11,7 +11,8 @@ word-ends : (done : List (List ℕ)) (begun word rest : List ℕ) → All (λ b.
     → words_from done begun (word ++ 0 ∷ rest) ≡ option_and_then (λ more. words_from more [] rest) (with_word done (begun ++ word))
 word-ends done begun [] rest h = ap (λ w. option_and_then (λ more. words_from more [] rest) (with_word done w)) (sym (append-nil begun))
 word-ends done begun (b ∷ word) rest h =
-    ap (λ t. if t then option_and_then (λ more. words_from more [] (word ++ 0 ∷ rest)) (with_word done begun) else words_from done (begun ++ b ∷ []) (word ++ 0 ∷ rest))
+    ap (λ t. if t then option_and_then (λ more. words_from more [] (word ++ 0 ∷ rest)) (with_word done begun)
+    else words_from done (begun ++ b ∷ []) (word ++ 0 ∷ rest))
     (ne_eqb b 0 (All-head (λ b. b ≢ 0) b word h))
     ∙ (word-ends done (begun ++ b ∷ []) word rest (All-tail (λ b. b ≢ 0) b word h)
     ∙ ap (λ w. option_and_then (λ more. words_from more [] rest) (with_word done w)) (append_assoc begun (b ∷ []) word))

@@ -132,7 +132,8 @@ module _ (files : Files) (c : CommandView) (s : Status) (text noted : List ℕ) 
             | inl done ↦ inl (record { text = is ∙ (ap (λ t. answer_with t text) done.0 ∙ ap Ok done.1.text); run = done.1.run })
             | inr denied ↦ inr (record { why = denied.0; denies = is ∙ ap (λ t. answer_with t text) denied.1; fails = denied.2 })
           ]
-      go (response r) h is st = λ tasks machine means. subst (RespondsOrIsDenied (plan_of tasks machine Rm)) (sym st) (h tasks machine means not-rose not-rose left.memory)
+      go (response r) h is st = λ tasks machine means.
+          subst (RespondsOrIsDenied (plan_of tasks machine Rm)) (sym st) (h tasks machine means not-rose not-rose left.memory)
       go (admit a) h is st = tt
       go (traced r) h is st = tt
       go (workload seed) h is st = tt
@@ -210,7 +211,8 @@ abbrev pub grown : List ℕ → ℕ → SinkView
 grown bytes faults = record { written = Some bytes; faults = faults; sure = 0 }
 
 -- the top call's promises over sinks that were empty, where no put failed
-pub from-empty : (files : Files) (asked : Result CommandView WordFault) (s : Status) {began text began_notes noted : List ℕ} {m n i j : ℕ} {before after : List ProbeView}
+pub from-empty : (files : Files) (asked : Result CommandView WordFault) (s : Status)
+    {began text began_notes noted : List ℕ} {m n i j : ℕ} {before after : List ProbeView}
     → began ≡ [] → m ≡ 0 → n ≡ 0 → began_notes ≡ [] → i ≡ 0 → j ≡ 0 → before ≡ program_probes
     → Promised (asked_of (Some files) asked) (Rose 0 0) (record { old = grown began m; new = grown text n })
     (record { old = grown began_notes i; new = grown noted j }) before after s
@@ -232,14 +234,15 @@ replies-of files (Err why) s text noted after left p =
     (ap code_of (sym refused)) (sym (subst (λ t. HasNoText t text) refused left.none))
     (ap (status_text []) (sym refused) ∙ sym (put-whole (status_text [] s) noted p.notes)))
 
-proves-of : (files : Files) (asked : Result CommandView WordFault) (s : Status) (text noted : List ℕ) (after : List ProbeView) → Left s text
+proves-of : (files : Files) (asked : Result CommandView WordFault) (s : Status) (text noted : List ℕ) (after : List ProbeView)
+    → IsShown s → Left s text
     → Promised (asked_of (Some files) asked) (Rose 0 0) (record { old = holding []; new = holding text })
     (record { old = holding []; new = holding noted }) program_probes after s
-    → IsShown s → Proves files (Some asked)
-proves-of files (Ok c) s text noted after left p shown =
+    → Proves files (Some asked)
+proves-of files (Ok c) s text noted after shown left p =
     proves-command files c s text noted after left (of-known files (Rose 0 0) (record { old = holding []; new = holding text })
     (record { old = holding []; new = holding noted }) program_probes after s c p) shown
-proves-of files (Err why) s text noted after left p shown = tt
+proves-of files (Err why) s text noted after shown left p = tt
 
 -- no other status has the code of memory that ran out
 code-memory : (s : Status) → s ≢ status.NoMemory → code_of s ≢ NO_MEMORY
@@ -254,12 +257,13 @@ code-memory (status.OverWorst task job units worst) memory = λ e. absurd (cc)
 code-memory (status.Differs line wanted found) memory = λ e. absurd (cc)
 code-memory status.Write memory = λ e. absurd (cc)
 
-pub is-reply : (files : Files) (asked : Result CommandView WordFault) (s : Status) (text noted : List ℕ) (after : List ProbeView) → Left s text
+pub is-reply : (files : Files) (asked : Result CommandView WordFault) (s : Status) (text noted : List ℕ) (after : List ProbeView)
+    (r : ReplyView) → Left s text
     → Promised (asked_of (Some files) asked) (Rose 0 0) (record { old = holding []; new = holding text })
     (record { old = holding []; new = holding noted }) program_probes after s
-    → IsShown s → (r : ReplyView) → r ≡ record { code = code_of s; text = text; notes = noted } → IsReply files (Some asked) r
-is-reply files asked s text noted after left p shown r is = record {
+    → IsShown s → r ≡ record { code = code_of s; text = text; notes = noted } → IsReply files (Some asked) r
+is-reply files asked s text noted after r left p shown is = record {
   reply = is ∙ replies-of files asked s text noted after left p;
-  proves = proves-of files asked s text noted after left p shown;
+  proves = proves-of files asked s text noted after shown left p;
   memory = λ e. code-memory s left.memory (sym (ap (λ (x : ReplyView). x.code) is) ∙ e);
 }

@@ -17,7 +17,8 @@ pub(crate) enum WordsFault {
 fn push_word(alloc: Global, words: &mut Vec<String>, word: &[u8]) -> Result<(), WordsFault>
     ensures ok { OnOk result
         (with_word (map string_bytes words.old.items) word.now ≡ Some (map string_bytes words.new.items)) }
-    ensures not_utf8 { IsErrOf result WordsFault.NotUtf8 → with_word (map string_bytes words.old.items) word.now ≡ None }
+    ensures not_utf8 { IsErrOf result WordsFault.NotUtf8
+        → with_word (map string_bytes words.old.items) word.now ≡ None }
 {
     let text = match std::str::from_utf8(word) {
         Ok(text) => text,

@@ -21,7 +21,8 @@ returns g c =
     let after : List ProbeView = map (λ b. (goal.Probe-dyn g (b.vtable, b.value)).seen b.value) c.rtdvs-status.new.probes.items in
     let p : Promised (asked_of (Some files) asked) (Rose 0 0)
     (record { old = grown c.new-out.result.bytes.items c.new-out.result.faults; new = grown text c.rtdvs-status.new.out.faults })
-    (record { old = grown c.new-notes.result.bytes.items c.new-notes.result.faults; new = grown noted c.rtdvs-status.new.notes.faults }) before after s = record {
+    (record { old = grown c.new-notes.result.bytes.items c.new-notes.result.faults; new = grown noted c.rtdvs-status.new.notes.faults })
+    before after s = record {
       answers = c.rtdvs-status.ensures.answers;
       done = c.rtdvs-status.ensures.done;
       headline = c.rtdvs-status.ensures.headline;
@@ -42,7 +43,7 @@ returns g c =
     let faults : IsOk c.ended.result → c.rtdvs-status.new.out.faults ≡ 0 = λ ok.
     no-fault s c.rtdvs-status.new.out.faults (c.ended.ensures.written ok)
     (subst (λ k. CountsPuts k c.rtdvs-status.new.out.faults s) c.new-out.ensures.faults c.rtdvs-status.ensures.puts) in
-    if-ok c.ended.result (λ ok reply shown. is-reply files asked s text noted after (left ok)
+    if-ok c.ended.result (λ ok reply shown. is-reply files asked s text noted after (shown_reply reply) (left ok)
     (from-empty files asked s c.new-out.ensures.bytes c.new-out.ensures.faults (faults ok) c.new-notes.ensures.bytes c.new-notes.ensures.faults
     (c.ended.ensures.noted ok) c.requires p)
-    c.rtdvs-status.ensures.shown (shown_reply reply) shown) c.ended.ensures.reply
+    c.rtdvs-status.ensures.shown shown) c.ended.ensures.reply
