@@ -7,9 +7,7 @@ It writes the inputs, compiles peer.c, and prints the tables: instructions a lin
 C program's, and millions of instructions of whole calls. It ends with 1 where the two print other traces.
 """
 import argparse
-import os
 import re
-import resource
 import subprocess
 import sys
 import tempfile
@@ -20,7 +18,8 @@ from pathlib import Path
 import speed_inputs
 
 TOOLS = Path(__file__).resolve().parent
-PAIRS = [("edf", "none"), ("edf", "static"), ("edf", "cc"), ("edf", "la"), ("rm", "none"), ("rm", "static"), ("rm", "cc")]
+PAIRS = [*(("edf", governor) for governor in ("none", "static", "cc", "la")),
+         *(("rm", governor) for governor in ("none", "static", "cc"))]
 LONG = {f"tasks{count}": 7_640_000 for count in (1, 8, 16, 32, 64)}
 SHORT = {"short1": 80_000, "short8": 12_000, "short64": 12_000}
 COMPARED = ["tasks1", "tasks8", "tasks64", *SHORT]
@@ -97,8 +96,8 @@ def row(cells: Sequence[object]) -> str:
 
 def run_tables(program: str, folder: Path) -> Iterator[str]:
     """The two tables of runs, a row for each pair."""
-    rows = {pair: {tasks: count(program, folder, run_words(tasks, pair, ticks)) for tasks, ticks in (LONG | SHORT).items()}
-            for pair in PAIRS}
+    rows = {pair: {tasks: count(program, folder, run_words(tasks, pair, ticks))
+                   for tasks, ticks in (LONG | SHORT).items()} for pair in PAIRS}
     yield row(["instructions a line", *LONG])
     for pair, counts in rows.items():
         yield row([" ".join(pair), *(counts[tasks].a_line() for tasks in LONG)])
@@ -115,13 +114,14 @@ def calls() -> Iterator[tuple[str, list[str]]]:
     yield "cc-ten-times", run_words("tasks64", ("edf", "cc"), 76_400_000)
     yield "cc-probes", [*cc, "--probes"]
     yield "cc-demands", [*cc, "--demands", "demands64.csv"]
-    yield "la-demands", [*la, "--demands", "demands64.csv"]
+    yield "la", la
     for use in ("replay", "migrate"):
-        yield use, [use, *files, "--trace", "la-demands"]
+        yield use, [use, *files, "--trace", "la"]
     yield "poll", ["poll", "--tasks", "server.toml", *files[2:], "--requests", "requests.csv", "--server", "t0",
                    "--scheduler", "edf", "--governor", "none", "--ticks", "1000000"]
-    yield "constrain", ["constrain", *files, "--deadlines", "deadlines64.csv"]
-    yield "response", ["response", *files]
+    yield "constrain", ["constrain", "--tasks", "together64.toml", *files[2:], "--deadlines", "deadlines64.csv"]
+    yield "response", ["response", "--tasks", "together64.toml", *files[2:]]
+    yield "response-search", ["response", "--tasks", "search.toml", "--machine", "fast.toml"]
     yield "workload", ["workload", "--seed", "1"]
 
 
@@ -135,11 +135,13 @@ def call_table(program: str, folder: Path) -> Iterator[str]:
     yield row(["cc-demands by the C program", f"{instructions(['./peer', *demands], folder) / 1e6:.1f}"])
 
 
-def used(words: Sequence[str], folder: Path, out: str) -> resource.struct_rusage:
-    """What a call used; its standard output goes to the file `out` in the folder."""
+def used(words: Sequence[str], folder: Path, out: str) -> tuple[float, float, int]:
+    """A call's seconds of the user and the system, and its peak kilobytes; its output goes to a file in the folder."""
     with (folder / out).open("wb") as answer:
-        _, _, found = os.wait4(subprocess.Popen(words, cwd=folder, stdout=answer).pid, 0)
-    return resource.struct_rusage(found)
+        subprocess.run(["time", "-q", "-o", "used", "-f", "%U %S %M", *words], cwd=folder, stdout=answer,
+                       stderr=subprocess.DEVNULL)
+    user, system, peak = (folder / "used").read_text().split()
+    return float(user), float(system), int(peak)
 
 
 def use_table(program: str, folder: Path) -> Iterator[str]:
@@ -147,14 +149,13 @@ def use_table(program: str, folder: Path) -> Iterator[str]:
     yield row(["run", "the system's time over the user's"])
     for pair in PAIRS:
         found = [used([program, *run_words("tasks64", pair, 76_400_000)], folder, "trace") for _ in range(5)]
-        yield row([" ".join(pair), *sorted(f"{each.ru_stime / each.ru_utime:.1f}" for each in found)])
-    yield row(["replay", "lines", "bytes", "MB at most"])
+        yield row([" ".join(pair), *(f"{ratio:.1f}" for ratio in sorted(system / user for user, system, _ in found))])
+    yield row(["replay", "MB of the trace", "MB at most"])
     used([program, *run_words("tasks64", ("edf", "none"), 76_400_000)], folder, "tasks64.trace")
     for name in ("tasks64", "long"):
-        trace = (folder / f"{name}.trace").read_bytes()
         words = ["replay", "--tasks", f"{name}.toml", "--machine", "machine.toml", "--trace", f"{name}.trace"]
-        peak = used([program, *words], folder, "answer").ru_maxrss
-        yield row([name, trace.count(b"\n"), len(trace), f"{peak * 1024 / 1e6:.0f}"])
+        size, (_, _, peak) = (folder / f"{name}.trace").stat().st_size, used([program, *words], folder, "answer")
+        yield row([name, f"{size / 1e6:.0f}", f"{peak * 1024 / 1e6:.0f}"])
 
 
 def main() -> None:

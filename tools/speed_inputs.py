@@ -4,6 +4,7 @@
     python3 tools/speed_inputs.py FOLDER
 """
 import argparse
+import re
 from collections.abc import Iterable, Iterator
 from pathlib import Path
 
@@ -13,6 +14,7 @@ Row = tuple[int, int, int]
 LONG = [1000 * factor for factor in (20, 25, 40, 50, 100, 125, 200, 250)]
 SHORT = [64, 80, 128, 160, 96, 192, 320, 384]
 NAME = "t" * 32
+STORED = Path(__file__).resolve().parents[1] / "crates" / "stored_calls" / "data" / "calls.txt"
 
 
 def long_rows(count: int) -> Iterator[Row]:
@@ -62,6 +64,12 @@ def demand_rows(rows: Iterable[Row], ticks: int) -> Iterator[str]:
             yield f"t{i},{job},{10 * period * (50 + (7 * i + 13 * job) % 50) // 100}"
 
 
+def stored_tasks(title: str) -> str:
+    """The task file of the stored call with that title."""
+    call = STORED.read_text().partition(f"# exact: {title}\n")[2]
+    return "".join(re.findall(r"^[|-](.*\n)", call.partition("file M\n")[0], re.MULTILINE))
+
+
 def files() -> Iterator[tuple[str, str]]:
     """The name and the text of each input."""
     for count in (1, 8, 16, 32, 64):
@@ -73,6 +81,9 @@ def files() -> Iterator[tuple[str, str]]:
     yield "demands64.csv", "\n".join(["task,job,units", *demand_rows(long_rows(64), 7_640_000), ""])
     deadlines = (f"t{i},{period * 9 // 10}\n" for i, (period, _, _) in enumerate(long_rows(64)))
     yield "deadlines64.csv", "task,deadline\n" + "".join(deadlines)
+    yield "together64.toml", task_file((period, worst, 0) for period, worst, _ in long_rows(64))
+    yield "search.toml", stored_tasks("responses: a set built against the order of the search")
+    yield "fast.toml", "[[point]]\nspeed = 1000000\nmillivolts = 1000\n"
     yield "server.toml", task_file([(10, 1000, 0)])
     yield "requests.csv", "arrival,units\n" + "".join(f"{10 * k},1000\n" for k in range(100_000))
     yield "long.toml", f'[[task]]\nname = "{NAME}"\nperiod = 1000\nworst = 1000\n'
