@@ -23,7 +23,7 @@ PAIRS = [*(("edf", governor) for governor in ("none", "static", "cc", "la")),
 LONG = {f"tasks{count}": 7_640_000 for count in (1, 8, 16, 32, 64)}
 SHORT = {"short1": 80_000, "short8": 12_000, "short64": 12_000}
 COMPARED = ["tasks1", "tasks8", "tasks64", *SHORT]
-COLLECTED = re.compile(r"Collected *: (\d+)")
+COUNTED = re.compile(r"I +refs: +([\d,]+)")
 
 
 @dataclass(frozen=True, slots=True)
@@ -51,23 +51,23 @@ class Count:
         return f"{self.own / self.peers:.2f}"
 
 
-def collected(notes: str) -> int:
-    """The instructions that callgrind's notes give.
+def counted(notes: str) -> int:
+    """The instructions that valgrind's notes give.
 
-    >>> collected("==7== Collected : 2516\\n")
+    >>> counted("==7== I   refs:      2,516\\n")
     2516
     """
-    found = COLLECTED.search(notes)
+    found = COUNTED.search(notes)
     if found is None:
         raise ValueError(f"no count: {notes}")
-    return int(found[1])
+    return int(found[1].replace(",", ""))
 
 
 def instructions(words: Sequence[str], folder: Path, out: str = "answer") -> int:
     """The instructions of a call in the folder; its standard output goes to the file `out` there."""
-    valgrind = ["valgrind", "--tool=callgrind", "--callgrind-out-file=/dev/null", *words]
+    valgrind = ["valgrind", "--tool=cachegrind", "--cache-sim=no", "--cachegrind-out-file=/dev/null", *words]
     with (folder / out).open("wb") as answer:
-        return collected(subprocess.run(valgrind, cwd=folder, stdout=answer, stderr=subprocess.PIPE, text=True).stderr)
+        return counted(subprocess.run(valgrind, cwd=folder, stdout=answer, stderr=subprocess.PIPE, text=True).stderr)
 
 
 def run_words(tasks: str, pair: tuple[str, str], ticks: int) -> list[str]:
@@ -150,12 +150,12 @@ def use_table(program: str, folder: Path) -> Iterator[str]:
     for pair in PAIRS:
         found = [used([program, *run_words("tasks64", pair, 76_400_000)], folder, "trace") for _ in range(5)]
         yield row([" ".join(pair), *(f"{ratio:.1f}" for ratio in sorted(system / user for user, system, _ in found))])
-    yield row(["replay", "MB of the trace", "MB at most"])
+    yield row(["replay", "MiB of the trace", "MiB at most"])
     used([program, *run_words("tasks64", ("edf", "none"), 76_400_000)], folder, "tasks64.trace")
     for name in ("tasks64", "long"):
         words = ["replay", "--tasks", f"{name}.toml", "--machine", "machine.toml", "--trace", f"{name}.trace"]
         size, (_, _, peak) = (folder / f"{name}.trace").stat().st_size, used([program, *words], folder, "answer")
-        yield row([name, f"{size / 1e6:.0f}", f"{peak * 1024 / 1e6:.0f}"])
+        yield row([name, size >> 20, peak >> 10])
 
 
 def main() -> None:
