@@ -23,7 +23,7 @@ LAYERS = [
     {"rules", "explain", "simulate", "commandline"},
     {"statistics", "compare", "sensitivity", "draws", "generate", "evaluate", "paper_table"},
     {"design", "device_tree"},
-    {"canvas", "marks", "figures", "plot", "convert"},
+    {"canvas", "marks", "figures", "plot", "convert", "page"},
     {"cli", "__init__", "__main__"},
 ]
 

@@ -1,0 +1,262 @@
+"""The page in Chromium, headless: clicks, keys, zoom, and how fast it is on a run of 100,000 jobs.
+
+Skipped where there is no Chromium with its driver, or no selenium.
+"""
+
+import os
+import shutil
+from collections.abc import Iterator
+from importlib import import_module
+from pathlib import Path
+from time import monotonic, sleep
+from typing import Any
+
+import pytest
+from examples import BOARD, DATA, PAPER, files
+
+from rtdvs.engine import Engine
+from rtdvs.explain import Walk, explain
+from rtdvs.files import Demands, Machine, Task, TaskSet
+from rtdvs.page import Shown, in_one_file, page_data
+from rtdvs.rules import GOVERNORS
+from rtdvs.simulate import simulate
+
+selenium = pytest.importorskip("selenium.webdriver", reason="no selenium")
+CHROMIUM, DRIVER = shutil.which("chromium"), shutil.which("chromedriver")
+pytestmark = pytest.mark.skipif(not CHROMIUM or not DRIVER, reason="no chromium with chromedriver")
+Browser = Any
+WAIT = 120      # seconds that anything may take on a busy machine
+ALL_READ = "return document.body.classList.contains('whole')"
+CLICK = """
+drawAll();
+const marks = [...document.querySelectorAll("#sheets path")].filter((each) => each.mark?.kind === arguments[0]);
+marks[arguments[1]].dispatchEvent(new MouseEvent("click", { bubbles: true }));
+"""
+# Zooms in and out and moves, a step in each frame, and gives the times of the frames and what each drawing took.
+MOVES = """
+const finish = arguments[0], frames = [];
+performance.clearMeasures();
+const next = (now) => {
+  const count = frames.push(now), span = state.to - state.from;
+  if (count > 120 || now - frames[0] > 10000) {
+    finish({ frames, draws: performance.getEntriesByName("draw").map((each) => each.duration) });
+    return;
+  }
+  if (count % 60 < 25) zoom(0.9);
+  else if (count % 60 < 50) zoom(1 / 0.9);
+  else move(state.from + span / 50, span);
+  requestAnimationFrame(next);
+};
+move(0, state.ticks);
+requestAnimationFrame(next);
+"""
+
+
+@pytest.fixture(scope="module")
+def browser() -> Iterator[Browser]:
+    options = selenium.ChromeOptions()
+    options.binary_location = CHROMIUM
+    for word in ("--headless=new", "--no-sandbox", "--disable-dev-shm-usage", "--window-size=1280,1000"):
+        options.add_argument(word)
+    options.set_capability("goog:loggingPrefs", {"browser": "ALL"})
+    service = import_module("selenium.webdriver.chrome.service").Service(DRIVER)
+    driver = selenium.Chrome(options=options, service=service)
+    driver.set_script_timeout(WAIT)
+    yield driver
+    driver.quit()
+
+
+def until(browser: Browser, script: str, *words: object) -> Any:
+    """Waits until a script gives anything true, and gives that."""
+    end = monotonic() + WAIT
+    while not (found := browser.execute_script(script, *words)):
+        assert monotonic() < end, browser.execute_script("return document.body.innerText")
+        sleep(0.03)
+    return found
+
+
+def text(browser: Browser, selector: str) -> str:
+    found: str = browser.execute_script(f"return document.querySelector('{selector}').textContent")
+    return found
+
+
+def press(browser: Browser, key: str, **held: bool) -> None:
+    event = "new KeyboardEvent('keydown', { key: arguments[0], bubbles: true, cancelable: true, ...arguments[1] })"
+    browser.execute_script(f"document.body.dispatchEvent({event})", key, held)
+
+
+def opened(browser: Browser, folder: Path, traces: dict[str, str], shown: Shown) -> None:
+    """Opens the page of traces as a file, without a network, and waits until it is read."""
+    page = folder / "page.html"
+    page.write_text(in_one_file(page_data(traces, shown)), encoding="utf-8")
+    browser.get(page.as_uri())
+    until(browser, ALL_READ)
+
+
+def paper(browser: Browser, folder: Path, *names: str) -> list[list[str]]:
+    """Opens the page of stored traces of the paper's example, and gives the explanations of each."""
+    tasks, machine, demands = files("paper")
+    texts = {name: (DATA / "paper" / f"{name}.trace").read_text() for name in names}
+    opened(browser, folder, texts, Shown(tasks, machine, demands))
+    return [explained(tasks, machine, demands, trace) for trace in texts.values()]
+
+
+def explained(tasks: TaskSet, machine: Machine, demands: Demands | None, trace: str) -> list[str]:
+    boards: list[str] = []
+    explain(Walk(tasks, machine, trace.splitlines(keepends=True), demands), boards.append)
+    return boards
+
+
+def assert_board(browser: Browser, board: str) -> None:
+    until(browser, "return document.querySelector('#board').textContent === arguments[0]", board)
+
+
+@pytest.fixture(autouse=True)
+def without_faults(request: pytest.FixtureRequest) -> Iterator[None]:
+    """No test leaves a fault in the browser's log; the policy's refusals are there too."""
+    yield
+    if "browser" in request.fixturenames:
+        log = request.getfixturevalue("browser").get_log("browser")
+        assert [each["message"] for each in log if "status of 4" not in each["message"]] == []
+
+
+# A page without a network
+
+@pytest.mark.parametrize("name", ["edf_cc_with_demands", "edf_la_with_demands", "rm_cc_with_demands"])
+def test_click_opens_what_explain_prints(browser: Browser, tmp_path: Path, name: str) -> None:
+    (boards,) = paper(browser, tmp_path, name)
+    for place, board in enumerate(boards):
+        browser.execute_script(CLICK, "decision", place)
+        assert_board(browser, board)
+
+
+@pytest.mark.parametrize(("kind", "place", "subject", "facts", "board"), [
+    ("done", 0, "t1 job 1 is complete at 2 2/3 with 8 of 12 units",
+     "job t1 1;release 0;deadline 8;completion 2 2/3;response 2 2/3;slack 5 1/3;units 8 of 12;energy 128000000000", 0),
+    ("run", 2, "t2 job 1 runs from 2 2/3 to 3 at speed 3: 1 units",
+     "job t2 1;release 0;deadline 10;completion 4;response 4;slack 6;units 4 of 12;energy 64000000000", 0),
+    ("release", 1, "t1 job 2 is released at 8, due at 16",
+     "job t1 2;release 8;deadline 16;completion 9 1/3;response 1 1/3;slack 6 2/3;units 4 of 12;energy 64000000000", 4),
+], ids=["done", "run", "release"])
+def test_click_opens_the_job(browser: Browser, tmp_path: Path, kind: str, place: int, subject: str, facts: str,
+                             board: int) -> None:
+    """Its times, exactly, and the decision in force."""
+    (boards,) = paper(browser, tmp_path, "edf_cc_with_demands")
+    browser.execute_script(CLICK, kind, place)
+    assert text(browser, "#subject").endswith(subject)
+    found = browser.execute_script("return [...document.querySelectorAll('#facts div')].map("
+                                   "(each) => [...each.children].map((one) => one.textContent).join(' ')).join(';')")
+    assert found == facts
+    assert_board(browser, boards[board])
+
+
+def test_keys_step_from_decision_to_decision(browser: Browser, tmp_path: Path) -> None:
+    (boards,) = paper(browser, tmp_path, "edf_cc_with_demands")
+    keys = ["Home", *["ArrowRight"] * 3, *["ArrowLeft"] * 2, "End", "ArrowRight", "ArrowLeft"]
+    for key, place in zip(keys, [0, 1, 2, 3, 2, 1, -1, -1, -2], strict=True):
+        press(browser, key)
+        assert_board(browser, boards[place])
+
+
+def test_keys_zoom_and_move(browser: Browser, tmp_path: Path) -> None:
+    paper(browser, tmp_path, "edf_cc_with_demands")
+    window = "return [state.from, state.to]"
+    press(browser, "+")
+    press(browser, "+")
+    first, last = browser.execute_script(window)
+    assert 6 < last - first < 8
+    press(browser, "ArrowRight", shiftKey=True)
+    moved, _ = browser.execute_script(window)
+    assert moved > first
+    press(browser, "0")
+    assert browser.execute_script(window) == [0, 16]
+
+
+def test_drag_and_wheel(browser: Browser, tmp_path: Path) -> None:
+    paper(browser, tmp_path, "edf_cc_with_demands")
+    actions = selenium.ActionChains(browser)
+    picture = browser.find_element("css selector", "#sheets svg")
+    browser.execute_script("zoom(0.25)")
+    from_before = browser.execute_script("return state.from")
+    actions.move_to_element(picture).click_and_hold().move_by_offset(-200, 0).release().perform()
+    assert browser.execute_script("return state.from") > from_before
+    browser.execute_script("arguments[0].dispatchEvent(new WheelEvent('wheel', "
+                           "{ deltaY: -500, ctrlKey: true, clientX: 700, bubbles: true, cancelable: true }))", picture)
+    assert browser.execute_script("return state.to - state.from") < 4
+
+
+def test_two_traces(browser: Browser, tmp_path: Path) -> None:
+    """Below each other with their energies; the button opens the first decision that differs."""
+    boards = paper(browser, tmp_path, "edf_cc_with_demands", "edf_static_with_demands")
+    assert len(browser.find_elements("css selector", "#sheets svg")) == 2
+    page = text(browser, "body")
+    assert "energy 364000000000: " in page and "energy 448000000000: " in page
+    lines = "“speed 3 3 696/280” and “speed 3 3 836/280”"
+    assert text(browser, "#apart").startswith(f"The traces part at tick 3: {lines}.")
+    browser.execute_script("document.querySelector('#apart button').click()")
+    assert_board(browser, boards[0][1])
+
+
+def test_marks_have_words(browser: Browser, tmp_path: Path) -> None:
+    """Each mark that can be chosen has a title, and each kind another shape than the others."""
+    paper(browser, tmp_path, "edf_cc_with_demands")
+    marks = browser.execute_script("return [...document.querySelectorAll('#sheets path')].filter((each) => each.mark)"
+                                   ".map((each) => [each.mark.kind, each.querySelector('title').textContent, "
+                                   "each.getAttribute('d').replace(/[0-9.]+/g, '')])")
+    assert all(title for _, title, _ in marks)
+    kinds = {kind for kind, _, _ in marks}
+    assert kinds == {"run", "release", "deadline", "done", "idle", "decision"}
+    shapes = {kind: {shape for other, _, shape in marks if other == kind} for kind in kinds - {"idle"}}
+    assert len(set.union(*shapes.values())) == len(shapes)
+
+
+def test_print_has_all_rows_and_dark_is_dark(browser: Browser, tmp_path: Path) -> None:
+    tasks = TaskSet(tuple(Task(f"task_{place}", 100, 1) for place in range(64)))
+    trace = simulate(tasks, BOARD, "edf", 100, GOVERNORS["edf", "cc"], name="cc").text()
+    opened(browser, tmp_path, {"": trace}, Shown(tasks, BOARD))
+    names = "return document.querySelectorAll('#sheets .name').length - 1"
+    assert until(browser, names) < 30
+    browser.execute_script("dispatchEvent(new Event('beforeprint'))")
+    assert browser.execute_script(names) == 64
+    browser.execute_script("dispatchEvent(new Event('afterprint'))")
+    colours = []
+    for scheme in ("light", "dark"):
+        browser.execute_cdp_cmd("Emulation.setEmulatedMedia",
+                                {"features": [{"name": "prefers-color-scheme", "value": scheme}]})
+        colours.append(browser.execute_script("return getComputedStyle(document.body).backgroundColor"))
+    browser.execute_cdp_cmd("Emulation.setEmulatedMedia", {"features": []})
+    assert colours[0] == "rgb(255, 255, 255)" != colours[1]
+
+
+# A long run
+
+def processor_time(browser: Browser) -> float:
+    """The seconds of processor time that the page's own thread has taken, which a busy machine doesn't change."""
+    found = browser.execute_cdp_cmd("Performance.getMetrics", {})["metrics"]
+    return float(next(each["value"] for each in found if each["name"] == "TaskDuration"))
+
+
+def test_100000_jobs(browser: Browser, tmp_path: Path, engine: Engine) -> None:
+    """The first ticks are drawn within 2 seconds, more on a busy machine; a frame takes less than a 60th of a second
+    of processor time; what isn't in the window isn't in the document.
+    """
+    trace = engine.run(PAPER, BOARD, "edf", "cc", 337_400)
+    page = tmp_path / "page.html"
+    page.write_text(in_one_file(page_data({"": trace}, Shown(PAPER, BOARD, most=1))), encoding="utf-8")
+    assert page.stat().st_size < 8 * 2**20
+    busy = 1 + os.getloadavg()[0] / (os.cpu_count() or 1)
+    browser.execute_cdp_cmd("Performance.enable", {"timeDomain": "threadTicks"})
+    browser.get(page.as_uri())
+    first = until(browser, "const [one] = performance.getEntriesByName('draw'); return one?.startTime + one?.duration")
+    until(browser, ALL_READ)
+    read = processor_time(browser)
+    assert browser.execute_script("return state.sheets[0].trace.jobs.length") >= 100_000
+    found = browser.execute_async_script(MOVES)
+    frames, draws = found["frames"], sorted(found["draws"])
+    each = (processor_time(browser) - read) / len(frames)
+    rate = 1000 * (len(frames) - 1) / (frames[-1] - frames[0])
+    elements = browser.execute_script("move(0, state.ticks); drawAll(); return document.querySelectorAll('*').length")
+    print(f"first drawing after {first:.0f} ms; processor time to read all {read:.2f} s, of a frame "
+          f"{1000 * each:.1f} ms; a drawing {draws[len(draws) // 2]:.1f} ms, {rate:.0f} frames a second; "
+          f"{elements} elements; busy {busy:.1f}")
+    assert first < 2000 * busy and each < 1 / 60 and elements < 2500
