@@ -24,6 +24,7 @@ LAYERS = [
     {"statistics", "compare", "sensitivity", "draws", "generate", "evaluate", "paper_table"},
     {"design", "device_tree"},
     {"canvas", "marks", "figures", "plot", "convert", "page"},
+    {"serve"},
     {"cli", "__init__", "__main__"},
 ]
 

@@ -9,9 +9,9 @@ const BAR = 28;             // a run at the highest speed
 const AXIS = 24;            // the ticks' numbers
 const SPEED = 96;           // the row of speeds
 const FULL = 56;            // the highest speed
-const MOST_MARKS = 300;     // as single elements; of more marks each row and kind is one path
+const MOST_MARKS = 240;     // as single elements; of more marks each row and kind is one path
 const MOST_JOBS = 100;      // lines of the table of jobs
-const NEAR = 3;             // pixels: of more marks those that are nearer are drawn once; more for many rows
+const NEAR = 4;             // pixels: of more marks those that are nearer are drawn once; more for many rows
 
 const find = (selector) => document.querySelector(selector);
 const round = (number) => Math.round(number * 10) / 10;
