@@ -54,8 +54,8 @@ requestAnimationFrame(next);
 """
 
 
-@pytest.fixture(scope="module")
-def browser() -> Iterator[Browser]:
+def chromium() -> Browser:
+    """Chromium without a window; as root it needs to be without its sandbox."""
     options = selenium.ChromeOptions()
     options.binary_location = CHROMIUM
     for word in ("--headless=new", "--no-sandbox", "--disable-dev-shm-usage", "--window-size=1280,1000"):
@@ -64,6 +64,12 @@ def browser() -> Iterator[Browser]:
     service = import_module("selenium.webdriver.chrome.service").Service(DRIVER)
     driver = selenium.Chrome(options=options, service=service)
     driver.set_script_timeout(WAIT)
+    return driver
+
+
+@pytest.fixture(scope="module")
+def browser() -> Iterator[Browser]:
+    driver = chromium()
     yield driver
     driver.quit()
 
@@ -135,7 +141,7 @@ def test_click_opens_what_explain_prints(browser: Browser, tmp_path: Path, name:
 @pytest.mark.parametrize(("kind", "place", "subject", "facts", "board"), [
     ("done", 0, "t1 job 1 is complete at 2 2/3 with 8 of 12 units",
      "job t1 1;release 0;deadline 8;completion 2 2/3;response 2 2/3;slack 5 1/3;units 8 of 12;energy 128000000000", 0),
-    ("run", 2, "t2 job 1 runs from 2 2/3 to 3 at speed 3: 1 units",
+    ("run", 2, "t2 job 1 runs from 2 2/3 to 3 at speed 3: 1 unit",
      "job t2 1;release 0;deadline 10;completion 4;response 4;slack 6;units 4 of 12;energy 64000000000", 0),
     ("release", 1, "t1 job 2 is released at 8, due at 16",
      "job t1 2;release 8;deadline 16;completion 9 1/3;response 1 1/3;slack 6 2/3;units 4 of 12;energy 64000000000", 4),
@@ -239,8 +245,8 @@ def processor_time(browser: Browser) -> float:
 
 
 def test_100000_jobs(browser: Browser, tmp_path: Path, engine: Engine) -> None:
-    """The first ticks are drawn within 2 seconds, more on a busy machine; a frame takes less than a 60th of a second
-    of processor time; what isn't in the window isn't in the document.
+    """The first ticks are drawn within 2 seconds, and a frame takes less than a 60th of a second of processor time;
+    on a busy machine, which shares its caches, both take more. What isn't in the window isn't in the document.
     """
     trace = engine.run(PAPER, BOARD, "edf", "cc", 337_344)
     page = tmp_path / "page.html"
@@ -261,7 +267,7 @@ def test_100000_jobs(browser: Browser, tmp_path: Path, engine: Engine) -> None:
     print(f"first drawing after {first:.0f} ms; processor time to read all {read:.2f} s, of a frame "
           f"{1000 * each:.1f} ms; a drawing {draws[len(draws) // 2]:.1f} ms, {rate:.0f} frames a second; "
           f"{elements} elements; busy {busy:.1f}")
-    assert first < 2000 * busy and each < 1 / 60 and elements < 2500
+    assert first < 2000 * busy and each < (1 + busy) / 120 and elements < 2500
 
 
 # The editor

@@ -68,7 +68,7 @@ def test_stored_traces(engine: Engine, tmp_path: Path) -> None:
     made = list(pictures.draw_traces(engine, tmp_path))
     for path in made:
         same_picture(path, TOP / "examples" / "pictures" / path.name)
-    stored = {path.name for path in (TOP / "examples" / "pictures").iterdir()}
+    stored = {path.name for path in (TOP / "examples" / "pictures").glob("*.svg")}
     assert stored == {path.name for path in made} | {"compare.svg"}
 
 

@@ -88,6 +88,10 @@ def test_examples_of_the_menu(path: Path, engine: Engine) -> None:
     assert answered(engine, found[path.parent.name])[1].get("refused", "").startswith(("", "denied"))
 
 
+def test_example_without_the_repository(engine: Engine) -> None:
+    assert answered(engine, serve.START["example"])[1]["data"]["sheets"][0]["title"] == "edf cc, 12 ticks"
+
+
 REFUSED = [
     ({"tasks_1_period": "8 ms"}, "tasks: task 2: wrong kind of period", "tasks.1.period"),
     ({"tasks_1_period": ""}, "tasks: task 2: missing period", "tasks.1.period"),

@@ -129,7 +129,7 @@ def sheet(text: str, trace: Trace, shown: Shown, label: str) -> dict[str, object
     return {
         "label": label or pair,
         "title": f"{label}{': ' if label else ''}{pair}, {trace.ticks} ticks",
-        "energy": f"{energy}, in units × mV² × 1000; {trace.switches} switches of the speed",
+        "energy": f"{energy}, in units × mV² × 1000; switches of the speed: {trace.switches}",
         "ticks": trace.ticks,
         "pieces": [pack(piece) for piece in pieces(text)],
         "boards": [*chunks(boards)],
@@ -196,7 +196,7 @@ def page_data(texts: Mapping[str, str], shown: Shown) -> dict[str, object]:
         "tasks": [{"name": task.name, "period": task.period, "worst": str(task.worst + charge)}
                   for task in shown.tasks],
         "top": shown.machine.top_speed,
-        "columns": COLUMNS,
+        "columns": [name.replace("_", " ") for name in COLUMNS],
         "window": first_window(traces, len(shown.tasks)),
         "sheets": [sheet(texts[label], trace, shown, label) for label, trace in traces.items()],
         "apart": apart(*traces.values()) if len(traces) == 2 else None,

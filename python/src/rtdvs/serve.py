@@ -48,6 +48,11 @@ TABLES = {"tasks": ("name", "period", "worst", "offset"), "points": ("speed", "m
 SINGLE = ("scheduler", "governor", "ticks", "idle", "charge")
 DATA = ("crates", "example_runs", "data")
 Rows = Sequence[Mapping[str, str]]
+START = {"name": "small", "example": {
+    "tasks": [{"name": "a", "period": "4", "worst": "4"}, {"name": "b", "period": "6", "worst": "6"}],
+    "points": [{"speed": "1", "millivolts": "1000"}, {"speed": "2", "millivolts": "2000"}], "demands": [],
+    "scheduler": "edf", "governor": "cc", "ticks": "12", "idle": "0", "charge": "0"}}
+"""The example of a package that is installed without the repository's."""
 
 
 # An example
@@ -255,7 +260,8 @@ def answer_of(path: str, body: bytes, engine: Engine) -> tuple[HTTPStatus, dict[
 
 def examples() -> Iterator[dict[str, object]]:
     """The repository's examples, of which the paper's is the first, or those of the installed package."""
-    tops = (CRATE.parents[1], Path(__file__).resolve().parents[4] / "share" / "rtdvs")
+    installed = Path(__file__).resolve().parents[4:5]
+    tops = (CRATE.parents[1], *(folder / "share" / "rtdvs" for folder in installed))
     folders = [folder for top in tops for folder in sorted(top.joinpath(*DATA).glob("*/tasks.toml"))]
     for path in sorted(folders, key=lambda path: path.parent.name != "paper"):
         try:
@@ -293,7 +299,7 @@ class PageServer(ThreadingHTTPServer):
         self.engine = engine
         self.calls = BoundedSemaphore(MOST_CALLS)
         self.requests = BoundedSemaphore(MOST_REQUESTS)
-        self.page = with_data({"examples": [*examples()]}).encode()
+        self.page = with_data({"examples": [*examples()] or [START]}).encode()
         super().__init__((HOST, port), _Handler)
 
     @property
@@ -453,7 +459,7 @@ def _handle(args: argparse.Namespace) -> int:
 def add_command(commands: Commands) -> None:
     """Adds the command `serve`."""
     parser = add_parser(commands, "serve", _handle, "serve a page with an editor for a browser on this machine",
-                        "serve")
+                        "serve --port 8080")
     parser.add_argument("--port", type=whole_number(0, 65535), default=PORT, metavar="N",
                         help=f"the port of 127.0.0.1; 0 is a free one (default: {PORT})")
     add_engine_options(parser)

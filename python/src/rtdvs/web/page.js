@@ -11,7 +11,7 @@ const SPEED = 96;           // the row of speeds
 const FULL = 56;            // the highest speed
 const MOST_MARKS = 240;     // as single elements; of more marks each row and kind is one path
 const MOST_JOBS = 100;      // lines of the table of jobs
-const NEAR = 4;             // pixels: of more marks those that are nearer are drawn once; more for many rows
+const NEAR = 6;             // pixels: of more marks those that are nearer are drawn once; more for many rows
 
 const find = (selector) => document.querySelector(selector);
 const round = (number) => Math.round(number * 10) / 10;
@@ -160,6 +160,9 @@ function time(position, speed) {
   return exact(tick, units, speed);
 }
 
+/** Writes a number of work units. */
+const counted = (units) => `${units} ${units === "1" ? "unit" : "units"}`;
+
 // The words of a mark, by its line in the trace
 const SAYS = {
   release: (job) => `${job.row.task.name} job ${job.number} is released at ${job.release}, due at ${job.due}`,
@@ -167,16 +170,16 @@ const SAYS = {
   done: (job, { lines }) => {
     const [, position, , , used] = lines[job.doneLine - 1].split(" ");
     const { name, worst } = job.row.task;
-    return `${name} job ${job.number} is complete at ${time(position, job.speed)} with ${used} of ${worst} units`;
+    return `${name} job ${job.number} is complete at ${time(position, job.speed)} with ${used} of ${counted(worst)}`;
   },
   run: (run, { lines }) => {
     const [, from, to, name, job, units] = lines[run.line - 1].split(" ");
     const span = `${time(from, run.speed)} to ${time(to, run.speed)}`;
-    return `${name} job ${job} runs from ${span} at speed ${run.speed}: ${units} units`;
+    return `${name} job ${job} runs from ${span} at speed ${run.speed}: ${counted(units)}`;
   },
   idle: (idle, { lines }) => {
     const [, from, to, units] = lines[idle.line - 1].split(" ");
-    return `idle from ${time(from, idle.speed)} to ${time(to, idle.speed)} at speed ${idle.speed}: ${units} units`;
+    return `idle from ${time(from, idle.speed)} to ${time(to, idle.speed)} at speed ${idle.speed}: ${counted(units)}`;
   },
   decision: (decision, { lines }) =>
     `decision at tick ${decision.tick}: speed ${decision.speed} for ${lines[decision.line - 1].split(" ")[3]}`,
@@ -272,9 +275,11 @@ function drawAll() {
   const begin = performance.now();
   cancelAnimationFrame(state.drawn);
   state.drawn = 0;
+  state.hidden = false;
   state.sheets.forEach(drawSheet);
   const ticks = `ticks ${round(state.from)} to ${round(state.to)} of ${state.ticks}`;
-  find("#where").textContent = `${ticks}; cursor at ${state.cursor}`;
+  const more = state.hidden ? "; zoom in for single jobs and decisions" : "";
+  find("#where").textContent = `${ticks}; cursor at ${state.cursor}${more}`;
   clearTimeout(state.later);
   state.later = setTimeout(listJobs, 120);
   performance.measure("draw", { start: begin, end: performance.now() });
@@ -300,6 +305,8 @@ function drawSheet(sheet) {
   const shown = rows.map((row, place) => ({ row, place })).filter(({ place }) => seen(place));
   const pen = { sheet, x, scale, parent: document.createDocumentFragment(), near: (NEAR + shown.length / 2) / scale };
   pen.single = shown.reduce((sum, { row }) => sum + marksOf(row), 0) <= MOST_MARKS;
+  const least = pen.single ? 0.6 : pen.near * scale;
+  pen.rightOf = ({ begin, end }) => Math.max(x(end), Math.min(x(begin) + least, x(state.to)));
   drawTicks(pen, rows.length * ROW + SPEED);
   for (const { row, place } of shown) drawRow(pen, row, place);
   const few = countWithin(sheet.trace.decisions, DECISIONS) <= MOST_MARKS / 2;
@@ -321,9 +328,16 @@ function marksOf(row) {
   return countWithin(row.runs, RUNS) + 3 * countWithin(row.jobs, RELEASES);
 }
 
-/** Draws marks of a kind: each as an element that can be chosen, or, if they are many, all as one path. */
+/**
+ * Draws marks of a kind: each as an element that can be chosen, or, if they are many, all as one path. Of many bars one
+ * stands for those that are near; many arrows, circles or diamonds aren't drawn.
+ */
 function drawMarks(pen, kind, list, times, shape) {
-  const marks = within(list, times, state.from, state.to, pen.single ? 0 : times === RUNS ? pen.near : 2 * pen.near);
+  if (!pen.single && times !== RUNS && countWithin(list, times) * 2 * pen.near > state.to - state.from) {
+    state.hidden = true;
+    return;
+  }
+  const marks = within(list, times, state.from, state.to, pen.single ? 0 : pen.near);
   if (!pen.single) {
     const path = [...marks].map(shape).join("");
     if (path) draw(pen.parent, "path", { class: kind, d: path });
@@ -346,11 +360,11 @@ function drawRow(pen, row, place) {
   const name = draw(group, "text", { class: "name", x: GUTTER - 10, y: floor - 18, "text-anchor": "end" });
   name.textContent = task.name.length > 15 ? `${task.name.slice(0, 14)}…` : task.name;
   draw(name, "title", {}).textContent = task.name;
-  const facts = `${task.period} ticks, ${task.worst} units`;
+  const facts = `period ${task.period}, worst ${task.worst}`;
   draw(group, "text", { class: "small", x: GUTTER - 10, y: floor - 3, "text-anchor": "end" }).textContent =
-    facts.length > 22 ? `${task.period} ticks` : facts;
+    facts.length > 23 ? `period ${task.period}` : facts;
   drawMarks(inner, "run", row.runs, RUNS, (run) =>
-    bar(pen.x(run.begin), Math.max(pen.x(run.end), pen.x(run.begin) + 0.6), floor, height(run.speed)));
+    bar(pen.x(run.begin), pen.rightOf(run), floor, height(run.speed)));
   drawMarks(inner, "release", row.jobs, RELEASES, (job) => arrowUp(pen.x(job.release), floor));
   drawMarks(inner, "deadline", row.jobs, DEADLINES, (job) => arrowDown(pen.x(job.due), floor));
   drawMarks(inner, "done", row.jobs, COMPLETIONS, (job) => circle(pen.x(job.done), floor - height(job.speed)));
@@ -380,8 +394,8 @@ function drawSpeeds(pen, floor) {
   label(floor, "0", "small");
   draw(pen.parent, "path", { class: "floor", d: `M${GUTTER} ${floor}H${round(pen.x(state.to))}` });
   drawMarks(pen, "idle", idles, RUNS, (idle) =>
-    bar(pen.x(idle.begin), Math.max(pen.x(idle.end), pen.x(idle.begin) + 0.6), floor, height(idle.speed)));
-  const held = [...within(decisions, DECISIONS, state.from, state.to, pen.single ? 0 : 2 / pen.scale)];
+    bar(pen.x(idle.begin), pen.rightOf(idle), floor, height(idle.speed)));
+  const held = [...within(decisions, DECISIONS, state.from, state.to, pen.single ? 0 : 4 / pen.scale)];
   const steps = (value) => held.map((each, place) => {
     const begin = place ? "V" : `M${round(pen.x(each.tick))} `;
     return `${begin}${round(floor - height(value(each)))}H${round(pen.x(each.until))}`;
@@ -583,7 +597,8 @@ function edit(example) {
 /** Writes an example as an address's last part. */
 function toAddress(example) {
   const bytes = new TextEncoder().encode(JSON.stringify(example));
-  return btoa(Array.from(bytes, (byte) => String.fromCharCode(byte)).join("")).replaceAll("+", "-").replaceAll("/", "_");
+  const letters = Array.from(bytes, (byte) => String.fromCharCode(byte)).join("");
+  return btoa(letters).replaceAll("+", "-").replaceAll("/", "_");
 }
 
 /** Reads an example from an address's last part. */
