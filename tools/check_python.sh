@@ -36,6 +36,7 @@ tasks, machine = (kind.read(pathlib.Path(name)) for kind, name in
                   ((rtdvs.TaskSet, "tasks.toml"), (rtdvs.Machine, "machine.toml")))
 print(rtdvs.find_engine().admit(tasks, machine, "edf"))' > used &&
         grep -q -x "Admitted(scheduler='edf', num=836, den=280, speed=3)" used &&
+        "$work/venv/bin/python" -m rtdvs page edf_none.trace --tasks tasks.toml --machine machine.toml --output page.html &&
         "$work/venv/bin/python" -m rtdvs --help
 }
 
@@ -48,4 +49,5 @@ for part in types plain decimal_comma wheel; do
     [ "$(cat "$work/$part.status")" = 0 ] || { echo "python: $part failed"; tail -n 40 "$work/$part"; bad=1; }
 done
 [ $bad = 0 ] || exit 1
-echo "python: $(sed -n '$s/ in .*//p' "$work/plain"), the same with a decimal comma; types and a wheel are right"
+skipped=$(sed -n 's/^SKIPPED [^:]*:[^:]*: /, skipped: /p' "$work/plain" | sort -u | tr -d '\n')
+echo "python: $(sed -n '$s/ in .*//p' "$work/plain"), the same with a decimal comma; types and a wheel are right$skipped"

@@ -25,7 +25,8 @@ from rtdvs.simulate import simulate
 
 selenium = pytest.importorskip("selenium.webdriver", reason="no selenium")
 CHROMIUM, DRIVER = shutil.which("chromium"), shutil.which("chromedriver")
-pytestmark = pytest.mark.skipif(not CHROMIUM or not DRIVER, reason="no chromium with chromedriver")
+if not CHROMIUM or not DRIVER:
+    pytest.skip("no chromium with chromedriver", allow_module_level=True)
 Browser = Any
 WAIT = 120      # seconds that anything may take on a busy machine
 ALL_READ = "return document.body.classList.contains('whole')"

@@ -35,7 +35,7 @@ from rtdvs.trace import Decision, Done, End, Idle, Note, Release, Run, Trace
 
 WEB = Path(__file__).parent / "web"
 MEBIBYTE = 2**20
-MOST_TEXT = 16      # mebibytes of explanations of a trace, unless said otherwise
+MOST_TEXT = 8       # mebibytes of explanations of a trace, unless said otherwise
 CHUNK = 2**17       # characters that are compressed together
 FIRST_JOBS = 20     # jobs in the window of a page that is opened, and three more for each task
 NO_RULE = "The governor is none of the rules, so there is no explanation."

@@ -48,7 +48,7 @@ TABLES = {"tasks": ("name", "period", "worst", "offset"), "points": ("speed", "m
 SINGLE = ("scheduler", "governor", "ticks", "idle", "charge")
 DATA = ("crates", "example_runs", "data")
 Rows = Sequence[Mapping[str, str]]
-START = {"name": "small", "example": {
+START: dict[str, object] = {"name": "small", "example": {
     "tasks": [{"name": "a", "period": "4", "worst": "4"}, {"name": "b", "period": "6", "worst": "6"}],
     "points": [{"speed": "1", "millivolts": "1000"}, {"speed": "2", "millivolts": "2000"}], "demands": [],
     "scheduler": "edf", "governor": "cc", "ticks": "12", "idle": "0", "charge": "0"}}
