@@ -194,6 +194,22 @@ def test_drag_and_wheel(browser: Browser, tmp_path: Path) -> None:
     assert browser.execute_script("return state.to - state.from") < 4
 
 
+def test_two_fingers(browser: Browser, tmp_path: Path) -> None:
+    """Twice as far apart they show half the ticks."""
+    paper(browser, tmp_path, "edf_cc_with_demands")
+    browser.execute_script("""
+const picture = document.querySelector("#sheets svg");
+const touch = (kind, pointerId, clientX) =>
+  picture.dispatchEvent(new PointerEvent(kind, { pointerId, clientX, clientY: 300, bubbles: true }));
+touch("pointerdown", 1, 400);
+touch("pointerdown", 2, 600);
+touch("pointermove", 2, 800);
+touch("pointerup", 1, 400);
+touch("pointerup", 2, 800);
+""")
+    assert browser.execute_script("return state.to - state.from") == 8
+
+
 def test_two_traces(browser: Browser, tmp_path: Path) -> None:
     """Below each other with their energies; the button opens the first decision that differs."""
     boards = paper(browser, tmp_path, "edf_cc_with_demands", "edf_static_with_demands")

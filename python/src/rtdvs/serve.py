@@ -231,7 +231,8 @@ def compare_answer(example: Example, engine: Engine) -> dict[str, object]:
     demands = Demands.parse(files["demands"], tasks) if "demands" in files else None
     rows = compare(engine, tasks, machine, whole_number(1)(example.single["ticks"]), demands)
     speeds = sorted({speed for row in rows if row.result for speed in row.result.residency})
-    return {"heading": [*HEADING, *(f"at_{speed}" for speed in speeds)],
+    heading = [*HEADING, *(f"at_{speed}" for speed in speeds)]
+    return {"heading": [name.replace("_", " ") for name in heading],
             "rows": [cells(row, speeds) for row in rows]}
 
 

@@ -10,7 +10,7 @@ const AXIS = 24;            // the ticks' numbers
 const SPEED = 96;           // the row of speeds
 const FULL = 56;            // the highest speed
 const MOST_MARKS = 240;     // as single elements; of more marks each row and kind is one path
-const MOST_JOBS = 100;      // lines of the table of jobs
+const MOST_JOBS = 60;       // lines of the table of jobs
 const NEAR = 6;             // pixels: of more marks those that are nearer are drawn once; more for many rows
 
 const find = (selector) => document.querySelector(selector);
@@ -281,7 +281,7 @@ function drawAll() {
   const more = state.hidden ? "; zoom in for single jobs and decisions" : "";
   find("#where").textContent = `${ticks}; cursor at ${state.cursor}${more}`;
   clearTimeout(state.later);
-  state.later = setTimeout(listJobs, 120);
+  state.later = setTimeout(listJobs, 250);
   performance.measure("draw", { start: begin, end: performance.now() });
 }
 
