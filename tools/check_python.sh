@@ -34,7 +34,8 @@ wheel() {
     (cd python && "$python" -m hatchling build -t wheel -d "$work/dist") && "$python" -m venv "$work/venv" &&
         "$work/venv/bin/pip" install -q --no-index --disable-pip-version-check "$work"/dist/*.whl &&
         cp crates/example_runs/data/paper/*.* "$work/dist" && cd "$work/dist" || return
-    installed Engine && "$work/venv/bin/python" -m rtdvs --help || return
+    installed Engine && "$work/venv/bin/python" -m rtdvs --help &&
+        "$work/venv/bin/python" -m rtdvs page edf_none.trace --tasks tasks.toml --machine machine.toml --output page.html || return
     [ -z "$library" ] || { unset RTDVS && installed LibraryEngine; }
 }
 # ENGINE: the class that the installed package takes
@@ -58,5 +59,6 @@ for part in types plain decimal_comma wheel; do
     [ "$(cat "$work/$part.status")" = 0 ] || { echo "python: $part failed"; tail -n 40 "$work/$part"; bad=1; }
 done
 [ $bad = 0 ] || exit 1
+skipped=$(sed -n 's/^SKIPPED [^:]*:[^:]*: /, skipped: /p' "$work/plain" | sort -u | tr -d '\n')
 echo "python: $(sed -n '$s/ in .*//p' "$work/plain")$without, the same with a decimal comma;" \
-    "types and a wheel${library:+ with the shared library} are right"
+    "types and a wheel${library:+ with the shared library} are right$skipped"

@@ -54,7 +54,7 @@ fi
 [ -z "$(command -v strip)" ] || strip --strip-unneeded -R .comment -R .note "$root/usr/bin/rtdvs"
 gzip -9n < docs/rtdvs.1 > "$share/man/man1/rtdvs.1.gz"
 cp examples/rtdvs.bash "$share/bash-completion/completions/rtdvs"
-cp python/src/rtdvs/*.py python/src/rtdvs/py.typed "$module"
+cp -R python/src/rtdvs/*.py python/src/rtdvs/py.typed python/src/rtdvs/web "$module"
 cp -R crates/example_runs/data crates/example_runs/stdout "$data/crates/example_runs"
 cp -R examples "$data"
 rm "$data/examples/rtdvs.bash"

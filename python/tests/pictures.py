@@ -3,6 +3,7 @@
 from collections.abc import Iterator
 from itertools import chain
 from pathlib import Path
+from threading import Thread
 
 from examples import TOP, files
 
@@ -10,6 +11,7 @@ from rtdvs.compare import PAIRS, compare
 from rtdvs.engine import Engine, find_engine
 from rtdvs.figures import parse_means, save_compare, save_means
 from rtdvs.plot import View, save_trace
+from rtdvs.serve import PageServer
 from rtdvs.trace import Trace
 
 TRACES = {  # a picture's name: the folder, the pair, the ticks, the view and the width
@@ -42,7 +44,28 @@ def draw_figures(target: Path) -> Iterator[Path]:
         yield target / f"{name}.svg"
 
 
+def draw_page(engine: Engine, target: Path) -> Path:
+    """Draws what a browser shows of the server's page, in few colours; it needs selenium and Chromium."""
+    from PIL import Image
+    from test_browser import chromium, until
+
+    browser, path = chromium(), target / "page.png"
+    with PageServer(0, engine) as server:
+        Thread(target=server.serve_forever).start()
+        browser.set_window_size(1280, 1430)
+        browser.get(f"http://127.0.0.1:{server.port}/")
+        until(browser, "return document.body.classList.contains('whole') && (step(1), true)")
+        until(browser, "return document.querySelector('#board').textContent.startsWith('line 13')")
+        browser.execute_script("document.documentElement.style.overflow = 'hidden'; find('#status').textContent = ''")
+        browser.save_screenshot(str(path))
+        server.shutdown()
+    browser.quit()
+    Image.open(path).convert("RGB").quantize(48).save(path, optimize=True)
+    return path
+
+
 if __name__ == "__main__":
-    pages = TOP / "examples"
-    for made in chain(draw_pictures(find_engine(), pages / "pictures"), draw_figures(pages / "evaluation")):
+    pages, program = TOP / "examples", find_engine()
+    for made in chain(draw_pictures(program, pages / "pictures"), [draw_page(program, pages / "pictures")],
+                      draw_figures(pages / "evaluation")):
         print(made)

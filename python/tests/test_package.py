@@ -24,7 +24,8 @@ LAYERS = [
     {"rules", "explain", "simulate", "commandline"},
     {"statistics", "compare", "sensitivity", "draws", "generate", "evaluate", "paper_table"},
     {"design", "device_tree"},
-    {"canvas", "marks", "figures", "plot", "convert"},
+    {"canvas", "marks", "figures", "plot", "convert", "page"},
+    {"serve"},
     {"cli", "__init__", "__main__"},
 ]
 

@@ -66,7 +66,7 @@ def test_stored_pictures(engine: Engine, tmp_path: Path) -> None:
     stored = TOP / "examples" / "pictures"
     for path in pictures.draw_pictures(engine, tmp_path):
         same_picture(path, stored / path.name)
-    assert sorted(path.name for path in stored.iterdir()) == sorted(path.name for path in tmp_path.iterdir())
+    assert sorted(path.name for path in stored.glob("*.svg")) == sorted(path.name for path in tmp_path.iterdir())
 
 
 def test_stored_figures(tmp_path: Path) -> None:

@@ -7,14 +7,14 @@ from collections.abc import Sequence
 from types import ModuleType
 
 from rtdvs import (
-    compare, convert, design, evaluate, explain, generate, paper_table, plot, sensitivity, simulate,
-    statistics,
+    compare, convert, design, evaluate, explain, generate, page, paper_table, plot, sensitivity, serve,
+    simulate, statistics,
 )
 from rtdvs.engine import EngineError
 
 COMMANDS: tuple[ModuleType, ...] = (
     explain, simulate, statistics, compare, sensitivity, generate, evaluate, paper_table, design, plot,
-    convert,
+    convert, page, serve,
 )
 
 
