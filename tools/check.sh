@@ -14,7 +14,7 @@ main 51
 named 9
 package 17
 peer 140
-python 1200
+python 1700
 reading 160
 wrapper 37'
 

@@ -59,6 +59,9 @@ for part in types plain decimal_comma wheel; do
     [ "$(cat "$work/$part.status")" = 0 ] || { echo "python: $part failed"; tail -n 40 "$work/$part"; bad=1; }
 done
 [ $bad = 0 ] || exit 1
-skipped=$(sed -n 's/^SKIPPED [^:]*:[^:]*: /, skipped: /p' "$work/plain" | sort -u | tr -d '\n')
+skipped=$(sed -n 's/^SKIPPED [^:]*:[^:]*: /, skipped: /p' "$work/plain" | sort -u)
+# setup.sh installs all but the tools for fst files; the locale with a comma is the other run's.
+lacks=$(printf '%s\n' "$skipped" | grep -v -e vcd2fst -e 'decimal comma' -e '^$')
+[ "$TOOLS" != all ] || [ -z "$lacks" ] || { echo "python: failed$lacks"; exit 1; }
 echo "python: $(sed -n '$s/ in .*//p' "$work/plain")$without, the same with a decimal comma;" \
-    "types and a wheel${library:+ with the shared library} are right$skipped"
+    "types and a wheel${library:+ with the shared library} are right$(printf '%s' "$skipped" | tr -d '\n')"
