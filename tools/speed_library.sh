@@ -9,15 +9,16 @@ cc -O2 -pthread -D_POSIX_C_SOURCE=200809L "$tools/calls.c" "$library/librtdvs.so
 cc -O2 "$tools/peer.c" -o peer
 export LD_LIBRARY_PATH=$library
 
-# FORM COMMAND..: the middle time of fifteen, where FORM is `cpu` or `passed`
-middle() {
+# FORM COMMAND..: a time, where FORM is `cpu` or `passed`
+once() {
     form=$1
     shift
-    for _ in $(seq 15); do
-        TIMEFORMAT='%U %S %R'
-        { time "$@" > trace 2> notes; } 2>&1
-    done | awk -v form="$form" '{ print form == "cpu" ? $1 + $2 : $3 }' | sort -n | sed -n 8p
+    TIMEFORMAT='%U %S %R'
+    { time "$@" > trace 2> notes; } 2>&1 | awk -v form="$form" '{ print form == "cpu" ? $1 + $2 : $3 }'
 }
+# the middle of fifteen times
+middle() { for _ in $(seq 15); do once "$@"; done | middle_of; }
+middle_of() { sort -n | sed -n 8p; }
 ratio() { awk -v a="$1" -v b="$2" 'BEGIN { printf "%.2f\n", a / b }'; }
 processes() { for _ in $(seq 200); do "$program" "$@"; done; }
 
@@ -25,14 +26,20 @@ small='--tasks tasks8.toml --machine machine.toml --scheduler edf --governor cc 
 named='--tasks tasks --machine machine --scheduler edf --governor cc'
 files='tasks tasks8.toml machine machine.toml'
 apart=$(middle cpu processes run $small)
-within=$(middle cpu ./calls 1 2000 $files -- run $named --ticks 16)
-echo "a small call as a process, over one in process: $(ratio "$apart" "$(ratio "$within" 10)")"
+within=$(middle cpu ./calls 1 4000 $files -- run $named --ticks 16)
+echo "twenty small calls in process, over one as a process: $(ratio "$within" "$apart")"
 
 long='--tasks tasks64.toml --machine machine.toml --scheduler edf --governor cc --ticks 38200000'
-by_peer=$(middle cpu ./peer run $long)
+rm -f times.*
+for _ in $(seq 15); do
+    once cpu ./peer run $long >> times.peer
+    once cpu ./call run $long >> times.library
+    once cpu "$program" run $long >> times.program
+done
+by_peer=$(middle_of < times.peer)
 echo "lines of the long run: $(wc -l < trace)"
-echo "the long run to a file by the library, over peer.c: $(ratio "$(middle cpu ./call run $long)" "$by_peer")"
-echo "the long run to a file by the program, over peer.c: $(ratio "$(middle cpu "$program" run $long)" "$by_peer")"
+echo "the long run to a file by the library, over peer.c: $(ratio "$(middle_of < times.library)" "$by_peer")"
+echo "the long run to a file by the program, over peer.c: $(ratio "$(middle_of < times.program)" "$by_peer")"
 
 one=$(middle passed ./calls 1 2000 $files -- run $named --ticks 200000)
 four=$(middle passed ./calls 4 500 $files -- run $named --ticks 200000)
