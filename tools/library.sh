@@ -24,7 +24,7 @@ build() {
 }
 is_new() { [ -f "$built" ] && [ -z "$(find src specs proofs ../rtdvs_top/out/rlib -newer "$built")" ]; }
 cd "$here/crates/rtdvs_c"
-if [ -f ../rtdvs_top/out/rlib/stamp ]; then rt lib; else is_new || build; fi >&2
+if ! is_new; then if [ -f ../rtdvs_top/out/rlib/stamp ]; then rt lib; else build; fi; fi >&2
 cd "$OLDPWD"
 mkdir -p "${1:-$here/crates/rtdvs_c/out/lib}"
 folder=$(cd "${1:-$here/crates/rtdvs_c/out/lib}" && pwd)
