@@ -1,4 +1,4 @@
-/* calls.c: many calls of the library in one process, for check_library.sh and speed_library.sh:
+/* calls.c: many calls of the library in one process, for check_library.sh and speed_library.py:
  *     ./calls THREADS CALLS [OPTION FILE].. -- WORD..
  * Each thread makes that many calls of these words. OPTION is `tasks`, `machine` or `list`, with a file's name. The first
  * call, with NULL and length 0 for both buffers, measures. Of each four calls one then has no room for the answer, one has
