@@ -1,17 +1,17 @@
-"""The pages: what each block of calls prints, run from the first block of a page to its last, in a folder of its own.
+"""The pages: what each block of calls prints, run from the first block of a page to its last.
 
-The folder has the names that a page uses at the top of the repository. A comment before a block, which a reader
-doesn't see, says what else is needed:
+Each page has a folder of its own, with the names that it uses at the top of the repository. A comment before
+a block, which a reader doesn't see, says what else is needed:
 
     <!-- not run: why it can't be -->
     <!-- first: a command that prepares the folder -->
     <!-- file: name, under which the text of the block is kept -->
     <!-- status: that of the block's last call, if it isn't 0 -->
-    <!-- lines of: a command, of which the block, or the code in a table's first column, are lines in this order -->
+    <!-- lines of: a command that prints the lines of the block, or the code in a table's first column -->
 
-In place of that command `above` is the last block of calls without what they print. A block of any other form is a fault,
-unless it is TOML, or part of a file, which tools/check_copies.sh compares. What pages say elsewhere is compared in
-test_tables.py.
+These lines are in the same order. In place of that command `above` is the last block of calls without what
+they print. A block of any other form is a fault, unless it is TOML, or part of a file, which
+tools/check_copies.sh compares. What pages say elsewhere is compared in test_tables.py.
 """
 
 import doctest
@@ -55,7 +55,8 @@ class Block:
 def blocks(text: str) -> Iterator[Block]:
     """The blocks and tables of a page; indented ones without their four blanks.
 
-    >>> [(block.line, block.kind, block.text) for block in blocks("A\\n\\n    b\\n\\n    c\\n\\n```sh\\nd\\n```\\n")]
+    >>> page = "A\\n\\n    b\\n\\n    c\\n\\n```sh\\nd\\n```\\n"
+    >>> [(block.line, block.kind, block.text) for block in blocks(page)]
     [(3, 'indented', 'b\\n\\nc\\n'), (8, 'sh', 'd\\n')]
     """
     comments: list[tuple[str, str]] = []
@@ -76,12 +77,13 @@ def solutions(text: str) -> Iterator[Block]:
     for call in CALL.finditer(kept):
         status = re.search(r"^status (\d+)\n", call[0], re.MULTILINE)
         inner = re.sub(r"^(?:status \d+)?\n", "", call[0], flags=re.MULTILINE)
-        yield Block(kept.count("\n", 0, call.start()) + 1, "calls", inner, (("status", status[1]),) if status else ())
+        comments = (("status", status[1]),) if status else ()
+        yield Block(kept.count("\n", 0, call.start()) + 1, "calls", inner, comments)
 
 
 @dataclass(frozen=True, slots=True)
 class Reader:
-    """Someone who types what a page has: the page's name, the folder, and the names that Python knows so far."""
+    """Someone who types what a page has: its name, the folder, and the names that Python knows so far."""
     page: str
     folder: Path
     names: dict[str, object] = field(default_factory=dict)
@@ -129,18 +131,18 @@ class Reader:
 
     def calls(self, block: Block) -> Iterator[str]:
         for call in CALL.finditer(block.text):
-            status, printed = self.call(call["words"])
-            last = call.end() == len(block.text)
+            words, last = call["words"], call.end() == len(block.text)
+            status, printed = self.call(words)
             wanted_status = int((*block.said("status"), "0")[0]) if last else 0
             line = block.line + block.text.count("\n", 0, call.start())
             if status != wanted_status:
-                yield self.fault(line, f"status {status}, the page says {wanted_status}: {call['words']}\n{printed}")
+                yield self.fault(line, f"status {status}, the page says {wanted_status}: {words}\n{printed}")
             wanted, found = call["printed"].splitlines(), printed.splitlines()
             if wanted != found:
                 same = next((place for place, pair in enumerate(zip(wanted, found)) if pair[0] != pair[1]),
                             min(len(wanted), len(found)))
                 yield self.fault(line + 1 + same, f"printed is {[*found, 'no line'][same]!r}, "
-                                                  f"the page says {[*wanted, 'no line'][same]!r}: {call['words']}")
+                                                  f"the page says {[*wanted, 'no line'][same]!r}: {words}")
 
     def lines(self, block: Block, words: str) -> Iterator[str]:
         """A block that has some lines of what a command prints, in their order."""
@@ -160,7 +162,8 @@ class Reader:
         if not block.text.startswith(">>> "):
             exec(compile("\n" * (block.line - 1) + block.text, self.page, "exec"), self.names)
             return
-        test = doctest.DocTestParser().get_doctest(block.text, self.names, self.page, self.page, block.line - 1)
+        parser = doctest.DocTestParser()
+        test = parser.get_doctest(block.text, self.names, self.page, self.page, block.line - 1)
         found: list[str] = []
         doctest.DocTestRunner(verbose=False).run(test, out=found.append, clear_globs=False)
         self.names.update(test.globs)
@@ -170,7 +173,7 @@ class Reader:
 
 @pytest.fixture
 def folder(program: Path, tmp_path: Path, monkeypatch: pytest.MonkeyPatch) -> Path:
-    """The folder in which a page is read: the names at the top of the repository, and `python3` on the path."""
+    """The folder in which a page is read: the repository's names at the top, and `python3` on the path."""
     for module in ("matplotlib", "pandas"):
         pytest.importorskip(module)
     tools = tmp_path / "bin"
@@ -203,7 +206,8 @@ def test_pages(page: Path, folder: Path) -> None:
 
 
 @pytest.mark.parametrize("page", ["PYTHON.md", "SWEEPS.md", "CONVERTERS.md", "EVALUATION.md"])
-def test_pages_by_the_library(page: str, folder: Path, library: Path, monkeypatch: pytest.MonkeyPatch) -> None:
+def test_pages_by_the_library(page: str, folder: Path, library: Path,
+                              monkeypatch: pytest.MonkeyPatch) -> None:
     """The package's calls on these pages say the same where the library answers them."""
     monkeypatch.setenv("RTDVS", str(library))
     check(Path("docs", page), folder)

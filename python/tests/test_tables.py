@@ -1,7 +1,7 @@
 """What pages say beside their calls: tables, sentences, equations, limits, and the tests that RULES.md names.
 
-A function for a page makes anew what the page says. What the page lacks is a fault, with the line of the page that has
-other numbers in its place.
+A function for a page makes anew what the page says. What the page lacks is a fault, with the line of the page
+that has other numbers in its place.
 """
 
 import csv
@@ -32,7 +32,7 @@ NUMBER = r"\d+(?:\.\d+)?"
 
 
 def missing(page: str, text: str, wanted: str) -> str | None:
-    """What is wrong if a page doesn't say this, with the line that says it of other numbers, the fewest of them.
+    """What is wrong if a page doesn't say this, with the line that says it of the fewest other numbers.
 
     >>> missing("a.md", "one\\nof 3 tasks\\n", "of 4 tasks")
     "a.md:2: 'of 3 tasks', wanted 'of 4 tasks'"
@@ -87,13 +87,14 @@ def units(engine: Engine) -> Iterator[str]:
     for (mhz, volts, quoted), watts in zip(XSCALE, model, strict=True):
         yield row(mhz, volts, quoted, mhz, int(1000 * Fraction(volts)), round(watts))
     yield f"gives C = {decimal(capacitance * 10**9, 3)} nF"
-    lower = [100 * (1 - quoted / watts) for (_, _, quoted), watts in zip(XSCALE[1:-1], model[1:-1], strict=True)]
+    middle = zip(XSCALE[1:-1], model[1:-1], strict=True)
+    lower = [100 * (1 - quoted / watts) for (_, _, quoted), watts in middle]
     yield f"are {round(min(lower))} to {round(max(lower))} percent lower in the middle"
     folder = DATA / "controller"
     tasks, machine = TaskSet.read(folder / "tasks.toml"), Machine.read(folder / "machine.toml")
     first = Demands.read(folder / "demands.csv", tasks).units[tasks.tasks[0].name, 1]
-    yield (f"where it is {machine.charge}, the first job of `{tasks.tasks[0].name}` has {first} units in the demand "
-           f"file and {first + 2 * machine.charge} in the trace")
+    yield (f"where it is {machine.charge}, the first job of `{tasks.tasks[0].name}` has {first} units in the "
+           f"demand file and {first + 2 * machine.charge} in the trace")
     finer = [700 * share for share in shares(engine, 3)]
     yield f"of continuous time, {finer[4]}/700 and {finer[5]}/700"
 
@@ -111,8 +112,8 @@ def least(engine: Engine) -> Iterator[str]:
     yield f"A unit is priced at {found.unit_price}, a tick at {found.tick_price}."
     yield row("idle", 0, found.tick_price)
     for speed, cost in costs.items():
-        price = speed * found.unit_price
-        yield row(f"{speed} units", speed * cost, f"{price} - {-found.tick_price} = {price + found.tick_price}")
+        price, time = speed * found.unit_price, found.tick_price
+        yield row(f"{speed} units", speed * cost, f"{price} - {-time} = {price + time}")
     yield from controller(engine)
 
 
@@ -124,11 +125,12 @@ def controller(engine: Engine) -> Iterator[str]:
     ran = sum(note.units for note in trace.notes if isinstance(note, Run))
     found = engine.least(folder / "machine.toml", ran, 100)
     bound = Fraction(found.energy, found.rounds)
-    yield f"has {count(len(tasks))} tasks, {count(len(machine.points))} speeds, an idle share of {machine.idle} thousandths"
+    yield (f"has {count(len(tasks))} tasks, {count(len(machine.points))} speeds, "
+           f"an idle share of {machine.idle} thousandths")
     yield (f"its 100 ticks ran {ran} units for {trace.run_energy}, and idled for {trace.idle_energy}: "
            f"together {trace.energy}.")
-    yield (f"{found.energy} / {found.rounds} = {bound}: of 100 ticks, {found.low_ticks // found.rounds} at speed "
-           f"{found.low} and {found.high_ticks // found.rounds} at speed {found.high}.")
+    yield (f"{found.energy} / {found.rounds} = {bound}: of 100 ticks, {found.low_ticks // found.rounds} "
+           f"at speed {found.low} and {found.high_ticks // found.rounds} at speed {found.high}.")
     yield f"The run spent {round(100 * (trace.energy / bound - 1))} percent more."
 
 
@@ -139,7 +141,8 @@ def count(number: int) -> str:
 def servers(engine: Engine) -> Iterator[str]:
     folder, period, budget = DATA / "server", 5, 4
     requests = [(each.arrival, each.units) for each in Requests.read(folder / "requests.csv").requests]
-    polled = engine.poll(folder / "tasks.toml", folder / "machine.toml", folder / "requests.csv", "s", "edf", "none", 15)
+    files = folder / "tasks.toml", folder / "machine.toml", folder / "requests.csv"
+    polled = engine.poll(*files, "s", "edf", "none", 15)
     taken: list[int] = []
     for release in range(0, 15, period):
         asked = sum(units for arrival, units in requests if arrival <= release)
@@ -167,7 +170,8 @@ def figure(name: str) -> dict[tuple[str, str, str], Fraction]:
 def evaluation(engine: Engine) -> Iterator[str]:
     yield f"from 0.1 to 1.0, seed {PUBLISHED_SEED} |"
     yield f"the nearest divisor of {PUBLISHED_TICKS} ticks; {PUBLISHED_MILLISECOND} ticks are 1 ms |"
-    yield f"{PUBLISHED_TICKS} ticks, which are {decimal(Fraction(PUBLISHED_TICKS, 1000 * PUBLISHED_MILLISECOND), 4)} s;"
+    seconds = Fraction(PUBLISHED_TICKS, 1000 * PUBLISHED_MILLISECOND)
+    yield f"{PUBLISHED_TICKS} ticks, which are {decimal(seconds, 4)} s;"
     for number in (1, 3):
         points = MACHINES[f"table{number}_idle0"].points
         speeds = [short(Fraction(point.speed, PUBLISHED_TOP), 2) for point in points]
@@ -177,13 +181,15 @@ def evaluation(engine: Engine) -> Iterator[str]:
     tasks, machines, idle, demands = (figure(name) for name in ("tasks", "machines", "idle", "demands"))
     at_most = [max(tasks[f"{number} tasks", "edf la", tenth] - tasks[f"{number} tasks", "bound", tenth]
                    for tenth in tenths()) for number in (5, 10, 15)]
-    yield f"its mean is at most {decimal(at_most[0], 2)} above it, and {decimal(max(at_most[1:]), 2)} for 10 and 15 tasks"
+    yield (f"its mean is at most {decimal(at_most[0], 2)} above it, "
+           f"and {decimal(max(at_most[1:]), 2)} for 10 and 15 tasks")
     means = [short(tasks[f"{number} tasks", "rm static", "0.7"], 2) for number in (5, 10, 15)]
     yield "at 0.7 the mean of `static` is {}, {} and {}.".format(*means)
     pairs = [short(machines[panel, curve, "0.8"], 2) for panel in ("machine 1", "machine 2")
              for curve in ("edf cc", "rm cc")]
     yield "At 0.8 the two have {} and {} on machine 1, and {} and {} on machine 2.".format(*pairs)
-    falls = [decimal(idle[f"idle share {share}", "edf static", "0.1"], 2) for share in ("0", "0.01", "0.1", "1")]
+    falls = [decimal(idle[f"idle share {share}", "edf static", "0.1"], 2)
+             for share in ("0", "0.01", "0.1", "1")]
     yield "at 0.1 the share falls from {} to {}, {} and {}.".format(*falls)
     yield from taken_shares(demands)
 
@@ -191,13 +197,13 @@ def evaluation(engine: Engine) -> Iterator[str]:
 def taken_shares(demands: dict[tuple[str, str, str], Fraction]) -> Iterator[str]:
     whole, half = "all of the worst case", "0.5 of it"
     falls = [(demands[whole, curve, "0.8"], demands[half, curve, "0.8"]) for curve in ("edf cc", "edf la")]
-    yield (f"fall from {short(falls[0][0], 2)} and {decimal(falls[1][0], 2)} to {decimal(falls[0][1], 2)} and "
-           f"{decimal(falls[1][1], 2)} when jobs take half")
+    yield (f"fall from {short(falls[0][0], 2)} and {decimal(falls[1][0], 2)} to {decimal(falls[0][1], 2)} "
+           f"and {decimal(falls[1][1], 2)} when jobs take half")
     change = max(abs(demands[whole, "rm cc", tenth] - demands[half, "rm cc", tenth]) for tenth in tenths()
                  if (half, "rm cc", tenth) in demands)
     yield f"RM's `cc` changes little (at most {decimal(change, 2)})"
-    spread = max(abs(mean - demands["a uniform share", curve, tenth]) for (panel, curve, tenth), mean in demands.items()
-                 if panel == half)
+    spread = max(abs(mean - demands["a uniform share", curve, tenth])
+                 for (panel, curve, tenth), mean in demands.items() if panel == half)
     yield f"gives the same means within {decimal(spread, 3)}."
 
 
@@ -254,7 +260,8 @@ def rules(engine: Engine) -> Iterator[str]:
 
 SAID: dict[str, Callable[[Engine], Iterator[str]]] = {
     "README.md": readme, "docs/UNITS.md": units, "docs/LEAST.md": least, "docs/SERVERS.md": servers,
-    "docs/EVALUATION.md": evaluation, "docs/FORMATS.md": formats, "docs/MESSAGES.md": messages, "docs/RULES.md": rules,
+    "docs/EVALUATION.md": evaluation, "docs/FORMATS.md": formats, "docs/MESSAGES.md": messages,
+    "docs/RULES.md": rules,
 }
 
 
@@ -298,7 +305,8 @@ def value(side: str) -> Fraction:
 @pytest.mark.parametrize("page", PAGES, ids=str)
 def test_equations(page: str) -> None:
     lines = (TOP / page).read_text(encoding="utf-8").splitlines()
-    faults = [f"{page}:{place}: {wrong}" for place, line in enumerate(lines, 1) for wrong in wrong_equations(line)]
+    faults = [f"{page}:{place}: {wrong}" for place, line in enumerate(lines, 1)
+              for wrong in wrong_equations(line)]
     assert not faults, "\n" + "\n".join(faults)
 
 
@@ -317,6 +325,8 @@ def test_answers_are_those_of_the_solutions() -> None:
 # The tests that RULES.md names
 
 MEASURE = re.compile(r"\d|\b(?:rounded|twice|thousandths|seven|three|one more)\b")
+NO_MEASURE = re.compile(r"^\d\. |\]\(.*?\)|\(\d{4}\)|, \d{4}\)")
+"""Places in a list, links and years."""
 
 
 def unnamed(text: str, names: set[str]) -> Iterator[str]:
@@ -329,7 +339,7 @@ def unnamed(text: str, names: set[str]) -> Iterator[str]:
         named = re.search(r"<!-- tests?: (.*) -->", line)
         if named:
             yield from (f"line {place}: no test {name}" for name in named[1].split(", ") if name not in names)
-        elif not line.startswith("#") and MEASURE.search(re.sub(r"^\d\. |\]\(.*?\)|\(\d{4}\)|, \d{4}\)", "", line)):
+        elif not line.startswith("#") and MEASURE.search(NO_MEASURE.sub("", line)):
             yield f"line {place}: no test"
 
 
