@@ -108,7 +108,7 @@ Version: $version
 Architecture: $architecture
 Depends: libc6 (>= $libc)
 Recommends: python3 (>= 3.11)
-Suggests: python3-matplotlib, python3-pandas
+Suggests: python3-matplotlib, python3-pandas, jupyter-notebook
 Maintainer: $maintainer
 Installed-Size: $(find "$root/usr" -type f -printf '%s\n' | awk '{ sum += $1 } END { print int(sum / 1024) + 1 }')
 Section: science

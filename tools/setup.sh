@@ -3,14 +3,14 @@
 # On Debian and its relatives it calls apt-get, as root, for what isn't installed; where all is, it does nothing. Elsewhere
 # it says what to take. The status is 1 where something stays missing: the checks that need it then say `skipped`.
 python='python3 python3-pytest python3-hypothesis python3-matplotlib python3-pandas python3-distributed python3-mpi4py
-    python3-hatchling python3-venv python3-selenium mypy'
+    python3-hatchling python3-venv python3-selenium python3-nbconvert python3-ipykernel mypy'
 others='bash chromium chromium-driver g++ gcc libc6-dev lintian locales openmpi-bin pkgconf valgrind'
 
 if [ -z "$(command -v dpkg-query)" ] || [ -z "$(command -v apt-get)" ]; then
     echo 'setup: no apt-get here. Take Python 3.11 or later, which the variable PYTHON names, with pytest,'
-    echo 'hypothesis, matplotlib, pandas, distributed, mpi4py, hatchling, selenium, venv and mypy; and bash, a C compiler'
-    echo 'as cc, a C++ compiler as c++, valgrind, pkg-config, chromium with chromedriver, localedef with the sources of'
-    echo 'de_DE, mpiexec, and for a Debian package dpkg-deb and lintian.'
+    echo 'hypothesis, matplotlib, pandas, distributed, mpi4py, hatchling, selenium, nbconvert, ipykernel, venv and mypy;'
+    echo 'and bash, a C compiler as cc, a C++ compiler as c++, valgrind, pkg-config, chromium with chromedriver, localedef'
+    echo 'with the sources of de_DE, mpiexec, and for a Debian package dpkg-deb and lintian.'
     exit 1
 fi
 installed=$(dpkg-query -W -f '${Package} ${db:Status-Abbrev}\n' $python $others 2>/dev/null | sed -n 's/ ii.*//p')
