@@ -17,7 +17,7 @@ from examples import TOP
 NOTEBOOK = TOP / "examples" / "tour.ipynb"
 METADATA = {"kernelspec": {"display_name": "Python 3", "language": "python", "name": "python3"},
             "language_info": {"name": "python"}}
-SECONDS = 600
+SECONDS = 1200
 
 Cell = dict[str, Any]
 Notebook = dict[str, Any]
