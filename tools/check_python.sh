@@ -2,7 +2,7 @@
 # its pages by pytest, once in a UTF-8 locale and once in one with a decimal comma. Then a wheel is built without a network,
 # installed into a fresh virtual environment and used there. PYTHON is the interpreter, the system's without it;
 # tools/setup.sh installs what this needs. With rt it makes the shared library first; without rt and without one in
-# crates/rtdvs_c/out/lib the tests of it are skipped, and counted so; without nbconvert or ipykernel that of the notebook.
+# crates/rtdvs_c/out/lib the tests of it are skipped, and counted so.
 cd "$(dirname "$0")/.." || exit 2
 [ -x "${1:?no program}" ] || { echo "no program: $1"; exit 2; }
 RTDVS=$(cd "$(dirname "$1")" && pwd)/$(basename "$1") python=${PYTHON:-/usr/bin/python3} work=$(mktemp -d) bad=0
@@ -17,9 +17,6 @@ skip() { echo "python: skipped, no $1"; exit 0; }
 "$python" -c 'import tomllib' 2>/dev/null || skip 'Python 3.11 or later'
 for module in pytest hypothesis mypy matplotlib pandas hatchling ensurepip; do
     "$python" -c "import $module" 2>/dev/null || skip "$module for $python"
-done
-for module in nbconvert ipykernel; do
-    "$python" -c "import $module" 2>/dev/null || without="$without without $module"
 done
 [ -n "$(command -v localedef)" ] || skip localedef
 mkdir "$work/locales"

@@ -1,6 +1,6 @@
-"""Runs the notebook of the examples and stores what it prints: PYTHONPATH=python/src python3 python/tests/tour.py
+"""Runs the notebook of the examples and stores what it shows.
 
-It needs nbconvert and ipykernel, and the program as `find_engine` takes it.
+It needs nbconvert, ipykernel and the built program: PYTHONPATH=python/src python3 python/tests/tour.py
 """
 
 import json
@@ -17,7 +17,7 @@ from examples import TOP
 NOTEBOOK = TOP / "examples" / "tour.ipynb"
 METADATA = {"kernelspec": {"display_name": "Python 3", "language": "python", "name": "python3"},
             "language_info": {"name": "python"}}
-SECONDS = 600
+SECONDS = 1200
 
 Cell = dict[str, Any]
 Notebook = dict[str, Any]
@@ -45,8 +45,8 @@ def text_of(notebook: Notebook) -> str:
 def code_cells(notebook: Notebook) -> list[Cell]:
     """The cells that are run.
 
-    >>> [cell["id"] for cell in code_cells({"cells": [{"cell_type": "markdown"}, {"cell_type": "code", "id": "a"}]})]
-    ['a']
+    >>> code_cells({"cells": [{"cell_type": "markdown"}, {"cell_type": "code"}]})
+    [{'cell_type': 'code'}]
     """
     return [cell for cell in notebook["cells"] if cell["cell_type"] == "code"]
 
@@ -54,8 +54,8 @@ def code_cells(notebook: Notebook) -> list[Cell]:
 def executed(notebook: Notebook, folder: Path) -> Notebook:
     """What the notebook is after a run from its top in an empty folder; raises RunFailed, TimeoutExpired."""
     prepare(notebook, folder)
-    words = [sys.executable, "-m", "nbconvert", "--to", "notebook", "--execute", "--stdout", "--log-level", "ERROR",
-             f"--ExecutePreprocessor.startup_timeout={SECONDS}", NOTEBOOK.name]
+    words = [sys.executable, "-m", "nbconvert", "--to", "notebook", "--execute", "--stdout", "--log-level",
+             "ERROR", f"--ExecutePreprocessor.startup_timeout={SECONDS}", NOTEBOOK.name]
     run = subprocess.run(words, cwd=folder / "examples", env=environment(folder), stdin=subprocess.DEVNULL,
                          capture_output=True, encoding="utf-8", timeout=SECONDS)
     if run.returncode != 0:
@@ -65,18 +65,19 @@ def executed(notebook: Notebook, folder: Path) -> Notebook:
 
 
 def prepare(notebook: Notebook, folder: Path) -> None:
-    """Writes the notebook beside what it reads at the top of the repository, and this interpreter as the kernel."""
+    """Writes the notebook beside the repository's data, and this interpreter as the kernel."""
     kernel, place = folder / "jupyter" / "kernels" / "python3", folder / "examples"
     for made in (kernel, place):
         made.mkdir(parents=True)
     words = [sys.executable, "-m", "ipykernel_launcher", "-f", "{connection_file}"]
-    (kernel / "kernel.json").write_text(json.dumps({"argv": words, **METADATA["kernelspec"]}), encoding="utf-8")
+    started = json.dumps({"argv": words, **METADATA["kernelspec"]})
+    (kernel / "kernel.json").write_text(started, encoding="utf-8")
     (place / NOTEBOOK.name).write_text(text_of(notebook), encoding="utf-8")
     (folder / "crates").symlink_to(TOP / "crates")
 
 
 def environment(folder: Path) -> dict[str, str]:
-    """The environment of a run: the repository's package, and Jupyter's folders, without the user's settings."""
+    """The environment of a run: the repository's package, and Jupyter without the user's settings."""
     names = ("JUPYTER_PATH", "JUPYTER_DATA_DIR", "JUPYTER_CONFIG_DIR", "JUPYTER_RUNTIME_DIR", "IPYTHONDIR")
     own = {**dict.fromkeys(names, str(folder / "jupyter")), "PYTHONPATH": str(TOP / "python" / "src")}
     return {**os.environ, **own, "PYTHONDONTWRITEBYTECODE": "1"}
