@@ -1,7 +1,7 @@
 // Two calls over one shelf and one pair of sinks.
 ghost use Rattle.std.specs.Prelude.{◌≡◌, ◌≤◌, ◌+◌};
 ghost use Rattle.dvs_base.specs.Outside.{Rose};
-ghost use Rattle.rtdvs_top.specs.Asked.{asked, command_asked, loads_asked};
+ghost use Rattle.rtdvs_top.specs.Asked.{asked_for, command_asked, loads_asked};
 ghost use Rattle.rtdvs_top.specs.Promises.{Answers};
 
 use dvs_base::{Shelf, Sink};
@@ -31,10 +31,10 @@ pub fn twice<S: Shelf, W: Sink, E: Sink>(
     ensures held { (S.shows shelf.new).held ≡ (S.shows shelf.old).held }
 
     // which status each call has, and when
-    ensures first { Answers (asked words.now.first.now (S.shows shelf.old))
+    ensures first { Answers (asked_for words.now.first.now (S.shows shelf.old))
         (Rose (S.shows shelf.old).faults (S.shows shelf.new).faults)
         (Rose (W.shows out.old).faults (W.shows out.new).faults) result.0 }
-    ensures second { Answers (asked words.now.second.now (S.shows shelf.old))
+    ensures second { Answers (asked_for words.now.second.now (S.shows shelf.old))
         (Rose (S.shows shelf.old).faults (S.shows shelf.new).faults)
         (Rose (W.shows out.old).faults (W.shows out.new).faults) result.1 }
 
