@@ -10,6 +10,7 @@ import sys
 import tempfile
 from collections.abc import Iterator
 from concurrent.futures import ThreadPoolExecutor
+from contextlib import contextmanager
 from pathlib import Path
 from threading import Thread
 from time import monotonic, sleep
@@ -340,13 +341,31 @@ sleep 0.2; rm {tmp_path}/now/$$; echo 'denied edf 2 1' >&2; exit 1"""
 
 # The command
 
+@pytest.fixture
+def interrupts() -> Iterator[None]:
+    """SIGINT reaches the processes that a test starts; a shell lets what it starts in the background ignore it."""
+    before = signal.signal(signal.SIGINT, signal.default_int_handler)
+    yield
+    signal.signal(signal.SIGINT, before)
+
+
+@contextmanager
+def ending(process: subprocess.Popen[str]) -> Iterator[None]:
+    """Kills the process where a test fails before it has ended."""
+    try:
+        yield
+    finally:
+        process.kill()
+
+
+@pytest.mark.usefixtures("interrupts")
 @pytest.mark.parametrize("number", [signal.SIGINT, signal.SIGTERM])
 def test_command_ends_with_its_calls(number: int, tmp_path: Path, calls: Path) -> None:
     """It says where it listens; a signal ends it, and no process and no file of a call is left."""
     program = stand_in(tmp_path, "sleep 30").program
     words = [sys.executable, "-m", "rtdvs", "serve", "--port", "0", "--program", str(program), "--timeout", "1"]
     environment = {**os.environ, "PYTHONPATH": str(TOP / "python" / "src"), "TMPDIR": str(calls)}
-    with subprocess.Popen(words, stdout=subprocess.PIPE, env=environment, text=True) as process:
+    with subprocess.Popen(words, stdout=subprocess.PIPE, env=environment, text=True) as process, ending(process):
         assert process.stdout is not None
         line = process.stdout.readline()
         assert line.startswith("http://127.0.0.1:") and "this machine only" in line
