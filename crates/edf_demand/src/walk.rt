@@ -64,6 +64,7 @@ fn earliest(next: &Queue<ByDue>) -> u64
 }
 
 // Takes the first job: its task's next deadline is a period later. Returns its work in work units.
+#[tactic(auto, using(crate::proofs::Calendars::front))]
 fn take_first(next: &mut Queue<ByDue>, tasks: &TaskSet, machine: &Machine) -> u64
     requires queue { IsQueueOf tasks.now next.old }
     requires low { least_below next.old.limit (due_of next.old.entries) ≤ LONGEST_HYPERPERIOD }

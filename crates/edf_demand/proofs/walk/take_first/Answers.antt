@@ -1,10 +1,10 @@
-use Rattle.std.proofs.Common.{◌+◌, refl, sym, ap, subst, drop, ◌∙◌, arith, List}
+use Rattle.std.proofs.Common.{◌+◌, ap, subst, drop, ◌∙◌, arith, List}
 use Rattle.dvs_base.specs.declared.kind.Scheduler.TheVariants.{Edf}
 use Rattle.task_model.specs.declared.task.Task.{Task}
 use Rattle.sched_model.specs.Plan.{plan_of}
 use Rattle.ready_queue.specs.declared.entry.Entry.{Entry}
 use Rattle.ready_queue.specs.Orders.{due_before}
-use Rattle.ready_queue.specs.Entries.{IsAbsent, IsOfFirst, with_entry}
+use Rattle.ready_queue.specs.Entries.{IsAbsent, with_entry}
 use Rattle.edf_demand.proofs.Calendars.{front, none-front, no-front, first-earliest, put-calendar, takes-first}
 use Rattle.edf_demand.proofs.walk.take_first.Goals as goal
 
@@ -14,11 +14,6 @@ overflow_add-job c =
     let due =
     first-earliest c.args.next.now c.requires.queue.calendar c.in-Some.job head.0 head.1 c.in-Some.ensures.first in
     omega (arith, due, c.requires.low, c.task-period.ensures.limits.low_period)
-
-pub replace_first-requires : goal.replace_first-requires
-replace_first-requires c =
-    let head = front c.args.next.now.entries c.in-Some.job c.in-Some.ensures.value in
-    subst (IsOfFirst c.in-Some.job.task) (sym head.1) refl
 
 pub returns : goal.returns
 returns c =
