@@ -12,7 +12,7 @@ use dvs_base::{Version, governor_of, scheduler_of, whole};
 fn some_text(word: &str) -> Option<&str>
     ensures { option_map (λ s. s.now) result ≡ some_text word.now }
 {
-    if word.is_empty() { None } else { Some(word) }
+    (!word.is_empty()).then_some(word)
 }
 
 fn version_of(word: &str) -> Option<Version>
