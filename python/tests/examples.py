@@ -12,6 +12,7 @@ from rtdvs.files import Demands, Machine, Point, Task, TaskSet
 
 Captured = pytest.CaptureFixture[str]
 TOP = Path(__file__).resolve().parents[2]
+PAGES = sorted(path.relative_to(TOP) for path in [*TOP.glob("*.md"), *(TOP / "docs").glob("*.md")])
 LIBRARY = TOP / "crates" / "rtdvs_c" / "out" / "lib" / "librtdvs.so"
 DATA = TOP / "crates" / "example_runs" / "data"
 TRACES = sorted(DATA.glob("*/*.trace"))

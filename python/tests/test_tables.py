@@ -13,7 +13,7 @@ from itertools import pairwise
 from math import ceil
 
 import pytest
-from examples import BOARD, DATA, PAPER, TOP
+from examples import BOARD, DATA, PAGES, PAPER, TOP
 from model import random_case
 
 from rtdvs.compare import Case, energy_of, runs
@@ -27,7 +27,6 @@ from rtdvs.rules import GOVERNORS, Plan
 from rtdvs.simulate import simulate
 from rtdvs.trace import Done, Release, Run, Trace
 
-PAGES = sorted(path.relative_to(TOP) for path in [*TOP.glob("*.md"), *(TOP / "docs").glob("*.md")])
 NUMBER = r"\d+(?:\.\d+)?"
 
 
