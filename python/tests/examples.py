@@ -1,11 +1,12 @@
 """What the tests share: the example folders, the example of Pillai and Shin (2001), a trace's lines."""
 
-from collections.abc import Sequence
+from collections.abc import Iterable
 from fractions import Fraction
 from pathlib import Path
 from typing import NamedTuple
 
 import pytest
+from hypothesis import strategies as st
 
 from rtdvs.cli import main
 from rtdvs.files import Demands, Machine, Point, Task, TaskSet
@@ -15,18 +16,34 @@ TOP = Path(__file__).resolve().parents[2]
 PAGES = sorted(path.relative_to(TOP) for path in [*TOP.glob("*.md"), *(TOP / "docs").glob("*.md")])
 LIBRARY = TOP / "crates" / "rtdvs_c" / "out" / "lib" / "librtdvs.so"
 DATA = TOP / "crates" / "example_runs" / "data"
+TEST_DATA = Path(__file__).with_name("data")
 TRACES = sorted(DATA.glob("*/*.trace"))
 SHORT = [path for path in TRACES if path.parent.name != "long"]
+ENTRIES = {
+    "task": {"name": '"a"', "period": "4", "worst": "2"},
+    "point": {"speed": "2", "millivolts": "3000"},
+}
 PAPER = TaskSet((Task("t1", 8, 12), Task("t2", 10, 12), Task("t3", 14, 4)))
 BOARD = Machine((Point(2, 3000), Point(3, 4000), Point(4, 5000)))
 
 
-def files(name: str) -> tuple[TaskSet, Machine, Demands | None]:
-    """The files of an example."""
+def files(name: str | Path) -> tuple[TaskSet, Machine, Demands | None]:
+    """The files of an example, or of a folder elsewhere."""
     folder = DATA / name
     tasks, demands = TaskSet.read(folder / "tasks.toml"), folder / "demands.csv"
     named = Demands.read(demands, tasks) if demands.exists() else None
     return tasks, Machine.read(folder / "machine.toml"), named
+
+
+def entry(kind: str = "task", **changes: str) -> str:
+    """A table of a TOML file; a value that is empty is left out."""
+    values = ENTRIES[kind] | changes
+    return f"[[{kind}]]\n" + "".join(f"{key} = {value}\n" for key, value in values.items() if value)
+
+
+def options(folder: Path, *others: str) -> list[str]:
+    """The options that name a folder's task file, its machine file and others."""
+    return [f"--{kind}={path}" for kind in ("tasks", "machine", *others) for path in folder.glob(f"{kind}.*")]
 
 
 def version_1(text: str) -> str:
@@ -39,18 +56,32 @@ def path_id(path: Path) -> str:
     return f"{path.parent.name}/{path.stem}"
 
 
-def printed(capsys: Captured, words: Sequence[str]) -> str:
+def printed(capsys: Captured, words: Iterable[str | Path]) -> str:
     """What a command prints that ends with 0 and has nothing to say."""
-    status, (out, err) = main(words), capsys.readouterr()
+    status, (out, err) = main([*map(str, words)]), capsys.readouterr()
     assert (status, err) == (0, "")
     return out
 
 
-def refusal(capsys: Captured, words: Sequence[str]) -> str:
-    """What a command says that ends with 2 and prints nothing."""
-    status, (out, err) = main(words), capsys.readouterr()
-    assert (status, out) == (2, "")
+def refusal(capsys: Captured, words: Iterable[str | Path], wanted: int = 2) -> str:
+    """What a command says that ends with 2, or with another status, and prints nothing."""
+    status, (out, err) = main([*map(str, words)]), capsys.readouterr()
+    assert (status, out) == (wanted, "")
     return err
+
+
+def task_sets(most: int, *numbers: st.SearchStrategy[int]) -> st.SearchStrategy[TaskSet]:
+    """Sets of up to so many tasks t0, t1 and so on; the numbers are a period, a worst case and an offset."""
+    return st.lists(st.tuples(*numbers), min_size=1, max_size=most).map(
+        lambda rows: TaskSet(tuple(Task(f"t{place}", *row) for place, row in enumerate(rows))))
+
+
+@st.composite
+def machines(draw: st.DrawFn, most: int = 32, top: int = 10**6, charge: int = 10**6) -> Machine:
+    """Machines of up to so many points, with speeds and a charge up to these."""
+    speeds = sorted(draw(st.sets(st.integers(1, top), min_size=1, max_size=most)))
+    millivolts = sorted(draw(st.integers(1, 20_000)) for _ in speeds)
+    return Machine(tuple(map(Point, speeds, millivolts)), draw(st.integers(0, 1000)), draw(st.integers(0, charge)))
 
 
 class Segment(NamedTuple):

@@ -26,9 +26,8 @@ from dataclasses import dataclass, field
 from pathlib import Path
 
 import pytest
-from examples import PAGES, TOP
+from examples import PAGES, TEST_DATA, TOP
 
-SMALL = Path(__file__).with_name("data") / "small.md"
 SOLUTIONS = Path("examples", "exercises", "solutions.txt")
 TOKEN = re.compile(r"""
     ^<!--\ (?P<key>not\ run|first|file|status|lines\ of):\ (?P<value>.*)\ -->$
@@ -214,7 +213,8 @@ def test_pages_by_the_library(page: str, folder: Path, library: Path,
 
 def test_a_fault_has_its_page_and_line(folder: Path) -> None:
     reader = Reader("small.md", folder)
-    faults = [fault.splitlines()[0] for block in blocks(SMALL.read_text()) for fault in reader.faults(block)]
+    page = (TEST_DATA / "small.md").read_text()
+    faults = [fault.splitlines()[0] for block in blocks(page) for fault in reader.faults(block)]
     assert faults == [
         "small.md:7: printed is '5', the page says '6': echo 4; echo 5",
         "small.md:31: no such line, or not here: 'b': cat other kept",
