@@ -25,6 +25,7 @@ ENTRIES = {
 }
 PAPER = TaskSet((Task("t1", 8, 12), Task("t2", 10, 12), Task("t3", 14, 4)))
 BOARD = Machine((Point(2, 3000), Point(3, 4000), Point(4, 5000)))
+MINE, MY_BOARD = (TEST_DATA / "mine.trace").read_text(), Machine((Point(2, 2), Point(3, 3)), idle=10)
 
 
 def files(name: str | Path) -> tuple[TaskSet, Machine, Demands | None]:
@@ -56,14 +57,14 @@ def path_id(path: Path) -> str:
     return f"{path.parent.name}/{path.stem}"
 
 
-def printed(capsys: Captured, words: Iterable[str | Path]) -> str:
+def printed(capsys: Captured, words: Iterable[object]) -> str:
     """What a command prints that ends with 0 and has nothing to say."""
     status, (out, err) = main([*map(str, words)]), capsys.readouterr()
     assert (status, err) == (0, "")
     return out
 
 
-def refusal(capsys: Captured, words: Iterable[str | Path], wanted: int = 2) -> str:
+def refusal(capsys: Captured, words: Iterable[object], wanted: int = 2) -> str:
     """What a command says that ends with 2, or with another status, and prints nothing."""
     status, (out, err) = main([*map(str, words)]), capsys.readouterr()
     assert (status, out) == (wanted, "")

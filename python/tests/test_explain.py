@@ -150,6 +150,7 @@ def assert_wrong(inputs: Inputs, lines: list[str], wanted: int, part: str, known
 
 def altered_by_hand() -> Iterator[tuple[str, int, str, str]]:
     """The rows of altered.txt: a trace, a line's number, what is there instead, a part of the reason."""
+    trace = ""
     for line in (TEST_DATA / "altered.txt").read_text().splitlines():
         if row := re.fullmatch(r"(\d+) (.*?) ?=> (.*)", line):
             yield trace, int(row[1]), row[2], row[3]
