@@ -13,19 +13,16 @@ from itertools import pairwise
 from math import ceil
 
 import pytest
-from examples import BOARD, DATA, PAGES, PAPER, TOP
-from model import random_case
+from examples import BOARD, DATA, PAGES, PAPER, TOP, files
 
 from rtdvs.compare import Case, energy_of, runs
 from rtdvs.decimals import decimal
 from rtdvs.draws import PUBLISHED_MILLISECOND, PUBLISHED_SEED, PUBLISHED_TICKS, PUBLISHED_TOP
 from rtdvs.engine import Engine
 from rtdvs.evaluate import MACHINES
-from rtdvs.files import Demands, FileFault, Machine, Requests, TaskSet
+from rtdvs.files import Requests
 from rtdvs.paper_table import EXAMPLE, PAIRS, PUBLISHED, shares
-from rtdvs.rules import GOVERNORS, Plan
-from rtdvs.simulate import simulate
-from rtdvs.trace import Done, Release, Run, Trace
+from rtdvs.trace import Run, Trace
 
 NUMBER = r"\d+(?:\.\d+)?"
 
@@ -89,9 +86,8 @@ def units(engine: Engine) -> Iterator[str]:
     middle = zip(XSCALE[1:-1], model[1:-1], strict=True)
     lower = [100 * (1 - quoted / watts) for (_, _, quoted), watts in middle]
     yield f"are {round(min(lower))} to {round(max(lower))} percent lower in the middle"
-    folder = DATA / "controller"
-    tasks, machine = TaskSet.read(folder / "tasks.toml"), Machine.read(folder / "machine.toml")
-    first = Demands.read(folder / "demands.csv", tasks).units[tasks.tasks[0].name, 1]
+    tasks, machine, demands = files("controller")
+    first = demands.units[tasks.tasks[0].name, 1] if demands else 0
     yield (f"where it is {machine.charge}, the first job of `{tasks.tasks[0].name}` has {first} units in the "
            f"demand file and {first + 2 * machine.charge} in the trace")
     finer = [700 * share for share in shares(engine, 3)]
@@ -117,12 +113,10 @@ def least(engine: Engine) -> Iterator[str]:
 
 
 def controller(engine: Engine) -> Iterator[str]:
-    folder = DATA / "controller"
-    tasks, machine = TaskSet.read(folder / "tasks.toml"), Machine.read(folder / "machine.toml")
-    demands = Demands.read(folder / "demands.csv", tasks)
+    tasks, machine, demands = files("controller")
     trace = Trace.parse(engine.run(tasks, machine, "edf", "cc", 100, demands))
     ran = sum(note.units for note in trace.notes if isinstance(note, Run))
-    found = engine.least(folder / "machine.toml", ran, 100)
+    found = engine.least(machine, ran, 100)
     bound = Fraction(found.energy, found.rounds)
     yield (f"has {count(len(tasks))} tasks, {count(len(machine.points))} speeds, "
            f"an idle share of {machine.idle} thousandths")
@@ -348,17 +342,3 @@ def test_rules_name_their_tests() -> None:
                        "\n".join(path.read_text(encoding="utf-8") for path in tests), re.MULTILINE)
     names = {name for pair in found for name in pair if name}
     assert not list(unnamed((TOP / "docs" / "RULES.md").read_text(encoding="utf-8"), names))
-
-
-@pytest.mark.parametrize("pair", GOVERNORS, ids="-".join)
-def test_few_decisions_and_notes(pair: tuple[str, str]) -> None:
-    for seed in range(40):
-        tasks, machine, demands, ticks = random_case(seed)
-        try:
-            Plan(tasks, machine, pair[0]).admit()
-        except FileFault:
-            continue
-        trace = simulate(tasks, machine, pair[0], min(ticks, 60), GOVERNORS[pair], demands, pair[1])
-        kinds = Counter(type(note) for note in trace.notes)
-        assert len(trace.decisions) <= kinds[Release] + kinds[Done] + 1
-        assert len(trace.notes) - len(tasks) <= 7 * kinds[Release] + 3
