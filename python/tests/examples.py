@@ -1,21 +1,27 @@
 """What the tests share: the example folders, the example of Pillai and Shin (2001), a trace's lines."""
 
-from collections.abc import Iterable
+from collections.abc import Iterable, Iterator
+from contextlib import contextmanager
 from fractions import Fraction
 from pathlib import Path
+from threading import Thread
 from typing import NamedTuple
 
 import pytest
 from hypothesis import strategies as st
 
 from rtdvs.cli import main
+from rtdvs.engine import Engine
+from rtdvs.explain import Walk, explain
 from rtdvs.files import Demands, Machine, Point, Task, TaskSet
+from rtdvs.serve import PageServer
 
 Captured = pytest.CaptureFixture[str]
 TOP = Path(__file__).resolve().parents[2]
 PAGES = sorted(path.relative_to(TOP) for path in [*TOP.glob("*.md"), *(TOP / "docs").glob("*.md")])
 LIBRARY = TOP / "crates" / "rtdvs_c" / "out" / "lib" / "librtdvs.so"
 DATA = TOP / "crates" / "example_runs" / "data"
+SOURCE = str(TOP / "python" / "src")
 TEST_DATA = Path(__file__).with_name("data")
 TRACES = sorted(DATA.glob("*/*.trace"))
 SHORT = [path for path in TRACES if path.parent.name != "long"]
@@ -28,11 +34,11 @@ BOARD = Machine((Point(2, 3000), Point(3, 4000), Point(4, 5000)))
 MINE, MY_BOARD = (TEST_DATA / "mine.trace").read_text(), Machine((Point(2, 2), Point(3, 3)), idle=10)
 
 
-def files(name: str | Path) -> tuple[TaskSet, Machine, Demands | None]:
-    """The files of an example, or of a folder elsewhere."""
+def files(name: str | Path) -> tuple[TaskSet, Machine, Demands]:
+    """The files of an example, or of a folder elsewhere; without a demand file no job has one."""
     folder = DATA / name
     tasks, demands = TaskSet.read(folder / "tasks.toml"), folder / "demands.csv"
-    named = Demands.read(demands, tasks) if demands.exists() else None
+    named = Demands.read(demands, tasks) if demands.exists() else Demands({})
     return tasks, Machine.read(folder / "machine.toml"), named
 
 
@@ -45,6 +51,35 @@ def entry(kind: str = "task", **changes: str) -> str:
 def options(folder: Path, *others: str) -> list[str]:
     """The options that name a folder's task file, its machine file and others."""
     return [f"--{kind}={path}" for kind in ("tasks", "machine", *others) for path in folder.glob(f"{kind}.*")]
+
+
+def fake(folder: Path, body: str, name: str = "rtdvs") -> Path:
+    """A program that runs these lines of the shell."""
+    folder.mkdir(exist_ok=True)
+    program = folder / name
+    program.write_text(f"#!/bin/sh\n{body}\n")
+    program.chmod(0o755)
+    return program
+
+
+@contextmanager
+def serving(engine: Engine) -> Iterator[PageServer]:
+    """A server of the page, in a thread of its own."""
+    with PageServer(0, engine) as server:
+        thread = Thread(target=server.serve_forever, kwargs={"poll_interval": 0.02})
+        thread.start()
+        try:
+            yield server
+        finally:
+            server.shutdown()
+            thread.join()
+
+
+def explained(tasks: TaskSet, machine: Machine, demands: Demands | None, text: str) -> list[str]:
+    """The explanations of a trace's decisions."""
+    boards: list[str] = []
+    explain(Walk(tasks, machine, text.splitlines(True), demands), boards.append)
+    return boards
 
 
 def version_1(text: str) -> str:

@@ -11,7 +11,7 @@ from concurrent.futures import Executor, ProcessPoolExecutor, ThreadPoolExecutor
 from pathlib import Path
 
 import pytest
-from examples import BOARD, DATA, PAPER
+from examples import BOARD, DATA, PAPER, SOURCE, fake
 
 from rtdvs import engine as engine_module
 from rtdvs.engine import (
@@ -28,15 +28,6 @@ def engine(request: pytest.FixtureRequest) -> Engine:
     """The program, which may take a minute for a call, and the library: both answer alike."""
     timeout = 60.0 if request.param == "program" else None
     return find_engine(request.getfixturevalue(request.param), timeout)
-
-
-def fake(folder: Path, body: str, name: str = "rtdvs") -> Path:
-    """A program that runs these lines of the shell."""
-    folder.mkdir(exist_ok=True)
-    program = folder / name
-    program.write_text(f"#!/bin/sh\n{body}\n")
-    program.chmod(0o755)
-    return program
 
 
 # Answers; the expected ones are those of docs/COMMANDS.md.
@@ -381,7 +372,7 @@ def test_answers_on_mpi(echo: Engine, tmp_path: Path) -> None:
     words = ["mpiexec", "-n", "2", sys.executable, "-m", "mpi4py.futures", "sweep.py", str(echo.program)]
     allowed = ("ALLOW_RUN_AS_ROOT", "ALLOW_RUN_AS_ROOT_CONFIRM", "MCA_rmaps_base_oversubscribe")
     variables = {f"OMPI_{name}": "1" for name in allowed}
-    environment = os.environ | variables | {"PYTHONPATH": str(Path(engine_module.__file__).parents[1])}
+    environment = os.environ | variables | {"PYTHONPATH": SOURCE}
     ran = subprocess.run(words, cwd=tmp_path, env=environment, capture_output=True, text=True, timeout=300)
     assert ran.stdout.split() == [str(seed) for seed in range(12)], ran.stderr
 

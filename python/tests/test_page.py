@@ -11,11 +11,12 @@ from pathlib import Path
 from typing import Any
 
 import pytest
-from examples import BOARD, DATA, PAPER, SHORT, Captured, files, path_id, version_1
+from examples import (
+    BOARD, DATA, PAPER, SHORT, Captured, explained, files, options, path_id, printed, refusal, version_1,
+)
 from hypothesis import given
 from hypothesis import strategies as st
 
-from rtdvs.cli import main
 from rtdvs.explain import Walk, WrongTrace, explain
 from rtdvs.files import Machine, Point, Task, TaskSet
 from rtdvs.page import (
@@ -27,7 +28,7 @@ from rtdvs.trace import Trace
 
 HOSTILE = '</script><img src=x onerror="document.title=1">&<!--'
 TRACE = DATA / "paper" / "edf_cc_with_demands.trace"
-WORDS = ["--tasks", str(DATA / "paper/tasks.toml"), "--machine", str(DATA / "paper/machine.toml")]
+WORDS = options(DATA / "paper")
 
 
 class Reader(html.parser.HTMLParser):
@@ -64,11 +65,6 @@ def sheet_of(text: str, shown: Shown) -> Any:
     return sheet
 
 
-def made(capsys: Captured, *words: str) -> str:
-    assert main(["page", *words]) == 0
-    return capsys.readouterr().out
-
-
 # The data
 
 @pytest.mark.parametrize("path", SHORT, ids=path_id)
@@ -77,8 +73,7 @@ def test_all_of_a_trace_is_in_the_page(path: Path) -> None:
     tasks, machine, named = files(path.parent.name)
     demands = named if "with_demands" in path.stem else None
     text = path.read_text()
-    boards: list[str] = []
-    explain(Walk(tasks, machine, text.splitlines(keepends=True), demands), boards.append)
+    boards = explained(tasks, machine, demands, text)
     sheet = sheet_of(text, Shown(tasks, machine, demands))
     assert "".join(map(unpacked, sheet["pieces"])) == text
     assert [board for chunk in sheet["boards"] for board in json.loads(unpacked(chunk["text"]))] == boards
@@ -194,7 +189,7 @@ def test_web_files_are_short() -> None:
 # The command
 
 def test_page_of_one_trace(capsys: Captured) -> None:
-    data = data_of(made(capsys, str(TRACE), *WORDS, "--demands", str(DATA / "paper/demands.csv")))
+    data = data_of(printed(capsys, ["page", TRACE, *options(DATA / "paper", "demands")]))
     (sheet,) = data["sheets"]
     assert sheet["title"] == "edf cc, 16 ticks"
     assert str(sheet["energy"]).startswith("energy 364000000000: 364000000000 running, 0 idle, ")
@@ -202,14 +197,13 @@ def test_page_of_one_trace(capsys: Captured) -> None:
 
 def test_page_of_two_traces(capsys: Captured) -> None:
     other = TRACE.with_name("edf_la_with_demands.trace")
-    data = data_of(made(capsys, str(TRACE), str(other), *WORDS))
+    data = data_of(printed(capsys, ["page", TRACE, other, *WORDS]))
     assert [sheet["title"] for sheet in data["sheets"]] == ["A: edf cc, 16 ticks", "B: edf la, 16 ticks"]
     assert data["apart"]["tick"] == 0
 
 
 def test_page_of_three_traces(capsys: Captured) -> None:
-    assert main(["page", *[str(TRACE)] * 3, *WORDS]) == 2
-    assert capsys.readouterr().err == "rtdvs: 3 traces, at most 2\n"
+    assert refusal(capsys, ["page", *[TRACE] * 3, *WORDS]) == "rtdvs: 3 traces, at most 2\n"
 
 
 def test_page_of_a_wrong_trace(tmp_path: Path, capsys: Captured) -> None:
@@ -218,5 +212,4 @@ def test_page_of_a_wrong_trace(tmp_path: Path, capsys: Captured) -> None:
     wrong.write_text(TRACE.read_text().replace("done 4:0 t2 1 4", "done 5:0 t2 1 4"))
     with pytest.raises(WrongTrace) as fault:
         explain(Walk(PAPER, BOARD, wrong.read_text().splitlines(keepends=True)))
-    assert main(["page", str(wrong), *WORDS, "--output", str(page)]) == 1
-    assert capsys.readouterr().err == f"{fault.value}\n" and not page.exists()
+    assert refusal(capsys, ["page", wrong, *WORDS, "--output", page], 1) == f"{fault.value}\n" and not page.exists()

@@ -26,7 +26,7 @@ from dataclasses import dataclass, field
 from pathlib import Path
 
 import pytest
-from examples import PAGES, TEST_DATA, TOP
+from examples import PAGES, SOURCE, TEST_DATA, TOP
 
 SOLUTIONS = Path("examples", "exercises", "solutions.txt")
 TOKEN = re.compile(r"""
@@ -185,7 +185,7 @@ def folder(program: Path, tmp_path: Path, monkeypatch: pytest.MonkeyPatch) -> Pa
     monkeypatch.chdir(top)
     monkeypatch.setenv("RTDVS", str(program))
     monkeypatch.setenv("PATH", os.pathsep.join([str(tools), *os.defpath.split(os.pathsep)]))
-    monkeypatch.setenv("PYTHONPATH", str(TOP / "python" / "src"))
+    monkeypatch.setenv("PYTHONPATH", SOURCE)
     monkeypatch.setenv("PYTHONDONTWRITEBYTECODE", "1")
     return top
 

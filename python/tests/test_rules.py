@@ -7,7 +7,7 @@ from fractions import Fraction
 from itertools import accumulate, pairwise
 
 import pytest
-from examples import BOARD, DATA, Captured, options, printed, refusal
+from examples import BOARD, DATA, Captured, explained, options, printed, refusal
 from model import Model, random_case
 
 from rtdvs.compare import PAIRS
@@ -141,9 +141,8 @@ def next_line(model: Model, tick: int) -> str:
 @pytest.mark.parametrize("pair", PAIRS)
 def test_board(pair: tuple[str, str]) -> None:
     for model, trace in cases(pair):
-        boards: list[str] = []
         lines = trace.text().splitlines(True)
-        explain(Walk(model.tasks, model.machine, lines, model.demands), boards.append)
+        boards = explained(model.tasks, model.machine, model.demands, trace.text())
         for board, (tick, demand, speed) in zip(boards, model.decisions(trace.ticks), strict=True):
             head, *body, last = board.split("\n    ")
             number, rest = head.removeprefix("line ").split(first_line(model, tick, demand, speed))

@@ -87,7 +87,7 @@ def units(engine: Engine) -> Iterator[str]:
     lower = [100 * (1 - quoted / watts) for (_, _, quoted), watts in middle]
     yield f"are {round(min(lower))} to {round(max(lower))} percent lower in the middle"
     tasks, machine, demands = files("controller")
-    first = demands.units[tasks.tasks[0].name, 1] if demands else 0
+    first = demands.units[tasks.tasks[0].name, 1]
     yield (f"where it is {machine.charge}, the first job of `{tasks.tasks[0].name}` has {first} units in the "
            f"demand file and {first + 2 * machine.charge} in the trace")
     finer = [700 * share for share in shares(engine, 3)]
