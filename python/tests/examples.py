@@ -24,6 +24,7 @@ DATA = TOP / "crates" / "example_runs" / "data"
 SOURCE = str(TOP / "python" / "src")
 TEST_DATA = Path(__file__).with_name("data")
 TRACES = sorted(DATA.glob("*/*.trace"))
+WORKED, TEMPLATE = (DATA / folder / "edf_cc_with_demands.trace" for folder in ("paper", "templates"))
 SHORT = [path for path in TRACES if path.parent.name != "long"]
 ENTRIES = {
     "task": {"name": '"a"', "period": "4", "worst": "2"},

@@ -10,7 +10,7 @@ from itertools import product
 from pathlib import Path
 
 import pytest
-from examples import DATA, SHORT, TEST_DATA, TOP, Captured, files, version_1
+from examples import DATA, SHORT, TEMPLATE, TEST_DATA, TOP, WORKED, Captured, files, version_1
 from model import random_case
 
 from rtdvs.cli import main
@@ -164,8 +164,7 @@ def test_altered_by_hand(trace: str, number: int, new: str, part: str) -> None:
     assert_wrong(folder(trace.split("/")[0]), lines, number, part)
 
 
-CC, TEMPLATE = (DATA / f"{name}/edf_cc_with_demands.trace" for name in ("paper", "templates"))
-CC_TEXT, TEMPLATE_TEXT = CC.read_text(), TEMPLATE.read_text()
+CC_TEXT, TEMPLATE_TEXT = WORKED.read_text(), TEMPLATE.read_text()
 UNKNOWN: list[tuple[str, list[str], int, str, bool]] = [  # without a demand file; the last entry is --any
     # t2 may need 11 units more at tick 3, and 15 fit up to tick 8.
     ("paper", edited(CC_TEXT, {12: None}), 12, "gets 11 units", False),
@@ -263,7 +262,7 @@ def test_a_long_trace_in_little_memory() -> None:
 Said = tuple[int, list[str], str]
 Run = Callable[..., Said]
 PAPER = {kind: DATA / "paper" / name for kind, name in [
-    ("tasks", "tasks.toml"), ("machine", "machine.toml"), ("demands", "demands.csv"), ("trace", CC.name)]}
+    ("tasks", "tasks.toml"), ("machine", "machine.toml"), ("demands", "demands.csv"), ("trace", WORKED.name)]}
 TOTALS = "16 ticks, 6 jobs released, 6 complete, 8 decisions, energy 364000000000 running and 0 idle"
 
 

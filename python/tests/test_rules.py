@@ -7,7 +7,7 @@ from fractions import Fraction
 from itertools import accumulate, pairwise
 
 import pytest
-from examples import BOARD, DATA, Captured, explained, options, printed, refusal
+from examples import BOARD, DATA, TEMPLATE, Captured, explained, options, printed, refusal
 from model import Model, random_case
 
 from rtdvs.compare import PAIRS
@@ -178,8 +178,7 @@ def assert_speeds(model: Model, body: list[str], num: int, den: int) -> None:
 
 def test_simulate_command(capsys: Captured) -> None:
     words = ["simulate", *options(DATA / "templates", "demands"), "--ticks", "8", "--governor"]
-    stored = (DATA / "templates/edf_cc_with_demands.trace").read_text()
-    assert printed(capsys, [*words, "cc", "--scheduler", "edf"]) == stored
+    assert printed(capsys, [*words, "cc", "--scheduler", "edf"]) == TEMPLATE.read_text()
     assert refusal(capsys, [*words, "la", "--scheduler", "rm"]) == "rtdvs: rm has no governor la\n"
 
 

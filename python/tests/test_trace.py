@@ -3,7 +3,7 @@
 from fractions import Fraction
 
 import pytest
-from examples import DATA, PAPER, TRACES, Captured, printed, refusal
+from examples import DATA, PAPER, TEMPLATE, TRACES, WORKED, Captured, printed, refusal
 from hypothesis import given
 from hypothesis import strategies as st
 
@@ -11,7 +11,6 @@ from rtdvs.files import Task, TaskSet
 from rtdvs.statistics import task_statistics
 from rtdvs.trace import Decision, End, Job, Position, Run, Trace, TraceFault, parse_lines
 
-WORKED = DATA / "paper" / "edf_cc_with_demands.trace"
 TEXTS = [path.read_text() for path in TRACES]
 HEAD = "trace 2\nplan edf mine 4\ntask a 4 0 4\n"
 START = HEAD + "release 0 a 1\nspeed 0 2 1/1\n"
@@ -151,6 +150,6 @@ def test_statistics_command(capsys: Captured) -> None:
         "task jobs complete mean_response greatest_response jitter least_laxity preemptions energy "
         "t1 2 2 2.0000 2.6667 1.3333 5.3333 0 192000000000 t2 2 2 3.0000 4.0000 2.0000 6.0000 0 100000000000 "
         "t3 2 2 4.0000 6.0000 4.0000 8.0000 0 72000000000").split()
-    assert refusal(capsys, [*words, DATA / "templates/edf_cc_with_demands.trace"]) == (
+    assert refusal(capsys, [*words, TEMPLATE]) == (
         "rtdvs: line 3: its tasks aren't those of the task file\n")
     assert refusal(capsys, [*words, DATA / "templates/tasks.toml"]) == "rtdvs: line 1: neither trace 1 nor trace 2\n"
