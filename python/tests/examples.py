@@ -1,4 +1,4 @@
-"""What the tests share: the example folders, the example of Pillai and Shin (2001), a trace's lines."""
+"""What the tests share: the examples' files, calls of commands, stand-ins, drawn sets and machines, a trace's lines."""
 
 from collections.abc import Iterable, Iterator
 from contextlib import contextmanager
@@ -32,6 +32,8 @@ ENTRIES = {
 }
 PAPER = TaskSet((Task("t1", 8, 12), Task("t2", 10, 12), Task("t3", 14, 4)))
 BOARD = Machine((Point(2, 3000), Point(3, 4000), Point(4, 5000)))
+# Operating points of the XScale: megahertz, volts and milliwatts, as quoted.
+XSCALE = ((150, "0.75", 80), (400, "1.0", 170), (600, "1.3", 400), (800, "1.6", 900), (1000, "1.8", 1600))
 MINE, MY_BOARD = (TEST_DATA / "mine.trace").read_text(), Machine((Point(2, 2), Point(3, 3)), idle=10)
 
 

@@ -370,31 +370,11 @@ def test_answers_on_mpi(echo: Engine, tmp_path: Path) -> None:
 
 # rt try
 
-TRIED = r"""
-[ "$1 $2 $3 $4" = 'try --seconds 3600 --cases' ] && [ "$(basename "$PWD")" = crate ] || exit 2
-echo "$@" >> "$0.log"
-for case in "$5"/*[0-9]; do
-    echo "== $(basename "$case")"
-    if grep -q seven "$case.args"; then
-        echo 'checked: no-answer: too much' >&2
-        echo "case=$(basename "$case") run=no-answer proved=no" >&2
-    elif grep -q admit "$case.args"; then
-        echo 'denied edf 248 240' >&2
-        echo "case=$(basename "$case") run=ended status=1 runners=1 proved=no" >&2
-    else
-        tail -n 1 "$case.args"
-        echo "case=$(basename "$case") run=ended status=0 runners=1 proved=no" >&2
-    fi
-done
-echo cases=3 proved=no >&2
-"""
-
-
 @pytest.fixture
 def tried(bare: Path, monkeypatch: pytest.MonkeyPatch) -> TryEngine:
-    """A stand-in for `rt try --cases`, which prints each case's last argument."""
+    """The stand-in for `rt try --cases` of stand_in.sh."""
     (bare / "crate").mkdir()
-    fake(bare / "bin", TRIED, "rt")
+    fake(bare / "bin", Path(__file__).with_name("stand_in.sh").read_text(), "rt")
     monkeypatch.setenv("PATH", f"{bare}/bin:/usr/bin:/bin")
     return TryEngine(bare / "crate")
 

@@ -13,7 +13,7 @@ from itertools import pairwise
 from math import ceil
 
 import pytest
-from examples import BOARD, DATA, PAGES, PAPER, TOP, files
+from examples import BOARD, DATA, PAGES, PAPER, TOP, XSCALE, files
 
 from rtdvs.compare import Case, energy_of, runs
 from rtdvs.decimals import decimal
@@ -70,10 +70,6 @@ def readme(engine: Engine) -> Iterator[str]:
     yield row("this run", *(short(share, 4) for share in shares(engine, 1)))
     yield row("ticks 3 times finer", *(short(share, 4) for share in finer))
     yield f"the shares are exactly {finer[4]} and {short(finer[5], 4)}."
-
-
-XSCALE = ((150, "0.75", 80), (400, "1.0", 170), (600, "1.3", 400), (800, "1.6", 900), (1000, "1.8", 1600))
-"""Megahertz, volts and milliwatts, as quoted."""
 
 
 def units(engine: Engine) -> Iterator[str]:
