@@ -95,9 +95,9 @@ def plain(text: bytes) -> bytes:
 
 def stored_calls() -> Traces:
     """The `run` calls with status 0, each with the files before it, and their output."""
-    crate, name, files, call = TOP / "crates/stored_calls", "", dict[str, bytes](), 0
+    crate, name, files = TOP / "crates/stored_calls", "", dict[str, bytes]()
     block = rb"^rtdvs ?(.*)\n((?:(?:[|!].*|no line feed)\n)*)status (.*)$"
-    answers = re.findall(block, (crate / "stdout").read_bytes(), re.M)
+    answers = iter(re.findall(block, (crate / "stdout").read_bytes(), re.M))
     for line in (crate / "data/calls.txt").read_bytes().split(b"\n"):
         if line.startswith(b"file "):
             name = line[5:].decode()
@@ -105,9 +105,8 @@ def stored_calls() -> Traces:
         elif line[:1] in (b"|", b"-"):
             files[name] += plain(line[1:]) + (b"\n" if line[:1] == b"|" else b"")
         elif line.startswith(b"call"):
-            called, output, status = answers[call]
+            called, output, status = next(answers)
             assert called == line[5:]
-            call += 1
             words = [word for word in line.decode("latin-1").split(" ")[1:] if word != "--probes"]
             if words[:1] == ["run"] and status == b"0":
                 lines = [each[1:] for each in output.decode().splitlines(True) if each.startswith("|")]
@@ -115,7 +114,7 @@ def stored_calls() -> Traces:
                 tasks = TaskSet.parse(files[named["--tasks"]])
                 demands = Demands.parse(files[named["--demands"]], tasks) if "--demands" in named else None
                 yield Inputs(tasks, Machine.parse(files[named["--machine"]]), demands), "".join(lines)
-    assert call == len(answers)
+    assert [*answers] == []
 
 
 @pytest.mark.parametrize("traces", [stored_traces, runs_of_the_examples, stored_calls])

@@ -29,11 +29,13 @@ READERS: dict[str, Callable[[bytes], TaskSet | Machine | Demands | Deadlines | R
     "deadlines": lambda text: Deadlines.parse(text, SET),
     "requests": Requests.parse,
 }
+# The least and the greatest value of each number, by the place that a refusal names.
 RANGES = {
     "tasks: task 1": {"period": (1, 2**40), "worst": (1, 2**60), "offset": (0, 2**40)},
     "machine: point 1": {"speed": (1, 10**6), "millivolts": (1, 20_000)},
     "machine": {"idle": (0, 1000), "charge": (0, 10**6)},
 }
+# Files that are refused, by the reason.
 REFUSED = {
     "tasks": {
         "no tasks": ["", "task = []"],
@@ -72,7 +74,7 @@ REFUSED = {
         "100001 rows, at most 100000": ["arrival,units\n" + "x\n" * 100_001],
     },
 }
-HEADERS = {"demands": "task,job,units", "deadlines": "task,deadline", "requests": "arrival,units"}
+# Rows below the right header that are refused, by the number of the wrong one and the reason.
 REFUSED_ROWS = {
     "demands": {
         "1: 2 fields": ["a,1\n"],
@@ -129,7 +131,7 @@ def of_ranges() -> Iterator[tuple[str, str, str]]:
 BY_HAND = [
     *((kind, text, f"{kind}: {reason}") for kind, refused in REFUSED.items() for reason, texts in refused.items()
       for text in texts),
-    *((kind, f"{HEADERS[kind]}\n{text}", f"{kind}: row {reason}") for kind, refused in REFUSED_ROWS.items()
+    *((kind, f"{TABLES[kind].splitlines()[0]}\n{text}", f"{kind}: row {reason}") for kind, refused in REFUSED_ROWS.items()
       for reason, texts in refused.items() for text in texts),
     ("demands", "task,job,units\na,1,3\nx", "over worst: a 1 3 2"),
     *of_ranges(),
