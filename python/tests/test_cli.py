@@ -11,7 +11,7 @@ from types import SimpleNamespace
 from unittest.mock import Mock
 
 import pytest
-from examples import DATA, SOURCE, Captured, files, options, printed, refusal
+from examples import BOARD, DATA, PAPER, SOURCE, Captured, options, printed, refusal
 
 from rtdvs import cli, commandline
 from rtdvs.engine import Crashed, Engine, NoEngine, OverWorst
@@ -192,9 +192,10 @@ def in_shell(line: str) -> "subprocess.CompletedProcess[str]":
 
 def test_files_of_options() -> None:
     args = parsed(*options(DATA / "paper", "demands"))
-    tasks = commandline.read_tasks(args)
-    assert (tasks, commandline.read_machine(args), commandline.read_demands(args, tasks)) == files("paper")
-    assert commandline.read_demands(parsed(), tasks) is None
+    assert (commandline.read_tasks(args), commandline.read_machine(args)) == (PAPER, BOARD)
+    demands = commandline.read_demands(args, PAPER)
+    assert demands is not None and demands.units["t1", 1] == 8
+    assert commandline.read_demands(parsed(), PAPER) is None
 
 
 def test_files_from_standard_input(monkeypatch: pytest.MonkeyPatch) -> None:

@@ -24,6 +24,7 @@ from rtdvs.files import Requests
 from rtdvs.paper_table import EXAMPLE, PAIRS, PUBLISHED, shares
 from rtdvs.trace import Run, Trace
 
+TENTHS = [decimal(Fraction(tenth, 10), 1) for tenth in range(1, 11)]
 NUMBER = r"\d+(?:\.\d+)?"
 
 
@@ -169,7 +170,7 @@ def evaluation(engine: Engine) -> Iterator[str]:
         yield f"{', '.join(speeds[:-1])} and {speeds[-1]}{of} at {', '.join(volts[:-1])} and {volts[-1]} V |"
     tasks, machines, idle, demands = (figure(name) for name in ("tasks", "machines", "idle", "demands"))
     at_most = [max(tasks[f"{number} tasks", "edf la", tenth] - tasks[f"{number} tasks", "bound", tenth]
-                   for tenth in tenths()) for number in (5, 10, 15)]
+                   for tenth in TENTHS) for number in (5, 10, 15)]
     yield (f"its mean is at most {decimal(at_most[0], 2)} above it, "
            f"and {decimal(max(at_most[1:]), 2)} for 10 and 15 tasks")
     means = [short(tasks[f"{number} tasks", "rm static", "0.7"], 2) for number in (5, 10, 15)]
@@ -188,16 +189,12 @@ def taken_shares(demands: dict[tuple[str, str, str], Fraction]) -> Iterator[str]
     falls = [(demands[whole, curve, "0.8"], demands[half, curve, "0.8"]) for curve in ("edf cc", "edf la")]
     yield (f"fall from {short(falls[0][0], 2)} and {decimal(falls[1][0], 2)} to {decimal(falls[0][1], 2)} "
            f"and {decimal(falls[1][1], 2)} when jobs take half")
-    change = max(abs(demands[whole, "rm cc", tenth] - demands[half, "rm cc", tenth]) for tenth in tenths()
+    change = max(abs(demands[whole, "rm cc", tenth] - demands[half, "rm cc", tenth]) for tenth in TENTHS
                  if (half, "rm cc", tenth) in demands)
     yield f"RM's `cc` changes little (at most {decimal(change, 2)})"
     spread = max(abs(mean - demands["a uniform share", curve, tenth])
                  for (panel, curve, tenth), mean in demands.items() if panel == half)
     yield f"gives the same means within {decimal(spread, 3)}."
-
-
-def tenths() -> list[str]:
-    return [decimal(Fraction(tenth, 10), 1) for tenth in range(1, 11)]
 
 
 def limits() -> dict[str, int]:
