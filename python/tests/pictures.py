@@ -3,15 +3,13 @@
 from collections.abc import Iterator
 from itertools import chain
 from pathlib import Path
-from threading import Thread
 
-from examples import TOP, files
+from examples import TOP, files, serving
 
 from rtdvs.compare import PAIRS, compare
 from rtdvs.engine import Engine, find_engine
 from rtdvs.figures import parse_means, save_compare, save_means
 from rtdvs.plot import View, save_trace
-from rtdvs.serve import PageServer
 from rtdvs.trace import Trace
 
 TRACES = {  # a picture's name: the folder, the pair, the ticks, the view and the width
@@ -50,15 +48,13 @@ def draw_page(engine: Engine, target: Path) -> Path:
     from test_browser import chromium, until
 
     browser, path = chromium(), target / "page.png"
-    with PageServer(0, engine) as server:
-        Thread(target=server.serve_forever).start()
+    with serving(engine) as server:
         browser.set_window_size(1280, 1430)
         browser.get(f"http://127.0.0.1:{server.port}/")
         until(browser, "return document.body.classList.contains('whole') && (step(1), true)")
         until(browser, "return document.querySelector('#board').textContent.startsWith('line 13')")
         browser.execute_script("document.documentElement.style.overflow = 'hidden'; find('#status').textContent = ''")
         browser.save_screenshot(str(path))
-        server.shutdown()
     browser.quit()
     Image.open(path).convert("RGB").quantize(48).save(path, optimize=True)
     return path

@@ -8,19 +8,16 @@ import shutil
 from collections.abc import Iterator
 from importlib import import_module
 from pathlib import Path
-from threading import Thread
 from time import monotonic, sleep
 from typing import Any
 
 import pytest
-from examples import BOARD, DATA, PAPER, files
+from examples import BOARD, DATA, PAPER, explained, files, serving
 
 from rtdvs.engine import Engine
-from rtdvs.explain import Walk, explain
-from rtdvs.files import Demands, Machine, Task, TaskSet
+from rtdvs.files import Demands, Task, TaskSet
 from rtdvs.page import Shown, in_one_file, page_data
 from rtdvs.rules import GOVERNORS
-from rtdvs.serve import PageServer
 from rtdvs.simulate import simulate
 
 selenium = pytest.importorskip("selenium.webdriver", reason="no selenium")
@@ -108,12 +105,6 @@ def paper(browser: Browser, folder: Path, *names: str) -> list[list[str]]:
     texts = {name: (DATA / "paper" / f"{name}.trace").read_text() for name in names}
     opened(browser, folder, texts, Shown(tasks, machine, demands))
     return [explained(tasks, machine, demands, trace) for trace in texts.values()]
-
-
-def explained(tasks: TaskSet, machine: Machine, demands: Demands | None, trace: str) -> list[str]:
-    boards: list[str] = []
-    explain(Walk(tasks, machine, trace.splitlines(keepends=True), demands), boards.append)
-    return boards
 
 
 def assert_board(browser: Browser, board: str) -> None:
@@ -292,15 +283,11 @@ def test_100000_jobs(browser: Browser, tmp_path: Path, engine: Engine) -> None:
 @pytest.fixture
 def editor(browser: Browser, engine: Engine) -> Iterator[Browser]:
     """The browser with the server's page of the paper's example."""
-    with PageServer(0, engine) as server:
-        thread = Thread(target=server.serve_forever, kwargs={"poll_interval": 0.02})
-        thread.start()
+    with serving(engine) as server:
         browser.get(f"http://127.0.0.1:{server.port}/")
         shows(browser, "edf cc, 16 ticks")
         yield browser
         browser.get("about:blank")
-        server.shutdown()
-        thread.join()
 
 
 def shows(browser: Browser, title: str) -> None:

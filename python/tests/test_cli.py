@@ -11,17 +11,18 @@ from types import SimpleNamespace
 from unittest.mock import Mock
 
 import pytest
-from examples import DATA, Captured, printed, refusal
+from examples import BOARD, DATA, PAPER, SOURCE, Captured, options, printed, refusal
 
 from rtdvs import cli, commandline
 from rtdvs.engine import Crashed, Engine, NoEngine, OverWorst
 from rtdvs.files import Demands, FileFault, TaskSet
 
 Handler = Callable[[argparse.Namespace], int]
+Stub = Callable[[Handler], None]
 
 
 @pytest.fixture
-def stub(monkeypatch: pytest.MonkeyPatch) -> Callable[[Handler], None]:
+def stub(monkeypatch: pytest.MonkeyPatch) -> Stub:
     """Makes a handler the only command, `stub`, with the options that commands share."""
 
     def replace(handler: Handler) -> None:
@@ -70,21 +71,19 @@ def test_unknown_option_of_each_command(command: str, capsys: Captured) -> None:
 
 
 @pytest.mark.parametrize("words", [[], ["--foo"], ["foo"], ["stub"], ["stub", "--tasks"], ["stub", "--foo"]])
-def test_usage(words: list[str], stub: Callable[[Handler], None], capsys: Captured) -> None:
+def test_usage(words: list[str], stub: Stub, capsys: Captured) -> None:
     stub(lambda args: 0)
     assert "python3 -m rtdvs" in refusal(capsys, words)
 
 
-def test_two_files_from_one_input(stub: Callable[[Handler], None], capsys: Captured,
-                                  monkeypatch: pytest.MonkeyPatch) -> None:
+def test_two_files_from_one_input(stub: Stub, capsys: Captured, monkeypatch: pytest.MonkeyPatch) -> None:
     stub(lambda args: 0)
     monkeypatch.setattr(sys, "stdin", standard_input(b"x"))
-    said = refusal(capsys, ["stub", "--tasks", "-", "--machine", "-"])
-    assert "only one file can be standard input" in said
+    assert "only one file can be standard input" in refusal(capsys, ["stub", "--tasks", "-", "--machine", "-"])
 
 
 @pytest.mark.parametrize("status", [0, 1, 2])
-def test_status(status: int, stub: Callable[[Handler], None]) -> None:
+def test_status(status: int, stub: Stub) -> None:
     stub(lambda args: status)
     assert cli.main(["stub", "--tasks", "x"]) == status
 
@@ -101,12 +100,12 @@ FAULTS = [
 
 
 @pytest.mark.parametrize(("fault", "line"), FAULTS, ids=[line for _, line in FAULTS])
-def test_faults(fault: Exception, line: str, stub: Callable[[Handler], None], capsys: Captured) -> None:
+def test_faults(fault: Exception, line: str, stub: Stub, capsys: Captured) -> None:
     stub(Mock(side_effect=fault))
     assert refusal(capsys, ["stub", "--tasks", "x"]) == f"rtdvs: {line}\n"
 
 
-def test_interrupted(stub: Callable[[Handler], None], capsys: Captured) -> None:
+def test_interrupted(stub: Stub, capsys: Captured) -> None:
     stub(Mock(side_effect=KeyboardInterrupt))
     assert cli.main(["stub", "--tasks", "x"]) == 130
     assert capsys.readouterr() == ("", "")
@@ -156,7 +155,7 @@ def bad_file(request: pytest.FixtureRequest, tmp_path: Path) -> Path:
 def test_bad_files(words: str, bad_file: Path, capsys: Captured, monkeypatch: pytest.MonkeyPatch) -> None:
     """Each is refused in one line, with status 2."""
     monkeypatch.chdir(DATA / "paper")
-    said = refusal(capsys, [str(bad_file) if word == "BAD" else word for word in words.split()])
+    said = refusal(capsys, [bad_file if word == "BAD" else word for word in words.split()])
     assert said.startswith("rtdvs: ") and said.count("\n") == 1, said
 
 
@@ -185,26 +184,18 @@ def test_a_reader_that_leaves() -> None:
 
 
 def in_shell(line: str) -> "subprocess.CompletedProcess[str]":
-    source = str(Path(cli.__file__).parents[1])
-    words = ["sh", "-c", line, sys.executable]
-    return subprocess.run(words, cwd=DATA / "paper", env={"PYTHONPATH": source}, capture_output=True,
-                          text=True, timeout=60)
+    return subprocess.run(["sh", "-c", line, sys.executable], cwd=DATA / "paper", env={"PYTHONPATH": SOURCE},
+                          capture_output=True, text=True, timeout=60)
 
 
 # What commands share
 
 def test_files_of_options() -> None:
-    paper = DATA / "paper"
-    words = [f"--{kind}={paper / name}" for kind, name in (
-        ("tasks", "tasks.toml"), ("machine", "machine.toml"), ("demands", "demands.csv"),
-    )]
-    args = parsed(*words)
-    tasks = commandline.read_tasks(args)
-    assert tasks.names == ("t1", "t2", "t3")
-    assert commandline.read_machine(args).top_speed == 4
-    demands = commandline.read_demands(args, tasks)
+    args = parsed(*options(DATA / "paper", "demands"))
+    assert (commandline.read_tasks(args), commandline.read_machine(args)) == (PAPER, BOARD)
+    demands = commandline.read_demands(args, PAPER)
     assert demands is not None and demands.units["t1", 1] == 8
-    assert commandline.read_demands(parsed(*words[:2]), tasks) is None
+    assert commandline.read_demands(parsed(), PAPER) is None
 
 
 def test_files_from_standard_input(monkeypatch: pytest.MonkeyPatch) -> None:
@@ -264,9 +255,8 @@ def test_seconds_that_are_none(word: str) -> None:
 
 
 def test_engine_of_options() -> None:
-    assert commandline.engine_of(parsed("--program", sys.executable, "--timeout", "0.5")) == Engine(
-        Path(sys.executable), 0.5
-    )
+    args = parsed("--program", sys.executable, "--timeout", "0.5")
+    assert commandline.engine_of(args) == Engine(Path(sys.executable), 0.5)
 
 
 def test_executor_of_options() -> None:

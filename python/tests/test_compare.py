@@ -6,7 +6,7 @@ from itertools import combinations, pairwise
 from pathlib import Path
 
 import pytest
-from examples import DATA, Captured, Lines, files, printed, refusal
+from examples import DATA, MINE, MY_BOARD, Captured, Lines, files, machines, options, printed, refusal, task_sets
 from hypothesis import given, settings
 from hypothesis import strategies as st
 
@@ -59,35 +59,32 @@ SMALL = alike("at_1", *2 * ["6050000000 1.0000 0.0000 0 0.5000 5.0000 0.0000 1.0
 
 
 @pytest.mark.parametrize(("tasks", "machine", "ticks", "wanted"), [
-    ([(2, 2), (3, 3)], Machine((Point(2, 1000),)), 6, FULL),
-    ([(2, 3), (3, 3)], Machine((Point(1, 1000),)), 6, DENIED),
-    ([(2, 999983)], Machine((Point(999983, 19997),), idle=999), 2000, LARGE),
-    ([(10, 5)], Machine((Point(1, 1100),)), 10, SMALL),
+    (TaskSet((Task("x", 2, 2), Task("y", 3, 3))), Machine((Point(2, 1000),)), 6, FULL),
+    (TaskSet((Task("x", 2, 3), Task("y", 3, 3))), Machine((Point(1, 1000),)), 6, DENIED),
+    (TaskSet((Task("x", 2, 999983),)), Machine((Point(999983, 19997),), idle=999), 2000, LARGE),
+    (TaskSet((Task("x", 10, 5),)), Machine((Point(1, 1100),)), 10, SMALL),
 ])
-def test_by_hand(engine: Engine, tasks: list[tuple[int, int]], machine: Machine, ticks: int,
-                 wanted: str) -> None:
-    named = TaskSet(tuple(Task(name, *pair) for name, pair in zip("xy", tasks)))
-    assert words(table(compare(engine, named, machine, ticks))) == words(wanted)
+def test_by_hand(engine: Engine, tasks: TaskSet, machine: Machine, ticks: int, wanted: str) -> None:
+    assert words(table(compare(engine, tasks, machine, ticks))) == words(wanted)
 
 
-def options(example: str, program: Path) -> list[str]:
-    folder = DATA / example
-    return ["compare", "--program", str(program), "--tasks", str(folder / "tasks.toml"), "--machine",
-            str(folder / "machine.toml"), "--ticks"]
+def call(program: Path, *words: object) -> list[object]:
+    """The command for 16 ticks of the paper's example."""
+    return ["compare", "--program", program, *options(DATA / "paper"), "--ticks", "16", *words]
 
 
 def test_the_paper_by_hand(program: Path, capsys: Captured) -> None:
-    call = [*options("paper", program), "16", "--demands", str(DATA / "paper" / "demands.csv")]
-    assert words(printed(capsys, [*call, "--jobs", "2"])) == words(PAPER)
+    demands = ["--demands", DATA / "paper" / "demands.csv"]
+    assert words(printed(capsys, call(program, *demands, "--jobs", "2"))) == words(PAPER)
 
 
 def test_finer_ticks_of_the_paper(program: Path, capsys: Captured) -> None:
     """In ticks 3 times finer EDF la needs 308 of the 700 and RM cc 500, in the natural ones 315 and 514."""
-    call = [*options("paper", program), "16", "--demands", str(DATA / "paper" / "demands.csv")]
-    _, _, second = printed(capsys, [*call, "--finer", "1", "3"]).partition("\n\n")
-    shares = [row[3] for row in words(second)[1:]]
-    assert words(second)[0] == ["scheduler", "governor", "finer_1", "finer_3"]
-    assert shares == ["1.0000", "1.0000", "1.0000", "0.9778", "1.0000", "1.0000", "0.9728"]
+    demands = ["--demands", DATA / "paper" / "demands.csv"]
+    _, _, second = printed(capsys, call(program, *demands, "--finer", "1", "3")).partition("\n\n")
+    heading, *rows = words(second)
+    assert heading == ["scheduler", "governor", "finer_1", "finer_3"]
+    assert [row[3] for row in rows] == ["1.0000", "1.0000", "1.0000", "0.9778", "1.0000", "1.0000", "0.9728"]
 
 
 def bound(machine: Machine, units: int, ticks: int) -> Fraction:
@@ -152,13 +149,8 @@ def test_examples(engine: Engine, example: str, ticks: int) -> None:
 def cases(draw: st.DrawFn) -> tuple[TaskSet, Machine]:
     """Small sets, and machines whose energies are up to 1.8 * 10^27."""
     scale = draw(st.sampled_from([1, 7, 30000]))
-    task = st.tuples(st.integers(1, 9), st.integers(1, 9 * scale), st.integers(0, 3))
-    pairs = draw(st.lists(task, min_size=1, max_size=3))
-    rising = sorted(draw(st.sets(st.integers(1, 10 * scale), min_size=1, max_size=4)))
-    volts = sorted(draw(st.lists(st.integers(1, 20000), min_size=len(rising), max_size=len(rising))))
-    idle, charge = draw(st.sampled_from([0, 1, 999, 1000])), draw(st.integers(0, 1))
-    tasks = tuple(Task(f"t{place}", *pair) for place, pair in enumerate(pairs))
-    return TaskSet(tasks), Machine(tuple(map(Point, rising, volts)), idle, charge)
+    tasks = task_sets(3, st.integers(1, 9), st.integers(1, 9 * scale), st.integers(0, 3))
+    return draw(tasks), draw(machines(4, 10 * scale, 1))
 
 
 @settings(max_examples=10)
@@ -174,32 +166,18 @@ def test_energies_of_28_digits(engine: Engine) -> None:
     assert [row.result and row.result.energy for row in rows] == [2**32 * 4 * 10**17] * 7
 
 
-MINE = """trace 2
-plan edf mine 2
-task x 2 0 4
-release 0 x 1
-speed 0 3 3/1
-run 0:0 1:0 x 1 3 27000
-speed 1 2 2/1
-run 1:0 1:1 x 1 1 4000
-done 1:1 x 1 4
-idle 1:1 2:0 1 0
-energy x 31000
-end 2 31000 0
-"""
-
-
 def test_a_trace_beside_the_pairs(engine: Engine) -> None:
-    """Four units at 3 * 9000 + 4000; two ticks at 2 are 4 * 4000."""
-    machine = Machine((Point(2, 2), Point(3, 3)))
-    tasks = TaskSet((Task("x", 2, 4),))
-    rows = compare(engine, tasks, machine, 2, traces=[Trace.parse(MINE)])
+    """Four units at 3 * 9000 + 4000, and one that idles at 40; at 3 they are 36000 and two idle units 180.
+
+    Two ticks at 2 are 4 * 4000.
+    """
+    tasks, trace, half = TaskSet((Task("x", 2, 4),)), Trace.parse(MINE), Fraction(1, 2)
+    rows = compare(engine, tasks, MY_BOARD, 2, traces=[trace])
     assert len(rows) == 8 and (rows[7].scheduler, rows[7].governor) == ("edf", "mine")
-    half, none = Fraction(1, 2), Fraction(0)
-    assert rows[7].result == Result(31000, Fraction(31, 36), Fraction(15, 16), 1, half / 2, half, none,
-                                    {3: half, 2: half})
+    assert rows[7].result == Result(31040, Fraction(31040, 36180), Fraction(31040, 16000) - 1, 1, half / 2, half,
+                                    Fraction(0), {3: half, 2: half})
     with pytest.raises(TraceFault, match="line 2: a run of 2 ticks, and not of 3"):
-        compare(engine, tasks, machine, 3, traces=[Trace.parse(MINE)])
+        compare(engine, tasks, MY_BOARD, 3, traces=[trace])
 
 
 def test_other_refusals_end_it(engine: Engine) -> None:
@@ -209,11 +187,10 @@ def test_other_refusals_end_it(engine: Engine) -> None:
 
 @pytest.mark.parametrize("name", ["absent", "."])
 def test_a_file_that_is_not_there(program: Path, tmp_path: Path, name: str, capsys: Captured) -> None:
-    call = [*options("paper", program), "16", "--tasks", str(tmp_path / name)]
-    assert refusal(capsys, call).count("\n") == 1
+    assert refusal(capsys, call(program, "--tasks", tmp_path / name)).count("\n") == 1
 
 
 def test_a_trace_that_is_none(program: Path, capsys: Captured) -> None:
     demands = DATA / "paper" / "demands.csv"
-    assert refusal(capsys, [*options("paper", program), "16", "--trace", str(demands)]) == (
+    assert refusal(capsys, call(program, "--trace", demands)) == (
         f"rtdvs: {demands}: line 1: neither trace 1 nor trace 2\n")

@@ -14,7 +14,7 @@ from pathlib import Path
 from typing import Any
 
 import pytest
-from examples import DATA, SHORT, TRACES, Captured, Lines, path_id, refusal, version_1
+from examples import DATA, SHORT, TEMPLATE, TRACES, WORKED, Captured, Lines, path_id, refusal, version_1
 from hypothesis import assume, given
 from hypothesis import strategies as st
 from model import random_case
@@ -172,8 +172,7 @@ def test_any_run_is_read_back(seed: int, pair: tuple[str, str], is_version_1: bo
 
 
 def test_rows_of_the_page() -> None:
-    text = (DATA / "templates" / "edf_cc_with_demands.trace").read_text()
-    assert csv_text(Trace.parse(text), "jobs", charge=1).splitlines()[1:] == [
+    assert csv_text(Trace.read(TEMPLATE), "jobs", charge=1).splitlines()[1:] == [
         "control,1,0,4,1,1,3,3,5", "logger,1,0,8,3.500000,3.500000,4.500000,5,8", "control,2,4,8,6,2,2,4,5"]
 
 
@@ -185,8 +184,7 @@ def test_any_time_is_rounded_once(tick: int, speed: int, data: st.DataObject) ->
 
 
 @pytest.mark.parametrize(("words", "declared"), [([], 4), (["--charge", "1"], 6), (["--charge", "2"], 8)])
-def test_charge_is_in_the_declared_units(words: list[str], declared: int, tmp_path: Path,
-                                         capsys: Captured) -> None:
+def test_charge_is_in_the_declared_units(words: list[str], declared: int, tmp_path: Path, capsys: Captured) -> None:
     (tmp_path / "a").write_text("trace 2\nplan edf mine 2\ntask a 2 0 4\nrelease 0 a 1\nspeed 0 4 1/1\n"
                                 "run 0:0 2:0 a 1 8 8\ndone 2:0 a 1 8\nenergy a 8\nend 2 8 0\n")
     assert main(["convert", "--to", "csv", "--table", "jobs", "--trace", str(tmp_path / "a"), *words]) == 0
@@ -204,8 +202,7 @@ def test_charge_is_in_the_declared_units(words: list[str], declared: int, tmp_pa
     (["--to", "csv", "--charge", "1.5"], "a whole number from 0 on, not 1.5"),
 ])
 def test_usage(words: list[str], line: str, capsys: Captured) -> None:
-    trace = str(DATA / "templates" / "edf_cc_with_demands.trace")
-    assert line in refusal(capsys, ["convert", *words, "--trace", trace])
+    assert line in refusal(capsys, ["convert", *words, "--trace", TEMPLATE])
 
 
 @pytest.mark.parametrize("change", ["cut", "no plan", "more"])
@@ -213,8 +210,8 @@ def test_what_is_no_whole_trace_is_refused(change: str, tmp_path: Path, capsys: 
     lines = (DATA / "offsets" / "edf_cc.trace").read_text().splitlines(keepends=True)
     broken = {"cut": lines[:-1], "no plan": lines[:1] + lines[2:], "more": [*lines, lines[0]]}[change]
     (tmp_path / "broken").write_text("".join(broken))
-    words = ["--trace", str(tmp_path / "broken"), "--output", str(tmp_path / "out")]
-    assert refusal(capsys, ["convert", "--to", "vcd", *words]).count("\n") == 1
+    words = ["convert", "--to", "vcd", "--trace", tmp_path / "broken", "--output", tmp_path / "out"]
+    assert refusal(capsys, words).count("\n") == 1
     assert not (tmp_path / "out").exists()
 
 
@@ -244,11 +241,10 @@ def test_long_sums_stay_whole_in_a_frame() -> None:
 def test_waves_through_another_reader(tmp_path: Path) -> None:
     if not shutil.which("vcd2fst") or not shutil.which("fst2vcd"):
         pytest.skip("no vcd2fst and fst2vcd")
-    text = (DATA / "paper" / "edf_cc_with_demands.trace").read_text()
-    (tmp_path / "a.vcd").write_text(vcd_text(Trace.parse(text)))
+    (tmp_path / "a.vcd").write_text(vcd_text(Trace.read(WORKED)))
     subprocess.run(["vcd2fst", tmp_path / "a.vcd", tmp_path / "a.fst"], check=True, capture_output=True)
-    check_waves(text, subprocess.run(["fst2vcd", tmp_path / "a.fst"], check=True, capture_output=True,
-                                     text=True).stdout)
+    back = subprocess.run(["fst2vcd", tmp_path / "a.fst"], check=True, capture_output=True, text=True)
+    check_waves(WORKED.read_text(), back.stdout)
 
 
 def test_decimal_comma(request: pytest.FixtureRequest) -> None:
@@ -257,4 +253,4 @@ def test_decimal_comma(request: pytest.FixtureRequest) -> None:
         locale.setlocale(locale.LC_NUMERIC, "de_DE.UTF-8")
     except locale.Error:
         pytest.skip("no locale with a decimal comma")
-    check_all((DATA / "paper" / "edf_cc_with_demands.trace").read_text())
+    check_all(WORKED.read_text())

@@ -4,19 +4,17 @@ from fractions import Fraction
 from pathlib import Path
 
 import pytest
-from examples import TOP, Captured, printed, refusal
+from examples import TOP, XSCALE, Captured, printed, refusal
 from hypothesis import given
 from hypothesis import strategies as st
 
-from rtdvs.cli import main
 from rtdvs.design import (
     Board, BoardPoint, BoardTask, Scale, choose_scale, choose_tick, design, plain, rounded, settle,
     usual_demands,
 )
 from rtdvs.files import Demands, FileFault, Machine, Point, Task, TaskSet
 
-# The controller and the decoder of the page on units, on five operating points of the XScale.
-XSCALE = ((150, "0.75"), (400, "1.0"), (600, "1.3"), (800, "1.6"), (1000, "1.8"))
+# The controller and the decoder of the page on units, on operating points of the XScale.
 TASKS = """
 [[task]]
 name = "control"
@@ -29,10 +27,9 @@ period_ms = 40
 worst_cycles = 16_000_000
 usual_cycles = 8e6
 """
-VOLTS = TASKS + "".join(f"[[point]]\nmhz = {mhz}\nvolts = {volts}\n" for mhz,
-                        volts in XSCALE) + "milliwatts = 1600\n"
-POWER = TASKS + "".join(f"[[point]]\nmhz = {mhz}\nmilliwatts = {power}\n"
-                        for mhz, power in ((400, 170), (600, 400), (800, 900), (1000, 1600)))
+VOLTS = TASKS + "".join(f"[[point]]\nmhz = {mhz}\nvolts = {volts}\n" for mhz, volts, _ in XSCALE) + (
+    "milliwatts = 1600\n")
+POWER = TASKS + "".join(f"[[point]]\nmhz = {mhz}\nmilliwatts = {power}\n" for mhz, _, power in XSCALE[1:])
 MS = Scale(Fraction(1), Fraction(1000))
 decimals = st.decimals("0.01", "1000", places=3).map(lambda number: Fraction(str(number)))
 
@@ -40,8 +37,8 @@ decimals = st.decimals("0.01", "1000", places=3).map(lambda number: Fraction(str
 def test_files_of_the_page() -> None:
     made = design(Board.parse("idle_share = 0.1\nswitch_us = 20\n" + VOLTS), MS)
     assert made.tasks.tasks == (Task("control", 5, 1200), Task("decode", 40, 16000))
-    assert made.machine == Machine(tuple(Point(mhz, int(1000 * float(volts))) for mhz, volts in XSCALE), 100,
-                                   20)
+    points = tuple(Point(mhz, int(1000 * float(volts))) for mhz, volts, _ in XSCALE)
+    assert made.machine == Machine(points, 100, 20)
     assert made.roundings == ()
 
 
@@ -150,20 +147,19 @@ def test_usual_demands() -> None:
 def test_refusals(old: str, new: str, line: str, tmp_path: Path, capsys: Captured) -> None:
     assert old in VOLTS
     (tmp_path / "board.toml").write_text(VOLTS.replace(old, new, 1))
-    said = refusal(capsys, ["design", "--board", str(tmp_path / "board.toml")])
+    said = refusal(capsys, ["design", "--board", tmp_path / "board.toml"])
     assert line in said and said.count("\n") == 1
 
 
 def test_command_writes_files_and_gives_joules_back(tmp_path: Path, capsys: Captured) -> None:
     (tmp_path / "board.toml").write_text("battery_mwh = 3700\n" + VOLTS)
-    board = ["design", "--board", str(tmp_path / "board.toml"), "--tick-ms", "1", "--unit-cycles", "1000"]
-    assert printed(capsys, [*board, "--folder", str(tmp_path / "made")]) == (
-        "a tick is 1 ms, a unit 1000 cycles\n")
+    board = ["design", "--board", tmp_path / "board.toml", "--tick-ms", "1", "--unit-cycles", "1000"]
+    assert printed(capsys, [*board, "--folder", tmp_path / "made"]) == "a tick is 1 ms, a unit 1000 cycles\n"
     assert TaskSet.read(tmp_path / "made" / "tasks.toml").tasks[1] == Task("decode", 40, 16000)
     assert Machine.read(tmp_path / "made" / "machine.toml").points[4] == Point(1000, 1800)
     (tmp_path / "run.trace").write_text(
         "trace 1\nplan edf static 40\nspeed 0 800 1/1\nend 40 65536000000000 1638400000000\n")
-    assert printed(capsys, [*board, "--trace", str(tmp_path / "run.trace")]) == (
+    assert printed(capsys, [*board, "--trace", tmp_path / "run.trace"]) == (
         "0.0331725 joules in 40 ms\n829.314 milliwatts on average\n"
         "4.46152 hours from 3700 milliwatt hours\n")
 
@@ -188,19 +184,18 @@ def test_usage(words: list[str], line: str, monkeypatch: pytest.MonkeyPatch, cap
     ([], [(500, 825), (747, 900), (1400, 1188)]),
     (["--tick-ms", "0.1", "--unit-cycles", "10000"], [(5, 825), (7, 900), (14, 1188)]),
 ])
-def test_machine_of_a_device_tree(words: list[str], points: list[tuple[int, int]],
-                                  tmp_path: Path) -> None:
-    tree = ["design", "--device-tree", str(TOP / "examples" / "board.dts"), "--table", "little"]
-    assert main([*tree, *words, "--output", str(tmp_path / "machine.toml")]) == 0
+def test_machine_of_a_device_tree(
+        words: list[str], points: list[tuple[int, int]], tmp_path: Path, capsys: Captured) -> None:
+    tree = ["design", "--device-tree", TOP / "examples" / "board.dts", "--table", "little"]
+    printed(capsys, [*tree, *words, "--output", tmp_path / "machine.toml"])
     assert Machine.read(tmp_path / "machine.toml") == Machine(tuple(Point(*point) for point in points))
     (tmp_path / "board.toml").write_text(TASKS)
-    assert main([*tree, "--board", str(tmp_path / "board.toml"), "--folder",
-                 str(tmp_path)]) == 0
+    printed(capsys, [*tree, "--board", tmp_path / "board.toml", "--folder", tmp_path])
 
 
 def test_tick_is_settled_by_the_program(program: Path, tmp_path: Path, capsys: Captured) -> None:
     (tmp_path / "board.toml").write_text(VOLTS)
-    words = ["--settle-ms", "80", "--governor", "la", "--program", str(program)]
-    lines = printed(capsys, ["design", "--board", str(tmp_path / "board.toml"), *words]).splitlines()[:-1]
+    words = ["--settle-ms", "80", "--governor", "la", "--program", program]
+    lines = printed(capsys, ["design", "--board", tmp_path / "board.toml", *words]).splitlines()[:-1]
     joules = [Fraction(line.split(": ")[1].split(" ")[0]) for line in lines]
     assert len(joules) > 1 and abs(joules[-1] - joules[-2]) <= joules[-1] / 99

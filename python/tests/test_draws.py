@@ -2,7 +2,6 @@
 
 from collections.abc import Iterator
 from fractions import Fraction
-from functools import partial
 from itertools import product
 from math import exp, log, sqrt
 from typing import Any
@@ -18,6 +17,7 @@ from rtdvs.draws import (
 )
 
 Drawn = list[tuple[int, int]]
+DIVISORS = [period for period in range(400, 400001) if 720720 % period == 0]
 
 
 def drawn(tasks: TaskSet) -> Drawn:
@@ -33,13 +33,18 @@ def numbers(seed: int, left_out: int = 0) -> Iterator[float]:
         left_out -= 1
 
 
+def nearest(choices: list[int], time: float) -> int:
+    """The choice next to a time, the lower one of two."""
+    return min(choices, key=lambda choice: (abs(choice - Fraction(time)), choice))
+
+
 def wanted(count: int, utilisation: Fraction, seed: int, choices: list[int], bounds: tuple[int, int] | None,
            top: int) -> Drawn:
     """Periods and worst cases by the rule of UUniFast; without bounds each choice is equally likely."""
     random = numbers(seed, 11 + int(next(numbers(seed, 10)) * 1000))
     if bounds:
-        times = [bounds[0] * exp(next(random) * log(bounds[1] / bounds[0])) for _ in range(count)]
-        periods = [min(choices, key=lambda d: (abs(Fraction(d) - Fraction(time)), d)) for time in times]
+        ratio = log(bounds[1] / bounds[0])
+        periods = [nearest(choices, bounds[0] * exp(next(random) * ratio)) for _ in range(count)]
     else:
         periods = [choices[int(next(random) * len(choices))] for _ in range(count)]
     left, worsts = float(utilisation), []
@@ -97,23 +102,22 @@ def test_shares_have_the_distribution_of_uunifast() -> None:
             assert abs(above - sets * chance) <= 4 * sqrt(sets * chance * (1 - chance))
 
 
-@pytest.mark.parametrize(("count", "utilisation", "seed", "options", "reason"), [
-    (0, Fraction(1), 1, {}, "count is 1 to 64"), (65, Fraction(1), 1, {}, "count is 1 to 64"),
-    (1, Fraction(2), 1, {}, "utilisation is above 0 and at most 1"),
-    (1, Fraction(0), 1, {}, "utilisation is above 0 and at most 1"),
-    (1, Fraction(1), 0, {}, "seed is 1 to 2147483646"),
-    (1, Fraction(1), 2**31 - 1, {}, "seed is 1 to 2147483646"),
-    (1, Fraction(1), 1, {"top": 0}, "top is 1 to 1000000"),
-    (1, Fraction(1), 1, {"top": 1000001}, "top is 1 to 1000000"),
-    (1, Fraction(1, 10**6), 1, {"periods": Listed((1,))},
+RIGHT: dict[str, Any] = {"count": 1, "utilisation": Fraction(1), "seed": 1}
+
+
+@pytest.mark.parametrize(("changes", "reason"), [
+    ({"count": 0}, "count is 1 to 64"), ({"count": 65}, "count is 1 to 64"),
+    ({"utilisation": Fraction(2)}, "utilisation is above 0 and at most 1"),
+    ({"utilisation": Fraction(0)}, "utilisation is above 0 and at most 1"),
+    ({"seed": 0}, "seed is 1 to 2147483646"), ({"seed": 2**31 - 1}, "seed is 1 to 2147483646"),
+    ({"top": 0}, "top is 1 to 1000000"), ({"top": 1000001}, "top is 1 to 1000000"),
+    ({"utilisation": Fraction(1, 10**6), "periods": Listed((1,))},
      "no unit is left for the task with the longest period; a higher top may leave one"),
-    (1, Fraction(1), 1, {"periods": LogUniform(11, 12, 7)},
-     "no period from low to high divides the multiple"),
+    ({"periods": LogUniform(11, 12, 7)}, "no period from low to high divides the multiple"),
 ])
-def test_what_cannot_be_drawn(count: int, utilisation: Fraction, seed: int, options: dict[str, Any],
-                              reason: str) -> None:
+def test_what_cannot_be_drawn(changes: dict[str, Any], reason: str) -> None:
     with pytest.raises(DrawFault) as fault:
-        uunifast(count, utilisation, seed, **options)
+        uunifast(**RIGHT | changes)
     assert str(fault.value) == reason
 
 
@@ -136,16 +140,11 @@ def published_in_floats(most: int) -> Iterator[tuple[str, Drawn]]:
         low = 1 if low < 1 / 3 else 10 if low < 2 / 3 else 100
         return low + next(random) * 9 * low
 
-    choices = [d for d in range(400, 400001) if 720720 % d == 0]
     for count, tenths, number in product((5, 8, 10, 15), range(1, 11), range(1, most + 1)):
-        pairs = [(min(choices, key=partial(away, time() * 400)), time()) for _ in range(count)]
+        pairs = [(nearest(DIVISORS, time() * 400), time()) for _ in range(count)]
         rates = sum(weight / period for period, weight in pairs)
         yield f"{count}_{tenths}_{number}", [(period, int(tenths * 10000 * weight / rates))
                                              for period, weight in pairs]
-
-
-def away(one: float, other: float) -> float:
-    return abs(one - other)
 
 
 def test_published_sets_by_the_rule() -> None:
@@ -164,9 +163,8 @@ def test_uunifast_sets_of_the_evaluation() -> None:
     sets = dict(uunifast_sets(1))
     assert len(sets) == 40
     name = SetName(8, 7, 1)
-    choices = [d for d in range(400, 400001) if 720720 % d == 0]
     seed = 1000000000 + ((2001 * 20 + 8) * 11 + 7) * 1000 + 1
-    assert drawn(sets[name]) == wanted(8, Fraction(7, 10), seed, choices, (400, 400000), 100000)
+    assert drawn(sets[name]) == wanted(8, Fraction(7, 10), seed, DIVISORS, (400, 400000), 100000)
 
 
 @given(st.integers(1, 2**31 - 2), st.integers(1, 9))

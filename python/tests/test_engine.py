@@ -11,7 +11,7 @@ from concurrent.futures import Executor, ProcessPoolExecutor, ThreadPoolExecutor
 from pathlib import Path
 
 import pytest
-from examples import BOARD, DATA, PAPER
+from examples import BOARD, DATA, PAPER, SOURCE, fake, files
 
 from rtdvs import engine as engine_module
 from rtdvs.engine import (
@@ -30,15 +30,6 @@ def engine(request: pytest.FixtureRequest) -> Engine:
     return find_engine(request.getfixturevalue(request.param), timeout)
 
 
-def fake(folder: Path, body: str, name: str = "rtdvs") -> Path:
-    """A program that runs these lines of the shell."""
-    folder.mkdir(exist_ok=True)
-    program = folder / name
-    program.write_text(f"#!/bin/sh\n{body}\n")
-    program.chmod(0o755)
-    return program
-
-
 # Answers; the expected ones are those of docs/COMMANDS.md.
 
 def test_admitted(engine: Engine) -> None:
@@ -47,8 +38,7 @@ def test_admitted(engine: Engine) -> None:
 
 
 def test_run(engine: Engine) -> None:
-    paper = DATA / "paper"
-    demands = Demands.read(paper / "demands.csv", PAPER)
+    paper, (_, _, demands) = DATA / "paper", files("paper")
     stored = (paper / "edf_cc_with_demands.trace").read_text()
     assert engine.run(PAPER, BOARD, "edf", "cc", 16, demands, version=1) == stored
     second = engine.run(paper / "tasks.toml", BOARD, "edf", "cc", 16, demands)
@@ -185,29 +175,22 @@ def test_refusals_of_the_program(engine: Engine, tmp_path: Path) -> None:
 
 # Programs that fail
 
-def test_a_program_that_is_not_there(tmp_path: Path) -> None:
-    with pytest.raises(NoEngine, match="absent: No such file or directory"):
-        Engine(tmp_path / "absent").workload(1)
-    with pytest.raises(NoEngine, match="Permission denied"):
-        Engine(tmp_path).workload(1)
+@pytest.mark.parametrize(("name", "said"), [
+    ("absent", "absent: No such file or directory"), (".", "Permission denied"), ("broken", "Exec format error"),
+])
+def test_what_is_no_program(name: str, said: str, tmp_path: Path) -> None:
+    fake(tmp_path, "", "broken").write_bytes(b"\x7fELF broken")
+    with pytest.raises(NoEngine, match=said):
+        Engine(tmp_path / name).workload(1)
 
 
-def test_a_file_that_is_no_program(tmp_path: Path) -> None:
-    fake(tmp_path, "").write_bytes(b"\x7fELF broken")
-    with pytest.raises(NoEngine, match="Exec format error"):
-        Engine(tmp_path / "rtdvs").workload(1)
-
-
-def test_a_program_that_is_killed(tmp_path: Path) -> None:
-    with pytest.raises(Crashed, match="signal 9"):
-        Engine(fake(tmp_path, "kill -9 $$")).workload(1)
-
-
-@pytest.mark.parametrize(("status", "kind"), [(8, WriteFailed), (9, OutOfMemory), (42, Crashed)])
-def test_a_program_that_ends_otherwise(status: int, kind: type[EngineError],
-                                       tmp_path: Path) -> None:
-    with pytest.raises(kind):
-        Engine(fake(tmp_path, f"echo workload; exit {status}")).workload(1)
+@pytest.mark.parametrize(("end", "kind", "said"), [
+    ("kill -9 $$", Crashed, "signal 9"), ("exit 8", WriteFailed, "^$"), ("exit 9", OutOfMemory, "no memory"),
+    ("exit 42", Crashed, "status 42"),
+])
+def test_a_program_that_fails(end: str, kind: type[EngineError], said: str, tmp_path: Path) -> None:
+    with pytest.raises(kind, match=said):
+        Engine(fake(tmp_path, f"echo workload; {end}")).workload(1)
 
 
 def test_a_program_that_never_ends(tmp_path: Path) -> None:
@@ -322,8 +305,7 @@ def test_folder_named_as_the_program(bare: Path) -> None:
 
 # Lists of calls
 
-def calls() -> list[Call]:
-    return [workload_call(seed) for seed in range(12)]
+CALLS = [workload_call(seed) for seed in range(12)]
 
 
 @pytest.fixture(params=["program", "library"])
@@ -339,25 +321,25 @@ def seeds(answers: Iterator[Answer]) -> list[int]:
 
 
 def test_answers_are_lazy(echo: Engine) -> None:
-    assert int(next(echo.answers(iter(calls()[5:]))).out) == 5
+    assert int(next(echo.answers(iter(CALLS[5:]))).out) == 5
 
 
 @pytest.mark.parametrize("kind", [ThreadPoolExecutor, ProcessPoolExecutor])
 def test_answers_on_executors(kind: type[Executor], echo: Engine) -> None:
     with kind(2) as executor:  # type: ignore[call-arg]
-        assert seeds(echo.answers(calls(), executor)) == [*range(12)]
+        assert seeds(echo.answers(CALLS, executor)) == [*range(12)]
 
 
 def test_errors_on_executors(tmp_path: Path) -> None:
     with ProcessPoolExecutor(1) as executor, pytest.raises(NoEngine, match="absent"):
-        list(Engine(tmp_path / "absent").answers(calls(), executor))
+        list(Engine(tmp_path / "absent").answers(CALLS, executor))
 
 
 def test_answers_on_dask(echo: Engine, tmp_path: Path) -> None:
     distributed = pytest.importorskip("distributed")
     options = {"processes": False, "dashboard_address": ":0", "local_directory": str(tmp_path)}
     with distributed.LocalCluster(1, **options) as cluster, distributed.Client(cluster) as client:
-        assert seeds(echo.answers(calls(), client.get_executor())) == [*range(12)]
+        assert seeds(echo.answers(CALLS, client.get_executor())) == [*range(12)]
 
 
 MPI = """
@@ -381,38 +363,18 @@ def test_answers_on_mpi(echo: Engine, tmp_path: Path) -> None:
     words = ["mpiexec", "-n", "2", sys.executable, "-m", "mpi4py.futures", "sweep.py", str(echo.program)]
     allowed = ("ALLOW_RUN_AS_ROOT", "ALLOW_RUN_AS_ROOT_CONFIRM", "MCA_rmaps_base_oversubscribe")
     variables = {f"OMPI_{name}": "1" for name in allowed}
-    environment = os.environ | variables | {"PYTHONPATH": str(Path(engine_module.__file__).parents[1])}
+    environment = os.environ | variables | {"PYTHONPATH": SOURCE}
     ran = subprocess.run(words, cwd=tmp_path, env=environment, capture_output=True, text=True, timeout=300)
     assert ran.stdout.split() == [str(seed) for seed in range(12)], ran.stderr
 
 
 # rt try
 
-TRIED = r"""
-[ "$1 $2 $3 $4" = 'try --seconds 3600 --cases' ] && [ "$(basename "$PWD")" = crate ] || exit 2
-echo "$@" >> "$0.log"
-for case in "$5"/*[0-9]; do
-    echo "== $(basename "$case")"
-    if grep -q seven "$case.args"; then
-        echo 'checked: no-answer: too much' >&2
-        echo "case=$(basename "$case") run=no-answer proved=no" >&2
-    elif grep -q admit "$case.args"; then
-        echo 'denied edf 248 240' >&2
-        echo "case=$(basename "$case") run=ended status=1 runners=1 proved=no" >&2
-    else
-        tail -n 1 "$case.args"
-        echo "case=$(basename "$case") run=ended status=0 runners=1 proved=no" >&2
-    fi
-done
-echo cases=3 proved=no >&2
-"""
-
-
 @pytest.fixture
 def tried(bare: Path, monkeypatch: pytest.MonkeyPatch) -> TryEngine:
-    """A stand-in for `rt try --cases`, which prints each case's last argument."""
+    """The stand-in for `rt try --cases` of stand_in.sh."""
     (bare / "crate").mkdir()
-    fake(bare / "bin", TRIED, "rt")
+    fake(bare / "bin", Path(__file__).with_name("stand_in.sh").read_text(), "rt")
     monkeypatch.setenv("PATH", f"{bare}/bin:/usr/bin:/bin")
     return TryEngine(bare / "crate")
 

@@ -6,18 +6,17 @@ from fractions import Fraction
 from pathlib import Path
 
 import pytest
-from examples import TOP, Captured, printed
+from examples import MINE, MY_BOARD, TOP, Captured, printed, refusal, version_1
 from hypothesis import given
 from hypothesis import strategies as st
 
-from rtdvs.cli import main
 from rtdvs.draws import SetName, published_sets
 from rtdvs.engine import Engine
 from rtdvs.evaluate import (
     CURVES, FIGURES, MACHINES, Record, Sweep, evaluate, faults, figure_table, panels_of, point,
     read_records, recount, shares, summary,
 )
-from rtdvs.files import FileFault, Machine, Point
+from rtdvs.files import FileFault
 
 NAME = SetName(8, 7, 1)
 SMALL = Sweep("published", 1, counts=(5,), tenths=(1, 9))
@@ -122,7 +121,7 @@ def test_a_folder_has_one_sweep(program: Path, tmp_path: Path) -> None:
 
 
 def test_the_command_writes_tables(program: Path, tmp_path: Path, capsys: Captured) -> None:
-    call = ["evaluate", "--program", str(program), "--folder", str(tmp_path), "--sets", "1", "--counts", "5",
+    call = ["evaluate", "--program", program, "--folder", tmp_path, "--sets", "1", "--counts", "5",
             "--utilisations", "0.1", "1", "--jobs", "2"]
     assert printed(capsys, call).splitlines()[-1].endswith("2 groups, 3 denied under RM, 0 faults")
     rows = [line.split("\t") for line in (tmp_path / "tasks.tsv").read_text().splitlines()[1:]]
@@ -131,22 +130,8 @@ def test_the_command_writes_tables(program: Path, tmp_path: Path, capsys: Captur
 
 @pytest.mark.parametrize("words", [
     ["--utilisations", "0.15"], ["--counts", "6"], ["--sets", "0"], ["--draws", "other"], ["--jobs", "0"]])
-def test_what_cannot_be_swept(program: Path, tmp_path: Path, words: list[str]) -> None:
-    assert main(["evaluate", "--program", str(program), "--folder", str(tmp_path), *words]) == 2
-
-
-BOARD = Machine((Point(2, 2), Point(3, 3)), idle=10)
-RIGHT = """trace 1
-plan edf mine 2
-release 0 x 1
-speed 0 3 3/1
-run 0:0 1:0 x 1 3 27000
-speed 1 2 2/1
-run 1:0 1:1 x 1 1 4000
-done 1:1 x 1 4
-idle 1:1 2:0 1 40
-end 2 31000 40
-"""
+def test_what_cannot_be_swept(program: Path, tmp_path: Path, capsys: Captured, words: list[str]) -> None:
+    refusal(capsys, ["evaluate", "--program", program, "--folder", tmp_path, *words])
 
 
 @pytest.mark.parametrize(("old", "new", "reason"), [
@@ -157,6 +142,7 @@ end 2 31000 40
     ("idle 1:1 2:0 1 40\nend 2 31000 40", "end 2 31000 0", "units 4, counted 5"),
 ])
 def test_recounted_traces(old: str, new: str, reason: str) -> None:
-    recount(BOARD, RIGHT)
+    right = version_1(MINE)
+    recount(MY_BOARD, right)
     with pytest.raises(AssertionError, match=reason):
-        recount(BOARD, RIGHT.replace(old, new))
+        recount(MY_BOARD, right.replace(old, new))

@@ -10,7 +10,7 @@ from itertools import product
 from pathlib import Path
 
 import pytest
-from examples import DATA, SHORT, TOP, Captured, files, version_1
+from examples import DATA, SHORT, TEMPLATE, TEST_DATA, TOP, WORKED, Captured, files, version_1
 from model import random_case
 
 from rtdvs.cli import main
@@ -95,9 +95,9 @@ def plain(text: bytes) -> bytes:
 
 def stored_calls() -> Traces:
     """The `run` calls with status 0, each with the files before it, and their output."""
-    crate, name, files, call = TOP / "crates/stored_calls", "", dict[str, bytes](), 0
+    crate, name, files = TOP / "crates/stored_calls", "", dict[str, bytes]()
     block = rb"^rtdvs ?(.*)\n((?:(?:[|!].*|no line feed)\n)*)status (.*)$"
-    answers = re.findall(block, (crate / "stdout").read_bytes(), re.M)
+    answers = iter(re.findall(block, (crate / "stdout").read_bytes(), re.M))
     for line in (crate / "data/calls.txt").read_bytes().split(b"\n"):
         if line.startswith(b"file "):
             name = line[5:].decode()
@@ -105,9 +105,8 @@ def stored_calls() -> Traces:
         elif line[:1] in (b"|", b"-"):
             files[name] += plain(line[1:]) + (b"\n" if line[:1] == b"|" else b"")
         elif line.startswith(b"call"):
-            called, output, status = answers[call]
+            called, output, status = next(answers)
             assert called == line[5:]
-            call += 1
             words = [word for word in line.decode("latin-1").split(" ")[1:] if word != "--probes"]
             if words[:1] == ["run"] and status == b"0":
                 lines = [each[1:] for each in output.decode().splitlines(True) if each.startswith("|")]
@@ -115,7 +114,7 @@ def stored_calls() -> Traces:
                 tasks = TaskSet.parse(files[named["--tasks"]])
                 demands = Demands.parse(files[named["--demands"]], tasks) if "--demands" in named else None
                 yield Inputs(tasks, Machine.parse(files[named["--machine"]]), demands), "".join(lines)
-    assert call == len(answers)
+    assert [*answers] == []
 
 
 @pytest.mark.parametrize("traces", [stored_traces, runs_of_the_examples, stored_calls])
@@ -126,84 +125,14 @@ def test_stored(traces: Callable[[], Traces]) -> None:
     assert len(runs) > 10
 
 
-# Altered by hand: the trace, lines of it with what is there instead, the first wrong line, and a part of the
-# reason. CC is the example of docs/TRACE.md.
-
-CC, RM, TEMPLATE = "paper/edf_cc_with_demands", "paper/rm_cc_with_demands", "templates/edf_cc_with_demands"
-BY_HAND: list[tuple[str, dict[int, str | None], int, str]] = [
-    (CC, {2: "plan edf cc"}, 2, "not a plan line"),
-    (CC, {2: "plan rm la 16"}, 2, "no scheduler and governor rm la"),
-    (CC, {3: "release 0 t2 1"}, 3, "the release of t1 comes first"),
-    (CC, {4: "release 0 t4 1"}, 4, "no task t4"),
-    (CC, {5: "release 0 t3 2"}, 5, "wanted job 1"),
-    # The fraction is not reduced.
-    (CC, {6: "speed 0 3 209/70"}, 6, "the demand is 836/280: t1 job 1 is not complete"),
-    (CC, {6: None}, 6, "the decision at tick 0 is missing"),
-    (CC, {7: "run 0:0 3:0 t1 1 9 144000000000"}, 7, "8 units left"),  # the demand file says 8
-    (CC, {7: "run 00:0 2:2 t1 1 8 128000000000"}, 7, "not a line of a trace"),
-    (CC, {9: "run 2:2 3:0 t3 1 1 16000000000"}, 9, "t2 job 1 comes first: it is not complete, and due at 10"),
-    # 2 of the 3 units of tick 2 have passed.
-    (CC, {9: "run 2:2 3:0 t2 1 2 32000000000"}, 9, "1 up to a decision at tick 3"),
-    (CC, {11: "run 3:0 4:0 t2 1 3 48000000001"}, 11, "= 48000000000"),  # 3 * 4000 * 4000 * 1000
-    (CC, {12: None}, 12, "t2 job 1 has had all of its 4 units, and its done line is missing"),
-    (CC, {13: "speed 4 3 472/280"}, 13, "lowest that meets 472/280: speed 2: 2 * 280 = 560, enough"),
-    (CC, {14: "run 4:0 5:0 t3 1 2 18000000000"}, 14, "gets 4 units"),  # no decision at tick 5
-    (CC, {14: "run 4:0 6:0 t1 1 4 36000000000"}, 14, "t1 job 1 is complete"),
-    (CC, {16: None}, 16, "the decision at tick 6 is missing"),
-    (CC, {17: "run 6:0 8:0 t1 2 4 36000000000"}, 17, "released at tick 8"),
-    (CC, {17: "idle 6:0 7:0 2 0"}, 17, "4 units are idle here"),  # no decision at tick 7
-    (CC, {18: "release 7 t1 2"}, 18, "the trace is at 8:0"),
-    (CC, {23: None}, 23, "t2 job 2 at tick 10 is missing"),
-    (CC, {28: "end 16 328000000000 0"}, 28, "the trace is at 12:0"),
-    (CC, {33: "end 16 364000000001 0"}, 33, "364000000000 for runs"),
-    (CC, {33: None}, 33, "ends before its end line"),
-    (RM, {13: "done 4:0 t3 1 2"}, 13, "needs 4 units"),
-    (TEMPLATE, {4: "task logger 8 0 5"}, 4, "wanted task logger 8 0 6"),
-    (TEMPLATE, {4: None}, 4, "wanted task logger 8 0 6"),
-    (TEMPLATE, {4: "task logger 8 0 6\ntask more 8 0 6"}, 5, "not in the task file"),
-    (TEMPLATE, {13: "idle 3:1 4:0 1 100000001"}, 13, "= 100000000"),  # 1 * 1000 * 1000 * 100
-    (TEMPLATE, {21: "energy logger 5000000001"}, 21, "add up to 5000000000"),
-]
+# Altered by hand
 
 # At speed 2 `t1` takes the ticks 0 to 6, so that `t2` has 2 * 4 of its 12 units by its deadline, tick 10.
-LATE = """trace 1
-plan edf slow 16
-release 0 t1 1
-release 0 t2 1
-release 0 t3 1
-speed 0 2 2/1
-run 0:0 6:0 t1 1 12 108000000000
-done 6:0 t1 1 12
-run 6:0 8:0 t2 1 4 36000000000
-release 8 t1 2
-speed 8 2 2/1
-run 8:0 10:0 t2 1 4 36000000000
-release 10 t2 2
-"""
+LATE = (TEST_DATA / "late.trace").read_text()
 LATE_END = LATE.replace("slow 16", "slow 10").replace("release 10 t2 2", "end 10 180000000000 0")
 # A governor that changes the speed at ticks without an event, and keeps it over one: x needs 4 units from the
 # ticks 0 and 4 on, y needs 6 from tick 2 on.
-SAW = """trace 1
-plan edf saw 8
-release 0 x 1
-speed 0 4 4/1
-run 0:0 1:0 x 1 4 100000000000
-done 1:0 x 1 4
-speed 1 2 2/1
-idle 1:0 2:0 2 0
-release 2 y 1
-speed 2 4 4/1
-run 2:0 3:0 y 1 4 100000000000
-speed 3 2 2/1
-run 3:0 4:0 y 1 2 18000000000
-done 4:0 y 1 6
-release 4 x 2
-speed 4 4 4/1
-run 4:0 5:0 x 2 4 100000000000
-done 5:0 x 2 4
-idle 5:0 8:0 12 0
-end 8 318000000000 0
-"""
+SAW = (TEST_DATA / "saw.trace").read_text()
 
 
 def edited(text: str, edits: dict[int, str | None]) -> list[str]:
@@ -218,13 +147,23 @@ def assert_wrong(inputs: Inputs, lines: list[str], wanted: int, part: str, known
     assert refusal and refusal[0] == wanted and part in refusal[1], refusal
 
 
-@pytest.mark.parametrize(("trace", "edits", "wanted", "part"), BY_HAND)
-def test_altered_by_hand(trace: str, edits: dict[int, str | None], wanted: int, part: str) -> None:
-    lines = edited((DATA / f"{trace}.trace").read_text(), edits)
-    assert_wrong(folder(trace.split("/")[0]), lines, wanted, part)
+def altered_by_hand() -> Iterator[tuple[str, int, str, str]]:
+    """The rows of altered.txt: a trace, a line's number, what is there instead, a part of the reason."""
+    trace = ""
+    for line in (TEST_DATA / "altered.txt").read_text().splitlines():
+        if row := re.fullmatch(r"(\d+) (.*?) ?=> (.*)", line):
+            yield trace, int(row[1]), row[2], row[3]
+        elif not line.startswith("#"):
+            trace = line
 
 
-CC_TEXT, TEMPLATE_TEXT = (DATA / f"{CC}.trace").read_text(), (DATA / f"{TEMPLATE}.trace").read_text()
+@pytest.mark.parametrize(("trace", "number", "new", "part"), altered_by_hand())
+def test_altered_by_hand(trace: str, number: int, new: str, part: str) -> None:
+    lines = edited((DATA / f"{trace}.trace").read_text(), {number: new or None})
+    assert_wrong(folder(trace.split("/")[0]), lines, number, part)
+
+
+CC_TEXT, TEMPLATE_TEXT = WORKED.read_text(), TEMPLATE.read_text()
 UNKNOWN: list[tuple[str, list[str], int, str, bool]] = [  # without a demand file; the last entry is --any
     # t2 may need 11 units more at tick 3, and 15 fit up to tick 8.
     ("paper", edited(CC_TEXT, {12: None}), 12, "gets 11 units", False),
@@ -273,16 +212,12 @@ def altered(rng: random.Random, lines: list[str]) -> tuple[list[str], int, str]:
     return [*lines[:place], text[:at] + digit + text[at + 1:], *lines[place + 1:]], place + 1, word
 
 
-def random_inputs(seed: int) -> tuple[Inputs, int]:
-    tasks, machine, demands, ticks = random_case(seed, long=True)
-    return Inputs(tasks, machine, demands if seed % 4 else None), ticks
-
-
 @pytest.mark.parametrize("part", range(8))
 def test_random_plans(part: int, engine: Engine) -> None:
     """The program's traces are the simulated ones, and right; altered ones are refused at the wrong line."""
     for seed in range(12 * part, 12 * part + 12):
-        inputs, ticks = random_inputs(seed)
+        tasks, machine, demands, ticks = random_case(seed, long=True)
+        inputs = Inputs(tasks, machine, demands if seed % 4 else None)
         rng = random.Random(seed)
         for pair in PAIRS:
             version = rng.choice([1, 2])
@@ -325,20 +260,17 @@ def test_a_long_trace_in_little_memory() -> None:
 
 Said = tuple[int, list[str], str]
 Run = Callable[..., Said]
-PAPER = {name: str(DATA / "paper" / file) for name, file in [
-    ("--tasks", "tasks.toml"), ("--machine", "machine.toml"), ("--trace", "edf_cc_with_demands.trace"),
-    ("--demands", "demands.csv")]}
+PAPER = {kind: DATA / "paper" / name for kind, name in [
+    ("tasks", "tasks.toml"), ("machine", "machine.toml"), ("demands", "demands.csv"), ("trace", WORKED.name)]}
 TOTALS = "16 ticks, 6 jobs released, 6 complete, 8 decisions, energy 364000000000 running and 0 idle"
 
 
 @pytest.fixture
 def call(capsys: Captured) -> Run:
     """Calls `explain` with the files of the paper's example, or others; gives its status and what it says."""
-    def run(*words: str, **files: str | None) -> Said:
-        chosen = PAPER | {f"--{name}": path for name, path in files.items()}
-        options = [word for name, path in chosen.items() if path is not None for word in (name, path)]
-        status = main(["explain", *options, *words])
-        out, notes = capsys.readouterr()
+    def run(*words: str, **files: Path | None) -> Said:
+        named = [f"--{kind}={path}" for kind, path in (PAPER | files).items() if path]
+        status, (out, notes) = main(["explain", *named, *words]), capsys.readouterr()
         return status, out.splitlines(), notes
     return run
 
@@ -346,50 +278,10 @@ def call(capsys: Captured) -> Run:
 # The lines of docs/TRACE.md: 12 * 35 + 12 * 28 + 4 * 20 = 836, then 8 * 35 + 336 + 80 = 696. Under RM 8 ticks
 # at the static speed 4 are 32 units, for 12 + 12 + 4; by tick 4 `t3` has had 2 of its 4. Under look-ahead, as
 # on a board: 4 * 280 = 1120, less the rates of the others; 364 * 6/280 = 7.8, and 1120/6 = 186.7.
-BOARDS = [("edf_cc", 0, """\
-line 6, tick 0, release of t1 job 1, t2 job 1 and t3 job 1: 836/280, speed 3
-    t1 job 1 is not complete, worst case 12: 12 * 280/8 = 420
-    t2 job 1 is not complete, worst case 12: 12 * 280/10 = 336
-    t3 job 1 is not complete, worst case 4: 4 * 280/14 = 80
-    420 + 336 + 80 = 836, over the hyperperiod 280
-    speed 2: 2 * 280 = 560, less than 836
-    speed 3: 3 * 280 = 840, enough
-    t1 job 1 runs: of 3 open it is due first, at 8
-line 10, tick 3, since t1 job 1 was complete in tick 2: 696/280, speed 3
-    t1 job 1 is complete with 8: 8 * 280/8 = 280
-    t2 job 1 is not complete, worst case 12: 12 * 280/10 = 336
-    t3 job 1 is not complete, worst case 4: 4 * 280/14 = 80
-    280 + 336 + 80 = 696, over the hyperperiod 280
-    speed 2: 2 * 280 = 560, less than 696
-    speed 3: 3 * 280 = 840, enough
-    t2 job 1 runs: of 2 open it is due first, at 10
-"""), ("rm_cc", 18, """\
-line 13, tick 4, since t2 job 1 was complete in tick 3: 2/4, speed 2
-    handed out at tick 0, up to the earliest deadline 8, at the static speed 4: 8 * 4 = 32
-    t1 job 1 might need 12, is allotted 12 and is complete: 0 left
-    t2 job 1 might need 12, is allotted 12 and is complete: 0 left
-    t3 job 1 might need 4, is allotted 4 and has had 2 since: 2 left
-    0 + 0 + 2 = 2, over the time 8 - 4 = 4
-    speed 2: 2 * 4 = 8, enough
-    t3 job 1 runs: of 1 open it has the shortest period, 14
-"""), ("edf_la", 4, """\
-    rates 420 + 336 + 80 = 836, of 4 * 280 = 1120; the earliest deadline is 8
-    from the last deadline to the first:
-    t3 job 1, due at 14, may need 4 more: rates without t3: 836 - 80 = 756; room from 8 to 14: \
-(1120 - 756) * 6 / 280 = 2184/280, down to 7; 4 of 4 put off, 0 before 8; \
-t3 then needs 4 * 280 / 6 = 1120/6, up to 187: rates 756 + 187 = 943
-    t2 job 1, due at 10, may need 12 more: rates without t2: 943 - 336 = 607; room from 8 to 10: \
-(1120 - 607) * 2 / 280 = 1026/280, down to 3; 3 of 12 put off, 9 before 8; \
-t2 then needs 3 * 280 / 2 = 840/2 = 420: rates 607 + 420 = 1027
-    t1 job 1, due at 8, may need 12 more: due first, it puts off nothing, 12 before 8
-    0 + 9 + 12 = 21, over the time 8 - 0 = 8
-""")]
-
-
-@pytest.mark.parametrize(("pair", "first", "text"), BOARDS)
-def test_boards(pair: str, first: int, text: str, call: Run) -> None:
-    status, lines, notes = call(trace=str(DATA / f"paper/{pair}_with_demands.trace"))
-    wanted = text.splitlines()
+@pytest.mark.parametrize(("pair", "first"), [("edf_cc", 0), ("rm_cc", 18), ("edf_la", 4)])
+def test_boards(pair: str, first: int, call: Run) -> None:
+    wanted = (TEST_DATA / f"{pair}.explained").read_text().splitlines()
+    status, lines, notes = call(trace=DATA / f"paper/{pair}_with_demands.trace")
     assert (status, notes, lines[first:first + len(wanted)]) == (0, "", wanted)
 
 
@@ -412,23 +304,23 @@ def test_a_wrong_trace_has_status_1(call: Run, tmp_path: Path) -> None:
     wrong, demands = tmp_path / "wrong.trace", tmp_path / "demands.csv"
     wrong.write_text("".join(edited(CC_TEXT, {33: "end 16 1 0"})))
     reason = "line 33: the lines add up to 364000000000 for runs and 0 for idle units\n"
-    status, lines, notes = call(trace=str(wrong))
+    status, lines, notes = call(trace=wrong)
     assert (status, notes) == (1, reason) and lines[-7].startswith("line 30, tick 14, ")
-    assert call("--quiet", trace=str(wrong)) == (1, [], reason)
+    assert call("--quiet", trace=wrong) == (1, [], reason)
     demands.write_text("task,job,units\nt1,1,7\n")
-    assert call("--quiet", demands=str(demands)) == (1, [], "line 7: t1 job 1 has 7 units left\n")
+    assert call("--quiet", demands=demands) == (1, [], "line 7: t1 job 1 has 7 units left\n")
     wrong.write_text("".join(edited(CC_TEXT, {2: "plan edf mine 16"})))
-    assert call("--quiet", trace=str(wrong)) == (1, [], "line 2: no scheduler and governor edf mine\n")
-    assert call("--any", "--quiet", trace=str(wrong))[0] == 0
-    files = {"trace": str(EXERCISES / "wrong.trace"), "tasks": str(EXERCISES / "tasks.toml"), "demands": None}
-    assert call("--quiet", **files) == (1, [], "line 8: b job 1 is not complete: it has had 0 units\n")
+    assert call("--quiet", trace=wrong) == (1, [], "line 2: no scheduler and governor edf mine\n")
+    assert call("--any", "--quiet", trace=wrong)[0] == 0
+    of_exercises = call("--quiet", trace=EXERCISES / "wrong.trace", tasks=EXERCISES / "tasks.toml", demands=None)
+    assert of_exercises == (1, [], "line 8: b job 1 is not complete: it has had 0 units\n")
 
 
 def test_denied(call: Run, tmp_path: Path) -> None:
     path = tmp_path / "file"
     TaskSet((Task("t1", 8, 33),)).write(path)
-    assert call(tasks=str(path), demands=None) == (2, [], "rtdvs: denied edf 33 32\n")
-    assert call("--any", tasks=str(path), demands=None)[0] == 1  # no test is made; the trace has other tasks
+    assert call(tasks=path, demands=None) == (2, [], "rtdvs: denied edf 33 32\n")
+    assert call("--any", tasks=path, demands=None)[0] == 1  # no test is made; the trace has other tasks
 
 
 def test_no_text(call: Run, tmp_path: Path) -> None:
@@ -436,4 +328,4 @@ def test_no_text(call: Run, tmp_path: Path) -> None:
     named = b"trace 1\nplan edf cc 16\nrelease 0 t\xff 1\n"
     for content in (b"", b"\xff\xfe\x00", bytes(range(256)), named, b"0" * 10**6):
         path.write_bytes(content)
-        assert call("--quiet", trace=str(path))[0] == 1
+        assert call("--quiet", trace=path)[0] == 1

@@ -6,24 +6,12 @@ from collections.abc import Callable, Iterator
 from pathlib import Path
 
 import pytest
-from examples import DATA
+from examples import DATA, entry, machines
 from hypothesis import given
 from hypothesis import strategies as st
 
 from rtdvs.engine import Call, Engine, admit_call, constrain_call, least_call, poll_call, run_call
 from rtdvs.files import Deadlines, Demands, FileFault, Machine, Point, Request, Requests, Task, TaskSet
-
-ENTRIES = {
-    "task": {"name": '"a"', "period": "4", "worst": "2"},
-    "point": {"speed": "2", "millivolts": "3000"},
-}
-
-
-def entry(kind: str = "task", **changes: str) -> str:
-    """A table of a TOML file; a value that is empty is left out."""
-    values = ENTRIES[kind] | changes
-    return f"[[{kind}]]\n" + "".join(f"{key} = {value}\n" for key, value in values.items() if value)
-
 
 POINT = entry("point")
 TASKS = entry() + "\n" + entry(name='"b_2"', period="6", worst="3", offset="1")
@@ -41,6 +29,79 @@ READERS: dict[str, Callable[[bytes], TaskSet | Machine | Demands | Deadlines | R
     "deadlines": lambda text: Deadlines.parse(text, SET),
     "requests": Requests.parse,
 }
+# The least and the greatest value of each number, by the place that a refusal names.
+RANGES = {
+    "tasks: task 1": {"period": (1, 2**40), "worst": (1, 2**60), "offset": (0, 2**40)},
+    "machine: point 1": {"speed": (1, 10**6), "millivolts": (1, 20_000)},
+    "machine": {"idle": (0, 1000), "charge": (0, 10**6)},
+}
+# Files that are refused, by the reason.
+REFUSED = {
+    "tasks": {
+        "no tasks": ["", "task = []"],
+        "wrong kind of task": ["task = 3", "[task]"],
+        "not TOML": ["[[task]", "task = [", "x = 9223372036854775808", "a = " + "[" * 5000],
+        "unknown key b": ["z = 1\nb = 1\ntask = 3"],
+        "unknown key ???b": ['"ä b" = 1'],
+        "unknown key " + "k" * 32: ["k" * 40 + " = 1"],
+        "task 1: wrong kind of entry": ["task = [1]"],
+        "65 tasks, at most 64": ["".join(entry(name=f'"t{place}"') for place in range(65))],
+        "task 1: unknown key ofset": [entry(ofset="1", period="0")],
+        "task 1: missing name": [entry(name="")],
+        "task 1: wrong kind of name": [entry(name="5", period="0")],
+        "task 1: bad name": [entry(name=f'"{name}"') for name in ("a b", "", "a" * 33, "ä", "a\\n")],
+        "task 1: period out of range": [entry(period="0", worst="0")],
+        "tasks 2 and 3 have one name": [entry(name='"c"') + entry() + entry() + "[[task]]"],
+        "periods have no common multiple up to 281474976710656": [
+            entry(period=str(2**40)) + entry(name='"b"', period="257")],
+    },
+    "machine": {
+        "no points": [""],
+        "wrong kind of point": ["point = {}"],
+        "not TOML": ["idle = 08"],
+        "unknown key speed": ["speed = 2\n" + POINT],
+        "idle out of range": ["idle = -1\ncharge = -1"],
+        "point 1: wrong kind of entry": ["point = [1]"],
+        "point 1: unknown key idle": [POINT + "idle = 0"],
+        "point 1: wrong kind of speed": [entry("point", speed="2.5", millivolts="")],
+        "point 2: not rising": [POINT + entry("point", millivolts="4000"),
+                                POINT + entry("point", speed="3", millivolts="2999")],
+        "33 points, at most 32": ["".join(entry("point", speed=str(speed)) for speed in range(1, 34))],
+    },
+    "demands": {"wrong header": ["", "task,job, units\n"]},
+    "requests": {
+        "wrong header": ["arrival;units\n"],
+        "100001 rows, at most 100000": ["arrival,units\n" + "x\n" * 100_001],
+    },
+}
+# Rows below the right header that are refused, by the number of the wrong one and the reason.
+REFUSED_ROWS = {
+    "demands": {
+        "1: 2 fields": ["a,1\n"],
+        "2: 4 fields": ["\n\r\na,1,2\n\nx y,0,1,"],
+        "1: 1 fields": ['"a,1,1\n'],
+        "1: unknown task x?y": ["x y,0,1"],
+        "1: unknown task ab": ['"a"b,1,1'],
+        "1: unknown task " + "x" * 32: ["x" * 200_000 + ",1,1"],
+        "1: bad job": ["a,+1,1", "a,18446744073709551616,1", "a," + "1" * 5000 + ",1"],
+        "1: job 0": ["a,0,x"],
+        "1: bad units": ["a,1,01", "a,1,\u0661"],
+        "2: task a job 1 stands twice": ["a,1,1\na,1,9"],
+    },
+    "deadlines": {
+        "1: unknown task c": ["c,1"],
+        "1: deadline out of range": ["a,0", "a,5"],
+        "1: bad deadline": ["a, 3"],
+        "2: task a stands twice": ["a,3\na,3"],
+    },
+    "requests": {
+        "1: 1 fields": ["0"],
+        "1: bad arrival": ["-1,1"],
+        "1: bad units": ["1,1.5"],
+        "1: units out of range": ["1,0", f"1,{2**60 + 1}"],
+        "2: too early": ["2,1\n1,1"],
+    },
+}
 
 
 def line_of(kind: str, content: bytes) -> str | None:
@@ -53,14 +114,6 @@ def line_of(kind: str, content: bytes) -> str | None:
 
 
 # By hand
-
-
-RANGES = {
-    "tasks: task 1": {"period": (1, 2**40), "worst": (1, 2**60), "offset": (0, 2**40)},
-    "machine: point 1": {"speed": (1, 10**6), "millivolts": (1, 20_000)},
-    "machine": {"idle": (0, 1000), "charge": (0, 10**6)},
-}
-
 
 def of_ranges() -> Iterator[tuple[str, str, str]]:
     """Numbers that are missing, of another kind or out of their ranges: a file, its text, the refusal."""
@@ -75,82 +128,12 @@ def of_ranges() -> Iterator[tuple[str, str, str]]:
                 yield place.split(":")[0], text, f"{place}: {reason}"
 
 
-REFUSED_TASKS = {
-    "": "no tasks",
-    "task = []": "no tasks",
-    "task = 3": "wrong kind of task",
-    "[task]": "wrong kind of task",
-    "[[task]": "not TOML",
-    "task = [": "not TOML",
-    "x = 9223372036854775808": "not TOML",
-    "a = " + "[" * 5000: "not TOML",
-    "z = 1\nb = 1\ntask = 3": "unknown key b",
-    '"ä b" = 1': "unknown key ???b",
-    "k" * 40 + " = 1": "unknown key " + "k" * 32,
-    "task = [1]": "task 1: wrong kind of entry",
-    "".join(entry(name=f'"t{place}"') for place in range(65)): "65 tasks, at most 64",
-    entry(ofset="1", period="0"): "task 1: unknown key ofset",
-    entry(name=""): "task 1: missing name",
-    entry(name="5", period="0"): "task 1: wrong kind of name",
-    entry(period="0", worst="0"): "task 1: period out of range",
-    entry(name='"c"') + entry() + entry() + "[[task]]": "tasks 2 and 3 have one name",
-    entry(period=str(2**40)) + entry(name='"b"', period="257"):
-        "periods have no common multiple up to 281474976710656",
-} | {entry(name=f'"{name}"'): "task 1: bad name" for name in ("a b", "", "a" * 33, "ä", "a\\n")}
-REFUSED_MACHINES = {
-    "": "no points",
-    "point = {}": "wrong kind of point",
-    "idle = 08": "not TOML",
-    "speed = 2\n" + POINT: "unknown key speed",
-    "idle = -1\ncharge = -1": "idle out of range",
-    "point = [1]": "point 1: wrong kind of entry",
-    POINT + "idle = 0": "point 1: unknown key idle",
-    entry("point", speed="2.5", millivolts=""): "point 1: wrong kind of speed",
-    POINT + entry("point", millivolts="4000"): "point 2: not rising",
-    POINT + entry("point", speed="3", millivolts="2999"): "point 2: not rising",
-    "".join(entry("point", speed=str(speed)) for speed in range(1, 34)): "33 points, at most 32",
-}
-REFUSED_TABLES = {
-    "demands": {
-        "": "demands: wrong header",
-        "task,job, units\n": "demands: wrong header",
-        "task,job,units\na,1\n": "demands: row 1: 2 fields",
-        "task,job,units\n\n\r\na,1,2\n\nx y,0,1,": "demands: row 2: 4 fields",
-        "task,job,units\nx y,0,1": "demands: row 1: unknown task x?y",
-        "task,job,units\na,+1,1": "demands: row 1: bad job",
-        "task,job,units\na,18446744073709551616,1": "demands: row 1: bad job",
-        "task,job,units\na," + "1" * 5000 + ",1": "demands: row 1: bad job",
-        "task,job,units\na,0,x": "demands: row 1: job 0",
-        "task,job,units\na,1,01": "demands: row 1: bad units",
-        "task,job,units\na,1,\u0661": "demands: row 1: bad units",
-        "task,job,units\na,1,1\na,1,9": "demands: row 2: task a job 1 stands twice",
-        "task,job,units\na,1,3\nx": "over worst: a 1 3 2",
-        'task,job,units\n"a"b,1,1': "demands: row 1: unknown task ab",
-        'task,job,units\n"a,1,1\n': "demands: row 1: 1 fields",
-        "task,job,units\n" + "x" * 200_000 + ",1,1": "demands: row 1: unknown task " + "x" * 32,
-    },
-    "deadlines": {
-        "task,deadline\nc,1": "deadlines: row 1: unknown task c",
-        "task,deadline\na,0": "deadlines: row 1: deadline out of range",
-        "task,deadline\na,5": "deadlines: row 1: deadline out of range",
-        "task,deadline\na, 3": "deadlines: row 1: bad deadline",
-        "task,deadline\na,3\na,3": "deadlines: row 2: task a stands twice",
-    },
-    "requests": {
-        "arrival;units\n": "requests: wrong header",
-        "arrival,units\n0": "requests: row 1: 1 fields",
-        "arrival,units\n-1,1": "requests: row 1: bad arrival",
-        "arrival,units\n1,1.5": "requests: row 1: bad units",
-        "arrival,units\n1,0": "requests: row 1: units out of range",
-        f"arrival,units\n1,{2**60 + 1}": "requests: row 1: units out of range",
-        "arrival,units\n2,1\n1,1": "requests: row 2: too early",
-        "arrival,units\n" + "x\n" * 100_001: "requests: 100001 rows, at most 100000",
-    },
-}
 BY_HAND = [
-    *(("tasks", text, f"tasks: {line}") for text, line in REFUSED_TASKS.items()),
-    *(("machine", text, f"machine: {line}") for text, line in REFUSED_MACHINES.items()),
-    *((kind, text, line) for kind, lines in REFUSED_TABLES.items() for text, line in lines.items()),
+    *((kind, text, f"{kind}: {reason}") for kind, refused in REFUSED.items() for reason, texts in refused.items()
+      for text in texts),
+    *((kind, f"{TABLES[kind].splitlines()[0]}\n{text}", f"{kind}: row {reason}") for kind, refused in REFUSED_ROWS.items()
+      for reason, texts in refused.items() for text in texts),
+    ("demands", "task,job,units\na,1,3\nx", "over worst: a 1 3 2"),
     *of_ranges(),
 ]
 
@@ -267,31 +250,24 @@ PERIODS = st.sampled_from([1, 2, 3, 4, 6, 12, 2**40])
 
 
 @st.composite
-def task_sets(draw: st.DrawFn) -> TaskSet:
+def named_sets(draw: st.DrawFn) -> TaskSet:
     names = draw(st.lists(NAMES, min_size=1, max_size=6, unique=True))
     numbers = (draw(PERIODS), draw(st.integers(1, 2**60)), draw(st.integers(0, 2**40)))
     return TaskSet(tuple(Task(name, *numbers) for name in names))
 
 
-@st.composite
-def machines(draw: st.DrawFn) -> Machine:
-    speeds = sorted(draw(st.sets(st.integers(1, 10**6), min_size=1, max_size=32)))
-    millivolts = sorted(draw(st.integers(1, 20_000)) for _ in speeds)
-    points = tuple(map(Point, speeds, millivolts))
-    return Machine(points, draw(st.integers(0, 1000)), draw(st.integers(0, 10**6)))
+REQUESTS = st.lists(st.builds(Request, st.integers(0, 2**64 - 1), st.integers(1, 2**60))).map(
+    lambda requests: Requests(tuple(sorted(requests, key=lambda each: each.arrival))))
 
 
-@given(task_sets())
-def test_task_sets_come_back(tasks: TaskSet) -> None:
-    assert TaskSet.parse(tasks.text()) == tasks
+@pytest.mark.parametrize("contents", [named_sets(), machines(), REQUESTS])
+@given(st.data())
+def test_files_come_back(contents: st.SearchStrategy[TaskSet | Machine | Requests], data: st.DataObject) -> None:
+    content = data.draw(contents)
+    assert type(content).parse(content.text()) == content
 
 
-@given(machines())
-def test_machines_come_back(machine: Machine) -> None:
-    assert Machine.parse(machine.text()) == machine
-
-
-@given(task_sets(), st.data())
+@given(named_sets(), st.data())
 def test_demands_and_deadlines_come_back(tasks: TaskSet, data: st.DataObject) -> None:
     keys = st.tuples(st.sampled_from(tasks.names), st.integers(1, 2**64 - 1))
     demands = Demands(data.draw(st.dictionaries(keys, st.integers(0, tasks.tasks[0].worst))))
@@ -299,12 +275,6 @@ def test_demands_and_deadlines_come_back(tasks: TaskSet, data: st.DataObject) ->
     ticks = st.dictionaries(st.sampled_from(tasks.names), st.integers(1, tasks.tasks[0].period))
     deadlines = Deadlines(data.draw(ticks))
     assert Deadlines.parse(deadlines.text(), tasks) == deadlines
-
-
-@given(st.lists(st.tuples(st.integers(0, 2**64 - 1), st.integers(1, 2**60))))
-def test_requests_come_back(pairs: list[tuple[int, int]]) -> None:
-    requests = Requests(tuple(Request(*pair) for pair in sorted(pairs)))
-    assert Requests.parse(requests.text()) == requests
 
 
 @given(st.text(st.characters(blacklist_categories=["Cs"]), max_size=40))

@@ -5,12 +5,12 @@ from math import lcm
 from pathlib import Path
 
 import pytest
-from examples import Captured, printed, refusal
+from examples import Captured, entry, files, printed, refusal
 
 from rtdvs.draws import Listed, SetName, published_sets, uunifast
 from rtdvs.engine import Engine
 from rtdvs.explain import check
-from rtdvs.files import Demands, Machine, TaskSet
+from rtdvs.files import TaskSet
 from rtdvs.generate import BOARD, exercise
 
 
@@ -32,16 +32,14 @@ def test_exercises_are_small_and_different(engine: Engine) -> None:
 def test_a_solution_is_right(engine: Engine, tmp_path: Path, scheduler: str, governor: str) -> None:
     one, folder = exercise(engine, 7, scheduler, governor), tmp_path / "seven"
     one.write(folder)
-    tasks, machine = TaskSet.read(folder / "tasks.toml"), Machine.read(folder / "machine.toml")
-    demands = Demands.read(folder / "demands.csv", tasks)
-    assert (tasks, machine, demands) == (one.tasks, BOARD, one.demands)
+    assert files(folder) == (one.tasks, BOARD, one.demands)
     with (folder / "solution.trace").open() as lines:
-        summary = check(tasks, machine, lines, demands)
-    assert summary.complete == len(demands.units)
+        summary = check(one.tasks, BOARD, lines, one.demands)
+    assert summary.complete == len(one.demands.units)
     assert ("\n" + (folder / "explanation.txt").read_text()).count("\nline ") == summary.decisions
     question = (folder / "question.md").read_text()
-    assert all(f"| `{task.name}` | {task.period} | {task.worst} |" in question for task in tasks)
-    assert f"{tasks.hyperperiod} ticks" in question
+    assert all(f"| `{task.name}` | {task.period} | {task.worst} |" in question for task in one.tasks)
+    assert f"{one.tasks.hyperperiod} ticks" in question
 
 
 @pytest.mark.parametrize("seed", range(1, 6))
@@ -50,7 +48,7 @@ def test_what_rm_denies_is_no_exercise(engine: Engine, seed: int) -> None:
 
 
 def test_the_exercise_is_printed(program: Path, tmp_path: Path, capsys: Captured) -> None:
-    call = ["generate", "exercise", "--program", str(program), "--folder", str(tmp_path), "--seed", "3"]
+    call = ["generate", "exercise", "--program", program, "--folder", tmp_path, "--seed", "3"]
     assert printed(capsys, call) == (tmp_path / "question.md").read_text()
     assert refusal(capsys, [*call, "--scheduler", "rm", "--governor", "la"]) == (
         "rtdvs: words: rm has no governor la\n")
@@ -60,7 +58,7 @@ def test_uunifast_is_printed_and_written(tmp_path: Path, capsys: Captured) -> No
     call = "generate uunifast --count 5 --utilisation 0.35 --seed 5 --periods 20 25 40".split()
     tasks = TaskSet.parse(printed(capsys, call))
     assert tasks == uunifast(5, Fraction(35, 100), 5, Listed((20, 25, 40)))
-    assert printed(capsys, [*call, "--output", str(tmp_path / "tasks.toml")]) == ""
+    assert printed(capsys, [*call, "--output", tmp_path / "tasks.toml"]) == ""
     assert TaskSet.read(tmp_path / "tasks.toml") == tasks
 
 
@@ -70,9 +68,8 @@ def test_a_published_set(capsys: Captured) -> None:
 
 
 def test_demands_of_a_run(tmp_path: Path, capsys: Captured) -> None:
-    file = tmp_path / "tasks.toml"
-    file.write_text('[[task]]\nname = "a"\nperiod = 5\nworst = 7\n')
-    call = ["generate", "demands", "--tasks", str(file), "--ticks", "11"]
+    (tmp_path / "tasks.toml").write_text(entry(period="5", worst="7"))
+    call = ["generate", "demands", "--tasks", tmp_path / "tasks.toml", "--ticks", "11"]
     assert printed(capsys, [*call, "--share", "0.5"]) == "task,job,units\na,1,3\na,2,3\na,3,3\n"
     assert printed(capsys, [*call, "--seed", "1"]).count("\n") == 4
 

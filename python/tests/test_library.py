@@ -12,11 +12,10 @@ from pathlib import Path
 import pytest
 import speed
 from conftest import compiled
-from examples import BOARD, DATA, PAPER, Captured
+from examples import BOARD, DATA, PAPER, Captured, machines, options, printed, task_sets
 from hypothesis import given
 from hypothesis import strategies as st
 
-from rtdvs import cli
 from rtdvs import library as library_module
 from rtdvs.calls import (
     Answer, Call, Word, admit_call, constrain_call, least_call, migrate_call, poll_call, replay_call,
@@ -24,7 +23,7 @@ from rtdvs.calls import (
 )
 from rtdvs.engine import Engine, LibraryEngine, find_engine
 from rtdvs.errors import Crashed, NoEngine, OutOfMemory, TimedOut
-from rtdvs.files import Deadlines, Demands, Machine, Point, Request, Requests, Task, TaskSet
+from rtdvs.files import Deadlines, Demands, Request, Requests
 from rtdvs.library import answer, main
 
 
@@ -245,19 +244,10 @@ def test_random_words(program: Path, library: Path, words: list[str]) -> None:
 
 
 @st.composite
-def sets(draw: st.DrawFn) -> tuple[TaskSet, Machine]:
-    """Up to four tasks, which are mostly admitted, and up to three speeds."""
-    numbers = draw(st.lists(st.tuples(st.integers(1, 12), st.integers(0, 9), st.integers(0, 4)), min_size=1, max_size=4))
-    tasks = [Task(f"t{place}", period, 1 + worst, offset) for place, (period, worst, offset) in enumerate(numbers)]
-    speeds = sorted(draw(st.sets(st.integers(1, 30), min_size=1, max_size=3)))
-    points = tuple(Point(speed, 1000 + 10 * speed) for speed in speeds)
-    return TaskSet(tuple(tasks)), Machine(points, idle=draw(st.integers(0, 999)), charge=draw(st.integers(0, 2)))
-
-
-@st.composite
 def random_calls(draw: st.DrawFn) -> Call:
-    """A call of one of the commands but `workload`, `replay` and `migrate`."""
-    (tasks, machine), ticks, units = draw(sets()), draw(st.integers(1, 60)), draw(st.integers(0, 40))
+    """A call of one of the commands but `workload`, `replay` and `migrate`, of tasks that are mostly admitted."""
+    tasks = draw(task_sets(4, st.integers(1, 12), st.integers(1, 10), st.integers(0, 4)))
+    machine, ticks, units = draw(machines(3, 30, 2)), draw(st.integers(1, 60)), draw(st.integers(0, 40))
     pair = draw(st.sampled_from(["edf", "rm"])), draw(st.sampled_from(["none", "static", "cc", "la"]))
     names, work = [task.name for task in tasks.tasks], draw(st.integers(0, 12))
     demands = draw(st.none() | st.just(Demands({(names[-1], 1): work})))
@@ -302,12 +292,9 @@ def test_answers_on_executors(kind: type[Executor], library: Path) -> None:
 
 def test_tools_by_the_library(program: Path, library: Path, capsys: Captured) -> None:
     """`--program` names either."""
-    files = [f"--{kind}={DATA / 'paper' / kind}.toml" for kind in ("tasks", "machine")]
-    printed = []
-    for path in (program, library):
-        assert cli.main(["compare", "--program", str(path), *files, "--ticks", "16"]) == 0
-        printed.append(capsys.readouterr())
-    assert printed[0] == printed[1] and printed[0].out
+    words = ["compare", *options(DATA / "paper"), "--ticks", "16", "--program"]
+    by_program, by_library = (printed(capsys, [*words, path]) for path in (program, library))
+    assert by_program == by_library != ""
 
 
 def test_a_time_limit_changes_no_answer(library: Path) -> None:

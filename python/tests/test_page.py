@@ -11,11 +11,12 @@ from pathlib import Path
 from typing import Any
 
 import pytest
-from examples import BOARD, DATA, PAPER, SHORT, Captured, files, path_id, version_1
+from examples import (
+    BOARD, DATA, PAPER, SHORT, WORKED, Captured, explained, files, options, path_id, printed, refusal, version_1,
+)
 from hypothesis import given
 from hypothesis import strategies as st
 
-from rtdvs.cli import main
 from rtdvs.explain import Walk, WrongTrace, explain
 from rtdvs.files import Machine, Point, Task, TaskSet
 from rtdvs.page import (
@@ -26,8 +27,7 @@ from rtdvs.simulate import simulate
 from rtdvs.trace import Trace
 
 HOSTILE = '</script><img src=x onerror="document.title=1">&<!--'
-TRACE = DATA / "paper" / "edf_cc_with_demands.trace"
-WORDS = ["--tasks", str(DATA / "paper/tasks.toml"), "--machine", str(DATA / "paper/machine.toml")]
+WORDS = options(DATA / "paper")
 
 
 class Reader(html.parser.HTMLParser):
@@ -64,11 +64,6 @@ def sheet_of(text: str, shown: Shown) -> Any:
     return sheet
 
 
-def made(capsys: Captured, *words: str) -> str:
-    assert main(["page", *words]) == 0
-    return capsys.readouterr().out
-
-
 # The data
 
 @pytest.mark.parametrize("path", SHORT, ids=path_id)
@@ -77,8 +72,7 @@ def test_all_of_a_trace_is_in_the_page(path: Path) -> None:
     tasks, machine, named = files(path.parent.name)
     demands = named if "with_demands" in path.stem else None
     text = path.read_text()
-    boards: list[str] = []
-    explain(Walk(tasks, machine, text.splitlines(keepends=True), demands), boards.append)
+    boards = explained(tasks, machine, demands, text)
     sheet = sheet_of(text, Shown(tasks, machine, demands))
     assert "".join(map(unpacked, sheet["pieces"])) == text
     assert [board for chunk in sheet["boards"] for board in json.loads(unpacked(chunk["text"]))] == boards
@@ -86,7 +80,7 @@ def test_all_of_a_trace_is_in_the_page(path: Path) -> None:
 
 
 def test_explanations_up_to_a_limit() -> None:
-    text = TRACE.read_text()
+    text = WORKED.read_text()
     walk = Walk(PAPER, BOARD, text.splitlines(keepends=True))
     boards, whole = boards_of(walk, 10**6)
     assert whole and len(boards) == 8
@@ -125,7 +119,7 @@ def test_chunks_are_all_explanations(boards: list[str], size: int) -> None:
 
 
 def test_residency() -> None:
-    rows = residency(Trace.parse(TRACE.read_text()))
+    rows = residency(Trace.parse(WORKED.read_text()))
     assert rows == [("2", "10", "0.6250"), ("3", "6", "0.3750"), ("idle", "4.6667", "0.2917")]
 
 
@@ -135,13 +129,13 @@ PARTED = [("edf_la_with_demands", 0), ("edf_static_with_demands", 3), ("edf_cc_w
 @pytest.mark.parametrize(("name", "tick"), PARTED)
 def test_where_traces_part(name: str, tick: int | None) -> None:
     """Under `static` the first demand is that of `cc`; after the completion in tick 2 it stays."""
-    one, two = (Trace.parse((DATA / "paper" / f"{each}.trace").read_text()) for each in (TRACE.stem, name))
+    one, two = (Trace.parse((DATA / "paper" / f"{each}.trace").read_text()) for each in (WORKED.stem, name))
     found = apart(one, two)
     assert (found and found["tick"]) == tick
 
 
 def test_first_window() -> None:
-    short = Trace.parse(TRACE.read_text())
+    short = Trace.parse(WORKED.read_text())
     long = simulate(PAPER, BOARD, "edf", 1000, lambda state: state.plan.static)
     assert first_window({"": short}, 3) == 16
     assert 80 <= first_window({"": long}, 3) <= 120
@@ -194,29 +188,27 @@ def test_web_files_are_short() -> None:
 # The command
 
 def test_page_of_one_trace(capsys: Captured) -> None:
-    data = data_of(made(capsys, str(TRACE), *WORDS, "--demands", str(DATA / "paper/demands.csv")))
+    data = data_of(printed(capsys, ["page", WORKED, *options(DATA / "paper", "demands")]))
     (sheet,) = data["sheets"]
     assert sheet["title"] == "edf cc, 16 ticks"
     assert str(sheet["energy"]).startswith("energy 364000000000: 364000000000 running, 0 idle, ")
 
 
 def test_page_of_two_traces(capsys: Captured) -> None:
-    other = TRACE.with_name("edf_la_with_demands.trace")
-    data = data_of(made(capsys, str(TRACE), str(other), *WORDS))
+    other = WORKED.with_name("edf_la_with_demands.trace")
+    data = data_of(printed(capsys, ["page", WORKED, other, *WORDS]))
     assert [sheet["title"] for sheet in data["sheets"]] == ["A: edf cc, 16 ticks", "B: edf la, 16 ticks"]
     assert data["apart"]["tick"] == 0
 
 
 def test_page_of_three_traces(capsys: Captured) -> None:
-    assert main(["page", *[str(TRACE)] * 3, *WORDS]) == 2
-    assert capsys.readouterr().err == "rtdvs: 3 traces, at most 2\n"
+    assert refusal(capsys, ["page", *[WORKED] * 3, *WORDS]) == "rtdvs: 3 traces, at most 2\n"
 
 
 def test_page_of_a_wrong_trace(tmp_path: Path, capsys: Captured) -> None:
     """The line is that of `explain`, and no page is begun."""
     wrong, page = tmp_path / "wrong.trace", tmp_path / "page.html"
-    wrong.write_text(TRACE.read_text().replace("done 4:0 t2 1 4", "done 5:0 t2 1 4"))
+    wrong.write_text(WORKED.read_text().replace("done 4:0 t2 1 4", "done 5:0 t2 1 4"))
     with pytest.raises(WrongTrace) as fault:
         explain(Walk(PAPER, BOARD, wrong.read_text().splitlines(keepends=True)))
-    assert main(["page", str(wrong), *WORDS, "--output", str(page)]) == 1
-    assert capsys.readouterr().err == f"{fault.value}\n" and not page.exists()
+    assert refusal(capsys, ["page", wrong, *WORDS, "--output", page], 1) == f"{fault.value}\n" and not page.exists()

@@ -26,9 +26,8 @@ from dataclasses import dataclass, field
 from pathlib import Path
 
 import pytest
+from examples import PAGES, SOURCE, TEST_DATA, TOP
 
-TOP = Path(__file__).resolve().parents[2]
-PAGES = sorted(path.relative_to(TOP) for path in [*TOP.glob("*.md"), *(TOP / "docs").glob("*.md")])
 SOLUTIONS = Path("examples", "exercises", "solutions.txt")
 TOKEN = re.compile(r"""
     ^<!--\ (?P<key>not\ run|first|file|status|lines\ of):\ (?P<value>.*)\ -->$
@@ -139,8 +138,7 @@ class Reader:
                 yield self.fault(line, f"status {status}, the page says {wanted_status}: {words}\n{printed}")
             wanted, found = call["printed"].splitlines(), printed.splitlines()
             if wanted != found:
-                same = next((place for place, pair in enumerate(zip(wanted, found)) if pair[0] != pair[1]),
-                            min(len(wanted), len(found)))
+                same = len(os.path.commonprefix([wanted, found]))
                 yield self.fault(line + 1 + same, f"printed is {[*found, 'no line'][same]!r}, "
                                                   f"the page says {[*wanted, 'no line'][same]!r}: {words}")
 
@@ -187,7 +185,7 @@ def folder(program: Path, tmp_path: Path, monkeypatch: pytest.MonkeyPatch) -> Pa
     monkeypatch.chdir(top)
     monkeypatch.setenv("RTDVS", str(program))
     monkeypatch.setenv("PATH", os.pathsep.join([str(tools), *os.defpath.split(os.pathsep)]))
-    monkeypatch.setenv("PYTHONPATH", str(TOP / "python" / "src"))
+    monkeypatch.setenv("PYTHONPATH", SOURCE)
     monkeypatch.setenv("PYTHONDONTWRITEBYTECODE", "1")
     return top
 
@@ -213,67 +211,10 @@ def test_pages_by_the_library(page: str, folder: Path, library: Path,
     check(Path("docs", page), folder)
 
 
-SMALL = """A page.
-
-    $ echo 3
-    3
-    $ echo 4; echo 5
-    4
-    6
-
-<!-- status: 2 -->
-
-    $ exit 2
-
-<!-- not run: it would fail -->
-
-    $ exit 1
-
-<!-- first: echo a > kept -->
-<!-- file: other -->
-
-    b
-
-<!-- lines of: cat kept other -->
-
-| Line | |
-|---|---|
-| `a` | `c` |
-| `b` | |
-
-<!-- lines of: cat other kept -->
-
-| `a`, `b` | |
-
-    ./rtdvs least --machine crates/example_runs/data/paper/machine.toml --units 28 --ticks 16
-
-<!-- lines of: above -->
-
-    prices 18000000000 plus 0
-    least 2 0 4 2 28 504000000000
-
-Then:
-
-    other
-
-And:
-
-    $ exit 3
-
-```sh
-exit 4
-```
-
-```python
->>> 1 + 1
-3
-```
-"""
-
-
 def test_a_fault_has_its_page_and_line(folder: Path) -> None:
     reader = Reader("small.md", folder)
-    faults = [fault.splitlines()[0] for block in blocks(SMALL) for fault in reader.faults(block)]
+    page = (TEST_DATA / "small.md").read_text()
+    faults = [fault.splitlines()[0] for block in blocks(page) for fault in reader.faults(block)]
     assert faults == [
         "small.md:7: printed is '5', the page says '6': echo 4; echo 5",
         "small.md:31: no such line, or not here: 'b': cat other kept",

@@ -17,11 +17,9 @@ from fractions import Fraction
 from pathlib import Path
 
 import pytest
-from examples import DATA, Captured, printed
+from examples import Captured, files, printed, refusal
 
-from rtdvs.cli import main
 from rtdvs.engine import Engine
-from rtdvs.files import Demands, Machine, TaskSet
 from rtdvs.paper_table import EXAMPLE, PAIRS, shares
 from rtdvs.trace import Done, Trace
 
@@ -40,22 +38,18 @@ def test_by_hand(engine: Engine, times: int) -> None:
 
 
 @pytest.mark.parametrize("pair", PAIRS)
-def test_no_job_is_complete_inside_a_tick_if_there_are_3(engine: Engine,
-                                                         pair: tuple[str, str]) -> None:
+def test_no_job_is_complete_inside_a_tick_if_there_are_3(engine: Engine, pair: tuple[str, str]) -> None:
     case = EXAMPLE.finer(3)
     trace = Trace.parse(engine.run(case.tasks, case.machine, *pair, case.ticks, case.demands))
     assert {note.at.offset for note in trace.notes if isinstance(note, Done)} == {0}
 
 
 def test_the_example_is_that_of_the_files() -> None:
-    folder = DATA / "paper"
-    assert EXAMPLE.tasks == TaskSet.read(folder / "tasks.toml")
-    assert EXAMPLE.machine == Machine.read(folder / "machine.toml")
-    assert EXAMPLE.demands == Demands.read(folder / "demands.csv", EXAMPLE.tasks)
+    assert (EXAMPLE.tasks, EXAMPLE.machine, EXAMPLE.demands) == files("paper")
 
 
 def test_printed(program: Path, capsys: Captured) -> None:
-    assert printed(capsys, ["paper-table", "--program", str(program), "--finer", "1", "3", "100"]) == (
+    assert printed(capsys, ["paper-table", "--program", program, "--finer", "1", "3", "100"]) == (
         "     k        none   RM static  EDF static      EDF cc       RM cc      EDF la\n"
         "     1    1.000000    1.000000    0.640000    0.520000    0.734286    0.450000\n"
         "     3    1.000000    1.000000    0.640000    0.520000    0.714286    0.440000\n"
@@ -64,5 +58,5 @@ def test_printed(program: Path, capsys: Captured) -> None:
 
 
 @pytest.mark.parametrize("times", ["0", "-1", "1.5", "x"])
-def test_what_ticks_cannot_be(program: Path, times: str) -> None:
-    assert main(["paper-table", "--program", str(program), "--finer", times]) == 2
+def test_what_ticks_cannot_be(program: Path, capsys: Captured, times: str) -> None:
+    refusal(capsys, ["paper-table", "--program", program, "--finer", times])

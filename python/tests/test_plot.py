@@ -7,7 +7,7 @@ from pathlib import Path
 
 import pictures
 import pytest
-from examples import DATA, SHORT, TOP, Captured, path_id, refusal
+from examples import DATA, SHORT, TEMPLATE, TOP, Captured, Lines, path_id, refusal
 from hypothesis import given
 from hypothesis import strategies as st
 
@@ -37,21 +37,24 @@ def texts(path: Path) -> list[str]:
     return ["".join(text.itertext()) for text in ElementTree.parse(path).getroot().iter(f"{SVG}text")]
 
 
+def drawn(trace: Trace, path: Path, view: View = View(), width: int = 1000) -> tuple[dict[str, int], list[str]]:
+    """Draws a trace; the marks and the texts of the picture."""
+    save_trace(trace, path, view, width)
+    return marks(path), texts(path)
+
+
 @pytest.mark.parametrize("path", SHORT, ids=path_id)
 def test_marks_are_those_of_the_trace(path: Path, tmp_path: Path) -> None:
-    lines = [line.split() for line in path.read_text().splitlines()]
-    save_trace(Trace.read(path), tmp_path / "a.svg")
-    found, said = marks(tmp_path / "a.svg"), texts(tmp_path / "a.svg")
-    for word, place in ("release", 2), ("done", 2):
-        assert Counter(line[place] for line in lines if line[0] == word) == Counter(
-            {name.removeprefix(f"{word}-"): count for name, count in found.items()
-             if name.startswith(f"{word}-") and count})
-    assert found["decision"] + found["over"] == sum(line[0] == "speed" for line in lines)
-    assert {name.removeprefix("run-") for name in found
-            if name.startswith("run-")} == {line[3] for line in lines if line[0] == "run"}
-    assert ("idle" in found) == any(line[0] == "idle" for line in lines)
-    assert {line[4] for line in lines if line[0] == "done"} <= {text.split("/")[0] for text in said}
-    assert f"{lines[1][1]}, {lines[1][2]}: {lines[1][3]} ticks" in said
+    lines, (found, said) = Lines(path.read_text()), drawn(Trace.read(path), tmp_path / "a.svg")
+    tasks = {word: Counter({name.removeprefix(f"{word}-"): count for name, count in found.items()
+                            if name.startswith(f"{word}-")}) for word in ("release", "done", "run")}
+    assert tasks["release"] == Counter(task for _, task, _ in lines.of("release"))
+    assert tasks["done"] == Counter(task for _, task, _, _ in lines.of("done"))
+    assert tasks["run"].keys() == {task for _, _, task, *_ in lines.of("run")}
+    assert found["decision"] + found["over"] == len(lines.decisions)
+    assert ("idle" in found) == (lines.of("idle") != [])
+    assert {*lines.used.values()} <= {text.split("/")[0] for text in said}
+    assert ["{}, {}: {} ticks".format(*fields) in said for fields in lines.of("plan")] == [True]
 
 
 def same_picture(made: Path, stored: Path) -> None:
@@ -75,7 +78,7 @@ def test_stored_figures(tmp_path: Path) -> None:
 
 
 def test_same_bytes_each_time(tmp_path: Path) -> None:
-    trace = Trace.read(DATA / "templates" / "edf_cc_with_demands.trace")
+    trace = Trace.read(TEMPLATE)
     for kind in "svg", "pdf":
         for name in "a", "b":
             save_trace(trace, tmp_path / f"{name}.{kind}")
@@ -98,31 +101,28 @@ def long_trace(jobs: int) -> Trace:
 
 
 def test_long_run_is_thinned(tmp_path: Path) -> None:
-    save_trace(long_trace(4000), tmp_path / "a.svg", width=400)
-    found = marks(tmp_path / "a.svg")
+    found, said = drawn(long_trace(4000), tmp_path / "a.svg", width=400)
     assert all(50 < found[name] <= 160 for name in ("release-a", "deadline-a", "done-a"))
     assert found["decision"] <= 320 and found["run-a-narrow"] <= 640
-    assert "near marks (less than 2 pixels) once" in texts(tmp_path / "a.svg")
+    assert "near marks (less than 2 pixels) once" in said
     assert (tmp_path / "a.svg").stat().st_size < 300_000
 
 
 def test_window(tmp_path: Path) -> None:
-    save_trace(long_trace(50), tmp_path / "a.svg", View(first=10, last=20))
-    found = marks(tmp_path / "a.svg")
-    assert [found[name] for name in ("release-a", "deadline-a", "done-a", "run-a", "idle",
-                                     "decision")] == [6, 6, 5, 5, 5, 5]
-    assert "edf, my_own: ticks 10 to 20 of 100" in texts(tmp_path / "a.svg")
+    found, said = drawn(long_trace(50), tmp_path / "a.svg", View(first=10, last=20))
+    names = ("release-a", "deadline-a", "done-a", "run-a", "idle", "decision")
+    assert [found[name] for name in names] == [6, 6, 5, 5, 5, 5]
+    assert "edf, my_own: ticks 10 to 20 of 100" in said
 
 
 def test_64_tasks_and_a_demand_above_the_picture(tmp_path: Path) -> None:
     names = [f"t{'x' * 29}{place:02}" for place in range(64)]
-    lines = "".join(f"release 0 {name} 1\n" for name in names) + f"speed 0 1 {2**100}/1\nidle 0:0 9:0 9 0\n"
-    energies = "".join(f"energy {name} 0\n" for name in names)
-    trace = Trace.parse(head(9, "".join(f"task {name} 9 0 1\n"
-                                        for name in names)) + f"{lines}{energies}end 9 0 {2**127}\n")
-    save_trace(trace, tmp_path / "a.svg", View(charge=3))
-    said = texts(tmp_path / "a.svg")
-    assert marks(tmp_path / "a.svg")["over"] == 1 and {*names} < {*said}
+    tasks, releases, energies = ("".join(form.format(name) for name in names) for form in (
+        "task {} 9 0 1\n", "release 0 {} 1\n", "energy {} 0\n"))
+    trace = Trace.parse(head(9, tasks) + f"{releases}speed 0 1 {2**100}/1\nidle 0:0 9:0 9 0\n"
+                        f"{energies}end 9 0 {2**127}\n")
+    found, said = drawn(trace, tmp_path / "a.svg", View(charge=3))
+    assert found["over"] == 1 and {*names} < {*said}
     assert "period 9, worst 1+6" in said and "demand above the picture" in said
     assert any("1.70141 × 10³⁸ idle" in text for text in said)
     assert trace_height(trace) > 64 * 50
@@ -160,7 +160,7 @@ def test_usage(words: list[str], line: str, monkeypatch: pytest.MonkeyPatch, tmp
                capsys: Captured) -> None:
     monkeypatch.chdir(TOP)
     trace = "crates/example_runs/data/paper/edf_none.trace"
-    said = refusal(capsys, ["plot", "trace", "--trace", trace, "--output", str(tmp_path / "a.svg"), *words])
+    said = refusal(capsys, ["plot", "trace", "--trace", trace, "--output", tmp_path / "a.svg", *words])
     assert line in said and not list(tmp_path.iterdir())
 
 
@@ -168,14 +168,14 @@ def test_usage(words: list[str], line: str, monkeypatch: pytest.MonkeyPatch, tmp
                                    "panel\tcurve\tutilisation\tsets\tmean\tlow\thigh\na\tb\tx\t1\t1\t1\t1\n"])
 def test_tables_are_refused(table: str, tmp_path: Path, capsys: Captured) -> None:
     (tmp_path / "t.tsv").write_text(table)
-    words = ["--table", str(tmp_path / "t.tsv"), "--output", str(tmp_path / "a.svg")]
+    words = ["--table", tmp_path / "t.tsv", "--output", tmp_path / "a.svg"]
     assert "table: " in refusal(capsys, ["plot", "evaluation", *words])
 
 
 def test_without_matplotlib(tmp_path: Path, monkeypatch: pytest.MonkeyPatch, capsys: Captured) -> None:
     modules: dict[str, object] = sys.modules    # type: ignore[assignment]
     monkeypatch.setitem(modules, "matplotlib", None)
-    words = ["--trace", str(DATA / "paper" / "edf_none.trace"), "--output", str(tmp_path / "a.svg")]
+    words = ["--trace", DATA / "paper" / "edf_none.trace", "--output", tmp_path / "a.svg"]
     assert "plot: matplotlib is not installed" in refusal(capsys, ["plot", "trace", *words])
 
 

@@ -1,56 +1,60 @@
 """Demands, schedules and boards of random plans against a model that goes tick by tick."""
 
 import re
+from collections import Counter
+from collections.abc import Iterator
 from fractions import Fraction
 from itertools import accumulate, pairwise
 
 import pytest
-from examples import BOARD, DATA, Captured
+from examples import BOARD, DATA, TEMPLATE, Captured, explained, options, printed, refusal
 from model import Model, random_case
 
-from rtdvs.cli import main
 from rtdvs.compare import PAIRS
 from rtdvs.explain import Walk, explain
 from rtdvs.files import Demands, FileFault, Task, TaskSet
 from rtdvs.rules import GOVERNORS, Plan, State
 from rtdvs.simulate import simulate
-from rtdvs.trace import Decision, Run, Trace
+from rtdvs.trace import Decision, Done, Release, Run, Trace
 
-SEEDS = range(60)
-
-
-def case(seed: int, pair: tuple[str, str]) -> tuple[Model, int, Trace | None]:
-    """A random plan with at most 40 ticks, and its simulated trace if it is admitted."""
-    tasks, machine, demands, ticks = random_case(seed)
-    model, ticks, plan = Model(tasks, machine, pair, demands), min(ticks, 40), Plan(tasks, machine, pair[0])
-    if not model.admitted():
-        with pytest.raises(FileFault, match=f"denied {pair[0]} "):
+def cases(pair: tuple[str, str], most: int = 40) -> Iterator[tuple[Model, Trace]]:
+    """Random plans of at most so many ticks that are admitted, and their simulated traces."""
+    for seed in range(60):
+        tasks, machine, demands, ticks = random_case(seed)
+        model, plan = Model(tasks, machine, pair, demands), Plan(tasks, machine, pair[0])
+        if model.admitted():
             plan.admit()
-        return model, ticks, None
-    plan.admit()
-    return model, ticks, simulate(tasks, machine, pair[0], ticks, GOVERNORS[pair], demands, pair[1])
+            yield model, simulate(tasks, machine, pair[0], min(ticks, most), GOVERNORS[pair], demands, pair[1])
+        else:
+            with pytest.raises(FileFault, match=f"denied {pair[0]} "):
+                plan.admit()
 
 
 @pytest.mark.parametrize("pair", PAIRS)
 def test_schedule(pair: tuple[str, str]) -> None:
-    for seed in SEEDS:
-        model, ticks, trace = case(seed, pair)
-        if trace is None:
-            continue
+    for model, trace in cases(pair):
         found = [(note.tick, Fraction(note.num, note.den), note.speed) for note in trace.decisions]
-        assert found == list(model.decisions(ticks)), seed
+        assert found == list(model.decisions(trace.ticks))
         volts = {point.speed: point.millivolts for point in model.machine.points}
         units = {task.name: sum(share[place] for share in model.shares)
                  for place, task in enumerate(model.tasks)}
         assert units == {task.name: sum(note.units for note in trace.notes if isinstance(note, Run)
                                         and note.task == task.name) for task in model.tasks}
         chosen = {tick: speed for tick, _, speed in found}
-        speeds = [*accumulate(range(ticks), lambda speed, tick: chosen.get(tick, speed), initial=0)][1:]
+        speeds = [*accumulate(range(trace.ticks), lambda speed, tick: chosen.get(tick, speed), initial=0)][1:]
         run, idle = 0, 0
         for speed, share in zip(speeds, model.shares, strict=True):
             run += sum(share) * volts[speed] ** 2 * 1000
             idle += (speed - sum(share)) * volts[speed] ** 2 * model.machine.idle
         assert (trace.run_energy, trace.idle_energy) == (run, idle)
+
+
+@pytest.mark.parametrize("pair", GOVERNORS, ids="-".join)
+def test_few_decisions_and_notes(pair: tuple[str, str]) -> None:
+    for model, trace in cases(pair, 60):
+        kinds = Counter(type(note) for note in trace.notes)
+        assert len(trace.decisions) <= kinds[Release] + kinds[Done] + 1
+        assert len(trace.notes) - len(model.tasks) <= 7 * kinds[Release] + 3
 
 
 # The board
@@ -136,14 +140,10 @@ def next_line(model: Model, tick: int) -> str:
 
 @pytest.mark.parametrize("pair", PAIRS)
 def test_board(pair: tuple[str, str]) -> None:
-    for seed in SEEDS:
-        model, ticks, trace = case(seed, pair)
-        if trace is None:
-            continue
-        boards: list[str] = []
+    for model, trace in cases(pair):
         lines = trace.text().splitlines(True)
-        explain(Walk(model.tasks, model.machine, lines, model.demands), boards.append)
-        for board, (tick, demand, speed) in zip(boards, model.decisions(ticks), strict=True):
+        boards = explained(model.tasks, model.machine, model.demands, trace.text())
+        for board, (tick, demand, speed) in zip(boards, model.decisions(trace.ticks), strict=True):
             head, *body, last = board.split("\n    ")
             number, rest = head.removeprefix("line ").split(first_line(model, tick, demand, speed))
             num, den = map(int, rest.removesuffix(f", speed {speed}").split("/"))
@@ -177,14 +177,9 @@ def assert_speeds(model: Model, body: list[str], num: int, den: int) -> None:
 # The command, against a trace of the program
 
 def test_simulate_command(capsys: Captured) -> None:
-    names = {"tasks": "tasks.toml", "machine": "machine.toml", "demands": "demands.csv"}
-    files = [word for kind, name in names.items()
-             for word in (f"--{kind}", str(DATA / "templates" / name))]
-    words = ["simulate", *files, "--ticks", "8", "--governor"]
-    assert main([*words, "cc", "--scheduler", "edf"]) == 0
-    assert capsys.readouterr().out == (DATA / "templates/edf_cc_with_demands.trace").read_text()
-    assert main([*words, "la", "--scheduler", "rm"]) == 2
-    assert capsys.readouterr().err == "rtdvs: rm has no governor la\n"
+    words = ["simulate", *options(DATA / "templates", "demands"), "--ticks", "8", "--governor"]
+    assert printed(capsys, [*words, "cc", "--scheduler", "edf"]) == TEMPLATE.read_text()
+    assert refusal(capsys, [*words, "la", "--scheduler", "rm"]) == "rtdvs: rm has no governor la\n"
 
 
 # Governors of one's own

@@ -1,12 +1,13 @@
 """Limits of the tests, by hand and by a model of the three tests."""
 
+from collections.abc import Callable
 from dataclasses import replace
 from fractions import Fraction
 from math import ceil
 from pathlib import Path
 
 import pytest
-from examples import BOARD, PAPER, Captured, printed, refusal
+from examples import BOARD, PAPER, Captured, entry, machines, options, printed, refusal, task_sets
 from hypothesis import given, settings
 from hypothesis import strategies as st
 
@@ -69,15 +70,12 @@ def with_worsts(tasks: TaskSet, worsts: list[int]) -> TaskSet:
     return TaskSet(tuple(replace(task, worst=worst) for task, worst in zip(tasks, worsts)))
 
 
-SETS = st.lists(st.tuples(st.integers(1, 12), st.integers(1, 30)), min_size=1, max_size=3).map(
-    lambda pairs: TaskSet(tuple(Task(f"t{place}", *pair) for place, pair in enumerate(pairs))))
-
-
-@settings(max_examples=8)
-@given(SETS, st.integers(0, 2), st.integers(1, 9), st.sampled_from(["edf", "rm", "response"]))
-def test_each_limit_is_admitted_and_one_more_is_not(engine: Engine, tasks: TaskSet, charge: int,
-                                                    top: int, test: str) -> None:
-    limits = sensitivity(engine, tasks, Machine((Point(top, 1),), charge=charge), test)
+@settings(max_examples=4)
+@given(tasks=task_sets(3, st.integers(1, 12), st.integers(1, 30)), machine=machines(1, 9, 2))
+@pytest.mark.parametrize("test", ["edf", "rm", "response"])
+def test_each_limit_is_right(engine: Engine, tasks: TaskSet, machine: Machine, test: str) -> None:
+    """It is admitted, and one more is not."""
+    limits, charge, top = sensitivity(engine, tasks, machine, test), machine.charge, machine.top_speed
     now = [task.worst for task in tasks]
 
     def scaled(thousandths: int) -> bool:
@@ -101,19 +99,27 @@ def test_an_offset_has_no_response(engine: Engine) -> None:
         sensitivity(engine, TaskSet((Task("a", 10, 6, 1),)), BOARD, "response")
 
 
-MACHINE_TEXT = "[[point]]\nspeed = 4\nmillivolts = 5000\n"
-TASK_TEXT = '[[task]]\nname = "a"\nperiod = 10\nworst = 6\n'
+Words = Callable[[str, str, str], list[object]]
+
+
+@pytest.fixture
+def call(program: Path, tmp_path: Path) -> Words:
+    """The command's words for the texts of a task file and a machine file, and a test."""
+    def words(tasks: str, machine: str, test: str) -> list[object]:
+        (tmp_path / "tasks.toml").write_text(tasks)
+        (tmp_path / "machine.toml").write_text(machine)
+        return ["sensitivity", "--program", program, "--test", test, *options(tmp_path)]
+    return words
 
 
 @pytest.mark.parametrize(("tasks", "machine", "line"), [
-    (TASK_TEXT, "idle = 5000\n" + MACHINE_TEXT, "machine: idle out of range"),
-    (TASK_TEXT, MACHINE_TEXT.replace("5000", "50000"), "machine: point 1: millivolts out of range"),
-    (TASK_TEXT.replace("10", "0"), MACHINE_TEXT, "tasks: task 1: period out of range"),
-    (TASK_TEXT.replace("6", "0"), MACHINE_TEXT, "tasks: task 1: worst out of range"),
+    (entry(), "idle = 5000\n" + entry("point"), "machine: idle out of range"),
+    (entry(), entry("point", millivolts="50000"), "machine: point 1: millivolts out of range"),
+    (entry(period="0"), entry("point"), "tasks: task 1: period out of range"),
+    (entry(worst="0"), entry("point"), "tasks: task 1: worst out of range"),
 ])
-def test_a_file_that_the_program_refuses(program: Path, tmp_path: Path, capsys: Captured,
-                                         tasks: str, machine: str, line: str) -> None:
-    assert refusal(capsys, call(program, tmp_path, tasks, machine, "edf")) == f"rtdvs: {line}\n"
+def test_a_file_that_the_program_refuses(call: Words, capsys: Captured, tasks: str, machine: str, line: str) -> None:
+    assert refusal(capsys, call(tasks, machine, "edf")) == f"rtdvs: {line}\n"
 
 
 @pytest.mark.parametrize(("tasks", "machine", "test", "lines"), [
@@ -121,16 +127,8 @@ def test_a_file_that_the_program_refuses(program: Path, tmp_path: Path, capsys: 
     ('task = [{ "name" = "a", period = 10, worst = 6 }, { name = "b", period = 10, worst = 10 }]',
      '"charge" = 2\npoint = [{ speed = 2, millivolts = 1 }]', "edf",
      "all 700\ntask a 6 2\ntask b 10 6\nspeed 2 3\n"),
-    # No number is enough.
-    (TASK_TEXT, "charge = 20\n" + MACHINE_TEXT, "rm", "all -\ntask a 6 -\nspeed 4 5\n"),
+    # No number is enough: the charge alone is 40 units in 4 ticks.
+    (entry(), "charge = 20\n" + entry("point"), "rm", "all -\ntask a 2 -\nspeed 2 11\n"),
 ])
-def test_printed(program: Path, tmp_path: Path, capsys: Captured, tasks: str, machine: str, test: str,
-                 lines: str) -> None:
-    assert printed(capsys, call(program, tmp_path, tasks, machine, test)) == lines
-
-
-def call(program: Path, folder: Path, tasks: str, machine: str, test: str) -> list[str]:
-    (folder / "tasks.toml").write_text(tasks)
-    (folder / "machine.toml").write_text(machine)
-    return ["sensitivity", "--program", str(program), "--test", test, "--tasks", str(folder / "tasks.toml"),
-            "--machine", str(folder / "machine.toml")]
+def test_printed(call: Words, capsys: Captured, tasks: str, machine: str, test: str, lines: str) -> None:
+    assert printed(capsys, call(tasks, machine, test)) == lines

@@ -12,12 +12,11 @@ from collections.abc import Iterator
 from concurrent.futures import ThreadPoolExecutor
 from contextlib import contextmanager
 from pathlib import Path
-from threading import Thread
 from time import monotonic, sleep
 from typing import Any
 
 import pytest
-from examples import DATA, TOP, files, path_id
+from examples import DATA, SOURCE, fake, files, path_id, serving
 
 from rtdvs import serve
 from rtdvs.compare import PAIRS
@@ -48,10 +47,7 @@ def answered(engine: Engine, example: object, path: str = "/run") -> tuple[int, 
 
 def stand_in(folder: Path, script: str) -> Engine:
     """A program in place of rtdvs, which a test's fault is in."""
-    program = folder / "program"
-    program.write_text(f"#!/bin/sh\n{script}\n")
-    program.chmod(0o755)
-    return Engine(program, timeout=1.0)
+    return Engine(fake(folder, script), timeout=1.0)
 
 
 # Answers
@@ -207,12 +203,8 @@ def processes(word: str) -> list[str]:
 def server(tmp_path: Path) -> Iterator[PageServer]:
     """A server of a program that takes a moment and then refuses."""
     engine = stand_in(tmp_path, "sleep 0.05; echo 'denied edf 2 1' >&2; exit 1")
-    with PageServer(0, engine) as server:
-        thread = Thread(target=server.serve_forever, kwargs={"poll_interval": 0.02})
-        thread.start()
+    with serving(engine) as server:
         yield server
-        server.shutdown()
-        thread.join()
 
 
 def asked(server: PageServer, method: str, path: str, body: bytes = b"", **headers: str) -> tuple[int, bytes]:
@@ -330,11 +322,8 @@ def test_calls_at_a_time(tmp_path: Path) -> None:
     """No more than the stated number runs at once."""
     script = f"""mkdir -p {tmp_path}/now; touch {tmp_path}/now/$$; ls {tmp_path}/now | wc -l >> {tmp_path}/counts
 sleep 0.2; rm {tmp_path}/now/$$; echo 'denied edf 2 1' >&2; exit 1"""
-    with PageServer(0, stand_in(tmp_path, script)) as server:
-        Thread(target=server.serve_forever, kwargs={"poll_interval": 0.02}).start()
-        with ThreadPoolExecutor(16) as executor:
-            statuses = [*executor.map(lambda _: asked(server, "POST", "/run", BODY)[0], range(16))]
-        server.shutdown()
+    with serving(stand_in(tmp_path, script)) as server, ThreadPoolExecutor(16) as executor:
+        statuses = [*executor.map(lambda _: asked(server, "POST", "/run", BODY)[0], range(16))]
     counts = [int(line) for line in (tmp_path / "counts").read_text().split()]
     assert 200 in statuses and max(counts) <= serve.MOST_CALLS
 
@@ -364,7 +353,7 @@ def test_command_ends_with_its_calls(number: int, tmp_path: Path, calls: Path) -
     """It says where it listens; a signal ends it, and no process and no file of a call is left."""
     program = stand_in(tmp_path, "sleep 30").program
     words = [sys.executable, "-m", "rtdvs", "serve", "--port", "0", "--program", str(program), "--timeout", "1"]
-    environment = {**os.environ, "PYTHONPATH": str(TOP / "python" / "src"), "TMPDIR": str(calls)}
+    environment = {**os.environ, "PYTHONPATH": SOURCE, "TMPDIR": str(calls)}
     with subprocess.Popen(words, stdout=subprocess.PIPE, env=environment, text=True) as process, ending(process):
         assert process.stdout is not None
         line = process.stdout.readline()

@@ -13,21 +13,18 @@ from itertools import pairwise
 from math import ceil
 
 import pytest
-from examples import BOARD, DATA, PAPER, TOP
-from model import random_case
+from examples import BOARD, DATA, PAGES, PAPER, TOP, XSCALE, files
 
 from rtdvs.compare import Case, energy_of, runs
 from rtdvs.decimals import decimal
 from rtdvs.draws import PUBLISHED_MILLISECOND, PUBLISHED_SEED, PUBLISHED_TICKS, PUBLISHED_TOP
 from rtdvs.engine import Engine
 from rtdvs.evaluate import MACHINES
-from rtdvs.files import Demands, FileFault, Machine, Requests, TaskSet
+from rtdvs.files import Requests
 from rtdvs.paper_table import EXAMPLE, PAIRS, PUBLISHED, shares
-from rtdvs.rules import GOVERNORS, Plan
-from rtdvs.simulate import simulate
-from rtdvs.trace import Done, Release, Run, Trace
+from rtdvs.trace import Run, Trace
 
-PAGES = sorted(path.relative_to(TOP) for path in [*TOP.glob("*.md"), *(TOP / "docs").glob("*.md")])
+TENTHS = [decimal(Fraction(tenth, 10), 1) for tenth in range(1, 11)]
 NUMBER = r"\d+(?:\.\d+)?"
 
 
@@ -76,10 +73,6 @@ def readme(engine: Engine) -> Iterator[str]:
     yield f"the shares are exactly {finer[4]} and {short(finer[5], 4)}."
 
 
-XSCALE = ((150, "0.75", 80), (400, "1.0", 170), (600, "1.3", 400), (800, "1.6", 900), (1000, "1.8", 1600))
-"""Megahertz, volts and milliwatts, as quoted."""
-
-
 def units(engine: Engine) -> Iterator[str]:
     mhz, volts, quoted = XSCALE[-1]
     capacitance = Fraction(quoted, 10**3) / (Fraction(volts)**2 * mhz * 10**6)
@@ -90,9 +83,8 @@ def units(engine: Engine) -> Iterator[str]:
     middle = zip(XSCALE[1:-1], model[1:-1], strict=True)
     lower = [100 * (1 - quoted / watts) for (_, _, quoted), watts in middle]
     yield f"are {round(min(lower))} to {round(max(lower))} percent lower in the middle"
-    folder = DATA / "controller"
-    tasks, machine = TaskSet.read(folder / "tasks.toml"), Machine.read(folder / "machine.toml")
-    first = Demands.read(folder / "demands.csv", tasks).units[tasks.tasks[0].name, 1]
+    tasks, machine, demands = files("controller")
+    first = demands.units[tasks.tasks[0].name, 1]
     yield (f"where it is {machine.charge}, the first job of `{tasks.tasks[0].name}` has {first} units in the "
            f"demand file and {first + 2 * machine.charge} in the trace")
     finer = [700 * share for share in shares(engine, 3)]
@@ -118,12 +110,10 @@ def least(engine: Engine) -> Iterator[str]:
 
 
 def controller(engine: Engine) -> Iterator[str]:
-    folder = DATA / "controller"
-    tasks, machine = TaskSet.read(folder / "tasks.toml"), Machine.read(folder / "machine.toml")
-    demands = Demands.read(folder / "demands.csv", tasks)
+    tasks, machine, demands = files("controller")
     trace = Trace.parse(engine.run(tasks, machine, "edf", "cc", 100, demands))
     ran = sum(note.units for note in trace.notes if isinstance(note, Run))
-    found = engine.least(folder / "machine.toml", ran, 100)
+    found = engine.least(machine, ran, 100)
     bound = Fraction(found.energy, found.rounds)
     yield (f"has {count(len(tasks))} tasks, {count(len(machine.points))} speeds, "
            f"an idle share of {machine.idle} thousandths")
@@ -180,7 +170,7 @@ def evaluation(engine: Engine) -> Iterator[str]:
         yield f"{', '.join(speeds[:-1])} and {speeds[-1]}{of} at {', '.join(volts[:-1])} and {volts[-1]} V |"
     tasks, machines, idle, demands = (figure(name) for name in ("tasks", "machines", "idle", "demands"))
     at_most = [max(tasks[f"{number} tasks", "edf la", tenth] - tasks[f"{number} tasks", "bound", tenth]
-                   for tenth in tenths()) for number in (5, 10, 15)]
+                   for tenth in TENTHS) for number in (5, 10, 15)]
     yield (f"its mean is at most {decimal(at_most[0], 2)} above it, "
            f"and {decimal(max(at_most[1:]), 2)} for 10 and 15 tasks")
     means = [short(tasks[f"{number} tasks", "rm static", "0.7"], 2) for number in (5, 10, 15)]
@@ -199,16 +189,12 @@ def taken_shares(demands: dict[tuple[str, str, str], Fraction]) -> Iterator[str]
     falls = [(demands[whole, curve, "0.8"], demands[half, curve, "0.8"]) for curve in ("edf cc", "edf la")]
     yield (f"fall from {short(falls[0][0], 2)} and {decimal(falls[1][0], 2)} to {decimal(falls[0][1], 2)} "
            f"and {decimal(falls[1][1], 2)} when jobs take half")
-    change = max(abs(demands[whole, "rm cc", tenth] - demands[half, "rm cc", tenth]) for tenth in tenths()
+    change = max(abs(demands[whole, "rm cc", tenth] - demands[half, "rm cc", tenth]) for tenth in TENTHS
                  if (half, "rm cc", tenth) in demands)
     yield f"RM's `cc` changes little (at most {decimal(change, 2)})"
     spread = max(abs(mean - demands["a uniform share", curve, tenth])
                  for (panel, curve, tenth), mean in demands.items() if panel == half)
     yield f"gives the same means within {decimal(spread, 3)}."
-
-
-def tenths() -> list[str]:
-    return [decimal(Fraction(tenth, 10), 1) for tenth in range(1, 11)]
 
 
 def limits() -> dict[str, int]:
@@ -349,17 +335,3 @@ def test_rules_name_their_tests() -> None:
                        "\n".join(path.read_text(encoding="utf-8") for path in tests), re.MULTILINE)
     names = {name for pair in found for name in pair if name}
     assert not list(unnamed((TOP / "docs" / "RULES.md").read_text(encoding="utf-8"), names))
-
-
-@pytest.mark.parametrize("pair", GOVERNORS, ids="-".join)
-def test_few_decisions_and_notes(pair: tuple[str, str]) -> None:
-    for seed in range(40):
-        tasks, machine, demands, ticks = random_case(seed)
-        try:
-            Plan(tasks, machine, pair[0]).admit()
-        except FileFault:
-            continue
-        trace = simulate(tasks, machine, pair[0], min(ticks, 60), GOVERNORS[pair], demands, pair[1])
-        kinds = Counter(type(note) for note in trace.notes)
-        assert len(trace.decisions) <= kinds[Release] + kinds[Done] + 1
-        assert len(trace.notes) - len(tasks) <= 7 * kinds[Release] + 3

@@ -12,7 +12,7 @@ from pathlib import Path
 from tempfile import TemporaryDirectory
 from typing import Any
 
-from examples import TOP
+from examples import SOURCE, TOP
 
 NOTEBOOK = TOP / "examples" / "tour.ipynb"
 METADATA = {"kernelspec": {"display_name": "Python 3", "language": "python", "name": "python3"},
@@ -79,7 +79,7 @@ def prepare(notebook: Notebook, folder: Path) -> None:
 def environment(folder: Path) -> dict[str, str]:
     """The environment of a run: the repository's package, and Jupyter without the user's settings."""
     names = ("JUPYTER_PATH", "JUPYTER_DATA_DIR", "JUPYTER_CONFIG_DIR", "JUPYTER_RUNTIME_DIR", "IPYTHONDIR")
-    own = {**dict.fromkeys(names, str(folder / "jupyter")), "PYTHONPATH": str(TOP / "python" / "src")}
+    own = {**dict.fromkeys(names, str(folder / "jupyter")), "PYTHONPATH": SOURCE}
     return {**os.environ, **own, "PYTHONDONTWRITEBYTECODE": "1"}
 
 
