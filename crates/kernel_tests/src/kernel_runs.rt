@@ -10,7 +10,7 @@ use demand_list::Demands;
 use dvs_base::{FailAt, MemSink, Totals, Version};
 use event_kernel::{Kernel, KernelFault, WriteFault};
 use governor::Governor;
-use probes::{Rule, What};
+use probes::{Probe, Rule, What};
 use static_gov::Full;
 use std::alloc::Global;
 use std::test::Fail;
@@ -54,17 +54,17 @@ struct WrittenRun {
     tallies: Vec<u64>,
 }
 
-// The run of a kernel with both probes, where these puts fail.
+// The run of a kernel with these probes, where these puts fail.
 fn written<G: Governor>(
     alloc: Global,
     kernel: Kernel<'_, G>,
+    probes: &mut Vec<Box<dyn Probe>>,
     failing: &[FailAt],
     version: Version,
 ) -> Result<WrittenRun, Fail> {
     let mut out = MemSink::new(alloc, 4096, failing)?;
-    let mut probes = probes_of!(alloc, &two_probes());
-    let ended = kernel.run(&mut out, &mut probes, version);
-    let tallies = tallies_of(alloc, &probes)?;
+    let ended = kernel.run(&mut out, probes, version);
+    let tallies = tallies_of(alloc, probes)?;
     Ok(WrittenRun {
         ended,
         out,
@@ -74,22 +74,24 @@ fn written<G: Governor>(
 
 // The run of the example at the highest speed, where these puts fail.
 fn paper_run(alloc: Global, failing: &[FailAt]) -> Result<WrittenRun, Fail> {
+    let mut probes = probes_of!(alloc, &two_probes());
     let Some(planned) = edf_planned(alloc, PAPER_AT_WORST)? else {
         return Err("plan")?;
     };
     let governor = Full::new(alloc, &planned.plan)?;
     let kernel = Kernel::new(alloc, &planned.plan, &planned.demands, governor, 16)?;
-    written(alloc, kernel, failing, Version::One)
+    written(alloc, kernel, &mut probes, failing, Version::One)
 }
 
 // The run of two tasks, one of which is late, under cycle-conserving EDF.
 fn two_tasks_run(alloc: Global) -> Result<WrittenRun, Fail> {
+    let mut probes = probes_of!(alloc, &two_probes());
     let Some(planned) = edf_planned(alloc, TWO_AT_WORST)? else {
         return Err("plan")?;
     };
     let governor = CcEdf::new(alloc, &planned.plan)?;
     let kernel = Kernel::new(alloc, &planned.plan, &planned.demands, governor, 8)?;
-    written(alloc, kernel, &[], Version::Two)
+    written(alloc, kernel, &mut probes, &[], Version::Two)
 }
 
 #[test]

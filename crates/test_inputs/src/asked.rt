@@ -16,14 +16,11 @@ macro_rules! probes_of {
     ($alloc:expr, $asked:expr) => {{
         let mut probes: Vec<Box<dyn $crate::Probe>> = Vec::new($alloc);
         for probe in $asked {
-            match *probe {
-                $crate::Asked::Count(rule) => {
-                    probes.push(Box::new($alloc, $crate::CountProbe::new(rule))?)?
-                }
-                $crate::Asked::Table(rule) => {
-                    probes.push(Box::new($alloc, $crate::TableProbe::new(rule))?)?
-                }
-            }
+            let probe: Box<dyn $crate::Probe> = match *probe {
+                $crate::Asked::Count(rule) => Box::new($alloc, $crate::CountProbe::new(rule))?,
+                $crate::Asked::Table(rule) => Box::new($alloc, $crate::TableProbe::new(rule))?,
+            };
+            probes.push(probe)?;
         }
         probes
     }};
