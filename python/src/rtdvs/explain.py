@@ -27,7 +27,8 @@ from rtdvs.rules import (
     edf_ahead, edf_cycle, full, rm_cycle, static,
 )
 from rtdvs.trace import (
-    Decision, Done, Head, Item, Order, Position, Release, TraceFault, lines_of, spelled_lines, task_text,
+    Decision, Done, Head, Item, Position, Release, TraceFault, lines_of, order, read_head, spelled_lines,
+    task_text,
 )
 
 
@@ -268,13 +269,15 @@ class Walk:
         >>> [next(steps)[:2] for line in lines[1:]][1]
         (3, Release(tick=0, task='a', job=1))
         """
-        number, wanted, order = 1, list[Task](), Order()
+        number, wanted, source = 2, list[Task](), iter(self.lines)
         try:
-            for number, item in enumerate(spelled_lines(self.lines), 2):
-                if isinstance(item, Head):
-                    checker = self._checker(item)
-                    wanted = [*self.tasks][::-1] if item.version == 2 else []
-                elif wanted:
+            head = read_head(source)
+            checker, faults = self._checker(head), order(head.version)
+            next(faults)
+            yield number, head, checker
+            wanted = [*self.tasks][::-1] if head.version == 2 else []
+            for number, item in enumerate(spelled_lines(source), 3):
+                if wanted:
                     if item != wanted[-1]:
                         raise Wrong(f"wanted {task_text(wanted[-1])}")
                     wanted.pop()
@@ -282,7 +285,7 @@ class Walk:
                     raise Wrong(f"the task {item.name} is not in the task file")
                 else:
                     checker.check(item)
-                fault = order.fault(item)
+                fault = faults.send(item)
                 if fault:
                     raise Wrong(fault)
                 yield number, item, checker
