@@ -160,7 +160,7 @@ def _put_off(job: Latest, kept: int, state: State) -> tuple[int, int, str]:
         f"rates {without} + {need} = {without + need}")
 
 
-TERMS: dict[Governor, Callable[[State], list[str]]] = {
+TERMS: dict[Governor | None, Callable[[State], list[str]]] = {
     full: _full, static: _static, edf_cycle: _edf_cycle, rm_cycle: _rm_cycle, edf_ahead: _edf_ahead,
 }
 
@@ -293,7 +293,9 @@ class Walk:
             reason = f"wanted {task_text(wanted[-1])}" if wanted else spelled.reason
             raise WrongTrace(spelled.line, reason) from None
         except WrongDecision as wrong:
-            raise WrongTrace(number, f"{wrong}: {'; '.join(_reasons(checker, wrong))}") from None
+            points = self.machine.points
+            terms = speeds(points, *wrong.demand) if wrong.demand else TERMS[checker.governor](checker.state)
+            raise WrongTrace(number, f"{wrong}: {'; '.join(terms)}") from None
         except Wrong as wrong:
             raise WrongTrace(number, str(wrong)) from None
 
@@ -306,13 +308,6 @@ class Walk:
             plan.admit()
         needs = None if self.demands is None else plan.needs(self.demands)
         return Checker(State.begin(plan), head.ticks, governor, needs)
-
-
-def _reasons(checker: Checker, wrong: WrongDecision) -> list[str]:
-    """The terms of the demand that is wanted, or its speeds if only the speed is wrong."""
-    if wrong.demand:
-        return speeds(checker.state.plan.machine.points, *wrong.demand)
-    return TERMS[checker.governor](checker.state) if checker.governor else []
 
 
 def explain(walk: Walk, show: Callable[[str], object] | None = None) -> Summary:

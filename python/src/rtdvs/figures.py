@@ -16,7 +16,6 @@ from rtdvs.files import FileFault
 
 if TYPE_CHECKING:
     from matplotlib.axes import Axes
-    from matplotlib.figure import Figure
 
 ENERGY, BOUND, TIME = "#d55e00", "#009e73", "#0072b2"
 
@@ -201,12 +200,8 @@ def save_means(means: Sequence[Mean], path: Path, columns: int = 3, background: 
             plot_means([mean for mean in means if mean.panel == panel], axes)
         figure.text(14 / wide, 1 - 16 / high, "energy, as a share of EDF with none, over worst-case "
                     "utilisation; numbers at RM: sets that it admits", fontsize=SMALL, color=INK)
-        _draw_curve_legend(figure, columns)
+        signs = [sign("none", INK, linewidth=1.5 * POINT)]
+        signs += [sign(curve.replace("edf", "EDF").replace("rm", "RM"), CURVES[curve][0], **_style(curve))
+                  for curve in CURVES]
+        legend(figure, signs, 4 if columns < 3 else 7, loc="lower left", handlelength=3, borderaxespad=0.3)
         save(figure, path, background)
-
-
-def _draw_curve_legend(figure: "Figure", columns: int) -> None:
-    signs = [sign("none", INK, linewidth=1.5 * POINT)]
-    signs += [sign(curve.replace("edf", "EDF").replace("rm", "RM"), CURVES[curve][0], **_style(curve))
-              for curve in CURVES]
-    legend(figure, signs, 4 if columns < 3 else 7, loc="lower left", handlelength=3, borderaxespad=0.3)

@@ -224,7 +224,8 @@ def save_trace(trace: Trace, path: Path, view: View = View(), width: int = 1000,
         figure = new_figure(width, above + high + 26)
         axes = figure.add_axes((left / width, 0, 1 - (left + 20) / width, 1))
         plot_trace(trace, axes, view)
-        below = 26 + 15 * _legend_rows(axes)
+        signs = axes.get_legend()
+        below = 26 + 15 * -(-len(signs.get_texts()) // int(signs._ncols))
         tall = above + high + below
         figure.set_size_inches(width * PIXEL, tall * PIXEL)
         axes.set_position((left / width, below / tall, 1 - (left + 20) / width, high / tall))
@@ -414,11 +415,6 @@ def _draw_legend(frame: _Frame, has_idle: bool) -> None:
            handletextpad=0.5, borderpad=0)
 
 
-def _legend_rows(axes: "Axes") -> int:
-    of = axes.get_legend()
-    return -(-len(of.get_texts()) // int(of._ncols))
-
-
 def _sign(label: str, colour: str, marker: object, **style: Any) -> Any:
     filled = "full" if marker == "o" else "none"
     return sign(label, colour, **{"linestyle": "none", "marker": marker, "markersize": 5 * POINT,
@@ -470,20 +466,16 @@ def _add_file(parser: argparse.ArgumentParser, draw: Callable[[argparse.Namespac
 
 def _handle(args: argparse.Namespace) -> int:
     try:
-        _check_background(args.background)
+        from matplotlib.colors import is_color_like
+
+        if not is_color_like(args.background):
+            raise FileFault(f"no colour: {args.background}")
         args.draw(args)
     except ModuleNotFoundError as error:
         print(f"plot: {error.name} is not installed; it is python3-matplotlib of Debian, matplotlib of PyPI",
               file=sys.stderr)
         return 2
     return 0
-
-
-def _check_background(colour: str) -> None:
-    from matplotlib.colors import is_color_like
-
-    if not is_color_like(colour):
-        raise FileFault(f"no colour: {colour}")
 
 
 def _run_trace(args: argparse.Namespace) -> None:

@@ -589,22 +589,18 @@ class Checker:
         if point is None:
             raise Wrong(f"the machine has no speed {note.speed}")
         if self.governor:
-            self._governed(note, self.governor)
+            if not state.is_decision:
+                reason = "no release, and no completion in the tick before"
+                raise Wrong(f"no decision is made at tick {note.tick}: {reason}")
+            state.hand_out()
+            num, den = self.governor(state)
+            if note.num != num or note.den != den:
+                raise WrongDecision(f"the demand is {num}/{den}")
+            lowest = state.plan.lowest(num, den)
+            if point is not lowest:
+                raise WrongDecision(f"speed {lowest.speed} is the lowest that meets {num}/{den}", (num, den))
         state.point, state.decided = point, state.now
         self.summary.decisions += 1
-
-    def _governed(self, note: Decision, governor: Governor) -> None:
-        """Checks the tick of a decision, its demand and its speed."""
-        if not self.state.is_decision:
-            reason = "no release, and no completion in the tick before"
-            raise Wrong(f"no decision is made at tick {note.tick}: {reason}")
-        self.state.hand_out()
-        num, den = governor(self.state)
-        if note.num != num or note.den != den:
-            raise WrongDecision(f"the demand is {num}/{den}")
-        speed = self.state.plan.lowest(num, den).speed
-        if note.speed != speed:
-            raise WrongDecision(f"speed {speed} is the lowest that meets {num}/{den}", (num, den))
 
     def _can_run(self) -> Point:
         """The point in force, if the next segment can begin."""
