@@ -15,6 +15,7 @@ The status is 1 if the trace is wrong; standard error then names its first wrong
 import argparse
 import io
 import sys
+from collections import deque
 from collections.abc import Callable, Iterable, Iterator, Sequence
 from dataclasses import dataclass
 
@@ -324,10 +325,10 @@ def explain(walk: Walk, show: Callable[[str], object] | None = None) -> Summary:
         t job 1 runs: of 1 open it is due first, at 2
     1
     """
+    if show is None or walk.any_governor:
+        return deque(walk.steps(), maxlen=1)[0][2].summary
     events: list[Release | Done] = []
     for number, item, checker in walk.steps():
-        if show is None or walk.any_governor:
-            continue
         if isinstance(item, (Release, Done)):
             events.append(item)
         elif isinstance(item, Decision):

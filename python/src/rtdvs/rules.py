@@ -305,7 +305,8 @@ class State:
         >>> State.begin(EXAMPLE).is_decision
         True
         """
-        return self.behind == 0 and self.now in (0, self.released, self.seen)
+        now = self.now
+        return self.behind == 0 and (now == self.released or now == self.seen or now == 0)
 
     def all_met(self) -> None:
         """Raises DeadlineMissed if a job, whose deadline is now, isn't complete.
@@ -451,7 +452,7 @@ def edf_ahead(state: State) -> Demand:
     """
     plan, first, jobs = state.plan, state.deadlines[0][0], state.jobs
     hyper, rates, spare, before = plan.hyperperiod, plan.rates, plan.spare, 0
-    for due, place in reversed(state.deadlines):
+    for due, place in reversed(state.deadlines) if state.open else ():
         spare += rates[place]
         left = jobs[place].left
         if not left:
@@ -553,7 +554,7 @@ class Checker:
 
     def _all_released(self) -> None:
         due, place = self.state.deadlines[0]
-        if due == self.state.now < self.ticks and self.state.behind == 0:
+        if due < self.ticks and self.state.behind == 0:
             job = self.state.jobs[place]
             raise Wrong(f"the release of {job.task.name} job {job.number + 1} at tick {due} is missing")
 
@@ -582,7 +583,8 @@ class Checker:
     def _decision(self, note: Decision) -> None:
         state = self.state
         self._is_at(note.tick)
-        self._all_released()
+        if state.deadlines[0][0] == state.now:
+            self._all_released()
         if state.now >= self.ticks or state.decided == state.now:
             raise Wrong("no decision is made here")
         point = self.points.get(note.speed)
@@ -592,7 +594,8 @@ class Checker:
             if not state.is_decision:
                 reason = "no release, and no completion in the tick before"
                 raise Wrong(f"no decision is made at tick {note.tick}: {reason}")
-            state.hand_out()
+            if self.governor is rm_cycle:
+                state.hand_out()
             num, den = self.governor(state)
             if note.num != num or note.den != den:
                 raise WrongDecision(f"the demand is {num}/{den}")
@@ -605,11 +608,11 @@ class Checker:
     def _can_run(self) -> Point:
         """The point in force, if the next segment can begin."""
         state = self.state
-        self._all_released()
+        if state.deadlines[0][0] == state.now:
+            self._all_released()
         if state.now >= self.ticks:
             raise Wrong(f"the run ends at tick {self.ticks}")
-        late = self.governor and state.decided != state.now and state.is_decision
-        if late or state.point is None:
+        if state.point is None or state.decided != state.now and self.governor and state.is_decision:
             raise Wrong(f"the decision at tick {state.now} is missing")
         return state.point
 

@@ -230,7 +230,8 @@ _SHAPES = {  # of fields; all others are numbers
 
 @lru_cache(maxsize=4)  # a line often begins where the one before it ends
 def _at(place: str) -> Position:
-    return Position(*map(int, place.split(":")))
+    tick, offset = place.split(":")
+    return Position(int(tick), int(offset))
 
 
 _PLAN = re.compile(f"plan (edf|rm) {_NAME} ({_up_to(MOST_TICKS)})\n")
@@ -252,7 +253,7 @@ def _shape(form: str) -> re.Pattern[str]:
     return re.compile(re.sub(r"{0\.(\w+)}", lambda field: _SHAPES.get(str(field[1]), _NUMBER), form) + "\n")
 
 
-_LINES = {form.split()[0]: (_shape(form).fullmatch, make) for form, make in _FORMS.items()}
+_LINES = {form[:3]: (_shape(form).fullmatch, make) for form, make in _FORMS.items()}
 _NO_LINE = re.compile("(?!)").fullmatch, End  # a pattern that nothing matches
 
 
@@ -289,7 +290,7 @@ def spelled_lines(lines: Iterator[str]) -> Iterator[Line]:
     """
     number = 2
     for number, line in enumerate(lines, 3):
-        shape, make = _LINES.get(line[:line.find(" ")], _NO_LINE)
+        shape, make = _LINES.get(line[:3], _NO_LINE)
         found = shape(line)
         if not found or number > MOST_LINES:
             more = f"a trace has at most {MOST_LINES} lines"
