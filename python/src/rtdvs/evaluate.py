@@ -438,7 +438,5 @@ def _handle(args: argparse.Namespace) -> int:
     for figure, panels in FIGURES.items():
         _write_whole(args.folder / f"{figure}.tsv", figure_table(panels, found))
     wrong = list(faults(records))
-    for fault in wrong:
-        print(fault)
-    print(summary(records, wrong))
+    print(*wrong, summary(records, wrong), sep="\n")
     return 2 if wrong else 0

@@ -64,10 +64,6 @@ def quotient(num: int, den: int, up: bool = False) -> tuple[int, str]:
     return value, f"{num}/{den}" + (rounded if num % den else f" = {value}")
 
 
-def _full(state: State) -> list[str]:
-    return [f"always the highest speed, {state.plan.machine.top_speed}"]
-
-
 def _rates(plan: Plan) -> list[str]:
     hyper = plan.hyperperiod
     return [f"{task.name}: worst case {worst} * {hyper}/{task.period} = {worst * (hyper // task.period)}"
@@ -162,7 +158,8 @@ def _put_off(job: Latest, kept: int, state: State) -> tuple[int, int, str]:
 
 
 TERMS: dict[Governor | None, Callable[[State], list[str]]] = {
-    full: _full, static: _static, edf_cycle: _edf_cycle, rm_cycle: _rm_cycle, edf_ahead: _edf_ahead,
+    full: lambda state: [f"always the highest speed, {state.plan.machine.top_speed}"],
+    static: _static, edf_cycle: _edf_cycle, rm_cycle: _rm_cycle, edf_ahead: _edf_ahead,
 }
 
 

@@ -30,15 +30,14 @@ def plot_compare(rows: Sequence[Row], energy: "Axes", time: "Axes") -> None:
     >>> energy.texts[0].get_text()
     'denied rm y 7 6'
     """
-    for axes in (energy, time):
+    for axes, title in ((energy, "energy, as a share of EDF none; the mark is the bound"),
+                        (time, "time at speed")):
         bare(axes, "x")
+        axes.set_title(title, loc="left", fontsize=SMALL, color=INK)
         axes.set(xlim=(0, 1), ylim=(len(rows) - 0.5, -0.5), yticks=[])
         axes.set_xticks([0, 0.25, 0.5, 0.75, 1], ["0.00", "0.25", "0.50", "0.75", "1.00"], fontsize=SMALL)
     energy.set_yticks(range(len(rows)), [f"{row.scheduler.upper()} {row.governor}" for row in rows],
                       fontsize=TEXT)
-    for axes, title in ((energy, "energy, as a share of EDF none; the mark is the bound"),
-                        (time, "time at speed")):
-        axes.set_title(title, loc="left", fontsize=SMALL, color=INK)
     speeds = sorted({speed for row in rows if row.result for speed in row.result.residency})
     shades = {speed: 0.7 if len(speeds) == 1 else 0.3 + 0.6 * place / (len(speeds) - 1)
               for place, speed in enumerate(speeds)}

@@ -540,11 +540,12 @@ class Checker:
         Traceback (most recent call last):
         rtdvs.rules.Wrong: the release of a job 1 at tick 0 is missing
         """
-        if type(note) is not Done:
+        kind = type(note)
+        if kind is not Done:
             if self.must:
                 raise Wrong(self.must.format(self.last))
             self.last = None
-        self.checks[type(note)](note)
+        self.checks[kind](note)
 
     # What holds at a position
 

@@ -11,6 +11,7 @@ from collections.abc import Callable, Generator, Iterable, Iterator
 from dataclasses import asdict, dataclass, replace
 from fractions import Fraction
 from functools import lru_cache, partial
+from itertools import pairwise
 from pathlib import Path
 from typing import ClassVar, NamedTuple, Self, TextIO
 
@@ -538,14 +539,22 @@ class Trace(Head):
         return tuple(note for note in self.notes if isinstance(note, Decision))
 
     @property
+    def spans(self) -> Iterator[tuple[Decision, int]]:
+        """Each decision with the tick up to which its speed is in force.
+
+        >>> [(decision.tick, end) for decision, end in Trace.parse(SAMPLE).spans]
+        [(0, 1), (1, 2)]
+        """
+        return zip(self.decisions, [*(each.tick for each in self.decisions[1:]), self.ticks], strict=True)
+
+    @property
     def switches(self) -> int:
         """The number of decisions after which the speed is another than before; the first one is none.
 
         >>> Trace.parse(SAMPLE).switches
         1
         """
-        decisions = self.decisions
-        return sum(one.speed != two.speed for one, two in zip(decisions, decisions[1:], strict=False))
+        return sum(one.speed != two.speed for one, two in pairwise(self.decisions))
 
     def residency(self) -> dict[int, Fraction]:
         """The ticks at each speed that was chosen, in the order of their first use.
@@ -553,10 +562,8 @@ class Trace(Head):
         >>> Trace.parse(SAMPLE).residency()
         {3: Fraction(1, 1), 2: Fraction(1, 1)}
         """
-        decisions = self.decisions
         times: dict[int, Fraction] = {}
-        ends = [*(each.tick for each in decisions[1:]), self.ticks]
-        for decision, end in zip(decisions, ends, strict=True):
+        for decision, end in self.spans:
             times[decision.speed] = times.get(decision.speed, Fraction(0)) + end - decision.tick
         return times
 
