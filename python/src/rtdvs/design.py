@@ -236,8 +236,12 @@ def choose_tick(board: Board) -> Fraction:
                if math.lcm(*(period // tick for period in periods)) <= LONGEST_HYPERPERIOD]
     if not fitting:
         raise _fault("the periods have no common multiple up to 2^48 ticks; give rounder periods, or a tick")
-    return min(fitting, key=lambda tick: (max(most, sum(
-        task.worst / (task.period // tick * tick) - task.worst / task.period for task in board.tasks)), -tick))
+
+    def cost(tick: Fraction) -> tuple[Fraction | float, Fraction]:
+        added = (task.worst / (task.period // tick * tick) - task.worst / task.period for task in board.tasks)
+        return max(most, sum(added)), -tick
+
+    return min(fitting, key=cost)
 
 
 def _ticks(periods: Sequence[Fraction]) -> list[Fraction]:

@@ -41,7 +41,7 @@ class TaskStatistics:
     def row(self, places: int = 4) -> tuple[str, ...]:
         """The values as text, in the order of COLUMNS; times with this many decimal places."""
         values = (getattr(self, column) for column in COLUMNS)
-        return tuple(str(value) if isinstance(value, str | int) else decimal(value, places) for value in values)
+        return tuple(str(each) if isinstance(each, str | int) else decimal(each, places) for each in values)
 
 
 COLUMNS = tuple(field.name for field in fields(TaskStatistics))
