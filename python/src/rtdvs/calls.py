@@ -73,8 +73,8 @@ def _content(source: Source) -> str | bytes | Path:
 
 def _call(command: str, options: Mapping[str, object], **files: Source | None) -> Call:
     pairs = tuple((f"--{name}", str(value)) for name, value in options.items())
-    given = ((f"--{name}", source) for name, source in files.items() if source is not None)
-    return Call(command, pairs, tuple((name, _content(source)) for name, source in given))
+    return Call(command, pairs, tuple((f"--{name}", _content(source))
+                                      for name, source in files.items() if source is not None))
 
 
 def run_call(tasks: Source, machine: Source, scheduler: str, governor: str, ticks: int,

@@ -288,8 +288,7 @@ def _handle(args: argparse.Namespace) -> int:
         finer = {times: finer_energies(engine, case, times, executor)
                  for times in progress(args.finer, len(args.finer), "finer ticks")}
     if finer:
-        print()
-        print(finer_table(rows[:len(PAIRS)], finer), end="")
+        print("\n" + finer_table(rows[:len(PAIRS)], finer), end="")
     return 0
 
 

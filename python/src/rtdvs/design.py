@@ -236,7 +236,12 @@ def choose_tick(board: Board) -> Fraction:
                if math.lcm(*(period // tick for period in periods)) <= LONGEST_HYPERPERIOD]
     if not fitting:
         raise _fault("the periods have no common multiple up to 2^48 ticks; give rounder periods, or a tick")
-    return min(fitting, key=lambda tick: (max(most, _added_utilisation(board.tasks, tick)), -tick))
+
+    def cost(tick: Fraction) -> tuple[Fraction | float, Fraction]:
+        added = (task.worst / (task.period // tick * tick) - task.worst / task.period for task in board.tasks)
+        return max(most, sum(added)), -tick
+
+    return min(fitting, key=cost)
 
 
 def _ticks(periods: Sequence[Fraction]) -> list[Fraction]:
@@ -455,11 +460,6 @@ def _common_part(numbers: Iterable[Fraction]) -> Fraction:
     return Fraction(math.gcd(*(int(number * below) for number in given)), below)
 
 
-def _added_utilisation(tasks: Iterable[BoardTask], tick: Fraction) -> Fraction:
-    return sum((task.worst / (task.period // tick * tick) - task.worst / task.period for task in tasks),
-               Fraction(0))
-
-
 def _task_in(task: BoardTask, scale: Scale) -> Task:
     return Task(task.name, task.period // scale.tick, math.ceil(task.worst / scale.unit),
                 task.offset // scale.tick)
@@ -580,25 +580,19 @@ def _handle(args: argparse.Namespace) -> int:
             raise _fault(f"--{option.replace('_', '-')} has to be above 0")
     if args.board is None and args.device_tree is None:
         raise _fault("give --board or --device-tree")
-    table, points = ("", ()) if args.device_tree is None else _tree_points(args)
+    table, points = "", tuple[OperatingPoint, ...]()
+    if args.device_tree is not None:
+        choice = Choice(args.table, args.supported_hw, args.suffix, args.supply)
+        table, points = operating_points(read_text(args.device_tree, "device tree"), choice)
     if args.board is None:
-        write_output(args, _tree_machine(args, table, points))
+        scale = Scale(args.tick_ms or Fraction(1), args.unit_cycles or Fraction(1000))
+        machine, _ = machine_of(Board((), points_of(points)), scale)
+        write_output(args, f"# {table}: {scale.text()}\n{machine.text()}")
         return 0
     board = Board.parse(read_text(args.board, "board"), points)
     lines = list(_energy_lines(board, args) if args.trace is not None else _design_lines(board, args))
     write_output(args, "".join(f"{line}\n" for line in lines))
     return 0
-
-
-def _tree_points(args: argparse.Namespace) -> tuple[str, tuple[OperatingPoint, ...]]:
-    choice = Choice(args.table, args.supported_hw, args.suffix, args.supply)
-    return operating_points(read_text(args.device_tree, "device tree"), choice)
-
-
-def _tree_machine(args: argparse.Namespace, table: str, points: Iterable[OperatingPoint]) -> str:
-    scale = Scale(args.tick_ms or Fraction(1), args.unit_cycles or Fraction(1000))
-    machine, _ = machine_of(Board((), points_of(points)), scale)
-    return f"# {table}: {scale.text()}\n{machine.text()}"
 
 
 def _design_lines(board: Board, args: argparse.Namespace) -> Iterator[str]:

@@ -43,8 +43,7 @@ class Denied(EngineError):
         self.test, found = _denial(line)
         self.task: str | None = found.get("task")
         self.asked, self.capacity, self.ticks = (
-            int(found[name]) if name in found else None for name in ("asked", "capacity", "ticks")
-        )
+            int(found[name]) if name in found else None for name in ("asked", "capacity", "ticks"))
 
 
 class WordsRefused(EngineError):
@@ -196,9 +195,7 @@ _DENIALS = {
     "units": f"denied units (?P<asked>{NUMBER}) (?P<capacity>{NUMBER})",
 }
 _OF_STATUS: dict[int, type[EngineError]] = {
-    kind.status: kind
-    for kind in EngineError.__subclasses__() if kind.status is not None
-}
+    kind.status: kind for kind in EngineError.__subclasses__() if kind.status is not None}
 _WITHOUT_LINE = {9: "no memory", 10: "the arguments are not text for the system"}
 
 

@@ -372,20 +372,15 @@ def faults(records: Iterable[Record]) -> Iterator[str]:
         if sorted(by_curve) != sorted(CURVES):
             yield f"{place}: runs are missing"
             continue
-        yield from (f"{place}: {curve}: {reason}" for curve, reason in _energy_faults(kind, by_curve))
-
-
-def _energy_faults(kind: str, by_curve: Mapping[str, Fraction | None]) -> Iterator[tuple[str, str]]:
-    """The curves of one set whose energies can't be, each with the reason."""
-    base, bound = by_curve[CURVES[0]], by_curve["bound"]
-    for curve, energy in by_curve.items():
-        if energy is None or base is None or bound is None:
-            if not curve.startswith("rm "):
-                yield curve, "it is denied"
-        elif energy < bound:
-            yield curve, "below the bound"
-        elif kind.endswith("idle0") and energy > base:
-            yield curve, "above EDF with none"
+        base, bound = by_curve[CURVES[0]], by_curve["bound"]
+        for curve, energy in by_curve.items():
+            if energy is None or base is None or bound is None:
+                if not curve.startswith("rm "):
+                    yield f"{place}: {curve}: it is denied"
+            elif energy < bound:
+                yield f"{place}: {curve}: below the bound"
+            elif kind.endswith("idle0") and energy > base:
+                yield f"{place}: {curve}: above EDF with none"
 
 
 def summary(records: Collection[Record], wrong: Collection[str]) -> str:
@@ -443,7 +438,5 @@ def _handle(args: argparse.Namespace) -> int:
     for figure, panels in FIGURES.items():
         _write_whole(args.folder / f"{figure}.tsv", figure_table(panels, found))
     wrong = list(faults(records))
-    for fault in wrong:
-        print(fault)
-    print(summary(records, wrong))
+    print(*wrong, summary(records, wrong), sep="\n")
     return 2 if wrong else 0

@@ -15,6 +15,7 @@ The status is 1 if the trace is wrong; standard error then names its first wrong
 import argparse
 import io
 import sys
+from collections import deque
 from collections.abc import Callable, Iterable, Iterator, Sequence
 from dataclasses import dataclass
 
@@ -27,7 +28,8 @@ from rtdvs.rules import (
     edf_ahead, edf_cycle, full, rm_cycle, static,
 )
 from rtdvs.trace import (
-    Decision, Done, Head, Item, Order, Position, Release, TraceFault, lines_of, spelled_lines, task_text,
+    Decision, Done, Head, Item, Position, Release, TraceFault, lines_of, order, read_head, spelled_lines,
+    task_text,
 )
 
 
@@ -60,10 +62,6 @@ def quotient(num: int, den: int, up: bool = False) -> tuple[int, str]:
     value = ceiling(num, den) if up else num // den
     rounded = f", {'up' if up else 'down'} to {value}"
     return value, f"{num}/{den}" + (rounded if num % den else f" = {value}")
-
-
-def _full(state: State) -> list[str]:
-    return [f"always the highest speed, {state.plan.machine.top_speed}"]
 
 
 def _rates(plan: Plan) -> list[str]:
@@ -159,8 +157,9 @@ def _put_off(job: Latest, kept: int, state: State) -> tuple[int, int, str]:
         f"rates {without} + {need} = {without + need}")
 
 
-TERMS: dict[Governor, Callable[[State], list[str]]] = {
-    full: _full, static: _static, edf_cycle: _edf_cycle, rm_cycle: _rm_cycle, edf_ahead: _edf_ahead,
+TERMS: dict[Governor | None, Callable[[State], list[str]]] = {
+    full: lambda state: [f"always the highest speed, {state.plan.machine.top_speed}"],
+    static: _static, edf_cycle: _edf_cycle, rm_cycle: _rm_cycle, edf_ahead: _edf_ahead,
 }
 
 
@@ -268,13 +267,15 @@ class Walk:
         >>> [next(steps)[:2] for line in lines[1:]][1]
         (3, Release(tick=0, task='a', job=1))
         """
-        number, wanted, order = 1, list[Task](), Order()
+        number, wanted, source = 2, list[Task](), iter(self.lines)
         try:
-            for number, item in enumerate(spelled_lines(self.lines), 2):
-                if isinstance(item, Head):
-                    checker = self._checker(item)
-                    wanted = [*self.tasks][::-1] if item.version == 2 else []
-                elif wanted:
+            head = read_head(source)
+            checker, faults = self._checker(head), order(head.version)
+            next(faults)
+            yield number, head, checker
+            wanted = [*self.tasks][::-1] if head.version == 2 else []
+            for number, item in enumerate(spelled_lines(source), 3):
+                if wanted:
                     if item != wanted[-1]:
                         raise Wrong(f"wanted {task_text(wanted[-1])}")
                     wanted.pop()
@@ -282,7 +283,7 @@ class Walk:
                     raise Wrong(f"the task {item.name} is not in the task file")
                 else:
                     checker.check(item)
-                fault = order.fault(item)
+                fault = faults.send(item)
                 if fault:
                     raise Wrong(fault)
                 yield number, item, checker
@@ -290,7 +291,9 @@ class Walk:
             reason = f"wanted {task_text(wanted[-1])}" if wanted else spelled.reason
             raise WrongTrace(spelled.line, reason) from None
         except WrongDecision as wrong:
-            raise WrongTrace(number, f"{wrong}: {'; '.join(_reasons(checker, wrong))}") from None
+            points = self.machine.points
+            terms = speeds(points, *wrong.demand) if wrong.demand else TERMS[checker.governor](checker.state)
+            raise WrongTrace(number, f"{wrong}: {'; '.join(terms)}") from None
         except Wrong as wrong:
             raise WrongTrace(number, str(wrong)) from None
 
@@ -303,13 +306,6 @@ class Walk:
             plan.admit()
         needs = None if self.demands is None else plan.needs(self.demands)
         return Checker(State.begin(plan), head.ticks, governor, needs)
-
-
-def _reasons(checker: Checker, wrong: WrongDecision) -> list[str]:
-    """The terms of the demand that is wanted, or its speeds if only the speed is wrong."""
-    if wrong.demand:
-        return speeds(checker.state.plan.machine.points, *wrong.demand)
-    return TERMS[checker.governor](checker.state) if checker.governor else []
 
 
 def explain(walk: Walk, show: Callable[[str], object] | None = None) -> Summary:
@@ -326,10 +322,10 @@ def explain(walk: Walk, show: Callable[[str], object] | None = None) -> Summary:
         t job 1 runs: of 1 open it is due first, at 2
     1
     """
+    if show is None or walk.any_governor:
+        return deque(walk.steps(), maxlen=1)[0][2].summary
     events: list[Release | Done] = []
     for number, item, checker in walk.steps():
-        if show is None or walk.any_governor:
-            continue
         if isinstance(item, (Release, Done)):
             events.append(item)
         elif isinstance(item, Decision):

@@ -16,7 +16,6 @@ from rtdvs.files import FileFault
 
 if TYPE_CHECKING:
     from matplotlib.axes import Axes
-    from matplotlib.figure import Figure
 
 ENERGY, BOUND, TIME = "#d55e00", "#009e73", "#0072b2"
 
@@ -31,15 +30,14 @@ def plot_compare(rows: Sequence[Row], energy: "Axes", time: "Axes") -> None:
     >>> energy.texts[0].get_text()
     'denied rm y 7 6'
     """
-    for axes in (energy, time):
+    for axes, title in ((energy, "energy, as a share of EDF none; the mark is the bound"),
+                        (time, "time at speed")):
         bare(axes, "x")
+        axes.set_title(title, loc="left", fontsize=SMALL, color=INK)
         axes.set(xlim=(0, 1), ylim=(len(rows) - 0.5, -0.5), yticks=[])
         axes.set_xticks([0, 0.25, 0.5, 0.75, 1], ["0.00", "0.25", "0.50", "0.75", "1.00"], fontsize=SMALL)
     energy.set_yticks(range(len(rows)), [f"{row.scheduler.upper()} {row.governor}" for row in rows],
                       fontsize=TEXT)
-    for axes, title in ((energy, "energy, as a share of EDF none; the mark is the bound"),
-                        (time, "time at speed")):
-        axes.set_title(title, loc="left", fontsize=SMALL, color=INK)
     speeds = sorted({speed for row in rows if row.result for speed in row.result.residency})
     shades = {speed: 0.7 if len(speeds) == 1 else 0.3 + 0.6 * place / (len(speeds) - 1)
               for place, speed in enumerate(speeds)}
@@ -201,12 +199,8 @@ def save_means(means: Sequence[Mean], path: Path, columns: int = 3, background: 
             plot_means([mean for mean in means if mean.panel == panel], axes)
         figure.text(14 / wide, 1 - 16 / high, "energy, as a share of EDF with none, over worst-case "
                     "utilisation; numbers at RM: sets that it admits", fontsize=SMALL, color=INK)
-        _draw_curve_legend(figure, columns)
+        signs = [sign("none", INK, linewidth=1.5 * POINT)]
+        signs += [sign(curve.replace("edf", "EDF").replace("rm", "RM"), CURVES[curve][0], **_style(curve))
+                  for curve in CURVES]
+        legend(figure, signs, 4 if columns < 3 else 7, loc="lower left", handlelength=3, borderaxespad=0.3)
         save(figure, path, background)
-
-
-def _draw_curve_legend(figure: "Figure", columns: int) -> None:
-    signs = [sign("none", INK, linewidth=1.5 * POINT)]
-    signs += [sign(curve.replace("edf", "EDF").replace("rm", "RM"), CURVES[curve][0], **_style(curve))
-              for curve in CURVES]
-    legend(figure, signs, 4 if columns < 3 else 7, loc="lower left", handlelength=3, borderaxespad=0.3)

@@ -530,8 +530,13 @@ class _Row:
 
 
 def _rows(text: str | bytes, kind: str, header: list[str], most: int | None = None) -> Iterator[_Row]:
-    """The rows after the header, each with as many fields."""
-    first, *records = _records(_bytes(text, kind)) or [[]]
+    """The rows after the header that aren't empty, each with as many fields; a character is a byte."""
+    lines = io.StringIO(_bytes(text, kind).decode("latin-1"), newline="")
+    before = csv.field_size_limit(LONGEST_FILE)
+    try:
+        first, *records = [record for record in csv.reader(lines) if record] or [[]]
+    finally:
+        csv.field_size_limit(before)
     if first != header:
         raise FileFault(f"{kind}: wrong header")
     if most is not None and len(records) > most:
@@ -540,16 +545,6 @@ def _rows(text: str | bytes, kind: str, header: list[str], most: int | None = No
         if len(record) != len(header):
             raise FileFault(f"{kind}: row {place}: {len(record)} fields")
         yield _Row(f"{kind}: row {place}", dict(zip(header, record, strict=True)))
-
-
-def _records(content: bytes) -> list[list[str]]:
-    """The records of a CSV text that aren't empty lines; Latin-1 makes one character of each byte."""
-    lines = io.StringIO(content.decode("latin-1"), newline="")
-    before = csv.field_size_limit(LONGEST_FILE)
-    try:
-        return [record for record in csv.reader(lines) if record]
-    finally:
-        csv.field_size_limit(before)
 
 
 def _table_text(rows: Sequence[Sequence[str | int]]) -> str:

@@ -131,7 +131,8 @@ def join_narrow(row: Iterable[Bar], narrow: float, gap: float) -> Iterator[Bar]:
     last: Bar | None = None
     for bar in row:
         is_narrow = bar.end - bar.begin < narrow
-        if is_narrow and last is not None and _are_one(last, bar, gap):
+        if is_narrow and last is not None and (
+                last.speed == bar.speed and bar.begin - last.end <= gap or bar.end - last.begin <= 2 * gap):
             last = Bar(last.begin, bar.end, max(last.speed, bar.speed))
             continue
         if last is not None:
@@ -141,10 +142,6 @@ def join_narrow(row: Iterable[Bar], narrow: float, gap: float) -> Iterator[Bar]:
             yield bar
     if last is not None:
         yield last
-
-
-def _are_one(last: Bar, bar: Bar, gap: float) -> bool:
-    return last.speed == bar.speed and bar.begin - last.end <= gap or bar.end - last.begin <= 2 * gap
 
 
 def steps(values: Iterable[tuple[float, float, float]], gap: float) -> list[tuple[float, float]]:

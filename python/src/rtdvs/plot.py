@@ -84,14 +84,13 @@ def settled(trace: Trace, view: View) -> View:
     fastest = max((decision.speed for decision in trace.decisions), default=0)
     last = trace.ticks if view.last is None else view.last
     top = fastest if view.top is None else view.top
-    if not fastest:
-        raise FileFault("trace: no decision, so nothing can be drawn")
-    if last > trace.ticks:
-        raise FileFault(f"--to has to be at most {trace.ticks}, the ticks of the run")
-    if view.first >= last:
-        raise FileFault(f"--from has to be below {last}")
-    if top < fastest:
-        raise FileFault(f"--top has to be at least {fastest}, the fastest speed")
+    for is_wrong, reason in (
+            (not fastest, "trace: no decision, so nothing can be drawn"),
+            (last > trace.ticks, f"--to has to be at most {trace.ticks}, the ticks of the run"),
+            (view.first >= last, f"--from has to be below {last}"),
+            (top < fastest, f"--top has to be at least {fastest}, the fastest speed")):
+        if is_wrong:
+            raise FileFault(reason)
     return View(view.first, last, top, view.charge)
 
 
@@ -125,9 +124,7 @@ class _Frame:
     @cached_property
     def spans(self) -> list[tuple[float, float, Decision]]:
         """The decisions with the ticks in view for which they hold."""
-        decisions = self.trace.decisions
-        ends = [*(each.tick for each in decisions[1:]), self.trace.ticks]
-        held = ((max(each.tick, self.first), min(end, self.last), each) for each, end in zip(decisions, ends))
+        held = ((max(each.tick, self.first), min(end, self.last), each) for each, end in self.trace.spans)
         return [span for span in held if span[0] < span[1]]
 
     @cached_property
@@ -179,17 +176,15 @@ def plot_trace(trace: Trace, axes: "Axes", view: View = View()) -> None:
     """
     frame, runs = _frame(trace, axes, view), bars(trace)
     idle = list(filter(frame.overlaps, runs.get("", [])))
-    _draw_axes(frame)
-    _draw_head(frame)
-    _draw_rows(frame)
+    for draw in (_draw_axes, _draw_head, _draw_rows):
+        draw(frame)
     for row, name in enumerate(frame.names):
         shown = filter(frame.overlaps, runs.get(name, []))
         _draw_bars(frame, shown, frame.floor(row), BAR / frame.top, f"run-{name}",
                    facecolor=COLOURS[row % len(COLOURS)])
     _draw_bars(frame, idle, 0, SPEED / frame.top, "idle", facecolor=INK, alpha=0.3)
-    _draw_scale(frame)
-    _draw_speeds(frame)
-    _draw_decisions(frame)
+    for draw in (_draw_scale, _draw_speeds, _draw_decisions):
+        draw(frame)
     _draw_legend(frame, has_idle=bool(idle))
 
 
@@ -224,7 +219,8 @@ def save_trace(trace: Trace, path: Path, view: View = View(), width: int = 1000,
         figure = new_figure(width, above + high + 26)
         axes = figure.add_axes((left / width, 0, 1 - (left + 20) / width, 1))
         plot_trace(trace, axes, view)
-        below = 26 + 15 * _legend_rows(axes)
+        signs = axes.get_legend()
+        below = 26 + 15 * -(-len(signs.get_texts()) // int(signs._ncols))
         tall = above + high + below
         figure.set_size_inches(width * PIXEL, tall * PIXEL)
         axes.set_position((left / width, below / tall, 1 - (left + 20) / width, high / tall))
@@ -414,11 +410,6 @@ def _draw_legend(frame: _Frame, has_idle: bool) -> None:
            handletextpad=0.5, borderpad=0)
 
 
-def _legend_rows(axes: "Axes") -> int:
-    of = axes.get_legend()
-    return -(-len(of.get_texts()) // int(of._ncols))
-
-
 def _sign(label: str, colour: str, marker: object, **style: Any) -> Any:
     filled = "full" if marker == "o" else "none"
     return sign(label, colour, **{"linestyle": "none", "marker": marker, "markersize": 5 * POINT,
@@ -470,20 +461,16 @@ def _add_file(parser: argparse.ArgumentParser, draw: Callable[[argparse.Namespac
 
 def _handle(args: argparse.Namespace) -> int:
     try:
-        _check_background(args.background)
+        from matplotlib.colors import is_color_like
+
+        if not is_color_like(args.background):
+            raise FileFault(f"no colour: {args.background}")
         args.draw(args)
     except ModuleNotFoundError as error:
         print(f"plot: {error.name} is not installed; it is python3-matplotlib of Debian, matplotlib of PyPI",
               file=sys.stderr)
         return 2
     return 0
-
-
-def _check_background(colour: str) -> None:
-    from matplotlib.colors import is_color_like
-
-    if not is_color_like(colour):
-        raise FileFault(f"no colour: {colour}")
 
 
 def _run_trace(args: argparse.Namespace) -> None:

@@ -115,6 +115,15 @@ class Plan:
         return tuple(map(mul, self.worsts, self.weights))
 
     @cached_property
+    def spare(self) -> int:
+        """The work units that the highest speed can do in a hyperperiod beyond all rates.
+
+        >>> EXAMPLE.spare
+        18
+        """
+        return self.machine.top_speed * self.hyperperiod - sum(self.rates)
+
+    @cached_property
     def by_period(self) -> tuple[int, ...]:
         """The places of the tasks in RM order.
 
@@ -220,17 +229,6 @@ class Latest:
     def __str__(self) -> str:
         return f"{self.task.name} job {self.number}"
 
-    def take(self, units: int) -> None:
-        """Gives the job some work units.
-
-        >>> job = Latest(Task("a", 4, 4), 0, worst=4, due=4, number=1, left=4, complete=False)
-        >>> job.take(3)
-        >>> job.used, job.left
-        (3, 1)
-        """
-        self.used += units
-        self.left -= units
-
 
 @dataclass(slots=True)
 class State:
@@ -307,7 +305,8 @@ class State:
         >>> State.begin(EXAMPLE).is_decision
         True
         """
-        return self.behind == 0 and self.now in (0, self.released, self.seen)
+        now = self.now
+        return self.behind == 0 and (now == self.released or now == self.seen or now == 0)
 
     def all_met(self) -> None:
         """Raises DeadlineMissed if a job, whose deadline is now, isn't complete.
@@ -362,16 +361,6 @@ class State:
         if self.released == self.now:
             self.handed_at = self.now
             self.handed = [(self.jobs[place], self.jobs[place].left) for _, place in self.open]
-
-    def decide(self, point: Point) -> None:
-        """Puts a point in force from this tick on.
-
-        >>> state = State.begin(EXAMPLE)
-        >>> state.decide(Point(2, 3000))
-        >>> state.point, state.decided
-        (Point(speed=2, millivolts=3000), 0)
-        """
-        self.point, self.decided = point, self.now
 
     def advance(self, units: int, speed: int) -> None:
         """Lets the time of some work units pass at the speed in force.
@@ -461,17 +450,20 @@ def edf_ahead(state: State) -> Demand:
     >>> [state.release(job) for job in state.jobs] and edf_ahead(state)  # 4, and 3 of b's 9
     (7, 4)
     """
-    plan, first, jobs, rates = state.plan, state.first_deadline, state.jobs, state.plan.rates
-    hyper = plan.hyperperiod
-    spare, before = plan.machine.top_speed * hyper - sum(rates), 0
-    for due, place in reversed(state.deadlines):
+    plan, first, jobs = state.plan, state.deadlines[0][0], state.jobs
+    hyper, rates, spare, before = plan.hyperperiod, plan.rates, plan.spare, 0
+    for due, place in reversed(state.deadlines) if state.open else ():
         spare += rates[place]
         left = jobs[place].left
-        if left and due > first:
-            put_off = min(left, spare * (due - first) // hyper)
-            spare += -put_off * hyper // (due - first)  # less the rate, rounded up
-            left -= put_off
-        before += left
+        if not left:
+            continue
+        span = due - first
+        put_off = spare * span // hyper
+        if put_off < left:
+            before += left - put_off
+            left = put_off
+        if left:
+            spare += -left * hyper // span  # less the rate, rounded up
     return before, first - state.now
 
 
@@ -509,6 +501,13 @@ class Summary:
         return f"{self.ticks} ticks, {jobs}, energy {self.run_energy} running and {self.idle_energy} idle"
 
 
+class _Named(dict[str, Latest]):
+    """The latest jobs by their tasks; raises Wrong for another task."""
+
+    def __missing__(self, task: str) -> Latest:
+        raise Wrong(f"no task {task}")
+
+
 class Checker:
     """Checks each note against the ones before it.
 
@@ -524,11 +523,12 @@ class Checker:
 
     def __init__(self, state: State, ticks: int, governor: Governor | None, needs: Needs | None) -> None:
         self.state, self.ticks, self.governor, self.needs = state, ticks, governor, needs
-        self.named = {job.task.name: job for job in state.jobs}
+        self.named = _Named({job.task.name: job for job in state.jobs})
         self.points = {point.speed: point for point in state.plan.machine.points}
         self.summary = Summary(ticks)
+        self.need: dict[int, int | None] = {}  # of the latest job by its place, if that is known
         self.last: Latest | None = None  # whose `done` note may be next
-        self.must = ""  # why it must be
+        self.must = ""  # why it must be: a form with the job
         self.checks: Mapping[type[Note], Callable[[Any], None]] = {
             Release: self._release, Decision: self._decision, Run: self._run, Idle: self._idle,
             Done: self._done, TaskEnergy: self._close, End: self._close}
@@ -540,38 +540,29 @@ class Checker:
         Traceback (most recent call last):
         rtdvs.rules.Wrong: the release of a job 1 at tick 0 is missing
         """
-        if type(note) is not Done:
+        kind = type(note)
+        if kind is not Done:
             if self.must:
-                raise Wrong(self.must)
+                raise Wrong(self.must.format(self.last))
             self.last = None
-        self.checks[type(note)](note)
+        self.checks[kind](note)
 
     # What holds at a position
-
-    def _job(self, task: str) -> Latest:
-        job = self.named.get(task)
-        if job is None:
-            raise Wrong(f"no task {task}")
-        return job
 
     def _is_at(self, tick: int) -> None:
         if self.state.now != tick or self.state.behind:
             raise Wrong(f"the trace is at {self.state.position}")
 
-    def _need(self, job: Latest) -> int | None:
-        """What a job needs, if that is known."""
-        return None if self.needs is None else self.needs.get((job.task.name, job.number), job.worst)
-
     def _all_released(self) -> None:
         due, place = self.state.deadlines[0]
-        if due == self.state.now < self.ticks and self.state.behind == 0:
+        if due < self.ticks and self.state.behind == 0:
             job = self.state.jobs[place]
             raise Wrong(f"the release of {job.task.name} job {job.number + 1} at tick {due} is missing")
 
     # The notes
 
     def _release(self, note: Release) -> None:
-        state, job = self.state, self._job(note.task)
+        state, job = self.state, self.named[note.task]
         self._is_at(note.tick)
         if job.due != state.now or state.now >= self.ticks:
             raise Wrong(f"{note.task} is released next at tick {job.due}")
@@ -585,44 +576,44 @@ class Checker:
         state.release(job)
         self.summary.released += 1
         self.last = job
-        if self._need(job) == 0:
-            self.must = f"{job} needs nothing, and its done line is missing"
+        if self.needs is not None:
+            self.need[job.place] = self.needs.get((note.task, note.job), job.worst)
+            if self.need[job.place] == 0:
+                self.must = "{} needs nothing, and its done line is missing"
 
     def _decision(self, note: Decision) -> None:
         state = self.state
         self._is_at(note.tick)
-        self._all_released()
+        if state.deadlines[0][0] == state.now:
+            self._all_released()
         if state.now >= self.ticks or state.decided == state.now:
             raise Wrong("no decision is made here")
         point = self.points.get(note.speed)
         if point is None:
             raise Wrong(f"the machine has no speed {note.speed}")
         if self.governor:
-            self._governed(note, self.governor)
-        state.decide(point)
+            if not state.is_decision:
+                reason = "no release, and no completion in the tick before"
+                raise Wrong(f"no decision is made at tick {note.tick}: {reason}")
+            if self.governor is rm_cycle:
+                state.hand_out()
+            num, den = self.governor(state)
+            if note.num != num or note.den != den:
+                raise WrongDecision(f"the demand is {num}/{den}")
+            lowest = state.plan.lowest(num, den)
+            if point is not lowest:
+                raise WrongDecision(f"speed {lowest.speed} is the lowest that meets {num}/{den}", (num, den))
+        state.point, state.decided = point, state.now
         self.summary.decisions += 1
-
-    def _governed(self, note: Decision, governor: Governor) -> None:
-        """Checks the tick of a decision, its demand and its speed."""
-        if not self.state.is_decision:
-            reason = "no release, and no completion in the tick before"
-            raise Wrong(f"no decision is made at tick {note.tick}: {reason}")
-        self.state.hand_out()
-        num, den = governor(self.state)
-        if note.num != num or note.den != den:
-            raise WrongDecision(f"the demand is {num}/{den}")
-        speed = self.state.plan.lowest(num, den).speed
-        if note.speed != speed:
-            raise WrongDecision(f"speed {speed} is the lowest that meets {num}/{den}", (num, den))
 
     def _can_run(self) -> Point:
         """The point in force, if the next segment can begin."""
         state = self.state
-        self._all_released()
+        if state.deadlines[0][0] == state.now:
+            self._all_released()
         if state.now >= self.ticks:
             raise Wrong(f"the run ends at tick {self.ticks}")
-        late = self.governor and state.decided != state.now and state.is_decision
-        if late or state.point is None:
+        if state.point is None or state.decided != state.now and self.governor and state.is_decision:
             raise Wrong(f"the decision at tick {state.now} is missing")
         return state.point
 
@@ -649,39 +640,39 @@ class Checker:
         if note.energy != wanted:
             raise Wrong(f"the energy is {note.units} * {millivolts} * {millivolts} * {factor} = {wanted}")
 
-    def _runs_next(self, note: Run) -> Latest:
-        """The job of a run, if it is the one of the highest priority."""
-        job, first = self._job(note.task), self.state.first
+    def _not_next(self, note: Run, job: Latest) -> str:
+        """Why the job of a run isn't the open one of the highest priority."""
+        first = self.state.first
         if note.job > job.number:
             tick = job.task.offset + (note.job - 1) * job.task.period
-            raise Wrong(f"{note.task} job {note.job} is released at tick {tick}")
+            return f"{note.task} job {note.job} is released at tick {tick}"
         if note.job < job.number or job.complete or first is None:
-            raise Wrong(f"{note.task} job {note.job} is complete")
-        if first is not job:
-            edf = self.state.plan.scheduler == "edf"
-            why = f"due at {first.due}" if edf else f"its period is {first.task.period}"
-            raise Wrong(f"{first} comes first: it is not complete, and {why}")
-        return job
+            return f"{note.task} job {note.job} is complete"
+        edf = self.state.plan.scheduler == "edf"
+        why = f"due at {first.due}" if edf else f"its period is {first.task.period}"
+        return f"{first} comes first: it is not complete, and {why}"
 
     def _run(self, note: Run) -> None:
-        point, units = self._can_run(), note.units
-        job = self._runs_next(note)
-        need = self._need(job)
+        point, units, job = self._can_run(), note.units, self.named[note.task]
+        if job is not self.state.first or note.job != job.number:
+            raise Wrong(self._not_next(note, job))
+        need = self.need.get(job.place)
         left = (job.worst if need is None else need) - job.used
         if units > left:
             raise Wrong(f"{job} has {left} units left")
         room = self._segment(note, point.speed)
         self._energy(note, point.millivolts, 1000)
-        whole = min(left, room)
-        if self.governor and need is not None and units != whole:
-            raise Wrong(f"{job} gets {whole} units here")
-        job.take(units)
+        if self.governor and units < left and units < room:
+            whole = min(left, room)
+            if need is not None:
+                raise Wrong(f"{job} gets {whole} units here")
+            self.must = f"{{}} has no done line here, so it is not complete and gets {whole} units"
+        elif units == left:
+            self.must = "{0} has had all of its {0.used} units, and its done line is missing"
+        job.used += units
+        job.left -= units
         self.summary.run_energy += note.energy
         self.last = job
-        if units == left:
-            self.must = f"{job} has had all of its {job.used} units, and its done line is missing"
-        elif self.governor and units < room:
-            self.must = f"{job} has no done line here, so it is not complete and gets {whole} units"
 
     def _idle(self, note: Idle) -> None:
         point, state = self._can_run(), self.state
@@ -695,12 +686,12 @@ class Checker:
         self.summary.idle_energy += note.energy
 
     def _done(self, note: Done) -> None:
-        state, job = self.state, self._job(note.task)
+        state, job = self.state, self.named[note.task]
         if self.last is not job or job.complete:
             raise Wrong(f"the line before isn't the last one of {note.task} job {note.job}")
         if note.at != (state.now, state.behind) or note.job != job.number or note.used != job.used:
             raise Wrong(f"{job} is at {state.position} and has had {job.used} units")
-        need, least = self._need(job), 2 * state.plan.machine.charge
+        need, least = self.need.get(job.place), 2 * state.plan.machine.charge
         if need is not None and note.used != need:
             raise Wrong(f"{job} needs {need} units")
         if note.used < least:

@@ -120,8 +120,7 @@ def most_worst(question: Question, place: int) -> int | None:
     """
     def holds(units: int) -> bool:
         worsts = [task.worst for task in question.tasks]
-        worsts[place] = units
-        return question.with_worsts(worsts).admits()
+        return question.with_worsts([*worsts[:place], units, *worsts[place + 1:]]).admits()
 
     return last(question.machine.top_speed * question.tasks.tasks[place].period + 1, holds)
 

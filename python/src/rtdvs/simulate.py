@@ -60,7 +60,7 @@ class _Run:
         if num < 0 or den < 1:
             raise ValueError(f"the governor's demand at tick {state.now} is {num}/{den}")
         point = state.plan.lowest(num, den)
-        state.decide(point)
+        state.point, state.decided = point, state.now
         return Decision(state.now, point.speed, num, den)
 
     def _segment(self) -> Iterator[Note]:
@@ -75,7 +75,8 @@ class _Run:
         if job is None:
             yield Idle(begin, state.position, units, price * state.plan.machine.idle)
             return
-        job.take(units)
+        job.used += units
+        job.left -= units
         yield Run(begin, state.position, job.task.name, job.number, units, price * 1000)
         yield from self._done(job)
 

@@ -12,17 +12,13 @@
 
 import argparse
 from collections.abc import Sequence
-from dataclasses import dataclass
+from dataclasses import dataclass, fields
 from fractions import Fraction
 
 from rtdvs.commandline import Commands, add_files, add_parser, open_input, read_tasks
 from rtdvs.decimals import aligned, decimal
 from rtdvs.files import TaskSet
 from rtdvs.trace import Job, Trace, TraceFault
-
-COLUMNS = ("task", "jobs", "complete", "mean_response", "greatest_response", "jitter", "least_laxity",
-           "preemptions", "energy")
-
 
 @dataclass(frozen=True, slots=True)
 class TaskStatistics:
@@ -44,9 +40,11 @@ class TaskStatistics:
 
     def row(self, places: int = 4) -> tuple[str, ...]:
         """The values as text, in the order of COLUMNS; times with this many decimal places."""
-        times = self.mean_response, self.greatest_response, self.jitter, self.least_laxity
-        return (self.task, str(self.jobs), str(self.complete), *(decimal(time, places) for time in times),
-                str(self.preemptions), str(self.energy))
+        values = (getattr(self, column) for column in COLUMNS)
+        return tuple(str(each) if isinstance(each, str | int) else decimal(each, places) for each in values)
+
+
+COLUMNS = tuple(field.name for field in fields(TaskStatistics))
 
 
 def statistics_of(task: str, jobs: Sequence[Job]) -> TaskStatistics:

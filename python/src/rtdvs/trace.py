@@ -7,10 +7,11 @@ have passed; as a time it is an exact fraction of ticks, the units over the spee
 
 import io
 import re
-from collections.abc import Callable, Iterable, Iterator
-from dataclasses import asdict, dataclass, field, replace
+from collections.abc import Callable, Generator, Iterable, Iterator
+from dataclasses import asdict, dataclass, replace
 from fractions import Fraction
-from functools import lru_cache
+from functools import lru_cache, partial
+from itertools import pairwise
 from pathlib import Path
 from typing import ClassVar, NamedTuple, Self, TextIO
 
@@ -199,7 +200,8 @@ def task_text(task: Task) -> str:
 
 _TASK = "task {0.name} {0.period} {0.offset} {0.worst}"
 Note = Release | Decision | Run | Idle | Done | TaskEnergy | End
-Item = Head | Task | Note
+Line = Task | Note
+Item = Head | Line
 
 
 # Reading
@@ -217,30 +219,31 @@ def _up_to(limit: int) -> str:
     return "|".join([f"[1-9][0-9]{{0,{len(text) - 2}}}", *below, text])
 
 
-_NAME = "([A-Za-z0-9_-]{1,32})"
-_COUNTED, _NUMBER, _GREAT = f"({_up_to(2**64 - 1)})", f"(0|{_up_to(2**64 - 1)})", f"(0|{_up_to(2**128 - 1)})"
+_NAME, _COUNTED = "([A-Za-z0-9_-]{1,32})", f"({_up_to(2**64 - 1)})"
+_NUMBER, _GREAT = f"(0|{_up_to(2**64 - 1)})", f"(0|{_up_to(2**128 - 1)})"
+_PLACE = f"({_NUMBER}:{_NUMBER})".replace("(0|", "(?:0|")
 _SHAPES = {  # of fields; all others are numbers
     "name": _NAME, "task": _NAME, "period": _COUNTED, "worst": _COUNTED,
-    "num": _GREAT, "den": _GREAT, "energy": _GREAT, "run_energy": _GREAT, "idle_energy": _GREAT,
-    **dict.fromkeys(("begin", "end", "at"), f"{_NUMBER}:{_NUMBER}"),
+    **dict.fromkeys(("num", "den", "energy", "run_energy", "idle_energy"), _GREAT),
+    **dict.fromkeys(("begin", "end", "at"), _PLACE),
 }
 
 
 @lru_cache(maxsize=4)  # a line often begins where the one before it ends
-def _at(tick: str, offset: str) -> Position:
+def _at(place: str) -> Position:
+    tick, offset = place.split(":")
     return Position(int(tick), int(offset))
 
 
 _PLAN = re.compile(f"plan (edf|rm) {_NAME} ({_up_to(MOST_TICKS)})\n")
-_FORMS: dict[str, Callable[..., Item]] = {
+_FORMS: dict[str, Callable[..., Line]] = {
     _TASK: lambda name, period, offset, worst: Task(name, int(period), int(worst), int(offset)),
     Release.form: lambda tick, task, job: Release(int(tick), task, int(job)),
     Decision.form: lambda *numbers: Decision(*map(int, numbers)),
-    Run.form: lambda tick, offset, end, after, task, job, units, energy: Run(
-        _at(tick, offset), _at(end, after), task, int(job), int(units), int(energy)),
-    Idle.form: lambda tick, offset, end, after, units, energy: Idle(
-        _at(tick, offset), _at(end, after), int(units), int(energy)),
-    Done.form: lambda tick, offset, task, job, used: Done(_at(tick, offset), task, int(job), int(used)),
+    Run.form: lambda begin, end, task, job, units, energy: Run(
+        _at(begin), _at(end), task, int(job), int(units), int(energy)),
+    Idle.form: lambda begin, end, units, energy: Idle(_at(begin), _at(end), int(units), int(energy)),
+    Done.form: lambda at, task, job, used: Done(_at(at), task, int(job), int(used)),
     TaskEnergy.form: lambda task, energy: TaskEnergy(task, int(energy)),
     End.form: lambda *numbers: End(*map(int, numbers)),
 }
@@ -251,11 +254,16 @@ def _shape(form: str) -> re.Pattern[str]:
     return re.compile(re.sub(r"{0\.(\w+)}", lambda field: _SHAPES.get(str(field[1]), _NUMBER), form) + "\n")
 
 
-_LINES = {form.split()[0]: (_shape(form), make) for form, make in _FORMS.items()}
-_NO_LINE = re.compile("(?!)"), End  # a pattern that nothing matches
+_LINES = {form[:3]: (_shape(form).fullmatch, make) for form, make in _FORMS.items()}
+_NO_LINE = re.compile("(?!)").fullmatch, End  # a pattern that nothing matches
 
 
-def _head(lines: Iterator[str]) -> Head:
+def read_head(lines: Iterator[str]) -> Head:
+    r"""What the first two lines say, with their line feeds; raises TraceFault.
+
+    >>> read_head(iter(["trace 1\n", "plan edf mine 2\n"])).ticks
+    2
+    """
     line = next(lines, "")
     if line not in ("trace 1\n", "trace 2\n"):
         raise TraceFault(1, "neither trace 1 nor trace 2")
@@ -273,94 +281,81 @@ def _misspelled(line: str, reason: str) -> str:
     return reason if line.endswith("\n") else "it doesn't end with a line feed"
 
 
-def spelled_lines(lines: Iterable[str]) -> Iterator[Item]:
-    r"""Reads lines with their line feeds, and leaves their order to `Order`, but for the head and the end.
+def spelled_lines(lines: Iterator[str]) -> Iterator[Line]:
+    r"""Reads the lines after the head with their line feeds; `order` has what their order has to be.
 
     Raises TraceFault for the first line that is spelled wrong, after all lines before it were given.
 
-    >>> list(spelled_lines(["trace 1\n", "plan edf mine 2\n", "end 2 0 0\n"]))[1]
-    End(ticks=2, run_energy=0, idle_energy=0)
+    >>> list(spelled_lines(iter(["end 2 0 0\n"])))
+    [End(ticks=2, run_energy=0, idle_energy=0)]
     """
-    source, number, item = iter(lines), 2, None
-    yield _head(source)
-    for number, line in enumerate(source, 3):
-        if isinstance(item, End):
-            raise TraceFault(number, "a line after the end line")
-        shape, make = _LINES.get(line[:line.find(" ")], _NO_LINE)
-        found = shape.fullmatch(line)
+    number = 2
+    for number, line in enumerate(lines, 3):
+        shape, make = _LINES.get(line[:3], _NO_LINE)
+        found = shape(line)
         if not found or number > MOST_LINES:
             more = f"a trace has at most {MOST_LINES} lines"
             raise TraceFault(number, more if found else _misspelled(line, "not a line of a trace"))
         item = make(*found.groups())
         yield item
-    if not isinstance(item, End):
+        if isinstance(item, End):
+            break
+    else:
         raise TraceFault(number + 1, "the trace ends before its end line")
+    for line in lines:
+        raise TraceFault(number + 1, "a line after the end line")
 
 
-@dataclass(slots=True)
-class Order:
-    """What the order of the lines needs: each task's energy so far, and which kinds of lines there were.
+def order(version: int) -> Generator[str, Line, None]:
+    """Is sent each line after the head, and gives why it can't be the next one, or an empty text.
 
-    >>> order = Order()
-    >>> order.fault(Head(1, "edf", "mine", 2)), order.fault(Idle(Position(0, 0), Position(1, 0), 2, 0))
-    (None, 'there is no decision before it')
+    >>> lines = order(version=1)
+    >>> next(lines), lines.send(Release(0, "a", 1)), lines.send(Idle(Position(0, 0), Position(1, 0), 2, 0))
+    ('', '', 'there is no decision before it')
     """
-
-    version: int = 1
-    sums: dict[str, int] = field(default_factory=dict)
-    to_come: list[str] = field(default_factory=list)  # whose energy lines are to come, the next one last
-    begun: bool = False
-    decided: bool = False
-
-    def fault(self, item: Item) -> str | None:
-        """Why an item can't be the next one, or None.
-
-        >>> Order().fault(TaskEnergy("a", 0))
-        'only version 2 has energy lines'
-        """
-        if isinstance(item, (Head, Task)):
-            return self._first_fault(item)
-        if not self.begun:
-            self.begun, self.to_come = True, [*self.sums][::-1]
-            if self.version == 2 and not self.sums:
-                return "the lines of the tasks are missing"
-        if isinstance(item, (TaskEnergy, End)):
-            return self._closing_fault(item)
-        if len(self.to_come) < len(self.sums):
-            return "a line between the energy lines and the end line"
+    sums, decided, item = dict[str, int](), False, (yield "")
+    while isinstance(item, Task) and version == 2:
+        fault = "two tasks of one name" if item.name in sums else ""
+        fault = fault if len(sums) < MOST_TASKS else f"more than {MOST_TASKS} tasks"
+        sums[item.name] = 0
+        item = yield fault
+    if version == 2 and not sums:
+        yield "the lines of the tasks are missing"
+    while not isinstance(item, (TaskEnergy, End)):
+        fault = ""
         if isinstance(item, Decision):
-            self.decided = True
-            return None if item.speed and item.den else "a speed of 0, or a fraction over 0"
-        if not self.decided and (isinstance(item, (Run, Idle)) or isinstance(item, Done) and item.at.offset):
-            return "there is no decision before it"
-        if self.sums and not isinstance(item, Idle):
-            if item.task not in self.sums:
-                return f"no task {item.task}"
-            if isinstance(item, Run):
-                self.sums[item.task] += item.energy
-        return None
+            decided = True
+            fault = "" if item.speed and item.den else "a speed of 0, or a fraction over 0"
+        elif isinstance(item, Task):
+            fault = _LATE
+        elif not (decided or isinstance(item, Release) or isinstance(item, Done) and not item.at.offset):
+            fault = "there is no decision before it"
+        elif sums and not isinstance(item, Idle):
+            if item.task not in sums:
+                fault = f"no task {item.task}"
+            elif isinstance(item, Run):
+                sums[item.task] += item.energy
+        item = yield fault
+    for name, total in [*sums.items(), ("", 0)]:
+        item = yield _closing_fault(item, version, name, total)
 
-    def _first_fault(self, item: Head | Task) -> str | None:
-        if isinstance(item, Head):
-            self.version = item.version
-            return None
-        if self.version == 1 or self.begun:
-            return "the lines of the tasks are after the plan line of version 2"
-        if len(self.sums) == MOST_TASKS:
-            return f"more than {MOST_TASKS} tasks"
-        fault = "two tasks of one name" if item.name in self.sums else None
-        self.sums[item.name] = 0
-        return fault
 
-    def _closing_fault(self, note: TaskEnergy | End) -> str | None:
-        if isinstance(note, End):
-            return f"the energy line of {self.to_come[-1]} is missing" if self.to_come else None
-        if self.version == 1:
-            return "only version 2 has energy lines"
-        if not self.to_come or self.to_come.pop() != note.task:
-            return "the energy lines are one for each task, in the order of the file"
-        total = self.sums[note.task]
-        return None if total == note.energy else f"the run lines of {note.task} add up to {total}"
+_LATE = "the lines of the tasks are after the plan line of version 2"
+
+
+def _closing_fault(item: Line, version: int, name: str, total: int) -> str:
+    """Why an item can't be the energy line of that task, or the end line if the name is empty."""
+    if isinstance(item, End):
+        return name and f"the energy line of {name} is missing"
+    if isinstance(item, Task):
+        return _LATE
+    if not isinstance(item, TaskEnergy):
+        return "a line between the energy lines and the end line"
+    if version == 1:
+        return "only version 2 has energy lines"
+    if item.task != name:
+        return "the energy lines are one for each task, in the order of the file"
+    return "" if item.energy == total else f"the run lines of {name} add up to {total}"
 
 
 def parse_lines(lines: Iterable[str]) -> Iterator[Item]:
@@ -373,9 +368,13 @@ def parse_lines(lines: Iterable[str]) -> Iterator[Item]:
     >>> [item.text() for item in parse_lines(["trace 1\n", "plan edf mine 2\n", "end 2 0 0\n"])]
     ['trace 1\nplan edf mine 2', 'end 2 0 0']
     """
-    order = Order()
-    for number, item in enumerate(spelled_lines(lines), 2):
-        fault = order.fault(item)
+    source = iter(lines)
+    head = read_head(source)
+    yield head
+    faults = order(head.version)
+    next(faults)
+    for number, item in enumerate(spelled_lines(source), 3):
+        fault = faults.send(item)
         if fault:
             raise TraceFault(number, fault)
         yield item
@@ -387,7 +386,7 @@ def lines_of(file: TextIO) -> Iterator[str]:
     >>> [len(line) for line in lines_of(io.StringIO("trace 1\n" + 1000 * "x"))]
     [8, 257, 257, 257, 229]
     """
-    return iter(lambda: file.readline(MOST_BYTES + 2), "")
+    return iter(partial(file.readline, MOST_BYTES + 2), "")
 
 
 # What a trace says
@@ -540,14 +539,22 @@ class Trace(Head):
         return tuple(note for note in self.notes if isinstance(note, Decision))
 
     @property
+    def spans(self) -> Iterator[tuple[Decision, int]]:
+        """Each decision with the tick up to which its speed is in force.
+
+        >>> [(decision.tick, end) for decision, end in Trace.parse(SAMPLE).spans]
+        [(0, 1), (1, 2)]
+        """
+        return zip(self.decisions, [*(each.tick for each in self.decisions[1:]), self.ticks], strict=True)
+
+    @property
     def switches(self) -> int:
         """The number of decisions after which the speed is another than before; the first one is none.
 
         >>> Trace.parse(SAMPLE).switches
         1
         """
-        decisions = self.decisions
-        return sum(one.speed != two.speed for one, two in zip(decisions, decisions[1:], strict=False))
+        return sum(one.speed != two.speed for one, two in pairwise(self.decisions))
 
     def residency(self) -> dict[int, Fraction]:
         """The ticks at each speed that was chosen, in the order of their first use.
@@ -555,10 +562,8 @@ class Trace(Head):
         >>> Trace.parse(SAMPLE).residency()
         {3: Fraction(1, 1), 2: Fraction(1, 1)}
         """
-        decisions = self.decisions
         times: dict[int, Fraction] = {}
-        ends = [*(each.tick for each in decisions[1:]), self.ticks]
-        for decision, end in zip(decisions, ends, strict=True):
+        for decision, end in self.spans:
             times[decision.speed] = times.get(decision.speed, Fraction(0)) + end - decision.tick
         return times
 
