@@ -1,19 +1,20 @@
 -- Whether work fits into some ticks beside loads, by the first of them, and that the loads can be taken away in turn.
 use Rattle.std.proofs.Common.{◌≡◌, ◌⊎◌, inl, inr, ℕ, zero, suc, ◌+◌, ◌-◌, ◌*◌, ◌/◌, ◌<◌, ◌≤◌, max, true, false, List, [], ◌∷◌, Option, Some, None, is_some, take, sym, ◌∙◌, ap, subst, arith, div-add-mod', mod-lt}
 use Rattle.std.specs.Prelude.{All, insert}
+use Rattle.std.specs.Int.{div_ceil}
 use Rattle.std.proofs.Math.Nat.{mul-le-mul_left, mul-le-mul_right, div-mul-le_self}
 use Rattle.std.proofs.lemmas.Bool.{cases_lt}
 use Rattle.std.proofs.lemmas.Nat.{mul-le}
 use Rattle.std.proofs.lemmas.List.Elements.{All-head, All-tail}
 use Rattle.std.proofs.lemmas.List.Sums.{sum_by-cons, sum_by-insert}
 use Rattle.grid_fraction.specs.Numbers.{ceil_div}
-use Rattle.grid_fraction.proofs.Ceilings.{ceil-mono}
+use Rattle.grid_fraction.proofs.Ceilings.{ceil-mono, div_ceil_is}
 use Rattle.governor.proofs.RmLevels.{ceil_covers}
 use Rattle.rm_response_laws.proofs.Ceilings.{ceil-after, ceil-least, ceil-sum}
 use Rattle.rm_response.specs.declared.loads.Load.{Load}
 use Rattle.rm_response.specs.declared.supply.Supply.{Supply}
 use Rattle.rm_response.specs.Supplies.{IsSupply, IsDone, IsMore}
-use Rattle.rm_response.specs.Loads.{held, work_of, rates_of, IsLoad, HasRate, AreServedWithin, AreInTurn, AreLoads}
+use Rattle.rm_response.specs.Loads.{held, work_of, rates_of, IsLoad, HasRate, AreInTurn, AreLoads}
 use Rattle.rm_response.specs.Fits.{Fits, NoneFits, NoneBefore, FindsFit, IsFrom}
 
 -- of fewer units all are done too, and more units are too many too
@@ -115,8 +116,9 @@ none-raised s xs rest low least next each none over t from lt =
     ]
 
 -- fewer ticks than n units take don't do them
-pub more-before : (s : Supply) (n t : ℕ) → 1 ≤ s.units → t < ceil_div (n * s.hyper) s.units → IsMore s n t
-more-before s n t some lt = ceil-least (n * s.hyper) s.units t some lt
+pub more-before : (s : Supply) (n next t : ℕ) → 1 ≤ s.units → next ≡ div_ceil (n * s.hyper) s.units → t < next → IsMore s n t
+more-before s n next t some is lt =
+    ceil-least (n * s.hyper) s.units t some (omega (arith, lt, is, div_ceil_is (n * s.hyper) s.units some))
 
 -- what exceeds the speed for `last` ticks is more than any of these do
 pub more-within : (s : Supply) (n last t : ℕ) → IsSupply s → s.speed * last < n → t < last + 1 → IsMore s n t
@@ -210,9 +212,9 @@ module _ (s : Supply) (x : Load) (xs : List Load) (loads : AreLoads s (x ∷ xs)
           let n = served.ticks in
           let later : (u : ℕ) → IsDone s (rest + work_of (x ∷ xs) u) u → IsDone s (rest + work_of (x ∷ xs) (u + n)) (u + n) =
           λ u fit.
-              let less : rest + work_of (x ∷ xs) (u + n) ≤ rest + work_of (x ∷ xs) u + work_of (x ∷ xs) n =
-              omega (arith, work-sum u n (x ∷ xs) loads.each) in
-              omega (arith, mul-le-mul_right s.hyper less, served.done, fit) in
+          let less : rest + work_of (x ∷ xs) (u + n) ≤ rest + work_of (x ∷ xs) u + work_of (x ∷ xs) n =
+          omega (arith, work-sum u n (x ∷ xs) loads.each) in
+          omega (arith, mul-le-mul_right s.hyper less, served.done, fit) in
           let found = later-past (λ u. IsDone s (rest + work_of (x ∷ xs) u) u) n d (q * d) served.some served.within
           later (suc (q * d)) t (omega (arith, within)) (omega arith) done in
           let same = held-after q found.0 (suc q * d) found.2 (omega (arith, found.3)) (omega arith) in

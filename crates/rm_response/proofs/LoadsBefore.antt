@@ -1,7 +1,7 @@
 -- The loads of the tasks before a task in RM order, and what a fit beside them says of its response.
-use Rattle.std.proofs.Common.{◌≡◌, inl, inr, ℕ, suc, ◌+◌, ◌*◌, ◌<◌, ◌≤◌, List, [], ◌∷◌, ◌++◌, length, take, drop, refl, sym, ◌∙◌, ap, subst, arith}
+use Rattle.std.proofs.Common.{◌≡◌, inl, inr, ℕ, ◌+◌, ◌*◌, ◌<◌, ◌≤◌, List, [], ◌∷◌, ◌++◌, length, take, drop, refl, sym, ◌∙◌, ap, subst, arith}
 use Rattle.std.specs.Prelude.{All, insert, slice_index}
-use Rattle.std.proofs.Math.Nat.{mul-le-mul_right}
+use Rattle.std.proofs.Math.Nat.{le_of_mul-le-mul_left, lt_of_mul-lt-mul_left, mul-le-mul_right}
 use Rattle.std.proofs.lemmas.Bool.{cases_lt}
 use Rattle.std.proofs.lemmas.List.{take-append-drop, drop_more, take_more}
 use Rattle.std.proofs.lemmas.List.Edits.{length-insert}
@@ -109,14 +109,8 @@ module _ (p : Plan) (i : ℕ) (xs : List Load) (before : AreBefore p i xs) where
         | inl past ↦ omega (arith, response-none p i (λ t pos lt. unserved t pos (omega (arith, lt, past))), past, fit.before.within, long)
         | inr within ↦
             let pos : 1 ≤ first = omega (arith, some, fit.before.from) in
-            let served : job + work_of xs first ≤ top_speed p * first =
-            elim (cases_lt (top_speed p * first) (job + work_of xs first)) [
-              | inl over ↦
-                  let more : suc (top_speed p * first) * hyper p ≤ (job + work_of xs first) * hyper p = mul-le-mul_right (hyper p) over in
-                  let done = fit.fit (omega (arith, within, long)) in
-                  absurd (omega (arith, more, done, some_hyper))
-              | inr done ↦ done
-            ] in
+            let done = fit.fit (omega (arith, within, long)) in
+            let served : job + work_of xs first ≤ top_speed p * first = le_of_mul-le-mul_left {k = hyper p} (omega (arith, done)) some_hyper in
             sym (response-is p i first pos within unserved (omega (arith, own-work first pos within, own, served, before.work first)))
       ]
     where
@@ -125,13 +119,8 @@ module _ (p : Plan) (i : ℕ) (xs : List Load) (before : AreBefore p i xs) where
           elim (cases_lt t from) [
             | inl early ↦ un t pos early
             | inr after ↦
-                let over : top_speed p * t < job + work_of xs t =
-                elim (cases_lt (top_speed p * t) (job + work_of xs t)) [
-                  | inl more ↦ more
-                  | inr done ↦
-                      let fits = mul-le-mul_right (hyper p) done in
-                      absurd (omega (arith, fits, fit.before.none t after lt))
-                ] in
+                let more = fit.before.none t after lt in
+                let over : top_speed p * t < job + work_of xs t = lt_of_mul-lt-mul_left (hyper p) (omega (arith, more)) in
                 omega (arith, own-work t pos (omega (arith, lt, fit.before.within, long)), own, over, before.work t)
           ]
 

@@ -1,8 +1,8 @@
--- Relaxed searches: what one refuses does not fit beside all loads, and its loads can be taken away in turn.
+-- The loads of a relaxed search, one by one, and that they can be taken away in turn.
 use Rattle.std.proofs.Common.{◌≡◌, ℕ, ◌+◌, ◌-◌, ◌*◌, ◌<◌, ◌≤◌, List, [], ◌∷◌, ◌++◌, length, take, Option, Some, None, is_some, true, length-append, sym, ◌∙◌, ap, subst, refl, arith}
 use Rattle.std.specs.Prelude.{All, slice_index_or}
 use Rattle.std.proofs.lemmas.List.{take_more}
-use Rattle.std.proofs.Math.Nat.{mul-le-mul_left, mul-le-mul_right}
+use Rattle.std.proofs.Math.Nat.{mul-le-mul_right}
 use Rattle.std.proofs.lemmas.List.Elements.{All-append, All-cons, All-get_or, All-nil}
 use Rattle.std.proofs.lemmas.List.Sums.{sum_by-cons, sum_by_push}
 use Rattle.dvs_base.specs.declared.limits.TheConstants.{MOST_TASKS}
@@ -10,52 +10,14 @@ use Rattle.grid_fraction.specs.Numbers.{ceil_div}
 use Rattle.rm_response_laws.proofs.Ceilings.{ceil-after}
 use Rattle.rm_response.specs.declared.loads.Load.{Load}
 use Rattle.rm_response.specs.declared.supply.Supply.{Supply}
-use Rattle.rm_response.specs.Supplies.{IsSupply, IsDone, IsMore}
-use Rattle.rm_response.specs.Loads.{held, work_of, IsLoad, HasRate, AreServedWithin, AreInTurn, AreLoads}
+use Rattle.rm_response.specs.Supplies.{IsSupply}
+use Rattle.rm_response.specs.Loads.{held, work_of, IsLoad, HasRate, AreInTurn, AreLoads}
 use Rattle.rm_response.specs.Fits.{Fits, NoneFits, FindsFit, IsRelaxed}
 use Rattle.rm_response.proofs.LoadFits.{done-fewer, rate-held}
 
 -- a supply with these units
 abbrev pub with_units : Supply → ℕ → Supply
 with_units s n = record { speed = s.speed; hyper = s.hyper; units = n }
-
--- what a relaxed search refuses does not fit beside all loads
-pub none-relaxed : (s r : Supply) (xs ys : List Load) (rest low end : ℕ) → IsRelaxed s xs r ys
-    → NoneFits r ys rest low end → NoneFits s xs rest low end
-none-relaxed s r xs ys rest low end is none t from lt =
-    let same : (rest + work_of ys t) * r.hyper ≡ (rest + work_of ys t) * s.hyper = ap (λ n. (rest + work_of ys t) * n) is.same_hyper in
-    omega (arith, none t from lt, same, is.work t)
-
--- where the supply that is left does some units, it is one
-pub relaxed-supply : (s r : Supply) (xs ys : List Load) → IsRelaxed s xs r ys → IsSupply s → 1 ≤ r.units → IsSupply r
-relaxed-supply s r xs ys is supply some = record {
-  some_hyper = (let h = supply.some_hyper in let e = is.same_hyper in omega arith);
-  low_hyper = (let h = supply.low_hyper in let e = is.same_hyper in omega arith);
-  low_speed = (let h = supply.low_speed in let e = is.same_speed in omega arith);
-  some_units = some;
-  within = rw (is.same_speed, is.same_hyper) (let h = supply.within in let e = is.lower_units in omega arith);
-}
-
--- loads of a relaxed search that can be taken away in turn with the supply that is left
-pub relaxed-loads : (s r : Supply) (xs ys : List Load) → IsRelaxed s xs r ys → length xs ≤ MOST_TASKS → AreInTurn r ys
-    → AreLoads r ys
-relaxed-loads s r xs ys is few turn = record {
-  few = (let n = is.few in omega arith);
-  each = is.each;
-  rates = subst (λ h. All (HasRate h) ys) (sym is.same_hyper) is.rates;
-  in_turn = turn;
-}
-
-pub relaxed-none : (s : Supply) → IsRelaxed s [] (with_units s s.units) []
-relaxed-none s = record {
-  same_speed = refl;
-  same_hyper = refl;
-  lower_units = omega arith;
-  few = omega arith;
-  each = All-nil IsLoad;
-  rates = All-nil (HasRate s.hyper);
-  work = λ t. omega arith;
-}
 
 -- the load that a place past the last has
 abbrev pub no_load : Load
@@ -110,23 +72,12 @@ module _ (s : Supply) (xs ys : List Load) (k n : ℕ) (below : k < length xs) (e
         omega (arith, is.work t, work-next t, rate-held s.hyper t x is_load rate, left);
   }
 
--- a load whose one job fits into some ticks up to its period beside the loads after it is served within its period
-pub turn-more : (s : Supply) (x : Load) (xs : List Load) (job t : ℕ) → job ≡ x.worst → Fits s xs job 1 x.period t
-    → AreInTurn s xs → AreInTurn s (x ∷ xs)
-turn-more s x xs job t own fit turn = (
-      record {
-        ticks = t;
-        some = fit.from;
-        within = fit.within;
-        done = (let one : ceil_div t x.period ≡ 1 = ap (λ u. ceil_div u x.period) (omega arith) ∙ ceil-after 0 x.period t fit.from fit.within in
-            let all : held t x ≡ x.worst = ap (λ n. n * x.worst) one ∙ omega arith in
-            done-fewer s (work_of (x ∷ xs) t) (job + work_of xs t) t (omega (arith, sum_by-cons (held t) x xs, all, own)) fit.done);
-      },
-      turn,
-    )
-
--- where ticks for its one job are found beside the loads after it, which can be taken away in turn, so can all
+-- where some ticks serve one job of a load within its period beside loads that can be taken away in turn, so can all
 pub turn-found : (s : Supply) (x : Load) (xs : List Load) (job : ℕ) (found : Option ℕ) → job ≡ x.worst
     → FindsFit s xs job 1 x.period found → is_some found ≡ true → AreInTurn s xs → AreInTurn s (x ∷ xs)
 turn-found s x xs job None own fit some turn = absurd cc
-turn-found s x xs job (Some t) own fit some turn = turn-more s x xs job t own fit turn
+turn-found s x xs job (Some t) own fit some turn =
+    let one : ceil_div t x.period ≡ 1 = ap (λ u. ceil_div u x.period) (omega arith) ∙ ceil-after 0 x.period t fit.from fit.within in
+    let all : held t x ≡ x.worst = ap (λ n. n * x.worst) one ∙ omega arith in
+    let done = done-fewer s (work_of (x ∷ xs) t) (job + work_of xs t) t (omega (arith, sum_by-cons (held t) x xs, all, own)) fit.done in
+    (record { ticks = t; some = fit.from; within = fit.within; done = done }, turn)

@@ -15,7 +15,8 @@ use crate::supply::Supply;
 // The most loads that count with their jobs in a relaxed search.
 const MOST_HEAVY: usize = 32;
 
-// The loads that count with their jobs, the first `count` of `loads`, and what the rates of the others leave of a supply.
+// The loads that count with their jobs, the first `count` of `loads`, and what the rates of the others leave of a
+// supply.
 #[derive(Drop)]
 struct Relaxed {
     supply: Supply,
@@ -44,12 +45,7 @@ fn heaviest(supply: Supply, loads: &[Load], most: usize) -> Relaxed
     ensures within { result.count ≤ length result.loads }
     ensures relaxed { IsRelaxed supply loads.now result.supply (take result.count result.loads) }
 {
-    let none = Load {
-        period: 1,
-        worst: 0,
-        rate: 0,
-    };
-    let mut heavy = [none; MOST_HEAVY];
+    let mut heavy = [Load::default(); MOST_HEAVY];
     let mut count = 0;
     let mut units = supply.units;
     for (k, load) in loads.iter().enumerate() {

@@ -39,7 +39,8 @@ enum Ends {
     From(u64),
 }
 
-// Whether `rest` units are too many for `most` ticks at the speed, or for what the rates of the loads leave of the supply.
+// Whether `rest` units are too many for `most` ticks at the speed, or for what the rates of the loads leave of the
+// supply.
 fn is_beyond(supply: Supply, loads: &[Load], rest: u128, most: u64) -> bool
     requires supply { IsSupply supply }
     requires few { length loads.now ≤ MOST_TASKS }

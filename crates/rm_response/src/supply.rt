@@ -9,7 +9,8 @@ ghost use Rattle.rm_response.specs.Supplies.{IsSupply, full_supply};
 use freq_table::Machine;
 use task_model::TaskSet;
 
-/// What the processor does for the loads of a search: in a tick at most `speed` units, and `units` in each `hyper` ticks.
+/// What the processor does for the loads of a search: at most `speed` units in a tick, and `units` in each `hyper`
+/// ticks.
 #[derive(Clone, Copy)]
 pub(crate) struct Supply {
     pub(crate) speed: u64,
@@ -24,10 +25,11 @@ pub(crate) fn full_supply(tasks: &TaskSet, machine: &Machine) -> Supply
 {
     let _task_limits = tasks.as_slice();
     let _machine_limits = machine.as_slice();
-    let speed = machine.top();
-    let hyper = tasks.hyper();
-    let units = u128::from(speed) * u128::from(hyper);
-    Supply { speed, hyper, units }
+    Supply {
+        speed: machine.top(),
+        hyper: tasks.hyper(),
+        units: u128::from(machine.top()) * u128::from(tasks.hyper()),
+    }
 }
 
 // The most that a supply does in `ticks` ticks, in work units.

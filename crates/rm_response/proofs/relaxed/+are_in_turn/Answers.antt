@@ -1,5 +1,4 @@
-use Rattle.std.proofs.Common.{◌≡◌, true, is_some, List, ◌∷◌, sym, ◌∙◌, subst}
-use Rattle.rm_response.specs.declared.loads.Load.{Load}
+use Rattle.std.proofs.Common.{◌≡◌, true, is_some, sym, ◌∙◌, subst}
 use Rattle.rm_response.specs.Loads.{AreInTurn}
 use Rattle.rm_response.proofs.RelaxedLoads.{turn-found}
 use Rattle.rm_response.proofs.relaxed.+are_in_turn.Goals as goal

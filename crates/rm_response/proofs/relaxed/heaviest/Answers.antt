@@ -1,7 +1,6 @@
-use Rattle.std.proofs.Common.{◌+◌, ◌-◌, ℕ, take, sym, subst, arith, length-set}
-use Rattle.std.specs.Prelude.{slice_index_or, slice_set}
+use Rattle.std.proofs.Common.{◌+◌, ℕ, take, sym, subst, arith, length-set}
+use Rattle.std.specs.Prelude.{slice_index_or}
 use Rattle.std.proofs.lemmas.List.{take_more_set}
-use Rattle.rm_response.specs.declared.loads.Load.{Load}
 use Rattle.rm_response.specs.Fits.{IsRelaxed}
 use Rattle.rm_response.proofs.RelaxedLoads.{no_load, with_units, relaxed-counts, relaxed-leaves}
 use Rattle.rm_response.proofs.relaxed.heaviest.Goals as goal

@@ -1,6 +1,5 @@
-use Rattle.std.proofs.Common.{◌≡◌, ◌+◌, ◌*◌, ◌<◌, ℕ, ap, ap₂, ◌∙◌, arith}
-use Rattle.grid_fraction.specs.Numbers.{ceil_div}
-use Rattle.grid_fraction.proofs.Ceilings.{div_ceil_is}
+use Rattle.std.proofs.Common.{◌≡◌, ◌+◌, ◌*◌, ℕ, ap₂, ◌∙◌, arith}
+use Rattle.std.specs.Int.{div_ceil}
 use Rattle.rm_response.specs.Loads.{work_of}
 use Rattle.rm_response.proofs.LoadFits.{none-raised, more-before, more-within}
 use Rattle.rm_response.proofs.search.raised.Goals as goal
@@ -26,17 +25,13 @@ returns-then-next-from c =
     let xs = c.args.loads.now in
     let at = c.loop.invariant in
     let n = c.args.rest + work_of xs c.loop.first in
-    let all : (c.args.rest + c.work_of.result) * c.from.result ≡ n * s.hyper =
-    ap₂ (λ (w h : ℕ). (c.args.rest + w) * h) c.work_of.ensures.value c.from.ensures in
-    let is : c.div_ceil-next.result ≡ ceil_div (n * s.hyper) s.units =
-    c.div_ceil-next.ensures
-    ∙ (div_ceil_is ((c.args.rest + c.work_of.result) * c.from.result) s.units c.requires.supply.some_units
-    ∙ ap (λ (m : ℕ). ceil_div m s.units) all) in
+    let is : c.div_ceil-next.result ≡ div_ceil (n * s.hyper) s.units =
+    c.div_ceil-next.ensures ∙ ap₂ (λ (w h : ℕ). div_ceil ((c.args.rest + w) * h) s.units) c.work_of.ensures.value c.from.ensures in
     record {
       from = omega (arith, c.requires.in_span);
       within = omega arith;
       none = none-raised s xs c.args.rest c.args.span.first c.loop.first (c.args.span.last + 1) c.requires.each at.none
-          (λ t lt. more-before s n t c.requires.supply.some_units (omega (arith, lt, is, c.if-next-from.true, c.from-in-loop.ensures)));
+          (λ t lt. more-before s n c.div_ceil-next.result t c.requires.supply.some_units is (omega (arith, lt, c.if-next-from.true, c.from-in-loop.ensures)));
     }
 
 pub loop-preserved : goal.loop-preserved
@@ -45,15 +40,11 @@ loop-preserved c =
     let xs = c.args.loads.now in
     let at = c.loop.invariant in
     let n = c.args.rest + work_of xs c.loop.first in
-    let all : (c.args.rest + c.work_of.result) * c.from.result ≡ n * s.hyper =
-    ap₂ (λ (w h : ℕ). (c.args.rest + w) * h) c.work_of.ensures.value c.from.ensures in
-    let is : c.div_ceil-next.result ≡ ceil_div (n * s.hyper) s.units =
-    c.div_ceil-next.ensures
-    ∙ (div_ceil_is ((c.args.rest + c.work_of.result) * c.from.result) s.units c.requires.supply.some_units
-    ∙ ap (λ (m : ℕ). ceil_div m s.units) all) in
+    let is : c.div_ceil-next.result ≡ div_ceil (n * s.hyper) s.units =
+    c.div_ceil-next.ensures ∙ ap₂ (λ (w h : ℕ). div_ceil ((c.args.rest + w) * h) s.units) c.work_of.ensures.value c.from.ensures in
     record {
       low = omega arith;
       within = omega arith;
       none = none-raised s xs c.args.rest c.args.span.first c.loop.first c.div_ceil-next.result c.requires.each at.none
-          (λ t lt. more-before s n t c.requires.supply.some_units (omega (arith, lt, is)));
+          (λ t lt. more-before s n c.div_ceil-next.result t c.requires.supply.some_units is lt);
     }

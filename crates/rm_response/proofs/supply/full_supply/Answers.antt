@@ -1,4 +1,4 @@
-use Rattle.std.proofs.Common.{◌≡◌, ◌*◌, ◌≤◌, ℕ, arith}
+use Rattle.std.proofs.Common.{◌≡◌, ◌*◌, ◌≤◌, ℕ, ap₂, sym, ◌∙◌, arith}
 use Rattle.std.proofs.lemmas.Nat.{mul-le}
 use Rattle.freq_table.specs.Tables.{last_entry}
 use Rattle.dvs_base.specs.declared.kind.Scheduler.TheVariants.{Rm}
@@ -13,13 +13,15 @@ returns-clause-low c =
     let lim : IsWithinLimits p = record { tasks = c.as_slice-task_limits.ensures.limits; machine = c.as_slice-machine_limits.ensures.limits } in
     let point = lim.machine.each (last_entry c.args.machine.now) (let n = lim.machine.some in omega arith) in
     let long = some_hyper p lim in
-    let all : c.from.result * c.from-2.result ≡ c.top-speed.result * c.hyper-hyper.result = cc in
+    let some : 1 ≤ c.from.result = (let one = point.some_speed in omega (arith, one, c.top-2.ensures, c.from.ensures)) in
+    let hyper : 1 ≤ c.from-2.result = omega (arith, long, c.hyper-2.ensures.hyper, c.from-2.ensures) in
+    let all : c.from.result * c.from-2.result ≡ c.top.result * c.hyper.result =
+    ap₂ (λ (m n : ℕ). m * n) (c.from.ensures ∙ (c.top-2.ensures ∙ sym c.top.ensures))
+    (c.from-2.ensures ∙ (c.hyper-2.ensures.hyper ∙ sym c.hyper.ensures.hyper)) in
     record {
-      some_hyper = omega (arith, long, c.hyper-hyper.ensures.hyper);
-      low_hyper = c.hyper-hyper.ensures.low;
-      low_speed = (let low = point.low_speed in omega (arith, low, c.top-speed.ensures));
-      some_units = (let some = point.some_speed in
-          omega (arith, mul-le 1 1 c.from.result c.from-2.result (omega (arith, some, c.top-speed.ensures, c.from.ensures))
-          (omega (arith, long, c.hyper-hyper.ensures.hyper, c.from-2.ensures))));
+      some_hyper = omega (arith, long, c.hyper.ensures.hyper);
+      low_hyper = c.hyper.ensures.low;
+      low_speed = (let low = point.low_speed in omega (arith, low, c.top.ensures));
+      some_units = omega (arith, mul-le 1 1 c.from.result c.from-2.result some hyper);
       within = omega (arith, all);
     }
