@@ -1,27 +1,17 @@
-// The search for the response of a task among the ticks up to its period (after Bini and Buttazzo 2004).
-ghost use Rattle.std.specs.Prelude.{◌≡◌, ◌≤◌, ◌<◌, ◌+◌, ◌-◌, ◌*◌, ◌^◌, IsTrue, IsFalse, length, All};
-ghost use Rattle.dvs_base.specs.declared.kind.Scheduler.TheVariants.{Rm};
+// The search for ticks into which work fits beside loads (after Bini and Buttazzo 2004).
+ghost use Rattle.std.specs.Prelude.{◌≤◌, ◌+◌, ◌^◌, IsTrue, IsFalse, length, All};
 ghost use Rattle.dvs_base.specs.Widths.{u64_end};
 ghost use Rattle.dvs_base.specs.declared.limits.TheConstants.{MOST_TASKS};
 ghost use Rattle.task_model.specs.declared.limits.TheConstants.{LONGEST_PERIOD};
-ghost use Rattle.sched_model.specs.Plan.{plan_of};
-ghost use Rattle.rm_response_laws.specs.Responses.{response, IsUnserved};
 ghost use Rattle.rm_response.specs.Supplies.{IsSupply, IsDone, IsMore};
-ghost use Rattle.rm_response.specs.Loads.{IsLoad, AreLoads, AreBefore, HasRate, work_of};
+ghost use Rattle.rm_response.specs.Loads.{IsLoad, AreLoads, HasRate, work_of};
 ghost use Rattle.rm_response.specs.Fits.{NoneFits, FindsFit, EndsDecide, NoneBefore, IsFirstFit};
 
 use crate::loads::{Load, held, rates_of, work_of};
-use crate::relaxed::first_relaxed;
-use crate::supply::{Supply, full_supply, most_in};
-use freq_table::Machine;
-use sched_model::worst;
-use task_model::TaskSet;
+use crate::supply::{Supply, most_in};
 
 // The most times that the first of the ticks is raised in one call of `fitting`.
 const MOST_RAISES: u32 = 4;
-
-// The most times that it is raised for one task before the ticks up to the task's period are halved.
-const MOST_STEPS: u32 = 1000;
 
 /// The ticks `first` to `last`.
 #[derive(Clone, Copy)]
@@ -56,7 +46,7 @@ fn is_beyond(supply: Supply, loads: &[Load], rest: u128, most: u64) -> bool
 }
 
 // Whether `rest` units fit into `ticks` ticks beside the work of the loads.
-fn fits(supply: Supply, loads: &[Load], rest: u128, ticks: u64) -> bool
+pub(crate) fn fits(supply: Supply, loads: &[Load], rest: u128, ticks: u64) -> bool
     requires supply { IsSupply supply }
     requires few { length loads.now ≤ MOST_TASKS }
     requires each { All IsLoad loads.now }
@@ -72,7 +62,7 @@ fn fits(supply: Supply, loads: &[Load], rest: u128, ticks: u64) -> bool
 
 // The first ticks of a span raised to those that the work of `rest` units and of the loads in them takes, at most
 // `steps` times (the iteration of Joseph and Pandya 1986); one more than the last where they pass it.
-fn raised(supply: Supply, loads: &[Load], rest: u128, span: Span, steps: u32) -> u64
+pub(crate) fn raised(supply: Supply, loads: &[Load], rest: u128, span: Span, steps: u32) -> u64
     requires supply { IsSupply supply }
     requires few { length loads.now ≤ MOST_TASKS }
     requires each { All IsLoad loads.now }
@@ -189,37 +179,4 @@ pub(crate) fn first_fitting(supply: Supply, loads: &[Load], rest: u128, span: Sp
         }
     }
     high
-}
-
-// The response of task i in ticks; one more than its period where it has none. `from` is a number of ticks, and fewer
-// ticks don't serve its level. The loads are the tasks before it.
-pub(crate) fn response_of(
-    tasks: &TaskSet,
-    machine: &Machine,
-    loads: &[Load],
-    from: u64,
-    i: u32,
-) -> u64
-    requires task { i < length tasks.now }
-    requires before { AreBefore (plan_of tasks.now machine.now Rm) i loads.now }
-    requires some { 1 ≤ from }
-    requires unserved { IsUnserved (plan_of tasks.now machine.now Rm) i from }
-    ensures { result ≡ response (plan_of tasks.now machine.now Rm) i }
-{
-    let _task_limits = tasks.as_slice();
-    let last = tasks.task(i).period;
-    if from > last {
-        return last + 1;
-    }
-    let supply = full_supply(tasks, machine);
-    let job = u128::from(worst(tasks, machine, i));
-    let first = raised(supply, loads, job, Span { first: from, last }, MOST_STEPS);
-    if first > last || fits(supply, loads, job, first) {
-        return first;
-    }
-    let first = first_relaxed(supply, loads, job, Span { first, last });
-    if first > last {
-        return first;
-    }
-    first_fitting(supply, loads, job, Span { first, last })
 }

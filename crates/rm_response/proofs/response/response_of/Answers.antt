@@ -6,8 +6,8 @@ use Rattle.rm_response_laws.proofs.ResponseSearch.{response-none}
 use Rattle.rm_response.specs.Fits.{IsFirstFit}
 use Rattle.rm_response.proofs.LoadFits.{before-later}
 use Rattle.rm_response.proofs.LoadsBefore.{first-is}
-use Rattle.rm_response.proofs.search.response_of.Goals as goal
-use Rattle.rm_response.proofs.search.response_of.Goals.{then-first-last-via-then-first-last, then-first-last-via-else-first-last+then-fits}
+use Rattle.rm_response.proofs.response.response_of.Goals as goal
+use Rattle.rm_response.proofs.response.response_of.Goals.{then-first-last-via-then-first-last, then-first-last-via-else-first-last+then-fits}
 
 pub returns-then-from-last : goal.returns-then-from-last
 returns-then-from-last c =
