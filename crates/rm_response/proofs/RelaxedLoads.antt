@@ -1,18 +1,16 @@
 -- The loads of a relaxed search, one by one, and that they can be taken away in turn.
-use Rattle.std.proofs.Common.{◌≡◌, ℕ, ◌+◌, ◌-◌, ◌*◌, ◌<◌, ◌≤◌, List, [], ◌∷◌, ◌++◌, length, take, Option, Some, None, is_some, true, length-append, sym, ◌∙◌, ap, subst, refl, arith}
+use Rattle.std.proofs.Common.{◌≡◌, ℕ, ◌+◌, ◌-◌, ◌*◌, ◌<◌, ◌≤◌, List, [], ◌∷◌, ◌++◌, length, take, Option, Some, None, is_some, true, length-append, ◌∙◌, ap, refl, arith}
 use Rattle.std.specs.Prelude.{All, slice_index_or}
 use Rattle.std.proofs.lemmas.List.{take_more}
 use Rattle.std.proofs.Math.Nat.{mul-le-mul_right}
 use Rattle.std.proofs.lemmas.List.Elements.{All-append, All-cons, All-get_or, All-nil}
 use Rattle.std.proofs.lemmas.List.Sums.{sum_by-cons, sum_by_push}
-use Rattle.dvs_base.specs.declared.limits.TheConstants.{MOST_TASKS}
 use Rattle.grid_fraction.specs.Numbers.{ceil_div}
 use Rattle.rm_response_laws.proofs.Ceilings.{ceil-after}
 use Rattle.rm_response.specs.declared.loads.Load.{Load}
 use Rattle.rm_response.specs.declared.supply.Supply.{Supply}
-use Rattle.rm_response.specs.Supplies.{IsSupply}
-use Rattle.rm_response.specs.Loads.{held, work_of, IsLoad, HasRate, AreInTurn, AreLoads}
-use Rattle.rm_response.specs.Fits.{Fits, NoneFits, FindsFit, IsRelaxed}
+use Rattle.rm_response.specs.Loads.{held, work_of, IsLoad, HasRate, AreInTurn}
+use Rattle.rm_response.specs.Fits.{FindsFit, IsRelaxed}
 use Rattle.rm_response.proofs.LoadFits.{done-fewer, rate-held}
 
 -- a supply with these units

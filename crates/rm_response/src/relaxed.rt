@@ -110,13 +110,12 @@ pub(crate) fn first_relaxed(supply: Supply, loads: &[Load], rest: u128, span: Sp
     requires low_ticks { span.last ≤ LONGEST_PERIOD }
     ensures { NoneBefore supply loads.now rest span.first span.last result }
 {
-    let last = span.last;
     let mut first = span.first;
     for most in [4, 8, 16, MOST_HEAVY] {
-        if loads.len() <= most || first > last {
+        if loads.len() <= most || first > span.last {
             return first;
         }
-        first = first_with(supply, loads, most, rest, Span { first, last });
+        first = first_with(supply, loads, most, rest, Span { first, ..span });
     }
     first
 }

@@ -74,13 +74,7 @@ struct Late {
 
 // The response of task i in ticks; one more than its period where it has none. `from` is a number of ticks, and fewer
 // ticks don't serve its level. The loads are the tasks before it.
-fn response_of(
-    tasks: &TaskSet,
-    machine: &Machine,
-    loads: &[Load],
-    from: u64,
-    i: u32,
-) -> u64
+fn response_of(tasks: &TaskSet, machine: &Machine, loads: &[Load], from: u64, i: u32) -> u64
     requires task { i < length tasks.now }
     requires before { AreBefore (plan_of tasks.now machine.now Rm) i loads.now }
     requires some { 1 ≤ from }

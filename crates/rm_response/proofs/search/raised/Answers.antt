@@ -31,7 +31,9 @@ returns-then-next-from c =
       from = omega (arith, c.requires.in_span);
       within = omega arith;
       none = none-raised s xs c.args.rest c.args.span.first c.loop.first (c.args.span.last + 1) c.requires.each at.none
-          (λ t lt. more-before s n c.div_ceil-next.result t c.requires.supply.some_units is (omega (arith, lt, c.if-next-from.true, c.from-in-loop.ensures)));
+          (λ t lt.
+          more-before s n c.div_ceil-next.result t c.requires.supply.some_units is
+          (omega (arith, lt, c.if-next-from.true, c.from-in-loop.ensures)));
     }
 
 pub loop-preserved : goal.loop-preserved
