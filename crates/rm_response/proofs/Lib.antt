@@ -3,3 +3,4 @@ pub mod KnownResponses
 pub mod Examples
 pub mod LoadFits
 pub mod LoadsBefore
+pub mod RelaxedLoads

@@ -1,31 +1,46 @@
 -- Whether work fits into some ticks beside loads, by the first of them, and that the loads can be taken away in turn.
 use Rattle.std.proofs.Common.{◌≡◌, ◌⊎◌, inl, inr, ℕ, zero, suc, ◌+◌, ◌-◌, ◌*◌, ◌/◌, ◌<◌, ◌≤◌, max, true, false, List, [], ◌∷◌, Option, Some, None, is_some, take, sym, ◌∙◌, ap, subst, arith, div-add-mod', mod-lt}
 use Rattle.std.specs.Prelude.{All, insert}
+use Rattle.std.specs.Int.{div_ceil}
 use Rattle.std.proofs.Math.Nat.{mul-le-mul_left, mul-le-mul_right, div-mul-le_self}
 use Rattle.std.proofs.lemmas.Bool.{cases_lt}
+use Rattle.std.proofs.lemmas.Nat.{mul-le}
 use Rattle.std.proofs.lemmas.List.Elements.{All-head, All-tail}
 use Rattle.std.proofs.lemmas.List.Sums.{sum_by-cons, sum_by-insert}
 use Rattle.grid_fraction.specs.Numbers.{ceil_div}
-use Rattle.grid_fraction.proofs.Ceilings.{ceil-mono}
+use Rattle.grid_fraction.proofs.Ceilings.{ceil-mono, div_ceil_is}
 use Rattle.governor.proofs.RmLevels.{ceil_covers}
 use Rattle.rm_response_laws.proofs.Ceilings.{ceil-after, ceil-least, ceil-sum}
 use Rattle.rm_response.specs.declared.loads.Load.{Load}
+use Rattle.rm_response.specs.declared.supply.Supply.{Supply}
+use Rattle.rm_response.specs.Supplies.{IsSupply, IsDone, IsMore}
 use Rattle.rm_response.specs.Loads.{held, work_of, rates_of, IsLoad, HasRate, AreInTurn, AreLoads}
-use Rattle.rm_response.specs.Fits.{Fits, NoneFits, FindsFit, IsFrom}
+use Rattle.rm_response.specs.Fits.{Fits, NoneFits, NoneBefore, FindsFit, IsFrom}
 
--- what the work of u ticks has beside that of some tasks fits into the speed that their rates leave
-spare-does : (r b f h u c : ℕ) → (r + b) * h ≤ f * u * h → u * c ≤ h * b → r * h ≤ (f * h - c) * u
-spare-does r b f h u c done rates = elim (cases_lt (f * h) c) [
+-- of fewer units all are done too, and more units are too many too
+pub done-fewer : (s : Supply) (m n t : ℕ) → m ≤ n → IsDone s n t → IsDone s m t
+done-fewer s m n t le done = omega (arith, done, mul-le-mul_right s.hyper le)
+
+pub more-most : (s : Supply) (m n t : ℕ) → m ≤ n → IsMore s m t → IsMore s n t
+more-most s m n t le more = omega (arith, more, mul-le-mul_right s.hyper le)
+
+-- n units are done in t ticks, or they are more
+pub cases_done : (s : Supply) (n t : ℕ) → IsMore s n t ⊎ IsDone s n t
+cases_done s n t = elim (cases_lt (s.units * t) (n * s.hyper)) [ inl more ↦ inl more | inr done ↦ inr done ]
+
+-- what the work of u ticks has beside that of some tasks fits into the units that their rates leave
+spare-does : (r b units h u c : ℕ) → (r + b) * h ≤ units * u → u * c ≤ h * b → r * h ≤ (units - c) * u
+spare-does r b units h u c done rates = elim (cases_lt units c) [
   | inl over ↦
-      let none : f * h - c ≡ 0 = omega arith in
-      let more : f * h * u ≤ c * u = mul-le-mul_right u (omega arith) in
+      let none : units - c ≡ 0 = omega arith in
+      let more : units * u ≤ c * u = mul-le-mul_right u (omega arith) in
       rw none (omega (arith, more))
-  | inr within ↦ split (f * h - c) (omega arith)
+  | inr within ↦ split (units - c) (omega arith)
 ]
   where
-    split : (x : ℕ) → x + c ≡ f * h → r * h ≤ x * u
+    split : (x : ℕ) → x + c ≡ units → r * h ≤ x * u
     split x e =
-        let whole : (x + c) * u ≡ f * h * u = ap (λ y. y * u) e in
+        let whole : (x + c) * u ≡ units * u = ap (λ y. y * u) e in
         omega (arith, whole)
 
 -- where each number that passes also passes s later, with s at most d, one of the d numbers after `low` passes, and is at
@@ -62,7 +77,7 @@ work-sum t s (x ∷ xs) each =
     omega (arith, first, others, sum_by-cons (held (t + s)) x xs, sum_by-cons (held t) x xs, sum_by-cons (held s) x xs)
 
 -- the rate of a load for t ticks is within the work of its jobs that they can hold
-rate-held : (h t : ℕ) (x : Load) → IsLoad x → HasRate h x → t * x.rate ≤ h * held t x
+pub rate-held : (h t : ℕ) (x : Load) → IsLoad x → HasRate h x → t * x.rate ≤ h * held t x
 rate-held h t x is rate =
     let m : t * x.rate ≤ ceil_div t x.period * x.period * x.rate = mul-le-mul_right x.rate (ceil_covers t x.period is.some_period) in
     let whole : ceil_div t x.period * (x.rate * x.period) ≡ ceil_div t x.period * (x.worst * h) = ap (λ n. ceil_div t x.period * n) rate in
@@ -77,53 +92,74 @@ rates-work h t (x ∷ xs) each rates =
     let right : h * work_of (x ∷ xs) t ≡ h * (held t x + work_of xs t) = ap (λ n. h * n) (sum_by-cons (held t) x xs) in
     omega (arith, first, others, left, right)
 
--- where `rest` units take more than `most` ticks at the speed that the rates leave, they don't fit
-pub none-beyond : (f h : ℕ) (xs : List Load) (rest most : ℕ) → All IsLoad xs → All (HasRate h) xs
-    → (f * h - rates_of xs) * most < rest * h → NoneFits f xs rest 0 (most + 1)
-none-beyond f h xs rest most each rates over t from lt =
-    elim (cases_lt (f * t) (rest + work_of xs t)) [
+-- where `rest` units take more than `most` ticks of what the rates leave, they don't fit
+pub none-beyond : (s : Supply) (xs : List Load) (rest most : ℕ) → All IsLoad xs → All (HasRate s.hyper) xs
+    → (s.units - rates_of xs) * most < rest * s.hyper → NoneFits s xs rest 0 (most + 1)
+none-beyond s xs rest most each rates over t from lt =
+    elim (cases_done s (rest + work_of xs t) t) [
       | inl more ↦ more
       | inr done ↦
-          let scaled : (rest + work_of xs t) * h ≤ f * t * h = mul-le-mul_right h done in
-          let less = spare-does rest (work_of xs t) f h t (rates_of xs) scaled (rates-work h t xs each rates) in
-          let within : (f * h - rates_of xs) * t ≤ (f * h - rates_of xs) * most = mul-le-mul_left (f * h - rates_of xs) (omega arith) in
+          let less = spare-does rest (work_of xs t) s.units s.hyper t (rates_of xs) done (rates-work s.hyper t xs each rates) in
+          let within : (s.units - rates_of xs) * t ≤ (s.units - rates_of xs) * most = mul-le-mul_left (s.units - rates_of xs) (omega arith) in
           absurd (omega (arith, less, within, over))
     ]
 
--- where `rest` units and the work of `least` ticks take `next` ticks, they fit into none before those
-pub none-raised : (f : ℕ) (xs : List Load) (rest low least next : ℕ) → 0 < f → All IsLoad xs
-    → NoneFits f xs rest low least → next ≡ ceil_div (rest + work_of xs least) f → NoneFits f xs rest low next
-none-raised f xs rest low least next some each none is t from lt =
+-- where `rest` units and the work of `least` ticks are more than `next` ticks less one do, they fit into none before those
+pub none-raised : (s : Supply) (xs : List Load) (rest low least next : ℕ) → All IsLoad xs → NoneFits s xs rest low least
+    → ((t : ℕ) → t < next → IsMore s (rest + work_of xs least) t) → NoneFits s xs rest low next
+none-raised s xs rest low least next each none over t from lt =
     elim (cases_lt t least) [
       | inl before ↦ none t from before
       | inr after ↦
-          omega (arith, ceil-least (rest + work_of xs least) f t some (omega arith), work-later least t xs each after)
+          let more = work-later least t xs each after in
+          more-most s (rest + work_of xs least) (rest + work_of xs t) t (omega (arith, more)) (over t lt)
     ]
 
+-- fewer ticks than n units take don't do them
+pub more-before : (s : Supply) (n next t : ℕ) → 1 ≤ s.units → next ≡ div_ceil (n * s.hyper) s.units → t < next → IsMore s n t
+more-before s n next t some is lt =
+    ceil-least (n * s.hyper) s.units t some (omega (arith, lt, is, div_ceil_is (n * s.hyper) s.units some))
+
+-- what exceeds the speed for `last` ticks is more than any of these do
+pub more-within : (s : Supply) (n last t : ℕ) → IsSupply s → s.speed * last < n → t < last + 1 → IsMore s n t
+more-within s n last t is over lt =
+    let ticks : s.units * t ≤ s.speed * s.hyper * last = mul-le s.units t (s.speed * s.hyper) last is.within (omega arith) in
+    let units : suc (s.speed * last) * s.hyper ≤ n * s.hyper = mul-le-mul_right s.hyper over in
+    omega (arith, ticks, units, is.some_hyper)
+
+-- none before a first tick, and from there none before a later one, is none before the later one
+pub before-later : (s : Supply) (xs : List Load) (rest low most first later : ℕ) → NoneBefore s xs rest low most first
+    → NoneBefore s xs rest first most later → NoneBefore s xs rest low most later
+before-later s xs rest low most first later one two = record {
+  from = (let f = one.from in let g = two.from in omega arith);
+  within = two.within;
+  none = λ t from lt. elim (cases_lt t first) [ inl before ↦ one.none t from before | inr after ↦ two.none t after lt ];
+}
+
 -- what is found from the least ticks on is found of all
-pub found-from : (f : ℕ) (xs : List Load) (rest low most least : ℕ) (found : Option ℕ) → IsFrom f xs rest low most least
-    → FindsFit f xs rest least most found → FindsFit f xs rest low most found
-found-from f xs rest low most least None is none = λ t from lt.
+pub found-from : (s : Supply) (xs : List Load) (rest low most least : ℕ) (found : Option ℕ) → IsFrom s xs rest low most least
+    → FindsFit s xs rest least most found → FindsFit s xs rest low most found
+found-from s xs rest low most least None is none = λ t from lt.
     elim (cases_lt t least) [ inl before ↦ is.none t from before | inr after ↦ none t after lt ]
-found-from f xs rest low most least (Some t) is fit = record {
+found-from s xs rest low most least (Some t) is fit = record {
   from = (let g = fit.from in let h = is.from in omega arith);
   within = fit.within;
   done = fit.done;
 }
 
 -- the first load and the others
-module _ (f h : ℕ) (x : Load) (xs : List Load) (loads : AreLoads f h (x ∷ xs)) where
+module _ (s : Supply) (x : Load) (xs : List Load) (loads : AreLoads s (x ∷ xs)) where
   abbrev d : ℕ
   d = x.period
 
   is_load : IsLoad x
   is_load = All-head IsLoad x xs loads.each
 
-  pub others-loads : AreLoads f h xs
+  pub others-loads : AreLoads s xs
   others-loads = record {
     few = (let n = loads.few in omega arith);
     each = All-tail IsLoad x xs loads.each;
-    rates = All-tail (HasRate h) x xs loads.rates;
+    rates = All-tail (HasRate s.hyper) x xs loads.rates;
     in_turn = loads.in_turn.1;
   }
 
@@ -131,12 +167,13 @@ module _ (f h : ℕ) (x : Load) (xs : List Load) (loads : AreLoads f h (x ∷ xs
   split t = sum_by-cons (held t) x xs
 
   -- what fits beside the jobs of the first load in m ticks fits beside those in fewer
-  fits-fewer : (rest from m low most t : ℕ) → low ≤ from → m ≤ most → Fits f xs (rest + held m x) from m t
-      → Fits f (x ∷ xs) rest low most t
+  fits-fewer : (rest from m low most t : ℕ) → low ≤ from → m ≤ most → Fits s xs (rest + held m x) from m t
+      → Fits s (x ∷ xs) rest low most t
   fits-fewer rest from m low most t after le fit = record {
     from = (let g = fit.from in omega arith);
     within = (let w = fit.within in omega arith);
-    done = omega (arith, split t, held-later t m x is_load fit.within, fit.done);
+    done = done-fewer s (rest + work_of (x ∷ xs) t) (rest + held m x + work_of xs t) t
+        (omega (arith, split t, held-later t m x is_load fit.within)) fit.done;
   }
 
   -- after the last multiple of the period up to m, as many jobs of the first load begin in t ticks as in m
@@ -151,35 +188,40 @@ module _ (f h : ℕ) (x : Load) (xs : List Load) (loads : AreLoads f h (x ∷ xs
   -- Units fit beside the loads only where they fit beside the others and the jobs of the first: in the period of the
   -- first that has the last of the ticks, or in the one before it.
   none-first : (rest low most q : ℕ) → 1 ≤ low → q * d < most → most ≤ q * d + d
-      → NoneFits f xs (rest + held most x) (max low (q * d + 1)) (most + 1)
-      → (low ≤ q * d → NoneFits f xs (rest + held (q * d) x) low (q * d + 1))
-      → NoneFits f (x ∷ xs) rest low (most + 1)
+      → NoneFits s xs (rest + held most x) (max low (q * d + 1)) (most + 1)
+      → (low ≤ q * d → NoneFits s xs (rest + held (q * d) x) low (q * d + 1))
+      → NoneFits s (x ∷ xs) rest low (most + 1)
   none-first rest low most q some below high none-in none-before t from lt =
-      elim (cases_lt (f * t) (rest + work_of (x ∷ xs) t)) [
+      elim (cases_done s (rest + work_of (x ∷ xs) t) t) [
         | inl more ↦ more
         | inr done ↦
             elim (cases_lt (q * d) t) [
               | inl past ↦
                   let same = held-after q t most past (omega arith) high in
-                  let over = none-in t (omega (arith, past, from)) lt in
-                  absurd (omega (arith, split t, same, over, done))
+                  more-most s (rest + held most x + work_of xs t) (rest + work_of (x ∷ xs) t) t (omega (arith, split t, same))
+                  (none-in t (omega (arith, past, from)) lt)
               | inr within ↦ absurd (early q within done (none-before (omega (arith, from, within))))
             ]
       ]
     where
-      early : (q : ℕ) → t ≤ q * d → rest + work_of (x ∷ xs) t ≤ f * t
-          → NoneFits f xs (rest + held (q * d) x) low (q * d + 1) → ⊥
+      early : (q : ℕ) → t ≤ q * d → IsDone s (rest + work_of (x ∷ xs) t) t
+          → NoneFits s xs (rest + held (q * d) x) low (q * d + 1) → ⊥
       early zero within done none = omega (arith, within, some, from)
       early (suc q) within done none =
           let served = loads.in_turn.0 in
-          let s = served.ticks in
-          let later : (u : ℕ) → rest + work_of (x ∷ xs) u ≤ f * u → rest + work_of (x ∷ xs) (u + s) ≤ f * (u + s) =
-          λ u fit. omega (arith, work-sum u s (x ∷ xs) loads.each, served.done, fit) in
-          let found = later-past (λ u. rest + work_of (x ∷ xs) u ≤ f * u) s d (q * d) served.some served.within
+          let n = served.ticks in
+          let later : (u : ℕ) → IsDone s (rest + work_of (x ∷ xs) u) u → IsDone s (rest + work_of (x ∷ xs) (u + n)) (u + n) =
+          λ u fit.
+          let less : rest + work_of (x ∷ xs) (u + n) ≤ rest + work_of (x ∷ xs) u + work_of (x ∷ xs) n =
+          omega (arith, work-sum u n (x ∷ xs) loads.each) in
+          omega (arith, mul-le-mul_right s.hyper less, served.done, fit) in
+          let found = later-past (λ u. IsDone s (rest + work_of (x ∷ xs) u) u) n d (q * d) served.some served.within
           later (suc (q * d)) t (omega (arith, within)) (omega arith) done in
           let same = held-after q found.0 (suc q * d) found.2 (omega (arith, found.3)) (omega arith) in
           let over = none found.0 (omega (arith, found.1, found.2, from)) (omega (arith, found.3)) in
-          omega (arith, split found.0, same, over, found.4)
+          let less = done-fewer s (rest + held (suc q * d) x + work_of xs found.0) (rest + work_of (x ∷ xs) found.0) found.0
+          (omega (arith, split found.0, same)) found.4 in
+          omega (arith, over, less)
 
   module _ (rest low most : ℕ) (some : 1 ≤ low) (in_span : low ≤ most) where
     -- the last release of the first load before `most`
@@ -189,9 +231,9 @@ module _ (f h : ℕ) (x : Load) (xs : List Load) (loads : AreLoads f h (x ∷ xs
     below : release < most
     below = omega (arith, div-mul-le_self (most - 1) d, some, in_span)
 
-    neither : NoneFits f xs (rest + held most x) (max low (release + 1)) (most + 1)
-        → (low ≤ release → NoneFits f xs (rest + held release x) low (release + 1))
-        → NoneFits f (x ∷ xs) rest low (most + 1)
+    neither : NoneFits s xs (rest + held most x) (max low (release + 1)) (most + 1)
+        → (low ≤ release → NoneFits s xs (rest + held release x) low (release + 1))
+        → NoneFits s (x ∷ xs) rest low (most + 1)
     neither none-in none-before =
         let split = div-add-mod' (most - 1) d in
         let less = mod-lt (most - 1) is_load.some_period in
@@ -199,17 +241,17 @@ module _ (f h : ℕ) (x : Load) (xs : List Load) (loads : AreLoads f h (x ∷ xs
 
     -- what is found beside the jobs that begin before `most` ticks are over, and no less than `after` ticks
     abbrev FindsIn : ℕ → ℕ → Option ℕ → Type 0
-    FindsIn begun after found = (begun ≡ held most x) × (after ≡ max low (release + 1)) × FindsFit f xs (rest + begun) after most found
+    FindsIn begun after found = (begun ≡ held most x) × (after ≡ max low (release + 1)) × FindsFit s xs (rest + begun) after most found
 
     in-period : (begun after : ℕ) (found : Option ℕ) → FindsIn begun after found
-        → FindsFit f xs (rest + held most x) (max low (release + 1)) most found
+        → FindsFit s xs (rest + held most x) (max low (release + 1)) most found
     in-period begun after found is =
-        subst (λ b. FindsFit f xs (rest + b) (max low (release + 1)) most found) is.0
-        (subst (λ a. FindsFit f xs (rest + begun) a most found) is.1 is.2)
+        subst (λ b. FindsFit s xs (rest + b) (max low (release + 1)) most found) is.0
+        (subst (λ a. FindsFit s xs (rest + begun) a most found) is.1 is.2)
 
     -- these jobs decide, or there are no earlier ticks
     pub found-in : (begun after : ℕ) (found : Option ℕ) → FindsIn begun after found
-        → (is_some found ≡ true) ⊎ (release < low) → FindsFit f (x ∷ xs) rest low most found
+        → (is_some found ≡ true) ⊎ (release < low) → FindsFit s (x ∷ xs) rest low most found
     found-in begun after (Some t) is why =
         fits-fewer rest (max low (release + 1)) most low most t (omega arith) (omega arith) (in-period begun after (Some t) is)
     found-in begun after None is (inl some') = absurd cc
@@ -217,28 +259,30 @@ module _ (f h : ℕ) (x : Load) (xs : List Load) (loads : AreLoads f h (x ∷ xs
 
     -- where they find none, the jobs that begin before the last release decide
     pub found-before : (begun after ended : ℕ) (first found : Option ℕ) → FindsIn begun after first → is_some first ≡ false
-        → ended ≡ held release x → FindsFit f xs (rest + ended) low release found → FindsFit f (x ∷ xs) rest low most found
+        → ended ≡ held release x → FindsFit s xs (rest + ended) low release found → FindsFit s (x ∷ xs) rest low most found
     found-before begun after ended (Some t) found is e jobs later = absurd cc
     found-before begun after ended None found is e jobs later =
-        go found (subst (λ b. FindsFit f xs (rest + b) low release found) jobs later)
+        go found (subst (λ b. FindsFit s xs (rest + b) low release found) jobs later)
       where
-        go : (found : Option ℕ) → FindsFit f xs (rest + held release x) low release found → FindsFit f (x ∷ xs) rest low most found
+        go : (found : Option ℕ) → FindsFit s xs (rest + held release x) low release found → FindsFit s (x ∷ xs) rest low most found
         go (Some t) fit = fits-fewer rest low release low most t (omega arith) (omega (arith, below)) fit
         go None none = neither (in-period begun after None is) (λ le. none)
 
--- a load y that is served in s ticks can be put into others after some whose periods are at least s
-pub put-in_turn : (f s : ℕ) (y : Load) (xs : List Load) (k : ℕ) → AreInTurn f xs → 1 ≤ s → s ≤ y.period
-    → work_of (y ∷ xs) s ≤ f * s → All (λ x. s ≤ x.period) (take k xs) → AreInTurn f (insert xs k y)
-put-in_turn f s y xs zero turn some within done long =
-    (record { ticks = s; some = some; within = within; done = done }, turn)
-put-in_turn f s y [] (suc k) turn some within done long =
-    (record { ticks = s; some = some; within = within; done = done }, turn)
-put-in_turn f s y (x ∷ xs) (suc k) turn some within done long =
-    let own = sum_by-cons (held s) y (x ∷ xs) in
-    let parts = sum_by-cons (held s) x xs in
-    let fewer : work_of (y ∷ xs) s ≤ f * s = omega (arith, sum_by-cons (held s) y xs, own, parts, done) in
-    let all : work_of (x ∷ insert xs k y) s ≤ f * s =
-    omega (arith, sum_by-cons (held s) x (insert xs k y), sum_by-insert (held s) xs k y, own, parts, done) in (
-      record { ticks = s; some = some; within = All-head (λ z. s ≤ z.period) x (take k xs) long; done = all },
-      put-in_turn f s y xs k turn.1 some within fewer (All-tail (λ z. s ≤ z.period) x (take k xs) long),
+-- a load y that is served in n ticks can be put into others after some whose periods are at least n
+pub put-in_turn : (s : Supply) (n : ℕ) (y : Load) (xs : List Load) (k : ℕ) → AreInTurn s xs → 1 ≤ n → n ≤ y.period
+    → IsDone s (work_of (y ∷ xs) n) n → All (λ x. n ≤ x.period) (take k xs) → AreInTurn s (insert xs k y)
+put-in_turn s n y xs zero turn some within done long =
+    (record { ticks = n; some = some; within = within; done = done }, turn)
+put-in_turn s n y [] (suc k) turn some within done long =
+    (record { ticks = n; some = some; within = within; done = done }, turn)
+put-in_turn s n y (x ∷ xs) (suc k) turn some within done long =
+    let own = sum_by-cons (held n) y (x ∷ xs) in
+    let parts = sum_by-cons (held n) x xs in
+    let fewer : IsDone s (work_of (y ∷ xs) n) n =
+    done-fewer s (work_of (y ∷ xs) n) (work_of (y ∷ (x ∷ xs)) n) n (omega (arith, sum_by-cons (held n) y xs, own, parts)) done in
+    let all : IsDone s (work_of (x ∷ insert xs k y) n) n =
+    done-fewer s (work_of (x ∷ insert xs k y) n) (work_of (y ∷ (x ∷ xs)) n) n
+    (omega (arith, sum_by-cons (held n) x (insert xs k y), sum_by-insert (held n) xs k y, own, parts)) done in (
+      record { ticks = n; some = some; within = All-head (λ z. n ≤ z.period) x (take k xs) long; done = all },
+      put-in_turn s n y xs k turn.1 some within fewer (All-tail (λ z. n ≤ z.period) x (take k xs) long),
     )

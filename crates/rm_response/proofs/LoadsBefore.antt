@@ -1,6 +1,7 @@
 -- The loads of the tasks before a task in RM order, and what a fit beside them says of its response.
 use Rattle.std.proofs.Common.{◌≡◌, inl, inr, ℕ, ◌+◌, ◌*◌, ◌<◌, ◌≤◌, List, [], ◌∷◌, ◌++◌, length, take, drop, refl, sym, ◌∙◌, ap, subst, arith}
 use Rattle.std.specs.Prelude.{All, insert, slice_index}
+use Rattle.std.proofs.Math.Nat.{le_of_mul-le-mul_left, lt_of_mul-lt-mul_left, mul-le-mul_right}
 use Rattle.std.proofs.lemmas.Bool.{cases_lt}
 use Rattle.std.proofs.lemmas.List.{take-append-drop, drop_more, take_more}
 use Rattle.std.proofs.lemmas.List.Edits.{length-insert}
@@ -17,6 +18,8 @@ use Rattle.rm_response_laws.specs.HeldWork.{held_work}
 use Rattle.rm_response_laws.proofs.Ceilings.{ceil-after}
 use Rattle.rm_response_laws.proofs.ResponseSearch.{response-bound, response-is, response-none}
 use Rattle.rm_response.specs.declared.loads.Load.{Load}
+use Rattle.rm_response.specs.declared.supply.Supply.{Supply}
+use Rattle.rm_response.specs.Supplies.{IsSupply, IsDone, full_supply}
 use Rattle.rm_response.specs.Loads.{held, work_of, load_of, IsLoad, HasRate, AreInTurn, AreBefore, IsPutAfter}
 use Rattle.rm_response.specs.Fits.{IsFirstFit}
 use Rattle.rm_response.proofs.Places.{at-below}
@@ -27,7 +30,7 @@ pub record AreFirst (p : Plan) (js : List ℕ) (k : ℕ) (xs : List Load) : Type
   pub long : length xs ≡ k
   pub each : All IsLoad xs
   pub rates : All (HasRate (hyper p)) xs
-  pub in_turn : AreInTurn (top_speed p) xs
+  pub in_turn : AreInTurn (full_supply p) xs
   pub work : (t : ℕ) → work_of xs t ≡ sum_list (held_work p t) (take k js)
 
 -- what holds of a list's elements and of one more holds of all where that is put in
@@ -75,13 +78,15 @@ module _ (p : Plan) (lim : IsWithinLimits p) (js : List ℕ) (is : js ≡ in_ord
         let bound = response-bound p j has in
         let divides = period_divides p lim j (at-below (period p) (count p) js is k below) in
         let rate : HasRate (hyper p) x = let all = ap (λ n. worst p j * n) divides in omega (arith, all) in
-        let all : work_of (x ∷ xs) (response p j) ≤ top_speed p * response p j =
+        let within : work_of (x ∷ xs) (response p j) ≤ top_speed p * response p j =
         omega (arith, sum_by-cons (held (response p j)) x xs, before-work (response p j), bound.fits) in
+        let all : IsDone (full_supply p) (work_of (x ∷ xs) (response p j)) (response p j) =
+        omega (arith, mul-le-mul_right (hyper p) within) in
         let new : AreFirst p js (k + 1) (insert xs put.place x) = record {
           long = length-insert xs put.place x put.within ∙ ap (λ n. n + 1) are.long;
           each = all-insert IsLoad xs put.place x are.each is_load;
           rates = all-insert (HasRate (hyper p)) xs put.place x are.rates rate;
-          in_turn = put-in_turn (top_speed p) (response p j) x xs put.place are.in_turn bound.some bound.within all put.long;
+          in_turn = put-in_turn (full_supply p) (response p j) x xs put.place are.in_turn bound.some bound.within all put.long;
           work = λ t.
               sum_by-insert (held t) xs put.place x
               ∙ (ap (λ n. n + held_work p t j) (are.work t)
@@ -97,14 +102,15 @@ module _ (p : Plan) (i : ℕ) (xs : List Load) (before : AreBefore p i xs) where
 
   -- where fewer ticks don't serve the level of task i, the first ticks from there on into which one job of it fits are its
   -- response
-  pub first-is : (from job last first : ℕ) → job ≡ worst p i → last ≡ period p i → 1 ≤ from → IsUnserved p i from
-      → IsFirstFit (top_speed p) xs job from last first → first ≡ response p i
-  first-is from job last first own long some un fit =
+  first-full : 1 ≤ hyper p → (from job last first : ℕ) → job ≡ worst p i → last ≡ period p i → 1 ≤ from
+      → IsUnserved p i from → IsFirstFit (full_supply p) xs job from last first → first ≡ response p i
+  first-full some_hyper from job last first own long some un fit =
       elim (cases_lt (period p i) first) [
-        | inl past ↦ omega (arith, response-none p i (λ t pos lt. unserved t pos (omega (arith, lt, past))), past, fit.within, long)
+        | inl past ↦ omega (arith, response-none p i (λ t pos lt. unserved t pos (omega (arith, lt, past))), past, fit.before.within, long)
         | inr within ↦
-            let pos : 1 ≤ first = omega (arith, some, fit.from) in
-            let served = fit.fit (omega (arith, within, long)) in
+            let pos : 1 ≤ first = omega (arith, some, fit.before.from) in
+            let done = fit.fit (omega (arith, within, long)) in
+            let served : job + work_of xs first ≤ top_speed p * first = le_of_mul-le-mul_left {k = hyper p} (omega (arith, done)) some_hyper in
             sym (response-is p i first pos within unserved (omega (arith, own-work first pos within, own, served, before.work first)))
       ]
     where
@@ -113,5 +119,14 @@ module _ (p : Plan) (i : ℕ) (xs : List Load) (before : AreBefore p i xs) where
           elim (cases_lt t from) [
             | inl early ↦ un t pos early
             | inr after ↦
-                omega (arith, own-work t pos (omega (arith, lt, fit.within, long)), own, fit.none t after lt, before.work t)
+                let more = fit.before.none t after lt in
+                let over : top_speed p * t < job + work_of xs t = lt_of_mul-lt-mul_left (hyper p) (omega (arith, more)) in
+                omega (arith, own-work t pos (omega (arith, lt, fit.before.within, long)), own, over, before.work t)
           ]
+
+  -- the same with a supply that is the whole processor
+  pub first-is : (s : Supply) → s ≡ full_supply p → IsSupply s → (from job last first : ℕ) → job ≡ worst p i
+      → last ≡ period p i → 1 ≤ from → IsUnserved p i from → IsFirstFit s xs job from last first → first ≡ response p i
+  first-is s is supply from job last first own long some un fit =
+      first-full (subst IsSupply is supply).some_hyper from job last first own long some un
+      (subst (λ r. IsFirstFit r xs job from last first) is fit)

@@ -1,39 +1,57 @@
 -- Work that fits into some ticks beside loads (after Bini and Buttazzo 2004).
-use Rattle.std.specs.Prelude.{ℕ, List, ◌+◌, ◌*◌, ◌<◌, ◌≤◌, Option, MatchOption}
+use Rattle.std.specs.Prelude.{ℕ, List, All, length, ◌+◌, ◌*◌, ◌≡◌, ◌<◌, ◌≤◌, Option, MatchOption}
 use Rattle.rm_response.specs.declared.loads.Load.{Load}
+use Rattle.rm_response.specs.declared.supply.Supply.{Supply}
 use Rattle.rm_response.specs.declared.search.Ends.{Ends}
 use Rattle.rm_response.specs.declared.search.Ends.TheVariants.{Fit, NoFit, From}
-use Rattle.rm_response.specs.Loads.{work_of}
+use Rattle.rm_response.specs.Supplies.{IsDone, IsMore}
+use Rattle.rm_response.specs.Loads.{IsLoad, HasRate, work_of}
 
--- `rest` units fit into t of the ticks `low` to `most`: in t ticks speed f does them and the work of the loads
-pub record Fits (f : ℕ) (xs : List Load) (rest low most t : ℕ) : Type 0 where
+-- `rest` units fit into t of the ticks `low` to `most`: in t ticks a supply does them and the work of the loads
+pub record Fits (s : Supply) (xs : List Load) (rest low most t : ℕ) : Type 0 where
   pub from : low ≤ t
   pub within : t ≤ most
-  pub done : rest + work_of xs t ≤ f * t
+  pub done : IsDone s (rest + work_of xs t) t
 
 -- `rest` units fit into none of the ticks from `low` on and below `end` beside the work of the loads
-abbrev pub NoneFits : ℕ → List Load → ℕ → ℕ → ℕ → Type 0
-NoneFits f xs rest low end = (t : ℕ) → low ≤ t → t < end → f * t < rest + work_of xs t
+abbrev pub NoneFits : Supply → List Load → ℕ → ℕ → ℕ → Type 0
+NoneFits s xs rest low end = (t : ℕ) → low ≤ t → t < end → IsMore s (rest + work_of xs t) t
 
 -- `found` is one of the ticks `low` to `most` into which `rest` units fit, or there is none
-abbrev pub FindsFit : ℕ → List Load → ℕ → ℕ → ℕ → Option ℕ → Type 0
-FindsFit f xs rest low most found = MatchOption found (NoneFits f xs rest low (most + 1)) (Fits f xs rest low most)
+abbrev pub FindsFit : Supply → List Load → ℕ → ℕ → ℕ → Option ℕ → Type 0
+FindsFit s xs rest low most found = MatchOption found (NoneFits s xs rest low (most + 1)) (Fits s xs rest low most)
 
 -- `least` is one of the ticks `low` to `most`, and `rest` units fit into none before it
-pub record IsFrom (f : ℕ) (xs : List Load) (rest low most least : ℕ) : Type 0 where
+pub record IsFrom (s : Supply) (xs : List Load) (rest low most least : ℕ) : Type 0 where
   pub from : low ≤ least
   pub within : least ≤ most
-  pub none : NoneFits f xs rest low least
+  pub none : NoneFits s xs rest low least
 
 -- what the ends of the ticks `low` to `most` decide: a fit, none, or the ticks that are left
-abbrev pub EndsDecide : ℕ → List Load → ℕ → ℕ → ℕ → Ends → Type 0
-EndsDecide f xs rest low most (Fit t) = Fits f xs rest low most t
-EndsDecide f xs rest low most NoFit = NoneFits f xs rest low (most + 1)
-EndsDecide f xs rest low most (From least) = IsFrom f xs rest low most least
+abbrev pub EndsDecide : Supply → List Load → ℕ → ℕ → ℕ → Ends → Type 0
+EndsDecide s xs rest low most (Fit t) = Fits s xs rest low most t
+EndsDecide s xs rest low most NoFit = NoneFits s xs rest low (most + 1)
+EndsDecide s xs rest low most (From least) = IsFrom s xs rest low most least
 
--- `first` is the first of the ticks `low` to `most` into which `rest` units fit; one more than the last where there is none
-pub record IsFirstFit (f : ℕ) (xs : List Load) (rest low most first : ℕ) : Type 0 where
+-- `first` is one of the ticks `low` to `most`, or one more than the last, and `rest` units fit into none before it
+pub record NoneBefore (s : Supply) (xs : List Load) (rest low most first : ℕ) : Type 0 where
   pub from : low ≤ first
   pub within : first ≤ most + 1
-  pub none : NoneFits f xs rest low first
-  pub fit : first ≤ most → rest + work_of xs first ≤ f * first
+  pub none : NoneFits s xs rest low first
+
+-- `first` is the first of the ticks `low` to `most` into which `rest` units fit; one more than the last where there is
+-- none
+pub record IsFirstFit (s : Supply) (xs : List Load) (rest low most first : ℕ) : Type 0 where
+  pub before : NoneBefore s xs rest low most first
+  pub fit : first ≤ most → IsDone s (rest + work_of xs first) first
+
+-- Some of the loads xs, and a supply that is lower by the rates of the others: in no number of ticks do the others ask
+-- for less than the supply lacks.
+pub record IsRelaxed (s : Supply) (xs : List Load) (lower : Supply) (ys : List Load) : Type 0 where
+  pub same_speed : lower.speed ≡ s.speed
+  pub same_hyper : lower.hyper ≡ s.hyper
+  pub lower_units : lower.units ≤ s.units
+  pub few : length ys ≤ length xs
+  pub each : All IsLoad ys
+  pub rates : All (HasRate s.hyper) ys
+  pub work : (t : ℕ) → work_of ys t * s.hyper + s.units * t ≤ work_of xs t * s.hyper + lower.units * t

@@ -1,4 +1,5 @@
 pub mod Denials
 pub mod Known
+pub mod Supplies
 pub mod Loads
 pub mod Fits

@@ -2,10 +2,13 @@
 use Rattle.std.specs.Prelude.{ℕ, List, [], ◌∷◌, length, take, insert, sum_by, All, ◌≡◌, ◌*◌, ◌^◌, ◌≤◌}
 use Rattle.grid_fraction.specs.Numbers.{ceil_div}
 use Rattle.dvs_base.specs.declared.limits.TheConstants.{MOST_TASKS}
-use Rattle.sched_model.specs.Plan.{Plan, count, period, worst, hyper, rate, top_speed}
+use Rattle.task_model.specs.declared.limits.TheConstants.{LONGEST_PERIOD}
+use Rattle.sched_model.specs.Plan.{Plan, count, period, worst, rate}
 use Rattle.sched_model.specs.Priority.{sum_before}
 use Rattle.rm_response_laws.specs.HeldWork.{held_work}
 use Rattle.rm_response.specs.declared.loads.Load.{Load}
+use Rattle.rm_response.specs.declared.supply.Supply.{Supply}
+use Rattle.rm_response.specs.Supplies.{IsDone, full_supply}
 
 -- the work of the jobs of a load that t ticks can hold
 abbrev pub held : ℕ → Load → ℕ
@@ -26,6 +29,7 @@ load_of p j = record { period = period p j; worst = worst p j; rate = rate p j }
 -- a load has a period, and its numbers are low
 pub record IsLoad (x : Load) : Type 0 where
   pub some_period : 1 ≤ x.period
+  pub low_period : x.period ≤ LONGEST_PERIOD
   pub low_worst : x.worst ≤ 2 ^ 61
   pub low_rate : x.rate ≤ 2 ^ 109
 
@@ -33,28 +37,28 @@ pub record IsLoad (x : Load) : Type 0 where
 abbrev pub HasRate : ℕ → Load → Type 0
 HasRate h x = x.rate * x.period ≡ x.worst * h
 
--- some number of ticks, from 1 to `most`, is enough for loads: in them speed f does the work that they can ask for
-pub record AreServedWithin (f : ℕ) (xs : List Load) (most : ℕ) : Type 0 where
+-- some number of ticks, from 1 to `most`, is enough for loads: in them a supply does the work that they can ask for
+pub record AreServedWithin (s : Supply) (xs : List Load) (most : ℕ) : Type 0 where
   pub ticks : ℕ
   pub some : 1 ≤ ticks
   pub within : ticks ≤ most
-  pub done : work_of xs ticks ≤ f * ticks
+  pub done : IsDone s (work_of xs ticks) ticks
 
 -- loads can be taken away in turn: each is served within its period, and with it all loads after it
-abbrev pub AreInTurn : ℕ → List Load → Type 0
-AreInTurn f [] = Unit {0}
-AreInTurn f (x ∷ xs) = AreServedWithin f (x ∷ xs) x.period × AreInTurn f xs
+abbrev pub AreInTurn : Supply → List Load → Type 0
+AreInTurn s [] = Unit {0}
+AreInTurn s (x ∷ xs) = AreServedWithin s (x ∷ xs) x.period × AreInTurn s xs
 
--- at most as many loads as a set has tasks, which can be taken away in turn at speed f
-pub record AreLoads (f h : ℕ) (xs : List Load) : Type 0 where
+-- at most as many loads as a set has tasks, which can be taken away in turn with a supply
+pub record AreLoads (s : Supply) (xs : List Load) : Type 0 where
   pub few : length xs ≤ MOST_TASKS
   pub each : All IsLoad xs
-  pub rates : All (HasRate h) xs
-  pub in_turn : AreInTurn f xs
+  pub rates : All (HasRate s.hyper) xs
+  pub in_turn : AreInTurn s xs
 
 -- the loads are the tasks before task i in RM order
 pub record AreBefore (p : Plan) (i : ℕ) (xs : List Load) : Type 0 where
-  pub loads : AreLoads (top_speed p) (hyper p) xs
+  pub loads : AreLoads (full_supply p) xs
   pub work : (t : ℕ) → work_of xs t ≡ sum_before (count p) (period p) (held_work p t) i
 
 -- a load is put into others, after some whose periods are at least s ticks

@@ -8,7 +8,9 @@
 #![tactic(auto)]
 
 mod loads;
+mod relaxed;
 mod response;
 mod search;
+mod supply;
 
 pub use response::{Response, ResponseFault, rm_response};

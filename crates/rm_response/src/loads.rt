@@ -12,7 +12,7 @@ use sched_model::{rate, worst};
 use task_model::TaskSet;
 
 /// A task that counts with its jobs: its period in ticks, its worst case, and its work in one hyperperiod.
-#[derive(Clone, Copy)]
+#[derive(Clone, Copy, Default)]
 pub(crate) struct Load {
     pub(crate) period: u64,
     pub(crate) worst: u64,

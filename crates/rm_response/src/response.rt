@@ -6,17 +6,23 @@ ghost use Rattle.task_model.specs.Tasks.{task_at, NoneOffset};
 ghost use Rattle.sched_model.specs.Plan.{plan_of, count, period};
 ghost use Rattle.sched_model.specs.Priority.{in_order};
 ghost use Rattle.governor.specs.Worst.{level_work_in};
-ghost use Rattle.rm_response_laws.specs.Responses.{response, AllRespond, MeetsAllDeadlines};
+ghost use Rattle.rm_response_laws.specs.Responses.{response, AllRespond, IsUnserved, MeetsAllDeadlines};
+ghost use Rattle.rm_response.specs.Loads.{AreBefore};
 ghost use Rattle.rm_response.specs.Denials.{IsFirstLate, responses, AreLeast, misses_at, IsResponseDenial, IsMissedAtPeriod, IsShownMiss, exact_answer};
 ghost use Rattle.rm_response.specs.Known.{AreAllKnown, late_task};
 
 use crate::loads::{Load, add, load_of, work_of};
-use crate::search::response_of;
+use crate::relaxed::first_relaxed;
+use crate::search::{Span, first_fitting, fits, raised};
+use crate::supply::full_supply;
 use freq_table::Machine;
 use sched_model::{rm_order, worst};
 use std::alloc::Global;
 use std::marker::Model;
 use task_model::TaskSet;
+
+// The most times that the first ticks are raised for one task before the ticks up to the task's period are halved.
+const MOST_STEPS: u32 = 1000;
 
 /// The response of each task in ticks, in file order: the least tick at which its first job is complete under RM at
 /// the highest speed when all jobs have their worst cases.
@@ -64,6 +70,33 @@ pub enum ResponseFault {
 struct Late {
     task: u32,
     work: u128,
+}
+
+// The response of task i in ticks; one more than its period where it has none. `from` is a number of ticks, and fewer
+// ticks don't serve its level. The loads are the tasks before it.
+fn response_of(tasks: &TaskSet, machine: &Machine, loads: &[Load], from: u64, i: u32) -> u64
+    requires task { i < length tasks.now }
+    requires before { AreBefore (plan_of tasks.now machine.now Rm) i loads.now }
+    requires some { 1 ≤ from }
+    requires unserved { IsUnserved (plan_of tasks.now machine.now Rm) i from }
+    ensures { result ≡ response (plan_of tasks.now machine.now Rm) i }
+{
+    let _task_limits = tasks.as_slice();
+    let last = tasks.task(i).period;
+    if from > last {
+        return last + 1;
+    }
+    let supply = full_supply(tasks, machine);
+    let job = u128::from(worst(tasks, machine, i));
+    let first = raised(supply, loads, job, Span { first: from, last }, MOST_STEPS);
+    if first > last || fits(supply, loads, job, first) {
+        return first;
+    }
+    let first = first_relaxed(supply, loads, job, Span { first, last });
+    if first > last {
+        return first;
+    }
+    first_fitting(supply, loads, job, Span { first, last })
 }
 
 // The responses in file order, written over `entries`. They are computed in RM order, and the error is the first task

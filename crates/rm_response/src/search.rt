@@ -1,33 +1,23 @@
-// The search for the response of a task among the ticks up to its period (after Bini and Buttazzo 2004).
-ghost use Rattle.std.specs.Prelude.{◌≡◌, ◌≤◌, ◌<◌, ◌+◌, ◌-◌, ◌*◌, ◌^◌, IsTrue, IsFalse, length, All};
-ghost use Rattle.dvs_base.specs.declared.kind.Scheduler.TheVariants.{Rm};
+// The search for ticks into which work fits beside loads (after Bini and Buttazzo 2004).
+ghost use Rattle.std.specs.Prelude.{◌≤◌, ◌+◌, ◌^◌, IsTrue, IsFalse, length, All};
 ghost use Rattle.dvs_base.specs.Widths.{u64_end};
 ghost use Rattle.dvs_base.specs.declared.limits.TheConstants.{MOST_TASKS};
 ghost use Rattle.task_model.specs.declared.limits.TheConstants.{LONGEST_PERIOD};
-ghost use Rattle.task_model.specs.Tasks.{hyper_of};
-ghost use Rattle.freq_table.specs.Tables.{highest_speed};
-ghost use Rattle.sched_model.specs.Plan.{plan_of};
-ghost use Rattle.rm_response_laws.specs.Responses.{response, IsUnserved};
-ghost use Rattle.rm_response.specs.Loads.{IsLoad, AreLoads, AreBefore, HasRate, work_of};
-ghost use Rattle.rm_response.specs.Fits.{NoneFits, FindsFit, EndsDecide, IsFirstFit};
+ghost use Rattle.rm_response.specs.Supplies.{IsSupply, IsDone, IsMore};
+ghost use Rattle.rm_response.specs.Loads.{IsLoad, AreLoads, HasRate, work_of};
+ghost use Rattle.rm_response.specs.Fits.{NoneFits, FindsFit, EndsDecide, NoneBefore, IsFirstFit};
 
 use crate::loads::{Load, held, rates_of, work_of};
-use freq_table::Machine;
-use grid_fraction::up;
-use sched_model::worst;
-use task_model::TaskSet;
+use crate::supply::{Supply, most_in};
 
 // The most times that the first of the ticks is raised in one call of `fitting`.
 const MOST_RAISES: u32 = 4;
 
-// The most times that it is raised for one task before the ticks up to the task's period are halved.
-const MOST_STEPS: u32 = 1000;
-
-// The ticks `first` to `last`.
+/// The ticks `first` to `last`.
 #[derive(Clone, Copy)]
-struct Span {
-    first: u64,
-    last: u64,
+pub(crate) struct Span {
+    pub(crate) first: u64,
+    pub(crate) last: u64,
 }
 
 // What the ends of a span decide: that `Fit(t)` is a fit, that there is none, or that there is none before
@@ -39,61 +29,55 @@ enum Ends {
     From(u64),
 }
 
-// What the highest speed does in `ticks` ticks, in work units.
-fn done_in(machine: &Machine, ticks: u64) -> u128
-    requires { ticks ≤ LONGEST_PERIOD }
-    ensures value { result ≡ highest_speed machine.now * ticks }
-    ensures low { result ≤ u64_end }
-{
-    let _machine_limits = machine.as_slice();
-    u128::from(machine.top()) * u128::from(ticks)
-}
-
-// Whether `rest` units are too many for `most` ticks at the highest speed, or at the speed that the rates of the loads
-// leave.
-fn is_beyond(tasks: &TaskSet, machine: &Machine, loads: &[Load], rest: u128, most: u64) -> bool
+// Whether `rest` units are too many for `most` ticks at the speed, or for what the rates of the loads leave of the
+// supply.
+fn is_beyond(supply: Supply, loads: &[Load], rest: u128, most: u64) -> bool
+    requires supply { IsSupply supply }
     requires few { length loads.now ≤ MOST_TASKS }
     requires each { All IsLoad loads.now }
-    requires rates { All (HasRate (hyper_of tasks.now)) loads.now }
+    requires rates { All (HasRate supply.hyper) loads.now }
     requires low_ticks { most ≤ LONGEST_PERIOD }
-    ensures none { IsTrue result → NoneFits (highest_speed machine.now) loads.now rest 0 (most + 1) }
-    ensures within { IsFalse result → rest ≤ highest_speed machine.now * most }
+    ensures none { IsTrue result → NoneFits supply loads.now rest 0 (most + 1) }
+    ensures within { IsFalse result → IsDone supply rest most }
     ensures low { IsFalse result → rest ≤ u64_end }
 {
-    let _machine_limits = machine.as_slice();
-    let hyper = u128::from(tasks.hyper());
-    let spare = (u128::from(machine.top()) * hyper).saturating_sub(rates_of(loads));
-    rest > done_in(machine, most) || spare * u128::from(most) < rest * hyper
+    let spare = supply.units.saturating_sub(rates_of(loads));
+    rest > most_in(supply, most) || spare * u128::from(most) < rest * u128::from(supply.hyper)
 }
 
 // Whether `rest` units fit into `ticks` ticks beside the work of the loads.
-fn fits(machine: &Machine, loads: &[Load], rest: u128, ticks: u64) -> bool
+pub(crate) fn fits(supply: Supply, loads: &[Load], rest: u128, ticks: u64) -> bool
+    requires supply { IsSupply supply }
     requires few { length loads.now ≤ MOST_TASKS }
     requires each { All IsLoad loads.now }
     requires low_rest { rest ≤ u64_end }
     requires low_ticks { ticks ≤ LONGEST_PERIOD }
-    ensures yes { IsTrue result → rest + work_of loads.now ticks ≤ highest_speed machine.now * ticks }
-    ensures no { IsFalse result → highest_speed machine.now * ticks < rest + work_of loads.now ticks }
+    ensures yes { IsTrue result → IsDone supply (rest + work_of loads.now ticks) ticks }
+    ensures no { IsFalse result → IsMore supply (rest + work_of loads.now ticks) ticks }
 {
-    rest + work_of(loads, ticks) <= done_in(machine, ticks)
+    let work = rest + work_of(loads, ticks);
+    work <= most_in(supply, ticks)
+        && work * u128::from(supply.hyper) <= supply.units * u128::from(ticks)
 }
 
 // The first ticks of a span raised to those that the work of `rest` units and of the loads in them takes, at most
 // `steps` times (the iteration of Joseph and Pandya 1986); one more than the last where they pass it.
-fn raised(machine: &Machine, loads: &[Load], rest: u128, span: Span, steps: u32) -> u64
+pub(crate) fn raised(supply: Supply, loads: &[Load], rest: u128, span: Span, steps: u32) -> u64
+    requires supply { IsSupply supply }
     requires few { length loads.now ≤ MOST_TASKS }
     requires each { All IsLoad loads.now }
     requires low_rest { rest ≤ u64_end }
     requires in_span { span.first ≤ span.last }
     requires low_ticks { span.last ≤ LONGEST_PERIOD }
-    ensures low { span.first ≤ result }
-    ensures within { result ≤ span.last + 1 }
-    ensures none { NoneFits (highest_speed machine.now) loads.now rest span.first result }
+    ensures { NoneBefore supply loads.now rest span.first span.last result }
 {
-    let _machine_limits = machine.as_slice();
     let mut first = span.first;
     for _ in 0..steps {
-        let next = up(rest + work_of(loads, first), machine.top());
+        let work = rest + work_of(loads, first);
+        if work > most_in(supply, span.last) {
+            return span.last + 1;
+        }
+        let next = (work * u128::from(supply.hyper)).div_ceil(supply.units);
         if next > u128::from(span.last) {
             return span.last + 1;
         }
@@ -106,22 +90,23 @@ fn raised(machine: &Machine, loads: &[Load], rest: u128, span: Span, steps: u32)
 }
 
 // What the ends of the span decide.
-fn ends_of(machine: &Machine, loads: &[Load], rest: u128, span: Span) -> Ends
+fn ends_of(supply: Supply, loads: &[Load], rest: u128, span: Span) -> Ends
+    requires supply { IsSupply supply }
     requires few { length loads.now ≤ MOST_TASKS }
     requires each { All IsLoad loads.now }
     requires low_rest { rest ≤ u64_end }
     requires in_span { span.first ≤ span.last }
     requires low_ticks { span.last ≤ LONGEST_PERIOD }
-    ensures { EndsDecide (highest_speed machine.now) loads.now rest span.first span.last result }
+    ensures { EndsDecide supply loads.now rest span.first span.last result }
 {
-    if fits(machine, loads, rest, span.last) {
+    if fits(supply, loads, rest, span.last) {
         return Ends::Fit(span.last);
     }
-    let first = raised(machine, loads, rest, span, MOST_RAISES);
+    let first = raised(supply, loads, rest, span, MOST_RAISES);
     if first > span.last {
         return Ends::NoFit;
     }
-    if fits(machine, loads, rest, first) {
+    if fits(supply, loads, rest, first) {
         return Ends::Fit(first);
     }
     Ends::From(first)
@@ -130,27 +115,22 @@ fn ends_of(machine: &Machine, loads: &[Load], rest: u128, span: Span) -> Ends
 // One of the ticks of the span into which `rest` units fit beside the work of the loads, if any. Unless the ends of the
 // span decide, the first load is taken away: as many of its jobs count as begin in the last of the ticks or, up to its
 // release before that, as begin up to there.
-fn fitting(
-    tasks: &TaskSet,
-    machine: &Machine,
-    loads: &[Load],
-    rest: u128,
-    span: Span,
-) -> Option<u64>
-    requires loads { AreLoads (highest_speed machine.now) (hyper_of tasks.now) loads.now }
+pub(crate) fn fitting(supply: Supply, loads: &[Load], rest: u128, span: Span) -> Option<u64>
+    requires supply { IsSupply supply }
+    requires loads { AreLoads supply loads.now }
     requires low_rest { rest ≤ 2 ^ 102 }
     requires some_ticks { 1 ≤ span.first }
     requires in_span { span.first ≤ span.last }
     requires low_ticks { span.last ≤ LONGEST_PERIOD }
-    ensures { FindsFit (highest_speed machine.now) loads.now rest span.first span.last result }
+    ensures { FindsFit supply loads.now rest span.first span.last result }
 {
-    if is_beyond(tasks, machine, loads, rest, span.last) {
+    if is_beyond(supply, loads, rest, span.last) {
         return None;
     }
     let Some((load, others)) = loads.split_first() else {
         return Some(span.last);
     };
-    let first = match ends_of(machine, loads, rest, span) {
+    let first = match ends_of(supply, loads, rest, span) {
         Ends::Fit(ticks) => return Some(ticks),
         Ends::NoFit => return None,
         Ends::From(first) => first,
@@ -161,7 +141,7 @@ fn fitting(
         first: first.max(release + 1),
         last,
     };
-    let found = fitting(tasks, machine, others, rest + held(*load, last), begun);
+    let found = fitting(supply, others, rest + held(*load, last), begun);
     if found.is_some() || release < first {
         return found;
     }
@@ -169,20 +149,21 @@ fn fitting(
         first,
         last: release,
     };
-    fitting(tasks, machine, others, rest + held(*load, release), ended)
+    fitting(supply, others, rest + held(*load, release), ended)
 }
 
 // The first of the ticks of the span into which `rest` units fit beside the work of the loads; one more than the last
 // where there is none.
-fn first_fitting(tasks: &TaskSet, machine: &Machine, loads: &[Load], rest: u128, span: Span) -> u64
-    requires loads { AreLoads (highest_speed machine.now) (hyper_of tasks.now) loads.now }
+pub(crate) fn first_fitting(supply: Supply, loads: &[Load], rest: u128, span: Span) -> u64
+    requires supply { IsSupply supply }
+    requires loads { AreLoads supply loads.now }
     requires low_rest { rest ≤ 2 ^ 102 }
     requires some_ticks { 1 ≤ span.first }
     requires in_span { span.first ≤ span.last }
     requires low_ticks { span.last ≤ LONGEST_PERIOD }
-    ensures { IsFirstFit (highest_speed machine.now) loads.now rest span.first span.last result }
+    ensures { IsFirstFit supply loads.now rest span.first span.last result }
 {
-    let Some(mut high) = fitting(tasks, machine, loads, rest, span) else {
+    let Some(mut high) = fitting(supply, loads, rest, span) else {
         return span.last + 1;
     };
     let mut low = span.first;
@@ -192,38 +173,10 @@ fn first_fitting(tasks: &TaskSet, machine: &Machine, loads: &[Load], rest: u128,
             first: low,
             last: middle,
         };
-        match fitting(tasks, machine, loads, rest, half) {
+        match fitting(supply, loads, rest, half) {
             Some(ticks) => high = ticks,
             None => low = middle + 1,
         }
     }
     high
-}
-
-// The response of task i in ticks; one more than its period where it has none. `from` is a number of ticks, and fewer
-// ticks don't serve its level. The loads are the tasks before it.
-pub(crate) fn response_of(
-    tasks: &TaskSet,
-    machine: &Machine,
-    loads: &[Load],
-    from: u64,
-    i: u32,
-) -> u64
-    requires task { i < length tasks.now }
-    requires before { AreBefore (plan_of tasks.now machine.now Rm) i loads.now }
-    requires some { 1 ≤ from }
-    requires unserved { IsUnserved (plan_of tasks.now machine.now Rm) i from }
-    ensures { result ≡ response (plan_of tasks.now machine.now Rm) i }
-{
-    let _task_limits = tasks.as_slice();
-    let last = tasks.task(i).period;
-    if from > last {
-        return last + 1;
-    }
-    let job = u128::from(worst(tasks, machine, i));
-    let first = raised(machine, loads, job, Span { first: from, last }, MOST_STEPS);
-    if first > last || fits(machine, loads, job, first) {
-        return first;
-    }
-    first_fitting(tasks, machine, loads, job, Span { first, last })
 }

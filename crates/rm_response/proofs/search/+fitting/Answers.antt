@@ -2,8 +2,6 @@ use Rattle.std.proofs.Common.{◌≡◌, ◌<◌, ◌-◌, ◌*◌, ◌/◌, ◌
 use Rattle.std.specs.Prelude.{All}
 use Rattle.std.proofs.lemmas.List.Elements.{All-head}
 use Rattle.std.proofs.Math.Nat.{div-mul-le_self}
-use Rattle.task_model.specs.Tasks.{hyper_of}
-use Rattle.freq_table.specs.Tables.{highest_speed}
 use Rattle.rm_response.specs.declared.loads.Load.{Load}
 use Rattle.rm_response.specs.Loads.{AreLoads, IsLoad}
 use Rattle.rm_response.specs.Fits.{FindsFit, IsFrom}
@@ -13,8 +11,7 @@ use Rattle.rm_response.proofs.search.+fitting.Goals as goal
 
 pub returns : goal.returns
 returns t c =
-    let f = highest_speed c.args.machine.now in
-    let h = hyper_of c.args.tasks.now in
+    let s = c.args.supply in
     let x = c.in-Some.load.now in
     let xs = c.in-Some.others.now in
     let rest = c.args.rest in
@@ -22,20 +19,19 @@ returns t c =
     let most = c.args.span.last in
     let least = c.in-From.first in
     let parts : c.args.loads.now ≡ x ∷ xs = c.in-Some.ensures.cases.0 in
-    let loads : AreLoads f h (x ∷ xs) = subst (AreLoads f h) parts c.requires.loads in
-    let is : IsFrom f (x ∷ xs) rest first most least =
-    subst (λ (ys : List Load). IsFrom f ys rest first most least) parts c.in-From.ensures in
-    let found : FindsFit f (x ∷ xs) rest least most c.fitting.result =
-    found-before f h x xs loads rest least most (omega arith) is.within c.held.result c.max.result c.held-2.result
+    let loads : AreLoads s (x ∷ xs) = subst (AreLoads s) parts c.requires.loads in
+    let is : IsFrom s (x ∷ xs) rest first most least =
+    subst (λ (ys : List Load). IsFrom s ys rest first most least) parts c.in-From.ensures in
+    let found : FindsFit s (x ∷ xs) rest least most c.fitting.result =
+    found-before s x xs loads rest least most (omega arith) is.within c.held.result c.max.result c.held-2.result
     c.fitting-found.result c.fitting.result (c.held.ensures.value, c.max.ensures, c.fitting-found.ensures)
     (sym c.is_some.ensures ∙ c.if-is_some.false) c.held-2.ensures.value c.fitting.ensures in
-    subst (λ (ys : List Load). FindsFit f ys rest first most c.fitting.result) (sym parts)
-    (found-from f (x ∷ xs) rest first most least c.fitting.result is found)
+    subst (λ (ys : List Load). FindsFit s ys rest first most c.fitting.result) (sym parts)
+    (found-from s (x ∷ xs) rest first most least c.fitting.result is found)
 
 pub returns-then-is_some : goal.returns-then-is_some
 returns-then-is_some t c =
-    let f = highest_speed c.args.machine.now in
-    let h = hyper_of c.args.tasks.now in
+    let s = c.args.supply in
     let x = c.in-Some.load.now in
     let xs = c.in-Some.others.now in
     let rest = c.args.rest in
@@ -44,39 +40,41 @@ returns-then-is_some t c =
     let least = c.in-From.first in
     let found = c.fitting-found.result in
     let parts : c.args.loads.now ≡ x ∷ xs = c.in-Some.ensures.cases.0 in
-    let loads : AreLoads f h (x ∷ xs) = subst (AreLoads f h) parts c.requires.loads in
-    let is : IsFrom f (x ∷ xs) rest first most least =
-    subst (λ (ys : List Load). IsFrom f ys rest first most least) parts c.in-From.ensures in
+    let loads : AreLoads s (x ∷ xs) = subst (AreLoads s) parts c.requires.loads in
+    let is : IsFrom s (x ∷ xs) rest first most least =
+    subst (λ (ys : List Load). IsFrom s ys rest first most least) parts c.in-From.ensures in
     let why : (is_some found ≡ true) ⊎ ((most - 1) / x.period * x.period < least) =
     elim c.then-is_some.branch [
       | then-is_some-via-then-is_some w ↦ inl (sym c.is_some.ensures ∙ w.if-is_some.true)
       | then-is_some-via-else-is_some+then-release-first w ↦ inr w.if-release-first.true
     ] in
-    let fit : FindsFit f (x ∷ xs) rest least most found =
-    found-in f h x xs loads rest least most (omega (arith, c.requires.some_ticks, is.from)) is.within c.held.result
+    let fit : FindsFit s (x ∷ xs) rest least most found =
+    found-in s x xs loads rest least most (omega (arith, c.requires.some_ticks, is.from)) is.within c.held.result
     c.max.result found (c.held.ensures.value, c.max.ensures, c.fitting-found.ensures) why in
-    subst (λ (ys : List Load). FindsFit f ys rest first most found) (sym parts)
-    (found-from f (x ∷ xs) rest first most least found is fit)
+    subst (λ (ys : List Load). FindsFit s ys rest first most found) (sym parts)
+    (found-from s (x ∷ xs) rest first most least found is fit)
 
 pub fitting-found-requires : goal.fitting-found-requires
 fitting-found-requires t c =
-    let f = highest_speed c.args.machine.now in
-    let h = hyper_of c.args.tasks.now in
+    let s = c.args.supply in
     let x = c.in-Some.load.now in
     let xs = c.in-Some.others.now in
     let parts : c.args.loads.now ≡ x ∷ xs = c.in-Some.ensures.cases.0 in
-    let loads : AreLoads f h (x ∷ xs) = subst (AreLoads f h) parts c.requires.loads in
+    let loads : AreLoads s (x ∷ xs) = subst (AreLoads s) parts c.requires.loads in
     let is = c.in-From.ensures in
     let within = div-mul-le_self (c.args.span.last - 1) x.period in
     let low = c.is_beyond.ensures.low c.if-is_beyond.false in (
       omega (arith, c.decreases, c.in-Some.ensures.cases.1),
       (
-        others-loads f h x xs loads,
+        c.requires.supply,
         (
-          omega (arith, low, c.held.ensures.low),
+          others-loads s x xs loads,
           (
-            omega (arith, c.max.ensures),
-            (omega (arith, c.max.ensures, within, c.requires.some_ticks, is.from, is.within), c.requires.low_ticks),
+            omega (arith, low, c.held.ensures.low),
+            (
+              omega (arith, c.max.ensures),
+              (omega (arith, c.max.ensures, within, c.requires.some_ticks, is.from, is.within), c.requires.low_ticks),
+            ),
           ),
         ),
       ),
@@ -84,22 +82,24 @@ fitting-found-requires t c =
 
 pub fitting-requires : goal.fitting-requires
 fitting-requires t c =
-    let f = highest_speed c.args.machine.now in
-    let h = hyper_of c.args.tasks.now in
+    let s = c.args.supply in
     let x = c.in-Some.load.now in
     let xs = c.in-Some.others.now in
     let parts : c.args.loads.now ≡ x ∷ xs = c.in-Some.ensures.cases.0 in
-    let loads : AreLoads f h (x ∷ xs) = subst (AreLoads f h) parts c.requires.loads in
+    let loads : AreLoads s (x ∷ xs) = subst (AreLoads s) parts c.requires.loads in
     let within = div-mul-le_self (c.args.span.last - 1) x.period in
     let low = c.is_beyond.ensures.low c.if-is_beyond.false in (
       omega (arith, c.decreases, c.in-Some.ensures.cases.1),
       (
-        others-loads f h x xs loads,
+        c.requires.supply,
         (
-          omega (arith, low, c.held-2.ensures.low),
+          others-loads s x xs loads,
           (
-            (let from = c.in-From.ensures.from in omega (arith, from, c.requires.some_ticks)),
-            (c.if-release-first.false, omega (arith, within, c.requires.low_ticks)),
+            omega (arith, low, c.held-2.ensures.low),
+            (
+              (let from = c.in-From.ensures.from in omega (arith, from, c.requires.some_ticks)),
+              (c.if-release-first.false, omega (arith, within, c.requires.low_ticks)),
+            ),
           ),
         ),
       ),
@@ -107,5 +107,10 @@ fitting-requires t c =
 
 pub held-requires-2-clause-low_worst : goal.held-requires-2-clause-low_worst
 held-requires-2-clause-low_worst t c =
+    let all : All IsLoad (c.in-Some.load.now ∷ c.in-Some.others.now) = subst (All IsLoad) c.in-Some.ensures.cases.0 c.requires.loads.each in
+    (All-head IsLoad c.in-Some.load.now c.in-Some.others.now all).low_worst
+
+pub held-requires-clause-low_worst : goal.held-requires-clause-low_worst
+held-requires-clause-low_worst t c =
     let all : All IsLoad (c.in-Some.load.now ∷ c.in-Some.others.now) = subst (All IsLoad) c.in-Some.ensures.cases.0 c.requires.loads.each in
     (All-head IsLoad c.in-Some.load.now c.in-Some.others.now all).low_worst

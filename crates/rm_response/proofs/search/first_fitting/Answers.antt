@@ -28,8 +28,10 @@ pub returns : goal.returns
 returns c =
     let at = c.loop-low.invariant in
     record {
-      from = omega (arith, at.from, at.fit.from);
-      within = omega (arith, at.fit.within);
-      none = λ t from lt. at.none t from (omega (arith, lt, c.loop-low-test.false));
+      before = record {
+        from = omega (arith, at.from, at.fit.from);
+        within = omega (arith, at.fit.within);
+        none = λ t from lt. at.none t from (omega (arith, lt, c.loop-low-test.false));
+      };
       fit = λ _. at.fit.done;
     }

@@ -1,14 +1,13 @@
 -- None of the ticks before `low` is a fit, and `high` is one.
 use Rattle.std.proofs.Common.{◌≤◌, ◌-◌}
-use Rattle.freq_table.specs.Tables.{highest_speed}
 use Rattle.rm_response.specs.Fits.{Fits, NoneFits}
 use Rattle.rm_response.proofs.search.first_fitting.Given as goal
 
 abbrev pub invariant-loop-low : goal.invariant-loop-low
 invariant-loop-low l = record {
   from : l.fn.span.first ≤ l.low;
-  none : NoneFits (highest_speed l.machine) l.loads l.rest l.fn.span.first l.low;
-  fit : Fits (highest_speed l.machine) l.loads l.rest l.low l.fn.span.last l.high;
+  none : NoneFits l.supply l.loads l.rest l.fn.span.first l.low;
+  fit : Fits l.supply l.loads l.rest l.low l.fn.span.last l.high;
 }
 
 abbrev pub decreases-loop-low : goal.decreases-loop-low

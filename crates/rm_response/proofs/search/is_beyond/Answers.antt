@@ -1,23 +1,35 @@
-use Rattle.std.proofs.Common.{◌≡◌, ◌*◌, ◌-◌, ◌<◌, ap, ap₂, ◌∙◌, arith, ℕ}
+use Rattle.std.proofs.Common.{◌≡◌, ◌+◌, ◌*◌, ◌-◌, ◌<◌, ◌≤◌, ap, ap₂, ◌∙◌, arith, ℕ}
+use Rattle.std.proofs.Math.Nat.{mul-le-mul_right}
 use Rattle.std.proofs.lemmas.Bool.Decides.{nat_tests}
-use Rattle.task_model.specs.Tasks.{hyper_of}
-use Rattle.freq_table.specs.Tables.{highest_speed}
-use Rattle.rm_response.specs.Loads.{rates_of}
-use Rattle.rm_response.proofs.LoadFits.{none-beyond}
+use Rattle.rm_response.specs.Loads.{rates_of, work_of}
+use Rattle.rm_response.proofs.LoadFits.{none-beyond, more-within}
 use Rattle.rm_response.proofs.search.is_beyond.Goals as goal
 
-pub returns-else-rest-done_in-clause-none : goal.returns-else-rest-done_in-clause-none
-returns-else-rest-done_in-clause-none c = λ on.
-    let f = highest_speed c.args.machine.now in
-    let h = hyper_of c.args.tasks.now in
+pub returns-then-rest-most_in-clause-none : goal.returns-then-rest-most_in-clause-none
+returns-then-rest-most_in-clause-none c = λ on t from lt.
+    more-within c.args.supply (c.args.rest + work_of c.args.loads.now t) c.args.most t c.requires.supply
+    (omega (arith, c.if-rest-most_in.true, c.most_in.ensures.value)) lt
+
+pub returns-else-rest-most_in-clause-none : goal.returns-else-rest-most_in-clause-none
+returns-else-rest-most_in-clause-none c = λ on.
+    let s = c.args.supply in
     let xs = c.args.loads.now in
-    let most = c.from-else-rest-done_in.result in
-    let over : c.saturating_sub-spare.result * most < c.args.rest * c.from-hyper.result = grind (arith, nat_tests, on) in
-    let hyper : c.from-hyper.result ≡ h = c.from-hyper.ensures ∙ c.hyper.ensures.hyper in
-    let top : c.from.result ≡ f = c.from.ensures ∙ c.top.ensures in
-    let spare : c.saturating_sub-spare.result ≡ f * h - rates_of xs =
-    c.saturating_sub-spare.ensures ∙ ap₂ (λ (w r : ℕ). w - r) (ap₂ (λ (m n : ℕ). m * n) top hyper) c.rates_of.ensures.value in
-    let left : c.saturating_sub-spare.result * most ≡ (f * h - rates_of xs) * c.args.most =
-    ap₂ (λ (s m : ℕ). s * m) spare c.from-else-rest-done_in.ensures in
-    let right : c.args.rest * c.from-hyper.result ≡ c.args.rest * h = ap (λ (n : ℕ). c.args.rest * n) hyper in
-    none-beyond f h xs c.args.rest c.args.most c.requires.each c.requires.rates (omega (arith, over, left, right))
+    let over : c.saturating_sub-spare.result * c.from.result < c.args.rest * c.from-else-rest-most_in.result =
+    grind (arith, nat_tests, on) in
+    let spare : c.saturating_sub-spare.result ≡ s.units - rates_of xs =
+    c.saturating_sub-spare.ensures ∙ ap (λ (r : ℕ). s.units - r) c.rates_of.ensures.value in
+    let left : c.saturating_sub-spare.result * c.from.result ≡ (s.units - rates_of xs) * c.args.most =
+    ap₂ (λ (w m : ℕ). w * m) spare c.from.ensures in
+    let right : c.args.rest * c.from-else-rest-most_in.result ≡ c.args.rest * s.hyper =
+    ap (λ (n : ℕ). c.args.rest * n) c.from-else-rest-most_in.ensures in
+    none-beyond s xs c.args.rest c.args.most c.requires.each c.requires.rates (omega (arith, over, left, right))
+
+pub returns-else-rest-most_in-clause-within : goal.returns-else-rest-most_in-clause-within
+returns-else-rest-most_in-clause-within c = λ off.
+    let s = c.args.supply in
+    let within : c.args.rest * c.from-else-rest-most_in.result ≤ c.saturating_sub-spare.result * c.from.result =
+    grind (arith, nat_tests, off) in
+    let less : c.saturating_sub-spare.result ≤ s.units = omega (arith, c.saturating_sub-spare.ensures) in
+    let all : c.saturating_sub-spare.result * c.from.result ≤ s.units * c.args.most =
+    omega (arith, mul-le-mul_right c.args.most less, ap (λ (m : ℕ). c.saturating_sub-spare.result * m) c.from.ensures) in
+    omega (arith, within, all, ap (λ (n : ℕ). c.args.rest * n) c.from-else-rest-most_in.ensures)

@@ -1,30 +1,52 @@
-use Rattle.std.proofs.Common.{◌≡◌, ◌+◌, ◌<◌, ℕ, ap₂, ◌∙◌, arith}
-use Rattle.grid_fraction.specs.Numbers.{ceil_div}
-use Rattle.freq_table.specs.Tables.{highest_speed, last_entry}
+use Rattle.std.proofs.Common.{◌≡◌, ◌+◌, ◌*◌, ℕ, ap₂, ◌∙◌, arith}
+use Rattle.std.specs.Int.{div_ceil}
 use Rattle.rm_response.specs.Loads.{work_of}
-use Rattle.rm_response.proofs.LoadFits.{none-raised}
+use Rattle.rm_response.proofs.LoadFits.{none-raised, more-before, more-within}
 use Rattle.rm_response.proofs.search.raised.Goals as goal
 
-pub returns-then-next-from-clause-none : goal.returns-then-next-from-clause-none
-returns-then-next-from-clause-none c = λ t from lt.
-    let limits = c.as_slice-machine_limits.ensures.limits in
-    let some : 0 < highest_speed c.args.machine.now =
-    (limits.each (last_entry c.args.machine.now) (let s = limits.some in omega arith)).some_speed in
-    let is : c.up-next.result ≡ ceil_div (c.args.rest + work_of c.args.loads.now c.loop.first) (highest_speed c.args.machine.now) =
-    c.up-next.ensures ∙ ap₂ (λ (w f : ℕ). ceil_div (c.args.rest + w) f) c.work_of.ensures.value c.top.ensures in
-    none-raised (highest_speed c.args.machine.now) c.args.loads.now c.args.rest c.args.span.first c.loop.first
-    c.up-next.result some c.requires.each c.loop.invariant.none is t from (omega arith)
+pub returns-then-work-most_in : goal.returns-then-work-most_in
+returns-then-work-most_in c =
+    let s = c.args.supply in
+    let xs = c.args.loads.now in
+    let at = c.loop.invariant in
+    let last = c.args.span.last in
+    record {
+      from = omega (arith, c.requires.in_span);
+      within = omega arith;
+      none = none-raised s xs c.args.rest c.args.span.first c.loop.first (last + 1) c.requires.each at.none
+          (λ t lt.
+          more-within s (c.args.rest + work_of xs c.loop.first) last t c.requires.supply
+          (omega (arith, c.if-work-most_in.true, c.work_of.ensures.value, c.most_in.ensures.value)) lt);
+    }
+
+pub returns-then-next-from : goal.returns-then-next-from
+returns-then-next-from c =
+    let s = c.args.supply in
+    let xs = c.args.loads.now in
+    let at = c.loop.invariant in
+    let n = c.args.rest + work_of xs c.loop.first in
+    let is : c.div_ceil-next.result ≡ div_ceil (n * s.hyper) s.units =
+    c.div_ceil-next.ensures ∙ ap₂ (λ (w h : ℕ). div_ceil ((c.args.rest + w) * h) s.units) c.work_of.ensures.value c.from.ensures in
+    record {
+      from = omega (arith, c.requires.in_span);
+      within = omega arith;
+      none = none-raised s xs c.args.rest c.args.span.first c.loop.first (c.args.span.last + 1) c.requires.each at.none
+          (λ t lt.
+          more-before s n c.div_ceil-next.result t c.requires.supply.some_units is
+          (omega (arith, lt, c.if-next-from.true, c.from-in-loop.ensures)));
+    }
 
 pub loop-preserved : goal.loop-preserved
 loop-preserved c =
-    let limits = c.as_slice-machine_limits.ensures.limits in
-    let some : 0 < highest_speed c.args.machine.now =
-    (limits.each (last_entry c.args.machine.now) (let s = limits.some in omega arith)).some_speed in
-    let is : c.up-next.result ≡ ceil_div (c.args.rest + work_of c.args.loads.now c.loop.first) (highest_speed c.args.machine.now) =
-    c.up-next.ensures ∙ ap₂ (λ (w f : ℕ). ceil_div (c.args.rest + w) f) c.work_of.ensures.value c.top.ensures in
+    let s = c.args.supply in
+    let xs = c.args.loads.now in
+    let at = c.loop.invariant in
+    let n = c.args.rest + work_of xs c.loop.first in
+    let is : c.div_ceil-next.result ≡ div_ceil (n * s.hyper) s.units =
+    c.div_ceil-next.ensures ∙ ap₂ (λ (w h : ℕ). div_ceil ((c.args.rest + w) * h) s.units) c.work_of.ensures.value c.from.ensures in
     record {
       low = omega arith;
       within = omega arith;
-      none = none-raised (highest_speed c.args.machine.now) c.args.loads.now c.args.rest c.args.span.first c.loop.first
-          c.up-next.result some c.requires.each c.loop.invariant.none is;
+      none = none-raised s xs c.args.rest c.args.span.first c.loop.first c.div_ceil-next.result c.requires.each at.none
+          (λ t lt. more-before s n c.div_ceil-next.result t c.requires.supply.some_units is lt);
     }

@@ -1,0 +1,43 @@
+// What the processor does for the loads of a search.
+ghost use Rattle.std.specs.Prelude.{◌≡◌, ◌≤◌, ◌*◌};
+ghost use Rattle.dvs_base.specs.declared.kind.Scheduler.TheVariants.{Rm};
+ghost use Rattle.dvs_base.specs.Widths.{u64_end};
+ghost use Rattle.task_model.specs.declared.limits.TheConstants.{LONGEST_PERIOD};
+ghost use Rattle.sched_model.specs.Plan.{plan_of};
+ghost use Rattle.rm_response.specs.Supplies.{IsSupply, full_supply};
+
+use freq_table::Machine;
+use task_model::TaskSet;
+
+/// What the processor does for the loads of a search: at most `speed` units in a tick, and `units` in each `hyper`
+/// ticks.
+#[derive(Clone, Copy)]
+pub(crate) struct Supply {
+    pub(crate) speed: u64,
+    pub(crate) hyper: u64,
+    pub(crate) units: u128,
+}
+
+// The whole processor at the highest speed.
+pub(crate) fn full_supply(tasks: &TaskSet, machine: &Machine) -> Supply
+    ensures value { result ≡ full_supply (plan_of tasks.now machine.now Rm) }
+    ensures low { IsSupply result }
+{
+    let _task_limits = tasks.as_slice();
+    let _machine_limits = machine.as_slice();
+    Supply {
+        speed: machine.top(),
+        hyper: tasks.hyper(),
+        units: u128::from(machine.top()) * u128::from(tasks.hyper()),
+    }
+}
+
+// The most that a supply does in `ticks` ticks, in work units.
+pub(crate) fn most_in(supply: Supply, ticks: u64) -> u128
+    requires supply { IsSupply supply }
+    requires ticks { ticks ≤ LONGEST_PERIOD }
+    ensures value { result ≡ supply.speed * ticks }
+    ensures low { result ≤ u64_end }
+{
+    u128::from(supply.speed) * u128::from(ticks)
+}
