@@ -116,9 +116,9 @@ pub IsDemands-with_row : (d : DemandsView) (r : DemandRow) → IsDemands d → I
 IsDemands-with_row d r h p = record { few = h.few; each = each-with_row (IsRow d.worsts) d.rows r h.each p }
 
 -- an added row is within its worst case, and where none is added the rows stay
-pub IsDemands-after : {E : Type 0} (result : Result Bool E) (worsts : List ℕ) (old new : List ((ℕ × ℕ) × ℕ)) (r : DemandRow)
-    → (result ≡ Ok true → rows_of new ≡ with_row (rows_of old) r) → (result ≡ Ok false → new ≡ old) → OnErr result (new ≡ old)
-    → IsDemands (record { worsts = worsts; rows = rows_of old }) → IsRow worsts r → IsDemands (record { worsts = worsts; rows = rows_of new })
+pub IsDemands-after : {E : Type 0} (result : Result Bool E) (worsts : List ℕ) (old new : List DemandRow) (r : DemandRow)
+    → (result ≡ Ok true → new ≡ with_row old r) → (result ≡ Ok false → new ≡ old) → OnErr result (new ≡ old)
+    → IsDemands (record { worsts = worsts; rows = old }) → IsRow worsts r → IsDemands (record { worsts = worsts; rows = new })
 IsDemands-after (Ok true) worsts old new r added stays err h p = rw (added refl) (IsDemands-with_row _ r h p)
 IsDemands-after (Ok false) worsts old new r added stays err h p = rw (stays refl) h
 IsDemands-after (Err e) worsts old new r added stays err h p = rw err h

@@ -1,3 +1,4 @@
 pub mod Demands
+pub mod Kept
 pub mod DemandFile
 pub mod FaultLines

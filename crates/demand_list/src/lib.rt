@@ -8,6 +8,7 @@
 mod demands;
 mod fault;
 mod fault_line;
+mod kept;
 mod read;
 
 pub use demands::Demands;

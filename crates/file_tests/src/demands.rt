@@ -31,6 +31,20 @@ fn a_row_once_set_stays(rt: HostRuntime) -> Result<(), Fail> {
 }
 
 #[test]
+fn rows_are_found_that_came_before_and_after_one_out_of_order(rt: HostRuntime) -> Result<(), Fail> {
+    let mut demands = Demands::worst_only(rt.alloc(), &[12, 12, 4]).map_err(|_| "memory")?;
+    assert!(rt; matches!(demands.set(1, 3, 8), Ok(true)));
+    assert_eq!(rt; demands.units(1, 3), 8);
+    assert!(rt; matches!(demands.set(0, 5, 7), Ok(true)));
+    assert!(rt; matches!(demands.set(2, 1, 3), Ok(true)));
+    assert_eq!(rt; demands.units(0, 5), 7);
+    assert_eq!(rt; demands.units(1, 3), 8);
+    assert_eq!(rt; demands.units(2, 1), 3);
+    assert_eq!(rt; demands.units(1, 1), 12);
+    Ok(())
+}
+
+#[test]
 fn rows_of_a_file_are_read(rt: HostRuntime) -> Result<(), Fail> {
     let alloc = rt.alloc();
     let tasks = three_tasks(alloc)?;

@@ -5,7 +5,7 @@ use Rattle.task_model.specs.DemandRows.{named_units}
 use Rattle.demand_list.specs.Demands.{rows_of}
 use Rattle.dvs_base.proofs.PairOrders.{pair_cmp}
 use Rattle.demand_list.proofs.Rows.{named-rows_of, rows_of-insert_entry, insert_entry-back}
-use Rattle.demand_list.proofs.demands.add_row.Goals as goal
+use Rattle.demand_list.proofs.kept.add_row.Goals as goal
 
 pub returns-in_default-earlier-clause-answer : goal.returns-in_default-earlier-clause-answer
 returns-in_default-earlier-clause-answer c =
