@@ -82,7 +82,7 @@ def files() -> Iterator[tuple[str, str]]:
     deadlines = (f"t{i},{period * 9 // 10}\n" for i, (period, _, _) in enumerate(long_rows(64)))
     yield "deadlines64.csv", "task,deadline\n" + "".join(deadlines)
     yield "together64.toml", task_file((period, worst, 0) for period, worst, _ in long_rows(64))
-    yield "search.toml", stored_tasks("responses: a set built against the order of the search")
+    yield "search.toml", stored_tasks("responses: a set built against the relaxed searches")
     yield "fast.toml", "[[point]]\nspeed = 1000000\nmillivolts = 1000\n"
     yield "server.toml", task_file([(10, 1000, 0)])
     yield "requests.csv", "arrival,units\n" + "".join(f"{10 * k},1000\n" for k in range(100_000))
