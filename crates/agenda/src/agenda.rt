@@ -35,14 +35,12 @@ impl Agenda {
                 period: plan.period(task),
             });
         }
-        match vec![in alloc; 0; plan.count() as usize] {
-            Ok(left) => Ok(Agenda {
-                ready,
-                calendar,
-                left,
-            }),
-            Err(_) => Err(NoMemory),
-        }
+        let left = vec![in alloc; 0; plan.count() as usize].map_err(|_| NoMemory)?;
+        Ok(Agenda {
+            ready,
+            calendar,
+            left,
+        })
     }
 
     /// The first task in the scheduler's order whose job is incomplete; `None` where all jobs are complete.
@@ -51,10 +49,7 @@ impl Agenda {
         ensures none { IfNone result ((k : ℕ) → k < count _plan.now → (row_at _state.entry.now k).done ≡ true) }
         ensures first { IfSome result (λ i. IsFirstUndone _plan.now _state.entry.now (count _plan.now) i) }
     {
-        match self.ready.first() {
-            Some(e) => Some(e.task),
-            None => None,
-        }
+        Some(self.ready.first()?.task)
     }
 
     /// The earliest next release of the tasks, in ticks.

@@ -39,10 +39,8 @@ impl CcEdf {
         requires { ServesEdf plan.now.scheduler }
         ensures stands { IfOk result (λ g. ⟦<CcEdf as Governor>⟧.stands g plan.now (opening plan.now)) }
     {
-        match vec![in alloc; 0; plan.count() as usize] {
-            Ok(rates) => Ok(CcEdf { rates, sum: 0 }),
-            Err(_) => Err(NoMemory),
-        }
+        let rates = vec![in alloc; 0; plan.count() as usize].map_err(|_| NoMemory)?;
+        Ok(CcEdf { rates, sum: 0 })
     }
 
     // Charges a task with `units` work units: its rate and the sum of the rates change.

@@ -43,14 +43,12 @@ impl CcRm {
         ensures worst { MeetsAtWorst plan.now }
     {
         let _admitted = plan.scheduler();
-        match vec![in alloc; 0; plan.count() as usize] {
-            Ok(rests) => Ok(CcRm {
-                static_speed: static_speed(plan),
-                rests,
-                allotments: None,
-            }),
-            Err(_) => Err(NoMemory),
-        }
+        let rests = vec![in alloc; 0; plan.count() as usize].map_err(|_| NoMemory)?;
+        Ok(CcRm {
+            static_speed: static_speed(plan),
+            rests,
+            allotments: None,
+        })
     }
 
     // Lowers what is left of a task's allotment to `rest` work units, and what is left of all allotments with it.

@@ -11,7 +11,7 @@ use Rattle.std.proofs.lemmas.List.{map-append}
 use Rattle.dvs_base.proofs.PairOrders.{pair_cmp}
 use Rattle.task_model.specs.DemandRows.{DemandRow, named_units}
 use Rattle.demand_list.specs.Demands.{rows_of, with_row, precedes}
-use Rattle.demand_list.specs.Kept.{AreBefore, AreAscending}
+use Rattle.demand_list.specs.Kept.{AllPrecede, AreAscending}
 
 abbrev Entry : Type 0
 Entry = (ℕ × ℕ) × ℕ
@@ -30,20 +30,20 @@ other-job r s before = grind (arith, nat_tests)
 
 module _ (r : DemandRow) where
   -- what comes after the last row comes after all
-  pub AreBefore-last : (es : List Entry) (n : ℕ) (d : Entry) → AreAscending (rows_of es) → n ≡ length es - 1
-      → precedes (row (slice_index_or es n d)) r ≡ true → AreBefore r (rows_of es)
-  AreBefore-last [] n d h end last = tt
-  AreBefore-last (e ∷ []) zero d h end last = (last, tt)
-  AreBefore-last (e ∷ []) (suc n) d h end last = absurd (omega arith)
-  AreBefore-last (e ∷ f ∷ es) zero d h end last = absurd (omega arith)
-  AreBefore-last (e ∷ f ∷ es) (suc n) d h end last =
-      let rest = AreBefore-last (f ∷ es) n d h.1 (omega arith) last in (precedes-through (row e) (row f) r h.0.0 rest.0, rest)
+  pub AllPrecede-last : (es : List Entry) (n : ℕ) (d : Entry) → AreAscending (rows_of es) → n ≡ length es - 1
+      → precedes (row (slice_index_or es n d)) r ≡ true → AllPrecede r (rows_of es)
+  AllPrecede-last [] n d h end last = tt
+  AllPrecede-last (e ∷ []) zero d h end last = (last, tt)
+  AllPrecede-last (e ∷ []) (suc n) d h end last = absurd (omega arith)
+  AllPrecede-last (e ∷ f ∷ es) zero d h end last = absurd (omega arith)
+  AllPrecede-last (e ∷ f ∷ es) (suc n) d h end last =
+      let rest = AllPrecede-last (f ∷ es) n d h.1 (omega arith) last in (precedes-through (row e) (row f) r h.0.0 rest.0, rest)
 
-  with_row-last : (rows : List DemandRow) → AreBefore r rows → with_row rows r ≡ rows ++ r ∷ []
+  with_row-last : (rows : List DemandRow) → AllPrecede r rows → with_row rows r ≡ rows ++ r ∷ []
   with_row-last [] h = refl
   with_row-last (s ∷ rows) h = rw (precedes-back s r h.0, with_row-last rows h.1) refl
 
-  pub named-last : (rows : List DemandRow) → AreBefore r rows → named_units rows r.task r.job ≡ None
+  pub named-last : (rows : List DemandRow) → AllPrecede r rows → named_units rows r.task r.job ≡ None
   named-last [] h = refl
   named-last (s ∷ rows) h = rw (other-job s r h.0, named-last rows h.1) refl
 
@@ -51,12 +51,12 @@ module _ (r : DemandRow) where
   also-last P [] h p = (p, tt)
   also-last P (s ∷ rows) h p = (h.0, also-last P rows h.1 p)
 
-  AreAscending-last : (rows : List DemandRow) → AreAscending rows → AreBefore r rows → AreAscending (rows ++ r ∷ [])
+  AreAscending-last : (rows : List DemandRow) → AreAscending rows → AllPrecede r rows → AreAscending (rows ++ r ∷ [])
   AreAscending-last [] h p = (tt, tt)
   AreAscending-last (s ∷ rows) h p = (also-last (λ t. precedes s t ≡ true) rows h.0 p.0, AreAscending-last rows h.1 p.1)
 
   -- the rows with one pushed after them are those with one more, and ascend
-  module _ (es : List Entry) (before : AreBefore r (rows_of es)) where
+  module _ (es : List Entry) (before : AllPrecede r (rows_of es)) where
     abbrev pushed : List Entry
     pushed = es ++ ((r.task, r.job), r.units) ∷ []
 

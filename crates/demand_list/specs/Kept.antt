@@ -7,8 +7,8 @@ use Rattle.demand_list.specs.declared.kept.KeptRows.{KeptRows}
 use Rattle.demand_list.specs.declared.kept.KeptRows.TheVariants as kept
 
 -- the rows come before this one
-abbrev pub AreBefore : DemandRow → List DemandRow → Type 0
-AreBefore r = AllByRecursion (λ s. precedes s r ≡ true)
+abbrev pub AllPrecede : DemandRow → List DemandRow → Type 0
+AllPrecede r = AllByRecursion (λ s. precedes s r ≡ true)
 
 -- the rows ascend by task and then by job
 abbrev pub AreAscending : List DemandRow → Type 0
@@ -21,11 +21,11 @@ kept_rows (kept.InOrder list) = rows_of list.items
 kept_rows (kept.AnyOrder map) = rows_of map.entries
 
 -- rows that are kept in their order ascend
-abbrev pub AreInOrder : KeptRows → Type 0
-AreInOrder (kept.InOrder list) = AreAscending (rows_of list.items)
-AreInOrder (kept.AnyOrder map) = ⊤
+abbrev pub AscendInOrder : KeptRows → Type 0
+AscendInOrder (kept.InOrder list) = AreAscending (rows_of list.items)
+AscendInOrder (kept.AnyOrder map) = ⊤
 
 -- a demand list with these worst cases and rows, whose rows ascend where they are kept in their order
-pub record IsKept (worsts : List ℕ) (rows : KeptRows) : Type 0 where
+pub record IsDemandList (worsts : List ℕ) (rows : KeptRows) : Type 0 where
   pub demands : IsDemands (record { worsts = worsts; rows = kept_rows rows })
-  pub in_order : AreInOrder rows
+  pub in_order : AscendInOrder rows

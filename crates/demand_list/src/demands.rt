@@ -18,13 +18,13 @@ pub struct Demands {
 
 impl Model for Demands {
     ghost use Rattle.demand_list.specs.Demands.{DemandsView};
-    ghost use Rattle.demand_list.specs.Kept.{kept_rows, IsKept};
+    ghost use Rattle.demand_list.specs.Kept.{kept_rows, IsDemandList};
 
     ghost Value = { DemandsView };
 
     ghost view = { λ d. record { worsts = d.worsts.items; rows = kept_rows d.rows } };
 
-    ghost invariant = { λ d. IsKept d.worsts.items d.rows };
+    ghost invariant = { λ d. IsDemandList d.worsts.items d.rows };
 }
 
 impl Demands {
@@ -33,14 +33,9 @@ impl Demands {
         requires { length worsts.now < 2 ^ 32 }
         ensures { IfOk result (λ demands. demands ≡ record { worsts = worsts.now; rows = [] }) }
     {
-        let mut kept = Vec::new(alloc);
-        if kept.extend_from_slice(worsts).is_err() {
-            return Err(NoMemory);
-        }
-        Ok(Demands {
-            worsts: kept,
-            rows: KeptRows::InOrder(Vec::new(alloc)),
-        })
+        let worsts = Vec::from_slice(alloc, worsts).map_err(|_| NoMemory)?;
+        let rows = KeptRows::InOrder(Vec::new(alloc));
+        Ok(Demands { worsts, rows })
     }
 
     /// Adds a row for a job that has none: a task of the list, a job from 1 on, and at most the task's worst case of

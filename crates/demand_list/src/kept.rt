@@ -2,7 +2,7 @@
 ghost use Rattle.std.specs.Prelude.{◌≡◌, IfOk, OnErr, Ok, true, false, not, is_some, IsTrue};
 ghost use Rattle.task_model.specs.DemandRows.{demand_row, named_units};
 ghost use Rattle.demand_list.specs.Demands.{rows_of, with_row};
-ghost use Rattle.demand_list.specs.Kept.{AreBefore, AreAscending};
+ghost use Rattle.demand_list.specs.Kept.{AllPrecede, AreAscending};
 
 use dvs_base::NoMemory;
 use std::alloc::Global;
@@ -20,7 +20,7 @@ pub(crate) enum KeptRows {
 // Whether a job comes after the jobs of all rows, which ascend.
 fn is_next(rows: &[((u32, u64), u64)], task: u32, job: u64) -> bool
     requires { AreAscending (rows_of rows.now) }
-    ensures { IsTrue result → AreBefore (demand_row task job 0) (rows_of rows.now) }
+    ensures { IsTrue result → AllPrecede (demand_row task job 0) (rows_of rows.now) }
 {
     match rows.last() {
         None => true,
@@ -51,9 +51,7 @@ fn map_of(alloc: Global, rows: &[((u32, u64), u64)]) -> Result<BTreeMap<(u32, u6
 {
     let mut map = BTreeMap::new(alloc);
     for &(key, units) in rows {
-        let Ok(_) = map.insert(key, units) else {
-            return Err(NoMemory);
-        };
+        map.insert(key, units).map_err(|_| NoMemory)?;
     }
     Ok(map)
 }
@@ -71,25 +69,21 @@ fn add_row(
     ensures stays { result ≡ Ok false → rows.new.entries ≡ rows.old.entries }
     ensures err { OnErr result (rows.new.entries ≡ rows.old.entries) }
 {
-    let Ok(earlier) = rows.insert((task, job), units) else {
-        return Err(NoMemory);
-    };
+    let earlier = rows.insert((task, job), units).map_err(|_| NoMemory)?;
     let Some(kept) = earlier else {
         return Ok(true);
     };
     // The earlier row goes back. Its key is in the map, so this needs no memory.
-    match rows.insert((task, job), kept) {
-        Ok(_) => Ok(false),
-        Err(_) => Err(NoMemory),
-    }
+    rows.insert((task, job), kept).map_err(|_| NoMemory)?;
+    Ok(false)
 }
 
 impl KeptRows {
-    ghost use Rattle.demand_list.specs.Kept.{kept_rows, AreInOrder};
+    ghost use Rattle.demand_list.specs.Kept.{kept_rows, AscendInOrder};
 
     // The units of a job's row.
     pub(crate) fn units(&self, task: u32, job: u64) -> Option<u64>
-        requires { AreInOrder self.now }
+        requires { AscendInOrder self.now }
         ensures { result ≡ named_units (kept_rows self.now) task job }
     {
         match self {
@@ -100,8 +94,8 @@ impl KeptRows {
 
     // Adds a row for a job that has none, and returns whether it had none. A row that the job has stays.
     pub(crate) fn add(&mut self, task: u32, job: u64, units: u64) -> Result<bool, NoMemory>
-        requires { AreInOrder self.old }
-        ensures in_order { AreInOrder self.new }
+        requires { AscendInOrder self.old }
+        ensures in_order { AscendInOrder self.new }
         ensures answer { IfOk result (λ added. added ≡ not (is_some (named_units (kept_rows self.old) task job))) }
         ensures added { result ≡ Ok true → kept_rows self.new
             ≡ with_row (kept_rows self.old) (demand_row task job units) }
@@ -112,10 +106,8 @@ impl KeptRows {
             KeptRows::AnyOrder(rows) => add_row(rows, task, job, units),
             KeptRows::InOrder(rows) => {
                 if is_next(rows, task, job) {
-                    return match rows.push(((task, job), units)) {
-                        Ok(()) => Ok(true),
-                        Err(_) => Err(NoMemory),
-                    };
+                    rows.push(((task, job), units)).map_err(|_| NoMemory)?;
+                    return Ok(true);
                 }
                 let mut map = map_of(*rows.allocator(), rows)?;
                 let added = add_row(&mut map, task, job, units)?;

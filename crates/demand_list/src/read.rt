@@ -97,9 +97,7 @@ fn worst_cases(alloc: Global, tasks: &TaskSet) -> Result<Vec<u64>, NoMemory>
 {
     let mut worsts = Vec::new(alloc);
     for i in 0..tasks.count() {
-        if worsts.push(tasks.task(i).worst).is_err() {
-            return Err(NoMemory);
-        }
+        worsts.push(tasks.task(i).worst).map_err(|_| NoMemory)?;
     }
     Ok(worsts)
 }

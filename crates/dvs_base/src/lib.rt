@@ -10,6 +10,7 @@
 //! answer is that of `specs/Settings.antt`, and no other call of them takes memory.
 #![tactic(auto)]
 
+mod digits;
 mod fault_line;
 mod host;
 mod kind;

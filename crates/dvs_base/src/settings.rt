@@ -80,10 +80,8 @@ fn first_unknown<'a>(known: &[&str], table: &'a Table) -> Option<&'a String>
 pub fn unknown_key(table: &Table, known: &[&str]) -> Option<Short>
     ensures { result ≡ option_map short_of (unknown_key (map (λ k. k.now) known.now) (table_view table.now)) }
 {
-    match first_unknown(known, table) {
-        Some(key) => Some(Short::of(key.as_bytes())),
-        None => None,
-    }
+    let key = first_unknown(known, table)?;
+    Some(Short::of(key.as_bytes()))
 }
 
 /// The value at a key.
@@ -97,15 +95,11 @@ fn number_of(value: &Value, low: u64, high: u64) -> Result<u64, MemberFault>
     ensures meaning { result ≡ number_from low high (as_integer (view value.now)) }
     ensures within { IfOk result (λ n. (low ≤ n) × (n ≤ high)) }
 {
-    match value.as_integer() {
-        Some(n) => {
-            if n >= 0 && n as u64 >= low && n as u64 <= high {
-                Ok(n as u64)
-            } else {
-                Err(MemberFault::Range)
-            }
-        }
-        None => Err(MemberFault::Kind),
+    let n = value.as_integer().ok_or(MemberFault::Kind)?;
+    if n >= 0 && n as u64 >= low && n as u64 <= high {
+        Ok(n as u64)
+    } else {
+        Err(MemberFault::Range)
     }
 }
 
@@ -114,10 +108,8 @@ pub fn number_at(table: &Table, key: &str, low: u64, high: u64) -> Result<u64, M
     ensures meaning { result ≡ number_at low high (get_member key.now (table_view table.now)) }
     ensures within { IfOk result (λ n. (low ≤ n) × (n ≤ high)) }
 {
-    match member_at(table, key) {
-        Some(value) => number_of(value, low, high),
-        None => Err(MemberFault::Missing),
-    }
+    let value = member_at(table, key).ok_or(MemberFault::Missing)?;
+    number_of(value, low, high)
 }
 
 /// The whole number at a key that the table may lack, where it is at most `high`; 0 where the key is absent.
@@ -134,18 +126,13 @@ pub fn number_or_zero(table: &Table, key: &str, high: u64) -> Result<u64, Member
 fn text_of(value: &Value) -> Result<&str, MemberFault>
     ensures { text_from (as_str (view value.now)) ≡ result_map_both (λ t. t.now) (λ e. e) result }
 {
-    match value.as_str() {
-        Some(text) => Ok(text),
-        None => Err(MemberFault::Kind),
-    }
+    value.as_str().ok_or(MemberFault::Kind)
 }
 
 /// The text at a key.
 pub fn text_at<'a>(table: &'a Table, key: &str) -> Result<&'a str, MemberFault>
     ensures { text_at (get_member key.now (table_view table.now)) ≡ result_map_both (λ t. t.now) (λ e. e) result }
 {
-    match member_at(table, key) {
-        Some(value) => text_of(value),
-        None => Err(MemberFault::Missing),
-    }
+    let value = member_at(table, key).ok_or(MemberFault::Missing)?;
+    text_of(value)
 }

@@ -63,14 +63,8 @@ impl Machine {
         requires { IsTable (record { points = points.now; idle = idle; charge = charge }) }
         ensures { IfOk result (λ m. m ≡ (record { points = points.now; idle = idle; charge = charge })) }
     {
-        match Vec::from_slice(alloc, points) {
-            Ok(points) => Ok(Machine {
-                points,
-                idle,
-                charge,
-            }),
-            Err(_) => Err(NoMemory),
-        }
+        let points = Vec::from_slice(alloc, points).map_err(|_| NoMemory)?;
+        Ok(Machine::from_points(points, idle, charge))
     }
 
     /// A copy equal to this machine, within the limits that every machine keeps. It fails only where memory runs out.

@@ -57,13 +57,11 @@ fn read_point(place: u32, value: &Value) -> Result<Point, MachineFault>
     ensures meaning { result ≡ point_of place (view value.now) }
     ensures limits { IfOk result (λ x. IsPoint x) }
 {
-    match value.as_table() {
-        Some(table) => read_members(place, table),
-        None => Err(MachineFault::Kind {
-            place,
-            field: MachineField::Entry,
-        }),
-    }
+    let table = value.as_table().ok_or(MachineFault::Kind {
+        place,
+        field: MachineField::Entry,
+    })?;
+    read_members(place, table)
 }
 
 // Whether the point may follow these: its speed is above the last one's, and its voltage is not below.
@@ -90,9 +88,7 @@ fn read_entries(alloc: Global, entries: &[Value]) -> Result<Vec<Point>, MachineF
         if !may_follow(&points, point) {
             return Err(MachineFault::NotRising { place });
         }
-        if points.push(point).is_err() {
-            return Err(MachineFault::NoMemory);
-        }
+        points.push(point).map_err(|_| MachineFault::NoMemory)?;
     }
     Ok(points)
 }
@@ -121,17 +117,12 @@ fn read_points(alloc: Global, table: &Table) -> Result<Vec<Point>, MachineFault>
     ensures some { IfOk result (λ v. 1 ≤ vec_len v) }
     ensures few { IfOk result (λ v. vec_len v ≤ MOST_POINTS) }
 {
-    let value = match member_at(table, "point") {
-        Some(value) => value,
-        None => return Err(MachineFault::NoPoints),
-    };
-    match value.as_array() {
-        Some(entries) => read_array(alloc, entries),
-        None => Err(MachineFault::Kind {
-            place: 0,
-            field: MachineField::Point,
-        }),
-    }
+    let value = member_at(table, "point").ok_or(MachineFault::NoPoints)?;
+    let entries = value.as_array().ok_or(MachineFault::Kind {
+        place: 0,
+        field: MachineField::Point,
+    })?;
+    read_array(alloc, entries)
 }
 
 fn read_table(alloc: Global, table: &Table) -> Result<Machine, MachineFault>

@@ -35,10 +35,8 @@ impl LookAhead {
     {
         let order = opening_order(alloc, plan)?;
         let rates = rates_of(alloc, plan)?;
-        match vec![in alloc; 0; plan.count() as usize] {
-            Ok(left) => Ok(LookAhead { left, order, rates }),
-            Err(_) => Err(NoMemory),
-        }
+        let left = vec![in alloc; 0; plan.count() as usize].map_err(|_| NoMemory)?;
+        Ok(LookAhead { left, order, rates })
     }
 }
 

@@ -177,15 +177,10 @@ pub fn rm_response(
     if let Some(task) = tasks.first_offset() {
         return Err(ResponseFault::Offset { task });
     }
-    let Ok(order) = rm_order(alloc, tasks) else {
-        return Err(ResponseFault::NoMemory);
-    };
-    let Ok(entries) = vec![in alloc; 0; tasks.count() as usize] else {
-        return Err(ResponseFault::NoMemory);
-    };
-    let Ok(loads) = Vec::with_capacity(alloc, tasks.count() as usize) else {
-        return Err(ResponseFault::NoMemory);
-    };
+    let count = tasks.count() as usize;
+    let order = rm_order(alloc, tasks).map_err(|_| ResponseFault::NoMemory)?;
+    let entries = vec![in alloc; 0; count].map_err(|_| ResponseFault::NoMemory)?;
+    let loads = Vec::with_capacity(alloc, count).map_err(|_| ResponseFault::NoMemory)?;
     match respond(entries, loads, &order, tasks, machine) {
         Ok(ticks) => Ok(Response { ticks }),
         Err(late) => Err(missing(tasks, machine, late)),

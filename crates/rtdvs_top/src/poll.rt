@@ -1,10 +1,12 @@
 // The server of a `poll` run: its files loaded, its run, and its lines.
 ghost use Rattle.statuses.specs.Steps.{Gives, IsTestStep};
 ghost use Rattle.command_files.specs.Meanings.{tasks_at, server_at};
-ghost use Rattle.std.specs.Prelude.{Some, ◌≡◌, ◌<◌, Ok, IfOk, length, if◌then◌else◌};
+ghost use Rattle.std.specs.Prelude.{Some, ◌≡◌, ◌<◌, ◌≤◌, ◌+◌, ◌*◌, ◌++◌, [], codes, Ok, IfOk, length, if◌then◌else◌};
+ghost use Rattle.std.specs.Fmt.{decimal};
+ghost use Rattle.dvs_base.specs.declared.limits.TheConstants.{NUMBER_BYTES};
 ghost use Rattle.dvs_base.specs.WritesText.{WritesText};
 ghost use Rattle.sched_model.specs.Plan.{count};
-ghost use Rattle.poll_server.specs.ServerJobs.{request_count};
+ghost use Rattle.poll_server.specs.ServerJobs.{request_count, arrival, units};
 ghost use Rattle.words.specs.Commands.{poll as poll_of, IsReadyCommand};
 ghost use Rattle.words.specs.Shown.{shown_poll};
 ghost use Rattle.command_files.specs.Loads.{IsLoadStep, one_file, later_files};
@@ -15,7 +17,10 @@ use crate::at_pair::at_pair;
 use crate::prepared::{Polling, Prepared};
 use crate::{FileKind, Status, TextFault};
 use command_files::{admit, load_file, load_machine};
-use dvs_base::{Failed, Line, Part, Shelf, Short, Sink, Totals, line_of, put_line};
+use dvs_base::{
+    Failed, Line, Part, Shelf, Short, Sink, Totals, line_of, push_number, push_position, push_word,
+    put_line,
+};
 use governor::Publishing;
 use poll_server::{Outcome, PollFault, Served, poll};
 use request_list::Requests;
@@ -122,6 +127,23 @@ pub(crate) fn serve_pair(
     )
 }
 
+// Appends a word, the number of a request from 1, its arrival and its units.
+fn push_request(line: &mut Line, word: &[u8], polling: &Polling, m: u32)
+    requires empty { line.old ≡ [] }
+    requires word { length word.now ≤ 8 }
+    requires request { m < request_count polling.now }
+    ensures text { line.new ≡ ((((word.now ++ decimal (m + 1)) ++ codes " ") ++ decimal (arrival polling.now m))
+        ++ codes " ") ++ decimal (units polling.now m) }
+    ensures most { length line.new ≤ 3 * NUMBER_BYTES + 10 }
+{
+    push_word(line, word);
+    push_number(line, u64::from(m) + 1);
+    push_word(line, b" ");
+    push_number(line, polling.requests.arrival(m));
+    push_word(line, b" ");
+    push_number(line, polling.requests.units(m));
+}
+
 // The line of a request: its number from 1, its arrival and its units; and where it is served, by which job and at
 // which position.
 fn outcome_line(polling: &Polling, m: u32, outcome: Outcome) -> Line
@@ -129,33 +151,19 @@ fn outcome_line(polling: &Polling, m: u32, outcome: Outcome) -> Line
     ensures text { result ≡ outcome_text polling.now m outcome }
     ensures some { 0 < length result }
 {
-    let number = u64::from(m) + 1;
-    let arrival = polling.requests.arrival(m);
-    let units = polling.requests.units(m);
+    let mut line = Line::new();
     match outcome {
-        Outcome::Served { job, at } => line_of(&[
-            Part::Word(b"served "),
-            Part::Number(number),
-            Part::Word(b" "),
-            Part::Number(arrival),
-            Part::Word(b" "),
-            Part::Number(units),
-            Part::Word(b" "),
-            Part::Number(job),
-            Part::Word(b" "),
-            Part::At(at),
-            Part::Word(b"\n"),
-        ]),
-        Outcome::Pending => line_of(&[
-            Part::Word(b"pending "),
-            Part::Number(number),
-            Part::Word(b" "),
-            Part::Number(arrival),
-            Part::Word(b" "),
-            Part::Number(units),
-            Part::Word(b"\n"),
-        ]),
+        Outcome::Served { job, at } => {
+            push_request(&mut line, b"served ", polling, m);
+            push_word(&mut line, b" ");
+            push_number(&mut line, job);
+            push_word(&mut line, b" ");
+            push_position(&mut line, at);
+        }
+        Outcome::Pending => push_request(&mut line, b"pending ", polling, m),
     }
+    push_word(&mut line, b"\n");
+    line
 }
 
 // The last line: the number of requests that are served, and the energies of running and of idling.

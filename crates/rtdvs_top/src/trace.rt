@@ -30,9 +30,7 @@ fn task_names(alloc: Global, tasks: &TaskSet) -> Result<Vec<Name>, NoMemory>
 {
     let mut names = Vec::new(alloc);
     for i in 0..tasks.count() {
-        if names.push(tasks.task(i).name).is_err() {
-            return Err(NoMemory);
-        }
+        names.push(tasks.task(i).name).map_err(|_| NoMemory)?;
     }
     Ok(names)
 }
@@ -49,9 +47,7 @@ pub(crate) fn task_lines(alloc: Global, tasks: &TaskSet) -> Result<Vec<TaskLine>
             offset: task.offset,
             worst: task.worst,
         };
-        if lines.push(line).is_err() {
-            return Err(NoMemory);
-        }
+        lines.push(line).map_err(|_| NoMemory)?;
     }
     Ok(lines)
 }
@@ -62,12 +58,8 @@ fn read_trace(alloc: Global, bytes: &[u8], tasks: &TaskSet) -> Result<Trace, Tra
     ensures trace { IfOk result (IsTrace (task_names tasks.now) (lines_of_tasks tasks.now)) }
 {
     let _limits = tasks.as_slice();
-    let Ok(names) = task_names(alloc, tasks) else {
-        return Err(TraceFault::NoMemory);
-    };
-    let Ok(lines) = task_lines(alloc, tasks) else {
-        return Err(TraceFault::NoMemory);
-    };
+    let names = task_names(alloc, tasks).map_err(|_| TraceFault::NoMemory)?;
+    let lines = task_lines(alloc, tasks).map_err(|_| TraceFault::NoMemory)?;
     read_any(alloc, bytes, &names, &lines)
 }
 

@@ -1,8 +1,8 @@
 -- The state of a list of ticks, boundary by boundary and tick by tick, its rows, and the state before the first release.
-use Rattle.std.proofs.Common.{◌≡◌, ℕ, ◌<◌, ◌≤◌, List, ap, sym, ◌∙◌, arith, zero, suc, ◌+◌, ◌-◌, [], ◌∷◌, ◌++◌, length, get_or, take, refl, Bool, true, false, nat_eq, nat_le, true≢false}
+use Rattle.std.proofs.Common.{◌≡◌, ℕ, ◌<◌, ◌≤◌, List, ap, sym, ◌∙◌, arith, ◌+◌, ◌-◌, [], ◌∷◌, ◌++◌, length, get_or, take, refl, Bool, true, false, nat_eq, nat_le, true≢false}
 use Rattle.std.specs.Prelude.{map, slice_set}
 use Rattle.std.proofs.Math.ListN.{replicate, get_or-map}
-use Rattle.std.proofs.lemmas.List.{get_or_read, length-map, map-set, replicate_more, take_more, take_more_set}
+use Rattle.std.proofs.lemmas.List.{get_or_read, length-map, map-set, take_more, take_more_set}
 use Rattle.std.proofs.lemmas.Bool.Decides.{nat_tests}
 use Rattle.grid_fraction.specs.Numbers.{list_below}
 use Rattle.grid_fraction.proofs.Searches.{any_below-false}
@@ -10,7 +10,7 @@ use Rattle.sched_model.specs.declared.state.Row.{Row}
 use Rattle.sched_model.specs.Plan.{Plan, count, period, offset, worst}
 use Rattle.sched_model.specs.States.{StateView, no_row, row_at, opening, opening_row, IsStateOf, CanRelease, row_wleft, after_run, CanRun, row_of, state_of, released_row, prior_row, prior_base_at, prior_base, prior_state}
 use Rattle.sched_model.specs.Admission.{IsWithinLimits}
-use Rattle.sched_model.proofs.Tables.{length-list_below, get-table, map-table, table-same}
+use Rattle.sched_model.proofs.Tables.{length-list_below, same-table, get-table, map-table, table-same}
 use Rattle.sched_model.specs.Jobs.{JobDemands, release, due, latest, releases_at, is_release, last_release}
 use Rattle.sched_model.specs.Ticks.{Tick, exec, is_done, wleft, share, units_left}
 use Rattle.sched_model.proofs.JobLaws.{due-none, release-none, release-suc, due-suc, lt-due, latest-unique, latest-none, latest-stays, latest-next, release-le, exec-early, exec-legal, last_release-le}
@@ -47,13 +47,9 @@ mark_step rows base i row hr hb is e =
     ∙ ap (λ (x : ℕ). take i (map row_wleft rows) ++ (x ∷ [])) (sym read)
     ∙ sym (take_more (map row_wleft rows) i 0 in_map)
 
-zeros : (n : ℕ) → list_below {A = ℕ} n (λ i. 0) ≡ replicate n 0
-zeros zero = refl
-zeros (suc n) = grind (arith, nat_tests, replicate_more, replicate, zeros n)
-
 -- before the first release no job needs anything
 pub left-opening : (p : Plan) → replicate (count p) 0 ≡ map row_wleft (opening p).rows
-left-opening p = sym (map-table (count p) (λ i. opening_row (offset p i) (worst p i)) row_wleft ∙ zeros (count p))
+left-opening p = sym (map-table (count p) (λ i. opening_row (offset p i) (worst p i)) row_wleft ∙ same-table (count p) 0)
 
 module _ (s : StateView) (units_left : List ℕ) (is : units_left ≡ map row_wleft s.rows) (i : ℕ) where
   -- a row of a task is written, and what its job may still need

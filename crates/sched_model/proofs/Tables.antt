@@ -1,7 +1,7 @@
 -- Lists whose elements are a function of their place.
 use Rattle.std.proofs.Common.{◌≡◌, ◌≢◌, ℕ, zero, suc, ◌<◌, Bool, true, false, eqb, [], ◌∷◌, ◌++◌, length, length-append, get_or, set, refl, arith, ap, ap₂, ◌∙◌, sym, length-set, get_or-set_same, get_or-set_other}
-use Rattle.std.proofs.lemmas.List.{ext_get_or, get_or-append_right, map-append}
-use Rattle.std.proofs.Math.ListN.{get_or-append}
+use Rattle.std.proofs.lemmas.List.{ext_get_or, get_or-append_right, map-append, replicate_more}
+use Rattle.std.proofs.Math.ListN.{get_or-append, replicate}
 use Rattle.std.proofs.lemmas.Bool.Decides.{nat_tests}
 use Rattle.std.specs.Prelude.{map}
 use Rattle.std.specs.List.{AllByRecursion}
@@ -11,6 +11,10 @@ use Rattle.grid_fraction.specs.Numbers.{list_below}
 pub length-list_below : {A : Type 0} (n : ℕ) (f : ℕ → A) → length (list_below n f) ≡ n
 length-list_below zero f = refl
 length-list_below (suc n) f = omega (arith, length-append (list_below n f) (f n ∷ []), length-list_below n f)
+
+pub same-table : {A : Type 0} (n : ℕ) (x : A) → list_below n (λ i. x) ≡ replicate n x
+same-table zero x = refl
+same-table (suc n) x = grind (arith, nat_tests, replicate_more, replicate, same-table n x)
 
 pub get-table : {A : Type 0} (n : ℕ) (f : ℕ → A) (i : ℕ) (d : A) → i < n → get_or (list_below n f) i d ≡ f i
 get-table {A = A} zero f i d lt = absurd (omega arith)

@@ -38,19 +38,14 @@ fn number_in(place: u32, field: Field, number: Result<u64, MemberFault>) -> Resu
 fn checked_name(place: u32, text: &str) -> Result<Name, TaskFault>
     ensures { result ≡ checked_name place text.now }
 {
-    match Name::of(text.as_bytes()) {
-        Some(name) => Ok(name),
-        None => Err(TaskFault::BadName { place }),
-    }
+    Name::of(text.as_bytes()).ok_or(TaskFault::BadName { place })
 }
 
 fn read_name(place: u32, table: &Table) -> Result<Name, TaskFault>
     ensures { result ≡ name_at place (get_member (codes "name") (table_view table.now)) }
 {
-    match text_at(table, "name") {
-        Ok(text) => checked_name(place, text),
-        Err(fault) => Err(fault_at(place, Field::Name, fault)),
-    }
+    let text = text_at(table, "name").map_err(|fault| fault_at(place, Field::Name, fault))?;
+    checked_name(place, text)
 }
 
 fn read_members(place: u32, table: &Table) -> Result<Task, TaskFault>
@@ -79,13 +74,11 @@ fn read_task(place: u32, value: &Value) -> Result<Task, TaskFault>
     ensures meaning { result ≡ task_of place (view value.now) }
     ensures limits { IfOk result (λ t. IsTask t) }
 {
-    match value.as_table() {
-        Some(table) => read_members(place, table),
-        None => Err(TaskFault::Kind {
-            place,
-            field: Field::Entry,
-        }),
-    }
+    let table = value.as_table().ok_or(TaskFault::Kind {
+        place,
+        field: Field::Entry,
+    })?;
+    read_members(place, table)
 }
 
 // The tasks of the entries, of which there are at most `MOST_TASKS`.
@@ -105,9 +98,7 @@ fn read_entries(alloc: Global, entries: &[Value]) -> Result<Vec<Task>, TaskFault
                 second: place,
             });
         }
-        if tasks.push(task).is_err() {
-            return Err(TaskFault::NoMemory);
-        }
+        tasks.push(task).map_err(|_| TaskFault::NoMemory)?;
     }
     Ok(tasks)
 }
@@ -119,11 +110,8 @@ fn set_of(alloc: Global, tasks: Vec<Task>) -> Result<TaskSet, TaskFault>
     requires few { vec_len tasks ≤ MOST_TASKS }
     ensures { IsUnlessMemory TaskFault.NoMemory (λ s. s) result (within_hyper tasks.items) }
 {
-    match TaskSet::within(alloc, tasks) {
-        Ok(Some(set)) => Ok(set),
-        Ok(None) => Err(TaskFault::Hyper),
-        Err(_) => Err(TaskFault::NoMemory),
-    }
+    let set = TaskSet::within(alloc, tasks).map_err(|_| TaskFault::NoMemory)?;
+    set.ok_or(TaskFault::Hyper)
 }
 
 fn read_array(alloc: Global, entries: &[Value]) -> Result<TaskSet, TaskFault>
@@ -147,17 +135,12 @@ fn read_table(alloc: Global, table: &Table) -> Result<TaskSet, TaskFault>
     if let Some(key) = unknown_key(table, &["task"]) {
         return Err(TaskFault::UnknownKey { place: 0, key });
     }
-    let value = match member_at(table, "task") {
-        Some(value) => value,
-        None => return Err(TaskFault::NoTasks),
-    };
-    match value.as_array() {
-        Some(entries) => read_array(alloc, entries),
-        None => Err(TaskFault::Kind {
-            place: 0,
-            field: Field::Task,
-        }),
-    }
+    let value = member_at(table, "task").ok_or(TaskFault::NoTasks)?;
+    let entries = value.as_array().ok_or(TaskFault::Kind {
+        place: 0,
+        field: Field::Task,
+    })?;
+    read_array(alloc, entries)
 }
 
 impl TaskSet {

@@ -81,10 +81,7 @@ impl TaskSet {
         requires { IsTaskSet tasks.now }
         ensures { IfOk result (λ s. s ≡ tasks.now) }
     {
-        let kept = match Vec::from_slice(alloc, tasks) {
-            Ok(kept) => kept,
-            Err(_) => return Err(NoMemory),
-        };
+        let kept = Vec::from_slice(alloc, tasks).map_err(|_| NoMemory)?;
         let set = TaskSet::within(alloc, kept)?;
         Ok(set.unwrap())
     }
@@ -119,10 +116,7 @@ impl TaskSet {
     pub fn find(&self, name: &[u8]) -> Option<u32>
         ensures { result ≡ place_of self.now name.now }
     {
-        match place_of(&self.tasks, name) {
-            Some(i) => Some(i as u32),
-            None => None,
-        }
+        Some(place_of(&self.tasks, name)? as u32)
     }
 
     /// The first task in file order with an offset other than 0, and None exactly where no task has one. Tasks count

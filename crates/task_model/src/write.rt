@@ -58,9 +58,7 @@ fn task_values(alloc: Global, tasks: &[Task]) -> Result<Vec<Value>, NoMemory>
     let mut values: Vec<Value> = Vec::new(alloc);
     for task in tasks {
         let value = task_value(alloc, task)?;
-        if values.push(value).is_err() {
-            return Err(NoMemory);
-        }
+        values.push(value).map_err(|_| NoMemory)?;
     }
     Ok(values)
 }

@@ -3,7 +3,6 @@ pub mod ReaderSteps
 pub mod EnergySums
 pub mod Lined
 pub mod UnspacedFields
-pub mod Numbers
 pub mod FieldTexts
 pub mod ItemTexts
 pub mod LineTexts

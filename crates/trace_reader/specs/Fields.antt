@@ -1,5 +1,5 @@
 -- The values of a line's fields.
-use Rattle.std.specs.Prelude.{Result, ℕ, ◌==◌, List, [], ◌∷◌, Option, Some, None, ◌^◌, Ok, position, Bool, true, false, not}
+use Rattle.std.specs.Prelude.{Result, ℕ, ◌==◌, List, [], ◌∷◌, Option, Some, None, ◌^◌, Ok, position}
 use Rattle.std.specs.List.{slice_split}
 use Rattle.std.specs.Option.{ok_or}
 use Rattle.std.specs.Str.{bytes_eq}
@@ -29,12 +29,6 @@ four_of _ = None
 abbrev pub six_of : List (List ℕ) → Option (List ℕ × List ℕ × List ℕ × List ℕ × List ℕ × List ℕ)
 six_of (a ∷ b ∷ c ∷ d ∷ e ∷ f ∷ []) = Some (a, b, c, d, e, f)
 six_of _ = None
-
--- the bytes can start a number: there is one, and a leading zero is alone
-abbrev pub starts_number : List ℕ → Bool
-starts_number [] = false
-starts_number (c ∷ []) = true
-starts_number (c ∷ d ∷ cs) = not (c == 48)
 
 -- the field as a number below 2^64
 abbrev pub whole_in : List ℕ → Result ℕ TraceKind

@@ -5,7 +5,6 @@ ghost use Rattle.dvs_base.specs.declared.limits.TheConstants.{MOST_TASKS};
 ghost use Rattle.trace_reader.specs.Fields.{whole_in, wide_in, position_in, fraction_in, task_in};
 
 use crate::TraceKind;
-use crate::number::{SAFE_DIGITS, short_number};
 use crate::parts::two_parts;
 use dvs_base::{Name, Pos, whole, wide};
 
@@ -13,25 +12,14 @@ use dvs_base::{Name, Pos, whole, wide};
 pub(crate) fn whole_in(field: &[u8]) -> Result<u64, TraceKind>
     ensures { result ≡ whole_in field.now }
 {
-    let number = if field.len() <= SAFE_DIGITS {
-        short_number(field)
-    } else {
-        whole(field)
-    };
-    number.ok_or(TraceKind::Number)
+    whole(field).ok_or(TraceKind::Number)
 }
 
 // The field as a number below 2^128.
 pub(crate) fn wide_in(field: &[u8]) -> Result<u128, TraceKind>
     ensures { result ≡ wide_in field.now }
 {
-    if field.len() > SAFE_DIGITS {
-        return wide(field).ok_or(TraceKind::Number);
-    }
-    match short_number(field) {
-        Some(number) => Ok(number as u128),
-        None => Err(TraceKind::Number),
-    }
+    wide(field).ok_or(TraceKind::Number)
 }
 
 // The field as a position, `tick:offset`.
@@ -71,8 +59,6 @@ pub(crate) fn task_in(names: &[Name], field: &[u8]) -> Result<u32, TraceKind>
     ensures task { result ≡ task_in names.now field.now }
     ensures within { IfOk result (λ i. i < length names.now) }
 {
-    match place_in(names, field) {
-        Some(i) => Ok(i as u32),
-        None => Err(TraceKind::Task),
-    }
+    let i = place_in(names, field).ok_or(TraceKind::Task)?;
+    Ok(i as u32)
 }

@@ -7,7 +7,6 @@ mod fault_line;
 mod fields;
 mod head;
 mod line;
-mod number;
 mod parts;
 mod read;
 mod shares;

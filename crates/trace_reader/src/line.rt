@@ -142,10 +142,7 @@ pub(crate) fn item_of(version: Version, names: &[Name], line: &[u8]) -> Result<I
     ensures item { result ≡ item_of version names.now (parts 32 line.now) }
     ensures task { IfOk result (HasTaskBelow (length names.now)) }
 {
-    let (word, fields) = match cut(line, b' ') {
-        Some(parts) => parts,
-        None => return Err(TraceKind::Word),
-    };
+    let (word, fields) = cut(line, b' ').ok_or(TraceKind::Word)?;
     if word == b"release".as_slice() {
         release_in(names, fields)
     } else if word == b"speed".as_slice() {

@@ -16,10 +16,8 @@ pub(crate) fn cut(bytes: &[u8], separator: u8) -> Option<(&[u8], &[u8])>
     ensures none { IfNone result (parts separator bytes.now ≡ bytes.now ∷ []) }
     ensures less { IfSome result (λ p. length p.1.now < length bytes.now) }
 {
-    match place_of(bytes, separator) {
-        Some(i) => Some((&bytes[..i], &bytes[i + 1..])),
-        None => None,
-    }
+    let i = place_of(bytes, separator)?;
+    Some((&bytes[..i], &bytes[i + 1..]))
 }
 
 // The text, if it has one part.

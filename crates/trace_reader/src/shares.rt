@@ -20,10 +20,7 @@ pub(crate) struct Shares {
 fn with_energy(sum: Option<u128>, energy: u128) -> Option<u128>
     ensures { result ≡ with_energy sum energy }
 {
-    match sum {
-        Some(sum) => sum.checked_add(energy),
-        None => None,
-    }
+    sum?.checked_add(energy)
 }
 
 impl Shares {
@@ -51,10 +48,7 @@ impl Shares {
         requires { task < MOST_TASKS }
         ensures { (notes : List Note) → HasSums notes self.now.sums → result ≡ (energy == task_energy notes task) }
     {
-        match self.sums[task as usize] {
-            Some(sum) => sum == energy,
-            None => false,
-        }
+        self.sums[task as usize] == Some(energy)
     }
 
     // The sums, with 0 for one from 2^128 on.

@@ -25,18 +25,14 @@ pub(crate) fn line_at(number: u64, bytes: &[u8]) -> Result<(&[u8], &[u8]), Trace
     ensures less { IfOk result (λ p. length p.1.now < length bytes.now) }
     ensures few { IfOk result (λ p. number ≤ MOST_LINES) }
 {
-    match cut(bytes, b'\n') {
-        None => Err(refused(number, TraceKind::NoEnd)),
-        Some((line, rest)) => {
-            if number > MOST_LINES {
-                Err(refused(number, TraceKind::TooMany))
-            } else if line.len() > LONGEST_LINE {
-                Err(refused(number, TraceKind::TooLong))
-            } else {
-                Ok((line, rest))
-            }
-        }
+    let (line, rest) = cut(bytes, b'\n').ok_or(refused(number, TraceKind::NoEnd))?;
+    if number > MOST_LINES {
+        return Err(refused(number, TraceKind::TooMany));
     }
+    if line.len() > LONGEST_LINE {
+        return Err(refused(number, TraceKind::TooLong));
+    }
+    Ok((line, rest))
 }
 
 // The value that was read, or the refusal of this line.

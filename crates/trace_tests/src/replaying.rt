@@ -39,10 +39,8 @@ fn replayed(
     text: &[u8],
 ) -> Result<Result<Totals, ReplayFault>, Fail> {
     let scheduler = plan.scheduler();
-    let trace = match read_trace(alloc, text, plan.names()) {
-        Ok(trace) => trace,
-        Err(_) => return Err("trace".into()),
-    };
+    let read = read_trace(alloc, text, plan.names());
+    let trace = read.map_err(|_| "trace")?;
     if trace.plan.scheduler != scheduler || trace.plan.governor != GovernorKind::Plain {
         return Err("plan of the trace".into());
     }

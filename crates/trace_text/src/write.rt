@@ -235,10 +235,7 @@ pub fn write_note(line: &mut Line, note: &Note, names: &[Name])
     requires { line.old ≡ [] }
     ensures { line.new ≡ note_text names.now note.now }
 {
-    let name = match note.task() {
-        Some(task) => names.get(task as usize),
-        None => None,
-    };
+    let name = note.task().and_then(|task| names.get(task as usize));
     push_note(line, note, name);
 }
 

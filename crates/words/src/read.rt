@@ -26,13 +26,11 @@ fn with_given<'a>(
 ) -> Result<Reading<'a>, WordFault>
     ensures { reading_answer result ≡ with_given place word.now (option_map shown_given given.entry) }
 {
-    match given {
-        Some(given) => Ok(Reading { given, waits: None }),
-        None => Err(WordFault::BadValue {
-            place,
-            word: Short::of(word.as_bytes()),
-        }),
-    }
+    let given = given.ok_or(WordFault::BadValue {
+        place,
+        word: Short::of(word.as_bytes()),
+    })?;
+    Ok(Reading { given, waits: None })
 }
 
 // The reading after an option: it waits for the option's value, or has it at once.

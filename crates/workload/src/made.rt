@@ -62,9 +62,9 @@ fn make_tasks(alloc: Global, draws: &mut Draws, count: u32) -> Result<Vec<Task>,
 {
     let mut tasks = Vec::new(alloc);
     for task in 0..count {
-        if tasks.push(make_task(draws, count, task)).is_err() {
-            return Err(NoMemory);
-        }
+        tasks
+            .push(make_task(draws, count, task))
+            .map_err(|_| NoMemory)?;
     }
     Ok(tasks)
 }

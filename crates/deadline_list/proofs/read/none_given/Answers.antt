@@ -1,14 +1,22 @@
-use Rattle.std.proofs.Common.{◌≡◌, ℕ, None, length, sym, ◌∙◌, ap, subst, arith}
-use Rattle.grid_fraction.specs.Numbers.{list_below}
+use Rattle.std.proofs.Common.{◌≡◌, None, rules, sym, ap, subst, ◌∙◌}
+use Rattle.std.proofs.Math.ListN.{replicate}
+use Rattle.std.proofs.lemmas.Result.{IfOk-at_ok}
+use Rattle.dvs_base.proofs.MappedErrors.{map_err-Ok}
+use Rattle.sched_model.proofs.Tables.{same-table}
 use Rattle.deadline_list.specs.DeadlineFile.{none_given, AreGiven}
 use Rattle.deadline_list.proofs.GivenDeadlines.{none-are}
 use Rattle.deadline_list.proofs.read.none_given.Goals as goal
 
+-- one None for each task
+all : (c : goal.In_ok-given) → c.in_ok-given.given.items ≡ none_given c.args.tasks.now
+all c =
+    let made = map_err-Ok c.vec.result c.map_err.result _ _ c.map_err.ensures.cases c.map_err.ensures.variant c.in_ok-given.was in
+    IfOk-at_ok _ made c.vec.ensures.items_if_clones_equal (λ y e. search rules)
+    ∙ ap (λ n. replicate n None) c.count.ensures.count
+    ∙ sym (same-table _ None)
+
+pub returns-clause-none : goal.returns-clause-none
+returns-clause-none c = all c
+
 pub returns-clause-given : goal.returns-clause-given
-returns-clause-given c =
-    let tasks = c.args.tasks.now in
-    let whole : c.loop-task._task ≡ length tasks =
-    omega (arith, c.loop-task-test.false, c.loop-task.auto._task-end, c.count-task-end.ensures.count) in
-    let none : c.loop-task.given.items ≡ none_given tasks =
-    c.loop-task.invariant ∙ ap (λ (n : ℕ). list_below n (λ k. None)) whole in
-    subst (AreGiven tasks) (sym none) (none-are tasks)
+returns-clause-given c = subst (AreGiven c.args.tasks.now) (sym (all c)) (none-are c.args.tasks.now)

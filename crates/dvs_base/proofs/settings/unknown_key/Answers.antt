@@ -1,14 +1,14 @@
-use Rattle.std.proofs.Common.{map}
+use Rattle.std.proofs.Common.{map, rules}
 use Rattle.dvs_base.proofs.Keys.{unknown_key-find}
 use Rattle.dvs_base.proofs.settings.unknown_key.Goals as goal
 
-pub returns-in-Some : goal.returns-in-Some
-returns-in-Some c = rw (
-  unknown_key-find (map (λ k. k.now) c.args.known.now) c.args.table.now.entries c.in-Some.ensures.ordered,
-  ← c.in-Some.ensures.found,
+pub returns : goal.returns
+returns c = rw (
+  unknown_key-find (map (λ k. k.now) c.args.known.now) c.args.table.now.entries c.in_ok-key.ensures.ordered,
+  ← c.in_ok-key.ensures.found,
   c.of.ensures,
   c.as_bytes.ensures.value,
 )
 
-pub returns-in-None : goal.returns-in-None
-returns-in-None c = rw (unknown_key-find (map (λ k. k.now) c.args.known.now) c.args.table.now.entries c.in-None.ensures.ordered, ← c.in-None.ensures.found)
+pub returns-in_err-key : goal.returns-in_err-key
+returns-in_err-key c = rw (unknown_key-find (map (λ k. k.now) c.args.known.now) c.args.table.now.entries c.in_err-key.ensures.ordered, ← c.in_err-key.ensures.found) (search rules)

@@ -11,22 +11,22 @@ use Rattle.rm_response.specs.Denials.{AreLeast, IsMissedAtPeriod, IsShownMiss}
 use Rattle.rm_response.proofs.KnownResponses.{are-least}
 use Rattle.rm_response.proofs.response.rm_response.Goals as goal
 
-pub returns-in-Ok-respond-clause-one_each : goal.returns-in-Ok-respond-clause-one_each
-returns-in-Ok-respond-clause-one_each c =
+pub returns-in-Ok-clause-one_each : goal.returns-in-Ok-clause-one_each
+returns-in-Ok-clause-one_each c =
     let p : Plan = plan_of c.args.tasks.now c.args.machine.now Rm in
-    ap length c.in-Ok-respond.ensures.known.are ∙ length-list_below (count p) (response p)
+    ap length c.in-Ok.ensures.known.are ∙ length-list_below (count p) (response p)
 
-pub returns-in-Ok-respond-clause-deadlines : goal.returns-in-Ok-respond-clause-deadlines
-returns-in-Ok-respond-clause-deadlines c =
+pub returns-in-Ok-clause-deadlines : goal.returns-in-Ok-clause-deadlines
+returns-in-Ok-clause-deadlines c =
     let p : Plan = plan_of c.args.tasks.now c.args.machine.now Rm in
     let lim : IsWithinLimits p = record { tasks = c.as_slice-task_limits.ensures.limits; machine = c.as_slice-machine_limits.ensures.limits } in
-    always-meets p lim refl c.in-Ok-respond.ensures.known.all
+    always-meets p lim refl c.in-Ok.ensures.known.all
 
-pub returns-in-Ok-respond-clause-least : goal.returns-in-Ok-respond-clause-least
-returns-in-Ok-respond-clause-least c =
+pub returns-in-Ok-clause-least : goal.returns-in-Ok-clause-least
+returns-in-Ok-clause-least c =
     let p : Plan = plan_of c.args.tasks.now c.args.machine.now Rm in
     let lim : IsWithinLimits p = record { tasks = c.as_slice-task_limits.ensures.limits; machine = c.as_slice-machine_limits.ensures.limits } in
-    let known = c.in-Ok-respond.ensures.known in
+    let known = c.in-Ok.ensures.known in
     subst (AreLeast p) (sym known.are) (are-least p lim refl c.in_default.ensures.finds known.all)
 
 pub returns-clause-missed : goal.returns-clause-missed

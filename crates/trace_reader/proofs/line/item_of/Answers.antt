@@ -1,4 +1,5 @@
-use Rattle.std.proofs.Common.{◌≡◌, Bool, true, false, ℕ, List, [], ◌∷◌, length, Err, refl, sym, if◌then◌else◌}
+use Rattle.std.proofs.Common.{◌≡◌, Bool, true, false, ℕ, List, [], ◌∷◌, length, Err, refl, if◌then◌else◌, rules}
+use Rattle.std.proofs.lemmas.Option.{MatchOption-at_none}
 use Rattle.dvs_base.specs.declared.kind.Version.{Version}
 use Rattle.trace_reader.specs.declared.trace.TraceKind.TheVariants as kind
 use Rattle.trace_reader.specs.Items.{release_in, speed_in, run_in, idle_in, done_in, end_in, energy_in, item_of}
@@ -13,8 +14,11 @@ item-alone : (v : Version) (names : List (List ℕ)) (word : List ℕ) → item_
 unfolding item_of release_in speed_in run_in idle_in done_in end_in energy_in
 item-alone v names word = simp same-choice refl
 
-pub returns-in-None-clause-item : goal.returns-in-None-clause-item
-returns-in-None-clause-item c = rw c.in-None.ensures.none (sym (item-alone c.args.version c.args.names.now c.args.line.now))
+pub returns-in_err-word-clause-item : goal.returns-in_err-word-clause-item
+returns-in_err-word-clause-item c =
+    let none = MatchOption-at_none _ _ c.in_err-word.ensures.ok_part c.cut.ensures.none in
+    let refused = item-alone c.args.version c.args.names.now c.args.line.now in
+    rw (none, refused) (search rules)
 
 pub returns-then-eq-2-clause-task : goal.returns-then-eq-2-clause-task
 returns-then-eq-2-clause-task c = c.speed_in.ensures.task (length c.args.names.now)

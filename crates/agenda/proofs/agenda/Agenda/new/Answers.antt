@@ -1,5 +1,7 @@
 use Rattle.std.proofs.Common.{◌<◌, ◌∙◌, ap, arith}
 use Rattle.std.proofs.Math.ListN.{replicate}
+use Rattle.std.proofs.lemmas.Result.{IfOk-at_ok}
+use Rattle.dvs_base.proofs.MappedErrors.{map_err-Ok}
 use Rattle.sched_model.specs.Plan.{count}
 use Rattle.sched_model.specs.States.{opening}
 use Rattle.sched_model.proofs.States.{left-opening}
@@ -18,8 +20,8 @@ loop-task-preserved c =
           c.period.result below c.offset.ensures.offset c.period.ensures.period) c.insert.ensures.entries;
     }
 
-pub returns-in-Ok : goal.returns-in-Ok
-returns-in-Ok c = record {
+pub returns : goal.returns
+returns c = record {
   queues = record {
     scheduler = ap (λ (r : ReadyView). r.scheduler) c.in_ok-ready.ensures ∙ c.scheduler.ensures.scheduler;
     ready_limit = ap (λ (r : ReadyView). r.limit) c.in_ok-ready.ensures ∙ c.count.ensures.count;
@@ -28,6 +30,7 @@ returns-in-Ok c = record {
     releases = all-held c.args.plan.now (opening c.args.plan.now) c.loop-task.task c.loop-task.calendar.entries
         (omega (arith, c.loop-task-test.false, c.count-task-end.ensures.count)) c.loop-task.invariant.held;
   };
-  left = c.in-Ok.ensures.items_if_clones_equal (λ y e. e)
+  left = IfOk-at_ok _ (map_err-Ok c.vec.result c.map_err.result _ _ c.map_err.ensures.cases c.map_err.ensures.variant c.in_ok-left.was)
+      c.vec.ensures.items_if_clones_equal (λ y e. e)
       ∙ (ap (λ n. replicate n 0) c.count-3.ensures.count ∙ left-opening c.args.plan.now);
 }

@@ -2,9 +2,8 @@
 ghost use Rattle.std.specs.Prelude.{◌≡◌, ◌≤◌, ◌^◌, ℕ, length, Some, None, if◌then◌else◌};
 ghost use Rattle.std.specs.List.{list_all};
 ghost use Rattle.std.specs.Char.{is_ascii_digit};
-ghost use Rattle.dvs_base.specs.Text.{number_below, number_after};
-ghost use Rattle.trace_reader.specs.Fields.{starts_number};
-ghost use Rattle.trace_reader.specs.declared.number.TheConstants.{SAFE_DIGITS};
+ghost use Rattle.dvs_base.specs.Text.{number_below, number_after, starts_number};
+ghost use Rattle.dvs_base.specs.declared.digits.TheConstants.{SAFE_DIGITS};
 
 /// Any number of this many digits is below 2^64.
 pub(crate) const SAFE_DIGITS: usize = 19;
@@ -25,7 +24,7 @@ fn digits_in(bytes: &[u8]) -> Option<u64>
 }
 
 // Whether the bytes can start a number.
-fn starts_number(bytes: &[u8]) -> bool
+pub(crate) fn starts_number(bytes: &[u8]) -> bool
     ensures { result ≡ starts_number bytes.now }
 {
     match bytes {

@@ -7,7 +7,7 @@ use Rattle.std.proofs.Math.Bool.{and-true}
 use Rattle.std.proofs.lemmas.Bool.{and_parts}
 use Rattle.std.proofs.lemmas.Bool.Decides.{nat_tests}
 use Rattle.std.proofs.Math.Nat.{pow-suc, pow-le-pow_right}
-use Rattle.trace_reader.specs.Fields.{starts_number}
+use Rattle.dvs_base.specs.Text.{starts_number}
 use Rattle.dvs_base.specs.Text.{is_spelled, number_below, number_after}
 use Rattle.dvs_base.proofs.Numbers.{is_spelled-digits}
 

@@ -2,7 +2,7 @@ use Rattle.std.proofs.Common.{◌≡◌, ◌<◌, ◌^◌, drop}
 use Rattle.std.specs.List.{list_all}
 use Rattle.std.specs.Char.{is_ascii_digit}
 use Rattle.dvs_base.specs.Text.{number_after}
-use Rattle.trace_reader.proofs.number.digits_in.Given as goal
+use Rattle.dvs_base.proofs.digits.digits_in.Given as goal
 
 -- the digits that are left give, after the number so far, what all the bytes give
 abbrev pub invariant-loop-c : goal.invariant-loop-c

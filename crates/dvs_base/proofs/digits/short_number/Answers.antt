@@ -1,7 +1,7 @@
 use Rattle.std.proofs.Common.{◌≡◌, true, sym, ◌∙◌}
-use Rattle.trace_reader.specs.Fields.{starts_number}
-use Rattle.trace_reader.proofs.Numbers.{short-number}
-use Rattle.trace_reader.proofs.number.short_number.Goals as goal
+use Rattle.dvs_base.specs.Text.{starts_number}
+use Rattle.dvs_base.proofs.ShortNumbers.{short-number}
+use Rattle.dvs_base.proofs.digits.short_number.Goals as goal
 
 pub returns-then-starts_number : goal.returns-then-starts_number
 returns-then-starts_number c limit above =

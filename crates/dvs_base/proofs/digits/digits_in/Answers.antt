@@ -1,6 +1,6 @@
 use Rattle.std.proofs.Common.{length, arith}
-use Rattle.trace_reader.proofs.Numbers.{few-digits}
-use Rattle.trace_reader.proofs.number.digits_in.Goals as goal
+use Rattle.dvs_base.proofs.ShortNumbers.{few-digits}
+use Rattle.dvs_base.proofs.digits.digits_in.Goals as goal
 
 pub overflow_mul-value : goal.overflow_mul-value
 overflow_mul-value c =
