@@ -259,8 +259,10 @@ class Walk:
     demands: Demands | None = None
     any_governor: bool = False
 
-    def steps(self) -> Iterator[tuple[int, Item, Checker]]:
+    def steps(self, quiet: bool = False) -> Iterator[tuple[int, Item, Checker]]:
         """Each line's number and content, after it was checked. Raises WrongTrace, FileFault.
+
+        A quiet walk leaves out lines that are right by their text alone.
 
         >>> lines = ["trace 1\\n", "plan edf none 1\\n", "release 0 a 1\\n"]
         >>> steps = Walk(EXAMPLE.tasks, EXAMPLE.machine, lines).steps()
@@ -270,11 +272,12 @@ class Walk:
         number, wanted, source = 2, list[Task](), iter(self.lines)
         try:
             head = read_head(source)
-            checker, faults = self._checker(head), order(head.version)
+            checker = self._checker(head)
+            faults = order(head.version, checker.energies)
             next(faults)
             yield number, head, checker
             wanted = [*self.tasks][::-1] if head.version == 2 else []
-            for number, item in enumerate(spelled_lines(source), 3):
+            for number, item in spelled_lines(source, checker.follows if quiet else None):
                 if wanted:
                     if item != wanted[-1]:
                         raise Wrong(f"wanted {task_text(wanted[-1])}")
@@ -323,7 +326,7 @@ def explain(walk: Walk, show: Callable[[str], object] | None = None) -> Summary:
     1
     """
     if show is None or walk.any_governor:
-        return deque(walk.steps(), maxlen=1)[0][2].summary
+        return deque(walk.steps(quiet=True), maxlen=1)[0][2].summary
     events: list[Release | Done] = []
     for number, item, checker in walk.steps():
         if isinstance(item, (Release, Done)):

@@ -308,6 +308,20 @@ class State:
         now = self.now
         return self.behind == 0 and (now == self.released or now == self.seen or now == 0)
 
+    @property
+    def late(self) -> Latest | None:
+        """The first job whose deadline is now and that isn't complete, if there is one.
+
+        >>> State.begin(EXAMPLE).late is None
+        True
+        """
+        for due, place in self.deadlines:
+            if due > self.now:
+                break
+            if not self.jobs[place].complete:
+                return self.jobs[place]
+        return None
+
     def all_met(self) -> None:
         """Raises DeadlineMissed if a job, whose deadline is now, isn't complete.
 
@@ -316,13 +330,10 @@ class State:
         Traceback (most recent call last):
         rtdvs.rules.DeadlineMissed: a job 1 was due at 4 and is not complete: it has had 3 units
         """
-        for due, place in self.deadlines:
-            job = self.jobs[place]
-            if due > self.now:
-                break
-            if not job.complete:
-                late = f"was due at {due} and is not complete: it has had {job.used} units"
-                raise DeadlineMissed(f"{job} {late}")
+        job = self.late
+        if job:
+            late = f"was due at {job.due} and is not complete: it has had {job.used} units"
+            raise DeadlineMissed(f"{job} {late}")
 
     def priority(self, job: Latest) -> tuple[int, int]:
         """What sorts the open jobs: the deadline under EDF, the period under RM; then the place.
@@ -526,7 +537,8 @@ class Checker:
         self.named = _Named({job.task.name: job for job in state.jobs})
         self.points = {point.speed: point for point in state.plan.machine.points}
         self.summary = Summary(ticks)
-        self.need: dict[int, int | None] = {}  # of the latest job by its place, if that is known
+        self.energies: dict[str, int] = {}  # of each task's runs, if the lines at the end name them
+        self.need: dict[int, int] = {}  # of the latest job by its place, if that is known
         self.last: Latest | None = None  # whose `done` note may be next
         self.must = ""  # why it must be: a form with the job
         self.checks: Mapping[type[Note], Callable[[Any], None]] = {
@@ -546,6 +558,76 @@ class Checker:
                 raise Wrong(self.must.format(self.last))
             self.last = None
         self.checks[kind](note)
+
+    def follows(self, line: str) -> bool:
+        """Whether a line is right by its text alone; it is then checked. All others are for `check`.
+
+        >>> checker = Checker(State.begin(EXAMPLE), 4, full, None)
+        >>> for note in Release(0, "a", 1), Release(0, "b", 1), Decision(0, 4, 4, 1):
+        ...     checker.check(note)
+        >>> checker.follows("run 0:0 1:0 a 1 3 0\\n"), checker.follows("run 0:0 1:0 a 1 4 100000000000\\n")
+        (False, True)
+        """
+        state = self.state
+        if self.must:
+            return self._done_follows(line)
+        if state.point is None or self.governor is None or state.now >= self.ticks:
+            return False
+        if state.behind or state.deadlines[0][0] > state.now:
+            if state.is_decision and state.decided != state.now:
+                return self._decision_follows(line, self.governor)
+            return self._segment_follows(line, state.point)
+        return self._release_follows(line)
+
+    def _release_follows(self, line: str) -> bool:
+        state = self.state
+        job = state.jobs[state.deadlines[0][1]]
+        if line != f"release {state.now} {job.task.name} {job.number + 1}\n":
+            return False
+        if state.released != state.now and state.late is not None:
+            return False
+        self._released(job)
+        return True
+
+    def _decision_follows(self, line: str, governor: Governor) -> bool:
+        num, den, point = self._wanted(governor)
+        if line != f"speed {self.state.now} {point.speed} {num}/{den}\n":
+            return False
+        self.last = None
+        self._decided(point)
+        return True
+
+    def _segment_follows(self, line: str, point: Point) -> bool:
+        """Whether it is the longest segment that there can be."""
+        state, job = self.state, self.state.first
+        units = room = self._room(point.speed)[0]
+        if job:
+            left = self._left(job)
+            units = min(left, room)
+        energy = units * point.millivolts * point.millivolts * (1000 if job else state.plan.machine.idle)
+        ticks, behind = divmod(state.behind + units, point.speed)
+        what = f"{job.task.name} {job.number} {units}" if job else f"{units}"
+        place = f"{state.now}:{state.behind} {state.now + ticks}:{behind}"
+        if line != f"{'run' if job else 'idle'} {place} {what} {energy}\n":
+            return False
+        state.now, state.behind = state.now + ticks, behind
+        if job:
+            self._ran(job, units, left, energy)
+            if self.energies:
+                self.energies[job.task.name] += energy
+        else:
+            self.last = None
+            self.summary.idle_energy += energy
+        return True
+
+    def _done_follows(self, line: str) -> bool:
+        state, job = self.state, self.last
+        if job is None or line != f"done {state.now}:{state.behind} {job.task.name} {job.number} {job.used}\n":
+            return False
+        if self.need.get(job.place, job.used) != job.used or job.used < 2 * state.plan.machine.charge:
+            return False
+        self._complete(job)
+        return True
 
     # What holds at a position
 
@@ -573,11 +655,14 @@ class Checker:
             raise Wrong(f"the release of {first.task.name} comes first, by its place in the file")
         if note.job != job.number + 1:
             raise Wrong(f"wanted job {job.number + 1}")
-        state.release(job)
+        self._released(job)
+
+    def _released(self, job: Latest) -> None:
+        self.state.release(job)
         self.summary.released += 1
         self.last = job
         if self.needs is not None:
-            self.need[job.place] = self.needs.get((note.task, note.job), job.worst)
+            self.need[job.place] = self.needs.get((job.task.name, job.number), job.worst)
             if self.need[job.place] == 0:
                 self.must = "{} needs nothing, and its done line is missing"
 
@@ -595,15 +680,22 @@ class Checker:
             if not state.is_decision:
                 reason = "no release, and no completion in the tick before"
                 raise Wrong(f"no decision is made at tick {note.tick}: {reason}")
-            if self.governor is rm_cycle:
-                state.hand_out()
-            num, den = self.governor(state)
+            num, den, lowest = self._wanted(self.governor)
             if note.num != num or note.den != den:
                 raise WrongDecision(f"the demand is {num}/{den}")
-            lowest = state.plan.lowest(num, den)
             if point is not lowest:
                 raise WrongDecision(f"speed {lowest.speed} is the lowest that meets {num}/{den}", (num, den))
-        state.point, state.decided = point, state.now
+        self._decided(point)
+
+    def _wanted(self, governor: Governor) -> tuple[int, int, Point]:
+        """The demand and the point of a decision here."""
+        if governor is rm_cycle:
+            self.state.hand_out()
+        num, den = governor(self.state)
+        return num, den, self.state.plan.lowest(num, den)
+
+    def _decided(self, point: Point) -> None:
+        self.state.point, self.state.decided = point, self.state.now
         self.summary.decisions += 1
 
     def _can_run(self) -> Point:
@@ -622,10 +714,7 @@ class Checker:
         state, units = self.state, note.units
         if note.begin != (state.now, state.behind):
             raise Wrong(f"the trace is at {state.position}")
-        end = min(state.deadlines[0][0], self.ticks)
-        if self.governor and state.now < state.seen < end:
-            end = state.seen  # the decision after a completion
-        room = (end - state.now) * speed - state.behind
+        room, end = self._room(speed)
         if not 1 <= units <= room:
             events = {state.seen: "a decision", self.ticks: "the end", state.first_deadline: "a release"}
             most = f"at speed {speed} there are {room} up to {events[end]} at tick {end}"
@@ -634,6 +723,14 @@ class Checker:
         if note.end != (state.now, state.behind):
             raise Wrong(f"{units} units at speed {speed} end at {state.position}")
         return room
+
+    def _room(self, speed: int) -> tuple[int, int]:
+        """The units that there are for a segment, and the tick up to which."""
+        state = self.state
+        end = min(state.deadlines[0][0], self.ticks)
+        if self.governor and state.now < state.seen < end:
+            end = state.seen  # the decision after a completion
+        return (end - state.now) * speed - state.behind, end
 
     def _energy(self, note: Run | Idle, millivolts: int, factor: int) -> None:
         wanted = note.units * millivolts * millivolts * factor
@@ -656,22 +753,28 @@ class Checker:
         point, units, job = self._can_run(), note.units, self.named[note.task]
         if job is not self.state.first or note.job != job.number:
             raise Wrong(self._not_next(note, job))
-        need = self.need.get(job.place)
-        left = (job.worst if need is None else need) - job.used
+        left = self._left(job)
         if units > left:
             raise Wrong(f"{job} has {left} units left")
         room = self._segment(note, point.speed)
         self._energy(note, point.millivolts, 1000)
         if self.governor and units < left and units < room:
             whole = min(left, room)
-            if need is not None:
+            if self.needs is not None:
                 raise Wrong(f"{job} gets {whole} units here")
             self.must = f"{{}} has no done line here, so it is not complete and gets {whole} units"
-        elif units == left:
+        self._ran(job, units, left, note.energy)
+
+    def _left(self, job: Latest) -> int:
+        """The units that a job gets from here on, at most."""
+        return self.need.get(job.place, job.worst) - job.used
+
+    def _ran(self, job: Latest, units: int, left: int, energy: int) -> None:
+        if units == left:
             self.must = "{0} has had all of its {0.used} units, and its done line is missing"
         job.used += units
         job.left -= units
-        self.summary.run_energy += note.energy
+        self.summary.run_energy += energy
         self.last = job
 
     def _idle(self, note: Idle) -> None:
@@ -696,7 +799,10 @@ class Checker:
             raise Wrong(f"{job} needs {need} units")
         if note.used < least:
             raise Wrong(f"{job} needs at least {least} units")
-        state.complete(job)
+        self._complete(job)
+
+    def _complete(self, job: Latest) -> None:
+        self.state.complete(job)
         self.summary.complete += 1
         self.last, self.must = None, ""
 

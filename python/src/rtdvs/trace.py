@@ -281,23 +281,27 @@ def _misspelled(line: str, reason: str) -> str:
     return reason if line.endswith("\n") else "it doesn't end with a line feed"
 
 
-def spelled_lines(lines: Iterator[str]) -> Iterator[Line]:
+def spelled_lines(lines: Iterator[str], is_known: Callable[[str], bool] | None = None,
+                  ) -> Iterator[tuple[int, Line]]:
     r"""Reads the lines after the head with their line feeds; `order` has what their order has to be.
 
-    Raises TraceFault for the first line that is spelled wrong, after all lines before it were given.
+    Each comes with its number; those that are known already are left out, unread. Raises TraceFault for the
+    first line that is spelled wrong, after all lines before it were given.
 
-    >>> list(spelled_lines(iter(["end 2 0 0\n"])))
-    [End(ticks=2, run_energy=0, idle_energy=0)]
+    >>> list(spelled_lines(iter(["idle 0:0 2:0 8 0\n", "end 2 0 0\n"]), lambda line: line[:4] == "idle"))
+    [(4, End(ticks=2, run_energy=0, idle_energy=0))]
     """
     number = 2
     for number, line in enumerate(lines, 3):
+        if is_known and number <= MOST_LINES and is_known(line):
+            continue
         shape, make = _LINES.get(line[:3], _NO_LINE)
         found = shape(line)
         if not found or number > MOST_LINES:
             more = f"a trace has at most {MOST_LINES} lines"
             raise TraceFault(number, more if found else _misspelled(line, "not a line of a trace"))
         item = make(*found.groups())
-        yield item
+        yield number, item
         if isinstance(item, End):
             break
     else:
@@ -306,14 +310,16 @@ def spelled_lines(lines: Iterator[str]) -> Iterator[Line]:
         raise TraceFault(number + 1, "a line after the end line")
 
 
-def order(version: int) -> Generator[str, Line, None]:
+def order(version: int, sums: dict[str, int]) -> Generator[str, Line, None]:
     """Is sent each line after the head, and gives why it can't be the next one, or an empty text.
 
-    >>> lines = order(version=1)
+    In version 2 `sums` gets the energy of each task's runs; who leaves run lines out adds theirs.
+
+    >>> lines = order(version=1, sums={})
     >>> next(lines), lines.send(Release(0, "a", 1)), lines.send(Idle(Position(0, 0), Position(1, 0), 2, 0))
     ('', '', 'there is no decision before it')
     """
-    sums, decided, item = dict[str, int](), False, (yield "")
+    decided, item = False, (yield "")
     while isinstance(item, Task) and version == 2:
         fault = "two tasks of one name" if item.name in sums else ""
         fault = fault if len(sums) < MOST_TASKS else f"more than {MOST_TASKS} tasks"
@@ -371,9 +377,9 @@ def parse_lines(lines: Iterable[str]) -> Iterator[Item]:
     source = iter(lines)
     head = read_head(source)
     yield head
-    faults = order(head.version)
+    faults = order(head.version, {})
     next(faults)
-    for number, item in enumerate(spelled_lines(source), 3):
+    for number, item in spelled_lines(source):
         fault = faults.send(item)
         if fault:
             raise TraceFault(number, fault)
