@@ -39,12 +39,15 @@ class Inputs:
         return cls(named, Machine.read(machine), Demands.read(demands, named) if demands else None)
 
     def refusal(self, lines: list[str], known: bool = True, free: bool = False) -> tuple[int, str] | None:
-        """The first wrong line and why, or None."""
-        try:
-            check(self.tasks, self.machine, lines, self.demands if known else None, free)
-            return None
-        except WrongTrace as fault:
-            return fault.line, fault.reason
+        """The first wrong line and why, or None; the same whether boards are made or not."""
+        walk, boards, found = Walk(self.tasks, self.machine, lines, self.demands if known else None, free), [""], []
+        for show in (None, boards.append):
+            try:
+                explain(walk, show)
+            except WrongTrace as fault:
+                found.append((fault.line, fault.reason))
+        assert found in ([], 2 * found[:1])
+        return found[0] if found else None
 
     def assert_right(self, text: str) -> None:
         """The trace is right with its demand file, without it, and as one of any governor."""

@@ -8,7 +8,7 @@ from bisect import insort
 from collections.abc import Callable, Mapping
 from dataclasses import dataclass, field
 from fractions import Fraction
-from functools import cached_property
+from functools import cached_property, partial
 from operator import mul
 from typing import Any
 
@@ -308,20 +308,6 @@ class State:
         now = self.now
         return self.behind == 0 and (now == self.released or now == self.seen or now == 0)
 
-    @property
-    def late(self) -> Latest | None:
-        """The first job whose deadline is now and that isn't complete, if there is one.
-
-        >>> State.begin(EXAMPLE).late is None
-        True
-        """
-        for due, place in self.deadlines:
-            if due > self.now:
-                break
-            if not self.jobs[place].complete:
-                return self.jobs[place]
-        return None
-
     def all_met(self) -> None:
         """Raises DeadlineMissed if a job, whose deadline is now, isn't complete.
 
@@ -330,10 +316,13 @@ class State:
         Traceback (most recent call last):
         rtdvs.rules.DeadlineMissed: a job 1 was due at 4 and is not complete: it has had 3 units
         """
-        job = self.late
-        if job:
-            late = f"was due at {job.due} and is not complete: it has had {job.used} units"
-            raise DeadlineMissed(f"{job} {late}")
+        for due, place in self.deadlines:
+            job = self.jobs[place]
+            if due > self.now:
+                break
+            if not job.complete:
+                late = f"was due at {due} and is not complete: it has had {job.used} units"
+                raise DeadlineMissed(f"{job} {late}")
 
     def priority(self, job: Latest) -> tuple[int, int]:
         """What sorts the open jobs: the deadline under EDF, the period under RM; then the place.
@@ -373,16 +362,14 @@ class State:
             self.handed_at = self.now
             self.handed = [(self.jobs[place], self.jobs[place].left) for _, place in self.open]
 
-    def advance(self, units: int, speed: int) -> None:
-        """Lets the time of some work units pass at the speed in force.
+    def after(self, units: int, speed: int) -> Position:
+        """The position after some more work units at the speed in force.
 
-        >>> state = State.begin(EXAMPLE)
-        >>> state.advance(7, speed=4)
-        >>> print(state.position)
+        >>> print(State.begin(EXAMPLE).after(7, speed=4))
         1:3
         """
-        ticks, self.behind = divmod(self.behind + units, speed)
-        self.now += ticks
+        ticks, behind = divmod(self.behind + units, speed)
+        return Position(self.now + ticks, behind)
 
     def complete(self, job: Latest) -> None:
         """Marks an open job as complete; a governor sees it at this tick, or at the next one.
@@ -560,7 +547,7 @@ class Checker:
         self.checks[kind](note)
 
     def follows(self, line: str) -> bool:
-        """Whether a line is right by its text alone; it is then checked. All others are for `check`.
+        """Whether a line is right by its text alone; it is then taken as checked. `check` is for all others.
 
         >>> checker = Checker(State.begin(EXAMPLE), 4, full, None)
         >>> for note in Release(0, "a", 1), Release(0, "b", 1), Decision(0, 4, 4, 1):
@@ -569,65 +556,47 @@ class Checker:
         (False, True)
         """
         state = self.state
-        if self.must:
-            return self._done_follows(line)
-        if state.point is None or self.governor is None or state.now >= self.ticks:
+        if not (self.governor and state.point and (self.must or state.now < self.ticks)):
             return False
-        if state.behind or state.deadlines[0][0] > state.now:
-            if state.is_decision and state.decided != state.now:
-                return self._decision_follows(line, self.governor)
-            return self._segment_follows(line, state.point)
-        return self._release_follows(line)
-
-    def _release_follows(self, line: str) -> bool:
-        state = self.state
-        job = state.jobs[state.deadlines[0][1]]
-        if line != f"release {state.now} {job.task.name} {job.number + 1}\n":
+        try:
+            text, take = self._next(line, self.governor, state.point)
+        except (Wrong, ValueError, IndexError):
             return False
-        if state.released != state.now and state.late is not None:
-            return False
-        self._released(job)
-        return True
-
-    def _decision_follows(self, line: str, governor: Governor) -> bool:
-        num, den, point = self._wanted(governor)
-        if line != f"speed {self.state.now} {point.speed} {num}/{den}\n":
+        if line != text:
             return False
         self.last = None
-        self._decided(point)
+        take()
         return True
 
-    def _segment_follows(self, line: str, point: Point) -> bool:
-        """Whether it is the longest segment that there can be."""
-        state, job = self.state, self.state.first
-        units = room = self._room(point.speed)[0]
-        if job:
-            left = self._left(job)
-            units = min(left, room)
-        energy = units * point.millivolts * point.millivolts * (1000 if job else state.plan.machine.idle)
-        ticks, behind = divmod(state.behind + units, point.speed)
-        what = f"{job.task.name} {job.number} {units}" if job else f"{units}"
-        place = f"{state.now}:{state.behind} {state.now + ticks}:{behind}"
-        if line != f"{'run' if job else 'idle'} {place} {what} {energy}\n":
-            return False
-        state.now, state.behind = state.now + ticks, behind
-        if job:
-            self._ran(job, units, left, energy)
-            if self.energies:
-                self.energies[job.task.name] += energy
-        else:
-            self.last = None
-            self.summary.idle_energy += energy
-        return True
+    def _next(self, line: str, governor: Governor, point: Point) -> tuple[str, Callable[[], None]]:
+        """The line that is right here, and what takes it as checked. Raises Wrong, ValueError, IndexError.
 
-    def _done_follows(self, line: str) -> bool:
+        Of the line that is there only the units of a run count, if it may be the last one of its job.
+        """
         state, job = self.state, self.last
-        if job is None or line != f"done {state.now}:{state.behind} {job.task.name} {job.number} {job.used}\n":
-            return False
-        if self.need.get(job.place, job.used) != job.used or job.used < 2 * state.plan.machine.charge:
-            return False
-        self._complete(job)
-        return True
+        now = state.now
+        if self.must and job:
+            self._enough(job)
+            done = f"done {now}:{state.behind} {job.task.name} {job.number} {job.used}\n"
+            return done, partial(self._completed, job)
+        if state.deadlines[0][0] == now and not state.behind:
+            state.all_met()
+            job = state.jobs[state.deadlines[0][1]]
+            return f"release {now} {job.task.name} {job.number + 1}\n", partial(self._released, job)
+        if state.decided != now and state.is_decision:
+            num, den, point = self._wanted(governor)
+            return f"speed {now} {point.speed} {num}/{den}\n", partial(self._decided, point)
+        job, whole = state.first, self._room(point.speed)[0]
+        if job:
+            whole = min(whole, self._left(job))
+        units = min(whole, max(1, int(line.rsplit(" ", 2)[-2]))) if job and self.needs is None else whole
+        energy = units * point.millivolts * point.millivolts * (1000 if job else state.plan.machine.idle)
+        end = state.after(units, point.speed)
+        place = f"{now}:{state.behind} {end.tick}:{end.offset}"
+        if not job:
+            return f"idle {place} {units} {energy}\n", partial(self._idled, energy, end)
+        run = f"run {place} {job.task.name} {job.number} {units} {energy}\n"
+        return run, partial(self._ran, job, units, whole, energy, end)
 
     # What holds at a position
 
@@ -710,7 +679,7 @@ class Checker:
         return state.point
 
     def _segment(self, note: Run | Idle, speed: int) -> int:
-        """Checks the place of a segment, and moves to its end; the units that there are for it."""
+        """Checks the place of a segment; the units that there are for it."""
         state, units = self.state, note.units
         if note.begin != (state.now, state.behind):
             raise Wrong(f"the trace is at {state.position}")
@@ -719,9 +688,9 @@ class Checker:
             events = {state.seen: "a decision", self.ticks: "the end", state.first_deadline: "a release"}
             most = f"at speed {speed} there are {room} up to {events[end]} at tick {end}"
             raise Wrong(f"{units} units: {most}")
-        state.advance(units, speed)
-        if note.end != (state.now, state.behind):
-            raise Wrong(f"{units} units at speed {speed} end at {state.position}")
+        after = state.after(units, speed)
+        if note.end != after:
+            raise Wrong(f"{units} units at speed {speed} end at {after}")
         return room
 
     def _room(self, speed: int) -> tuple[int, int]:
@@ -758,24 +727,27 @@ class Checker:
             raise Wrong(f"{job} has {left} units left")
         room = self._segment(note, point.speed)
         self._energy(note, point.millivolts, 1000)
-        if self.governor and units < left and units < room:
-            whole = min(left, room)
-            if self.needs is not None:
-                raise Wrong(f"{job} gets {whole} units here")
-            self.must = f"{{}} has no done line here, so it is not complete and gets {whole} units"
-        self._ran(job, units, left, note.energy)
+        whole = min(left, room)
+        if self.governor and units < whole and self.needs is not None:
+            raise Wrong(f"{job} gets {whole} units here")
+        self._ran(job, units, whole, note.energy, note.end)
 
     def _left(self, job: Latest) -> int:
         """The units that a job gets from here on, at most."""
         return self.need.get(job.place, job.worst) - job.used
 
-    def _ran(self, job: Latest, units: int, left: int, energy: int) -> None:
-        if units == left:
-            self.must = "{0} has had all of its {0.used} units, and its done line is missing"
+    def _ran(self, job: Latest, units: int, whole: int, energy: int, end: Position) -> None:
+        self.state.now, self.state.behind = end
         job.used += units
         job.left -= units
         self.summary.run_energy += energy
+        if self.energies:
+            self.energies[job.task.name] += energy
         self.last = job
+        if self.governor and units < whole:
+            self.must = f"{{}} has no done line here, so it is not complete and gets {whole} units"
+        elif not self._left(job):
+            self.must = "{0} has had all of its {0.used} units, and its done line is missing"
 
     def _idle(self, note: Idle) -> None:
         point, state = self._can_run(), self.state
@@ -786,7 +758,11 @@ class Checker:
         if self.governor and note.units < room:
             raise Wrong(f"{room} units are idle here")
         self._energy(note, point.millivolts, state.plan.machine.idle)
-        self.summary.idle_energy += note.energy
+        self._idled(note.energy, note.end)
+
+    def _idled(self, energy: int, end: Position) -> None:
+        self.state.now, self.state.behind = end
+        self.summary.idle_energy += energy
 
     def _done(self, note: Done) -> None:
         state, job = self.state, self.named[note.task]
@@ -794,14 +770,17 @@ class Checker:
             raise Wrong(f"the line before isn't the last one of {note.task} job {note.job}")
         if note.at != (state.now, state.behind) or note.job != job.number or note.used != job.used:
             raise Wrong(f"{job} is at {state.position} and has had {job.used} units")
-        need, least = self.need.get(job.place), 2 * state.plan.machine.charge
-        if need is not None and note.used != need:
-            raise Wrong(f"{job} needs {need} units")
-        if note.used < least:
-            raise Wrong(f"{job} needs at least {least} units")
-        self._complete(job)
+        self._enough(job)
+        self._completed(job)
 
-    def _complete(self, job: Latest) -> None:
+    def _enough(self, job: Latest) -> None:
+        need, least = self.need.get(job.place, job.used), 2 * self.state.plan.machine.charge
+        if job.used != need:
+            raise Wrong(f"{job} needs {need} units")
+        if job.used < least:
+            raise Wrong(f"{job} needs at least {least} units")
+
+    def _completed(self, job: Latest) -> None:
         self.state.complete(job)
         self.summary.complete += 1
         self.last, self.must = None, ""

@@ -71,7 +71,7 @@ class _Run:
         room = (min(ends) - state.now) * point.speed - state.behind
         units = room if job is None else min(room, self._left(job))
         begin, price = state.position, units * point.millivolts * point.millivolts
-        state.advance(units, point.speed)
+        state.now, state.behind = state.after(units, point.speed)
         if job is None:
             yield Idle(begin, state.position, units, price * state.plan.machine.idle)
             return

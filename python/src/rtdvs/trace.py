@@ -313,7 +313,7 @@ def spelled_lines(lines: Iterator[str], is_known: Callable[[str], bool] | None =
 def order(version: int, sums: dict[str, int]) -> Generator[str, Line, None]:
     """Is sent each line after the head, and gives why it can't be the next one, or an empty text.
 
-    In version 2 `sums` gets the energy of each task's runs; who leaves run lines out adds theirs.
+    In version 2 `sums` gets an entry for each task, to which the caller adds the energies of its runs.
 
     >>> lines = order(version=1, sums={})
     >>> next(lines), lines.send(Release(0, "a", 1)), lines.send(Idle(Position(0, 0), Position(1, 0), 2, 0))
@@ -336,11 +336,8 @@ def order(version: int, sums: dict[str, int]) -> Generator[str, Line, None]:
             fault = _LATE
         elif not (decided or isinstance(item, Release) or isinstance(item, Done) and not item.at.offset):
             fault = "there is no decision before it"
-        elif sums and not isinstance(item, Idle):
-            if item.task not in sums:
-                fault = f"no task {item.task}"
-            elif isinstance(item, Run):
-                sums[item.task] += item.energy
+        elif sums and not isinstance(item, Idle) and item.task not in sums:
+            fault = f"no task {item.task}"
         item = yield fault
     for name, total in [*sums.items(), ("", 0)]:
         item = yield _closing_fault(item, version, name, total)
@@ -377,12 +374,15 @@ def parse_lines(lines: Iterable[str]) -> Iterator[Item]:
     source = iter(lines)
     head = read_head(source)
     yield head
-    faults = order(head.version, {})
+    sums = dict[str, int]()
+    faults = order(head.version, sums)
     next(faults)
     for number, item in spelled_lines(source):
         fault = faults.send(item)
         if fault:
             raise TraceFault(number, fault)
+        if sums and isinstance(item, Run):
+            sums[item.task] += item.energy
         yield item
 
 
