@@ -45,6 +45,13 @@ def files(name: str | Path) -> tuple[TaskSet, Machine, Demands]:
     return tasks, Machine.read(folder / "machine.toml"), named
 
 
+def cases(name: str) -> list[tuple[str, ...]]:
+    r"""The rows of a table in the folder of data: columns between " => ", with escapes such as \n; # is a comment."""
+    lines = (TEST_DATA / f"{name}.txt").read_text(encoding="utf-8").splitlines()
+    rows = (line.encode().decode("unicode_escape") for line in lines if line[:1] not in ("", "#"))
+    return [tuple(row.split(" => ")) for row in rows]
+
+
 def entry(kind: str = "task", **changes: str) -> str:
     """A table of a TOML file; a value that is empty is left out."""
     values = ENTRIES[kind] | changes

@@ -4,7 +4,7 @@ from fractions import Fraction
 from pathlib import Path
 
 import pytest
-from examples import TOP, XSCALE, Captured, printed, refusal
+from examples import TOP, XSCALE, Captured, cases, printed, refusal
 from hypothesis import given
 from hypothesis import strategies as st
 
@@ -122,24 +122,9 @@ def test_usual_demands() -> None:
 
 
 @pytest.mark.parametrize(("old", "new", "line"), [
-    ("period_ms", "periodms", "board: task 1: unknown key periodms"),
-    ("[[task]]", "[task]", "board: not TOML"),
+    *cases("refused_boards"),
     (VOLTS, "task = 3", "board: task is no array of tables"),
     (VOLTS, "", "board: no tasks"),
-    ("period_ms = 5", "period_ms = 0", "board: task 1: period_ms has to be above 0"),
-    ("period_ms = 5", "period_ms = true", "board: task 1: period_ms is no number"),
-    ("period_ms = 5", "period_ms = 1e99999", "board: not TOML: not a number in reach"),
-    ("period_ms = 5", "period_ms = nan", "board: not TOML"),
-    ("period_ms = 5\n", "", "board: task 1: missing period_ms"),
-    ("at_mhz = 1000\n", "", "board: task 1: missing at_mhz"),
-    ("usual_cycles = 8e6", "usual_cycles = 16e6\nworst_ms = 1", "either worst_cycles, or worst_ms"),
-    ("8e6", "8e7", "board: task 2: usual_cycles are over the worst case"),
-    ('"control"', '"a b"', "tasks: task 1: bad name"),
-    ("volts = 1.3", "volts = 0.9", "board: point 600 MHz: the voltage is below that of 400 MHz"),
-    ("volts = 1.3\n", "", "board: point 600 MHz: give volts at each point, or milliwatts at each"),
-    ("mhz = 400", "mhz = 150", "board: points 150 and 150 MHz: both are speed"),
-    ("milliwatts = 1600\n", "volt = 1\n", "board: point 5: unknown key volt"),
-    ("volts = 1.8", "volts = 25", "machine: point 5: millivolts out of range"),
     pytest.param(VOLTS, "a = " + "[" * 5000, "board: n", id="nested"),
     (VOLTS, POWER.replace("mhz = 400", "mhz = 150\nmilliwatts = 80\n[[point]]\nmhz = 400"),
      "board: point 150 MHz: a cycle takes more energy than at 400 MHz; leave the point out"),

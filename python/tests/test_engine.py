@@ -1,5 +1,6 @@
 """The engine: typed answers, an exception for each status, failing programs, and lists of calls."""
 
+import json
 import os
 import pickle
 import shutil
@@ -11,7 +12,7 @@ from concurrent.futures import Executor, ProcessPoolExecutor, ThreadPoolExecutor
 from pathlib import Path
 
 import pytest
-from examples import BOARD, DATA, PAPER, SOURCE, fake, files
+from examples import BOARD, DATA, PAPER, SOURCE, cases, fake, files
 
 from rtdvs import engine as engine_module
 from rtdvs.engine import (
@@ -102,36 +103,18 @@ def test_a_price_below_nothing() -> None:
 
 # Statuses
 
-LINES: list[tuple[int, str, type[EngineError], dict[str, object]]] = [
-    (1, "denied edf 248 240", Denied, {"test": "edf", "task": None, "asked": 248, "ticks": None}),
-    (1, "denied rm c 42 40", Denied, {"test": "rm", "task": "c", "asked": 42, "capacity": 40}),
-    (1, "denied rm 7 42 40", Denied, {"test": "rm", "task": "7", "asked": 42}),
-    (1, "denied offset b", Denied, {"test": "offset", "task": "b", "asked": None}),
-    (1, "misses c 42 40", Denied, {"test": "misses", "task": "c", "capacity": 40}),
-    (1, "denied demand 3 9 8", Denied, {"test": "demand", "ticks": 3, "asked": 9, "capacity": 8}),
-    (1, "denied units 65 64", Denied, {"test": "units", "asked": 65, "capacity": 64}),
-    (2, "words: no command", WordsRefused, {}),
-    (3, "load: trace", LoadFailed, {"kind": "trace"}),
-    (4, "machine: not TOML", FileRefused, {"kind": "machine"}),
-    (4, "trace: line 3: word", FileRefused, {"kind": "trace"}),
-    (5, "limit: 100001 jobs, at most 100000", TooManyJobs, {"jobs": 100_001, "most": 100_000}),
-    (6, "over worst: a 1 3 2", OverWorst, {"task": "a", "job": 1, "units": 3, "worst": 2}),
-    (7, "differs: line 9\nwanted: a b\nfound: ", Differs, {"line_number": 9, "wanted": "a b", "found": ""}),
-    (8, "write: out failed", WriteFailed, {}),
-    (9, "no memory", OutOfMemory, {}),
-]
+LINES = cases("errors")
 
 
 @pytest.mark.parametrize(("status", "line", "kind", "fields"), LINES, ids=[line for _, line, _, _ in LINES])
-def test_each_status(status: int, line: str, kind: type[EngineError],
-                     fields: dict[str, object]) -> None:
-    with pytest.raises(kind) as caught:
-        Answer(status, b"", f"{line}\n".encode()).text()
-    error = caught.value
-    assert (error.status, error.line, str(error)) == (status, line, line)
-    assert {name: getattr(error, name) for name in fields} == fields
+def test_each_status(status: str, line: str, kind: str, fields: str) -> None:
+    with pytest.raises(EngineError) as caught:
+        Answer(int(status), b"", f"{line}\n".encode()).text()
+    error, wanted = caught.value, json.loads(fields)
+    assert (type(error).__name__, error.status, error.line, str(error)) == (kind, int(status), line, line)
+    assert {name: getattr(error, name) for name in wanted} == wanted
     again = pickle.loads(pickle.dumps(error))
-    assert (type(again), vars(again)) == (kind, vars(error))
+    assert (type(again), vars(again)) == (type(error), vars(error))
 
 
 @pytest.mark.parametrize(("status", "kind"), [(9, OutOfMemory), (10, NoText)])

@@ -6,7 +6,7 @@ from collections.abc import Callable, Iterator
 from pathlib import Path
 
 import pytest
-from examples import DATA, entry, machines
+from examples import DATA, cases, entry, machines
 from hypothesis import given
 from hypothesis import strategies as st
 
@@ -35,73 +35,6 @@ RANGES = {
     "machine: point 1": {"speed": (1, 10**6), "millivolts": (1, 20_000)},
     "machine": {"idle": (0, 1000), "charge": (0, 10**6)},
 }
-# Files that are refused, by the reason.
-REFUSED = {
-    "tasks": {
-        "no tasks": ["", "task = []"],
-        "wrong kind of task": ["task = 3", "[task]"],
-        "not TOML": ["[[task]", "task = [", "x = 9223372036854775808", "a = " + "[" * 5000],
-        "unknown key b": ["z = 1\nb = 1\ntask = 3"],
-        "unknown key ???b": ['"ä b" = 1'],
-        "unknown key " + "k" * 32: ["k" * 40 + " = 1"],
-        "task 1: wrong kind of entry": ["task = [1]"],
-        "65 tasks, at most 64": ["".join(entry(name=f'"t{place}"') for place in range(65))],
-        "task 1: unknown key ofset": [entry(ofset="1", period="0")],
-        "task 1: missing name": [entry(name="")],
-        "task 1: wrong kind of name": [entry(name="5", period="0")],
-        "task 1: bad name": [entry(name=f'"{name}"') for name in ("a b", "", "a" * 33, "ä", "a\\n")],
-        "task 1: period out of range": [entry(period="0", worst="0")],
-        "tasks 2 and 3 have one name": [entry(name='"c"') + entry() + entry() + "[[task]]"],
-        "periods have no common multiple up to 281474976710656": [
-            entry(period=str(2**40)) + entry(name='"b"', period="257")],
-    },
-    "machine": {
-        "no points": [""],
-        "wrong kind of point": ["point = {}"],
-        "not TOML": ["idle = 08"],
-        "unknown key speed": ["speed = 2\n" + POINT],
-        "idle out of range": ["idle = -1\ncharge = -1"],
-        "point 1: wrong kind of entry": ["point = [1]"],
-        "point 1: unknown key idle": [POINT + "idle = 0"],
-        "point 1: wrong kind of speed": [entry("point", speed="2.5", millivolts="")],
-        "point 2: not rising": [POINT + entry("point", millivolts="4000"),
-                                POINT + entry("point", speed="3", millivolts="2999")],
-        "33 points, at most 32": ["".join(entry("point", speed=str(speed)) for speed in range(1, 34))],
-    },
-    "demands": {"wrong header": ["", "task,job, units\n"]},
-    "requests": {
-        "wrong header": ["arrival;units\n"],
-        "100001 rows, at most 100000": ["arrival,units\n" + "x\n" * 100_001],
-    },
-}
-# Rows below the right header that are refused, by the number of the wrong one and the reason.
-REFUSED_ROWS = {
-    "demands": {
-        "1: 2 fields": ["a,1\n"],
-        "2: 4 fields": ["\n\r\na,1,2\n\nx y,0,1,"],
-        "1: 1 fields": ['"a,1,1\n'],
-        "1: unknown task x?y": ["x y,0,1"],
-        "1: unknown task ab": ['"a"b,1,1'],
-        "1: unknown task " + "x" * 32: ["x" * 200_000 + ",1,1"],
-        "1: bad job": ["a,+1,1", "a,18446744073709551616,1", "a," + "1" * 5000 + ",1"],
-        "1: job 0": ["a,0,x"],
-        "1: bad units": ["a,1,01", "a,1,\u0661"],
-        "2: task a job 1 stands twice": ["a,1,1\na,1,9"],
-    },
-    "deadlines": {
-        "1: unknown task c": ["c,1"],
-        "1: deadline out of range": ["a,0", "a,5"],
-        "1: bad deadline": ["a, 3"],
-        "2: task a stands twice": ["a,3\na,3"],
-    },
-    "requests": {
-        "1: 1 fields": ["0"],
-        "1: bad arrival": ["-1,1"],
-        "1: bad units": ["1,1.5"],
-        "1: units out of range": ["1,0", f"1,{2**60 + 1}"],
-        "2: too early": ["2,1\n1,1"],
-    },
-}
 
 
 def line_of(kind: str, content: bytes) -> str | None:
@@ -128,12 +61,17 @@ def of_ranges() -> Iterator[tuple[str, str, str]]:
                 yield place.split(":")[0], text, f"{place}: {reason}"
 
 
+# A kind of file, its text, and the refusal.
 BY_HAND = [
-    *((kind, text, f"{kind}: {reason}") for kind, refused in REFUSED.items() for reason, texts in refused.items()
-      for text in texts),
-    *((kind, f"{TABLES[kind].splitlines()[0]}\n{text}", f"{kind}: row {reason}") for kind, refused in REFUSED_ROWS.items()
-      for reason, texts in refused.items() for text in texts),
+    *((kind, f"{TABLES[kind].splitlines()[0]}\n{text}" if reason.startswith("row ") else text, f"{kind}: {reason}")
+      for kind, text, reason in cases("refused_files")),
+    ("tasks", "a = " + "[" * 5000, "tasks: not TOML"),
+    ("tasks", "".join(entry(name=f'"t{place}"') for place in range(65)), "tasks: 65 tasks, at most 64"),
+    ("machine", "".join(entry("point", speed=str(speed)) for speed in range(1, 34)), "machine: 33 points, at most 32"),
+    ("demands", f"task,job,units\n{'x' * 200_000},1,1", f"demands: row 1: unknown task {'x' * 32}"),
+    ("demands", f"task,job,units\na,{'1' * 5000},1", "demands: row 1: bad job"),
     ("demands", "task,job,units\na,1,3\nx", "over worst: a 1 3 2"),
+    ("requests", "arrival,units\n" + "x\n" * 100_001, "requests: 100001 rows, at most 100000"),
     *of_ranges(),
 ]
 

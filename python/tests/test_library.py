@@ -12,7 +12,7 @@ from pathlib import Path
 import pytest
 import speed
 from conftest import compiled
-from examples import BOARD, DATA, PAPER, Captured, machines, options, printed, task_sets
+from examples import BOARD, DATA, PAPER, Captured, cases, machines, options, printed, task_sets
 from hypothesis import given
 from hypothesis import strategies as st
 
@@ -202,34 +202,16 @@ SETS = "--tasks paper/tasks.toml --machine paper/machine.toml"
 LA = "paper/edf_la_with_demands.trace"
 
 
-@pytest.mark.parametrize(("status", "line"), [
-    (0, f"admit {SETS} --scheduler edf"), (0, f"migrate {SETS} --trace {LA}"),
-    (1, "least --machine paper/machine.toml --units 65 --ticks 16"),
-    (2, ""), (2, "admin"), (2, f"run {SETS} --scheduler rm --governor la --ticks 16"),
-    (2, f"admit {SETS} --scheduler EDF"), (2, f"admit {SETS} --tasks a"), (2, "admit --tasks"),
-    (2, "admit paper/tasks.toml"), (2, "workload --seed paper/tasks.toml"), (2, "run --probes --tasks"),
-    (2, "run --demands --tasks paper/tasks.toml"), (2, f"run --tasks --probes {SETS}"),
-    (3, "admit --tasks paper --machine paper/machine.toml --scheduler edf"),
-    (3, "admit --tasks paper/tasks.toml --machine paper/absent --scheduler edf"),
-    (3, f"replay {SETS} --trace absent"), (3, f"run {SETS} --demands a --scheduler edf --governor cc --ticks 1"),
-    (3, f"constrain {SETS} --deadlines tasks"), (3, "least --machine tasks --units 1 --ticks 1"),
-    (3, f"poll {SETS} --requests requests --server t1 --scheduler edf --governor cc --ticks 1"),
-    (4, "admit --tasks paper/machine.toml --machine absent --scheduler edf"),
-    (4, f"admit --tasks {LA} --machine paper/machine.toml --scheduler edf"), (4, f"replay {SETS} --trace /dev/null"),
-    (4, "admit --tasks /dev/zero --machine absent --scheduler edf"),
-    (5, f"run {SETS} --scheduler edf --governor none --ticks 1099511627776"),
-    (6, f"run {SETS} --demands over.csv --scheduler edf --governor none --ticks 16"),
-    (7, f"replay {SETS} --trace wrong.trace"),
-    (10, "admit --tasks \udcff --machine paper/machine.toml --scheduler edf"), (10, "\udcff"), (10, "admit \udcc3"),
-])
-def test_each_status(status: int, line: str, program: Path, library: Path, tmp_path: Path,
+@pytest.mark.parametrize(("line", "status"), cases("statuses"))
+def test_each_status(line: str, status: str, program: Path, library: Path, tmp_path: Path,
                      monkeypatch: pytest.MonkeyPatch) -> None:
     (tmp_path / "paper").symlink_to(DATA / "paper")
     (tmp_path / "over.csv").write_text("task,job,units\nt1,1,13\n")
     wrong = (DATA / LA).read_text().replace("speed 3 2", "speed 3 3")
     (tmp_path / "wrong.trace").write_text(wrong)
     monkeypatch.chdir(tmp_path)
-    assert alike(program, library, line.split()).status == status
+    words = line.replace("SETS", SETS).replace("LA", LA).split()
+    assert alike(program, library, words).status == int(status)
 
 
 WORDS = ["run", "admit", "least", "workload", "--tasks", "--machine", "--demands", "--trace", "--deadlines",

@@ -16,7 +16,7 @@ from time import monotonic, sleep
 from typing import Any
 
 import pytest
-from examples import DATA, SOURCE, fake, files, path_id, serving
+from examples import DATA, SOURCE, cases, fake, files, path_id, serving
 
 from rtdvs import serve
 from rtdvs.compare import PAIRS
@@ -24,7 +24,6 @@ from rtdvs.engine import Engine
 from rtdvs.files import FileFault, Machine, TaskSet
 from rtdvs.serve import Example, PageServer, answer_of, examples, field_of, read_example
 
-HOSTILE = '</script><img src=x onerror="document.title=1">'
 PAPER_FOLDER = DATA / "paper"
 
 
@@ -89,34 +88,12 @@ def test_example_without_the_repository(engine: Engine) -> None:
     assert answered(engine, serve.START["example"])[1]["data"]["sheets"][0]["title"] == "edf cc, 12 ticks"
 
 
-REFUSED = [
-    ({"tasks_1_period": "8 ms"}, "tasks: task 2: wrong kind of period", "tasks.1.period"),
-    ({"tasks_1_period": ""}, "tasks: task 2: missing period", "tasks.1.period"),
-    ({"tasks_0_worst": "0"}, "tasks: task 1: worst out of range", "tasks.0.worst"),
-    ({"tasks_2_offset": "-1"}, "tasks: task 3: offset out of range", "tasks.2.offset"),
-    ({"tasks_0_name": HOSTILE, "demands": []}, "tasks: task 1: bad name", "tasks.0.name"),
-    ({"tasks_1_name": "t1", "demands": []}, "tasks: tasks 1 and 2 have one name", "tasks.1.name"),
-    ({"points_0_speed": "3.5"}, "machine: point 1: wrong kind of speed", "points.0.speed"),
-    ({"points_1_millivolts": "0"}, "machine: point 2: millivolts out of range", "points.1.millivolts"),
-    ({"points_2_speed": "3"}, "machine: point 3: not rising", "points.2.speed"),
-    ({"idle": "1001"}, "machine: idle out of range", "idle"),
-    ({"charge": "one"}, "machine: wrong kind of charge", "charge"),
-    ({"demands_2_task": "t9"}, "demands: row 3: unknown task t9", "demands.2.task"),
-    ({"demands_0_job": "0"}, "demands: row 1: job 0", "demands.0.job"),
-    ({"demands_1_units": "-"}, "demands: row 2: bad units", "demands.1.units"),
-    ({"demands_1_units": "13"}, "over worst: t1 2 13 12", "demands.1.units"),
-    ({"tasks_0_worst": "30"}, "denied edf 1466 1120", "scheduler"),
-    ({"scheduler": "rm", "tasks_2_worst": "20"}, "denied rm t3 68 56", "tasks.2.worst"),
-    ({"scheduler": "rm", "governor": "la"}, "words: rm has no governor la", "governor"),
-    ({"ticks": "0"}, "words: 7: bad value 0", "ticks"),
-    ({"ticks": ""}, "words: 7: bad value ", "ticks"),
-    ({"ticks": "100000"}, "limit: 29645 jobs, at most 10000", "ticks"),
-]
+REFUSED = cases("refused_examples")
 
 
-@pytest.mark.parametrize(("changes", "line", "field"), REFUSED, ids=[line for _, line, _ in REFUSED])
-def test_refusal_names_its_field(changes: dict[str, str], line: str, field: str, engine: Engine) -> None:
-    assert answered(engine, paper(**changes)) == (200, {"refused": line, "field": field})
+@pytest.mark.parametrize(("field", "line", "changes"), REFUSED, ids=[line for _, line, _ in REFUSED])
+def test_refusal_names_its_field(field: str, line: str, changes: str, engine: Engine) -> None:
+    assert answered(engine, paper(**json.loads(changes))) == (200, {"refused": line, "field": field})
 
 
 @pytest.mark.parametrize("changes", [{"tasks_1_period": "8 ms"}, {"ticks": "0"}, {"ticks": "100000"}])

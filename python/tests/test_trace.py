@@ -3,7 +3,7 @@
 from fractions import Fraction
 
 import pytest
-from examples import DATA, PAPER, TEMPLATE, TRACES, WORKED, Captured, printed, refusal
+from examples import DATA, PAPER, TEMPLATE, TRACES, WORKED, Captured, cases, printed, refusal
 from hypothesis import given
 from hypothesis import strategies as st
 
@@ -12,43 +12,12 @@ from rtdvs.statistics import task_statistics
 from rtdvs.trace import Decision, End, Job, Position, Run, Trace, TraceFault, parse_lines
 
 TEXTS = [path.read_text() for path in TRACES]
-HEAD = "trace 2\nplan edf mine 4\ntask a 4 0 4\n"
-START = HEAD + "release 0 a 1\nspeed 0 2 1/1\n"
+# The number of the first wrong line, the text, and a part of the reason.
 REFUSED = [
-    ("", 1, "neither trace 1 nor trace 2"),
-    ("trace 1", 1, "neither"),
-    ("trace 1\n", 2, "line feed"),
-    ("trace 1\nplan edf mine 0\nend 0 0 0\n", 2, "not a plan line"),
-    (f"trace 1\nplan edf mine {2**40 + 1}\n", 2, "not a plan line"),
-    ("trace 1\nplan fifo mine 4\n", 2, "not a plan line"),
-    ("trace 1\nplan edf mine 4\n", 3, "ends before its end line"),
-    ("trace 1\nplan edf mine 4\ntask a 4 0 4\n", 3, "version 2"),
-    ("trace 2\nplan edf mine 4\nend 4 0 0\n", 3, "lines of the tasks are missing"),
-    (HEAD + "task a 4 0 4\n", 4, "two tasks of one name"),
-    (HEAD + "task b 0 0 4\n", 4, "not a line of a trace"),
-    (HEAD + "release 0 b 1\n", 4, "no task b"),
-    (HEAD + "release 0 a 01\n", 4, "not a line of a trace"),
-    (HEAD + f"release 0 a {2**64}\n", 4, "not a line of a trace"),
-    (HEAD + "release  0 a 1\n", 4, "not a line of a trace"),
-    (HEAD + "release 0 a 1\r\n", 4, "not a line of a trace"),
-    (HEAD + "speed 0 0 1/1\n", 4, "a speed of 0"),
-    (HEAD + "speed 0 2 1/0\n", 4, "a fraction over 0"),
-    (HEAD + f"speed 0 2 {2**128}/1\n", 4, "not a line of a trace"),
-    (HEAD + "run 0:0 1:0 a 1 2 5\n", 4, "no decision before it"),
-    (HEAD + "idle 0:0 1:0 2 5\n", 4, "no decision before it"),
-    (HEAD + "done 0:1 a 1 1\n", 4, "no decision before it"),
-    (START + "run 0:0 1:0 a 1 2 5\nend 4 5 0\n", 7, "the energy line of a is missing"),
-    (START + "run 0:0 1:0 a 1 2 5\nenergy a 4\n", 7, "add up to 5"),
-    (START + "energy a 0\nidle 1:0 4:0 6 0\n", 7, "between the energy lines and the end line"),
-    (START + "energy a 0\nenergy a 0\n", 7, "one for each task"),
-    (START + "energy a 0\ntask b 4 0 4\n", 7, "after the plan line"),
-    (START + "energy a 0\nend 4 0 0\nend 4 0 0\n", 8, "a line after the end line"),
-    (START + "energy a 0\nend 4 0 0\n\n", 8, "a line after the end line"),
-    ("trace 1\nplan edf mine 4\nenergy a 0\n", 3, "only version 2"),
-    ("trace 1\nplan edf mine 4\n" + "x" * 256 + "\n", 3, "more than 255 bytes"),
-    ("trace 1\nplan edf mine 4\n" + "x" * 10**6, 3, "more than 255 bytes"),
-    ("trace 1\nplan edf mine 4\nrelease 0 \u00e9 1\n", 3, "not a line of a trace"),
-    ("trace 1\nplan edf mine 4\n" + "release 0 a 1\n" * 800_000, 800_001, "at most 800000 lines"),
+    *cases("refused_traces"),
+    ("3", "trace 1\nplan edf mine 4\n" + "x" * 256 + "\n", "more than 255 bytes"),
+    ("3", "trace 1\nplan edf mine 4\n" + "x" * 10**6, "more than 255 bytes"),
+    ("800001", "trace 1\nplan edf mine 4\n" + "release 0 a 1\n" * 800_000, "at most 800000 lines"),
 ]
 
 
@@ -112,11 +81,11 @@ def test_text_of_a_trace(text: str) -> None:
     assert Trace.parse(text).text() == text
 
 
-@pytest.mark.parametrize(("text", "line", "part"), REFUSED, ids=range(len(REFUSED)))
-def test_refused(text: str, line: int, part: str) -> None:
+@pytest.mark.parametrize(("line", "text", "part"), REFUSED, ids=range(len(REFUSED)))
+def test_refused(line: str, text: str, part: str) -> None:
     with pytest.raises(TraceFault) as found:
         Trace.parse(text)
-    assert found.value.line == line and part in found.value.reason
+    assert found.value.line == int(line) and part in found.value.reason
 
 
 @given(st.sampled_from(TEXTS), st.data())
