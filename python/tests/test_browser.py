@@ -12,7 +12,7 @@ from time import monotonic, sleep
 from typing import Any
 
 import pytest
-from examples import BOARD, DATA, PAPER, explained, files, serving
+from examples import BOARD, DATA, PAPER, TEST_DATA, explained, files, serving
 
 from rtdvs.engine import Engine
 from rtdvs.files import Demands, Task, TaskSet
@@ -27,29 +27,7 @@ if not CHROMIUM or not DRIVER:
 Browser = Any
 WAIT = 120      # seconds that anything may take on a busy machine
 ALL_READ = "return document.body.classList.contains('whole')"
-CLICK = """
-drawAll();
-const marks = [...document.querySelectorAll("#sheets path")].filter((each) => each.mark?.kind === arguments[0]);
-marks[arguments[1]].dispatchEvent(new MouseEvent("click", { bubbles: true }));
-"""
-# Zooms in and out and moves, a step in each frame, and gives the times of the frames and what each drawing took.
-MOVES = """
-const finish = arguments[0], frames = [];
-performance.clearMeasures();
-const next = (now) => {
-  const count = frames.push(now), span = state.to - state.from;
-  if (count > 120 || now - frames[0] > 10000) {
-    finish({ frames, draws: performance.getEntriesByName("draw").map((each) => each.duration) });
-    return;
-  }
-  if (count % 60 < 25) zoom(0.9);
-  else if (count % 60 < 50) zoom(1 / 0.9);
-  else move(state.from + span / 50, span);
-  requestAnimationFrame(next);
-};
-move(0, state.ticks);
-requestAnimationFrame(next);
-"""
+CLICK, MOVES, TOUCH = ((TEST_DATA / f"{name}.js").read_text() for name in ("click", "moves", "touch"))
 
 
 def chromium() -> Browser:
@@ -188,16 +166,7 @@ def test_drag_and_wheel(browser: Browser, tmp_path: Path) -> None:
 def test_two_fingers(browser: Browser, tmp_path: Path) -> None:
     """Twice as far apart they show half the ticks."""
     paper(browser, tmp_path, "edf_cc_with_demands")
-    browser.execute_script("""
-const picture = document.querySelector("#sheets svg");
-const touch = (kind, pointerId, clientX) =>
-  picture.dispatchEvent(new PointerEvent(kind, { pointerId, clientX, clientY: 300, bubbles: true }));
-touch("pointerdown", 1, 400);
-touch("pointerdown", 2, 600);
-touch("pointermove", 2, 800);
-touch("pointerup", 1, 400);
-touch("pointerup", 2, 800);
-""")
+    browser.execute_script(TOUCH)
     assert browser.execute_script("return state.to - state.from") == 8
 
 

@@ -11,7 +11,7 @@ from types import SimpleNamespace
 from unittest.mock import Mock
 
 import pytest
-from examples import BOARD, DATA, PAPER, SOURCE, Captured, options, printed, refusal
+from examples import BOARD, DATA, PAPER, SOURCE, TOP, Captured, cases, options, printed, refusal
 
 from rtdvs import cli, commandline
 from rtdvs.engine import Crashed, Engine, NoEngine, OverWorst
@@ -70,6 +70,17 @@ def test_unknown_option_of_each_command(command: str, capsys: Captured) -> None:
     assert refusal(capsys, [command, "--foo"]).startswith("usage: python3 -m rtdvs ")
 
 
+@pytest.mark.parametrize(("words", "line"), cases("usage"))
+def test_usage_of_commands(words: str, line: str, tmp_path: Path, capsys: Captured,
+                           monkeypatch: pytest.MonkeyPatch) -> None:
+    """Nothing is written."""
+    if words.startswith("plot"):
+        pytest.importorskip("matplotlib")
+    monkeypatch.chdir(TOP)
+    words = words.replace("PAPER", str(DATA / "paper")).replace("OUT", str(tmp_path))
+    assert line in refusal(capsys, words.split()) and not [*tmp_path.iterdir()]
+
+
 @pytest.mark.parametrize("words", [[], ["--foo"], ["foo"], ["stub"], ["stub", "--tasks"], ["stub", "--foo"]])
 def test_usage(words: list[str], stub: Stub, capsys: Captured) -> None:
     stub(lambda args: 0)
@@ -123,21 +134,6 @@ BAD_FILES = {
     "a number past each limit": b"[[task]]\nname = 'a'\nperiod = 1099511627777\nworst = 1\n",
     "a cut trace": b"trace 2\nplan edf cc 4\ntask a 4 0",
 }
-READERS_OF_FILES = [
-    "explain --tasks BAD --machine machine.toml --trace edf_none.trace",
-    "explain --tasks tasks.toml --machine BAD --trace edf_none.trace",
-    "explain --tasks tasks.toml --machine machine.toml --trace edf_none.trace --demands BAD",
-    "explain --quiet --any --tasks tasks.toml --machine BAD --trace edf_none.trace",
-    "simulate --tasks BAD --machine machine.toml --scheduler edf --governor cc --ticks 4",
-    "statistics --tasks tasks.toml --trace BAD",
-    "statistics --tasks BAD --trace edf_none.trace",
-    "compare --tasks BAD --machine machine.toml --ticks 4",
-    "compare --tasks tasks.toml --machine machine.toml --ticks 4 --demands BAD",
-    "sensitivity --tasks tasks.toml --machine BAD --test edf",
-    "design --board BAD",
-    "convert --to csv --trace BAD",
-    "convert --to vcd --trace BAD",
-]
 
 
 @pytest.fixture(params=["absent", "folder", *BAD_FILES])
@@ -151,7 +147,7 @@ def bad_file(request: pytest.FixtureRequest, tmp_path: Path) -> Path:
     return path
 
 
-@pytest.mark.parametrize("words", READERS_OF_FILES)
+@pytest.mark.parametrize(("words",), cases("readers"))
 def test_bad_files(words: str, bad_file: Path, capsys: Captured, monkeypatch: pytest.MonkeyPatch) -> None:
     """Each is refused in one line, with status 2."""
     monkeypatch.chdir(DATA / "paper")

@@ -6,7 +6,7 @@ from itertools import combinations, pairwise
 from pathlib import Path
 
 import pytest
-from examples import DATA, MINE, MY_BOARD, Captured, Lines, files, machines, options, printed, refusal, task_sets
+from examples import DATA, MINE, MY_BOARD, TEST_DATA, Captured, Lines, files, machines, options, printed, refusal, task_sets
 from hypothesis import given, settings
 from hypothesis import strategies as st
 
@@ -26,16 +26,7 @@ def words(text: str) -> list[list[str]]:
 # Completions of the first jobs: at 4 in ticks 2, 3, 4; EDF static 8/3, 4, 16/3; EDF cc 8/3, 4, 6; EDF la 8/3,
 # 9/2, 13/2; RM cc 2, 10/3, 5. The second jobs need one tick at 4, 4/3 at 3 and 2 at 2. So the least laxity is
 # that of the first job of t1, and t3 has the greatest jitter.
-PAPER = """
-scheduler governor energy of_none above_bound switches idle least_laxity jitter at_2 at_3 at_4
-edf none 700000000000 1.0000 1.7778 0 0.5625 6.0000 3.0000 0.0000 0.0000 1.0000
-edf static 448000000000 0.6400 0.7778 0 0.4167 5.3333 4.0000 0.0000 1.0000 0.0000
-edf cc 364000000000 0.5200 0.4444 3 0.2917 5.3333 4.0000 0.6250 0.3750 0.0000
-edf la 315000000000 0.4500 0.2500 1 0.2188 5.3333 4.5000 0.8125 0.1875 0.0000
-rm none 700000000000 1.0000 1.7778 0 0.5625 6.0000 3.0000 0.0000 0.0000 1.0000
-rm static 700000000000 1.0000 1.7778 0 0.5625 6.0000 3.0000 0.0000 0.0000 1.0000
-rm cc 514000000000 0.7343 1.0397 6 0.4167 6.0000 3.0000 0.5625 0.2500 0.1875
-"""
+PAPER = (TEST_DATA / "compared.txt").read_text()
 
 HEADING = "scheduler governor energy of_none above_bound switches idle least_laxity jitter"
 

@@ -194,17 +194,6 @@ def test_charge_is_in_the_declared_units(words: list[str], declared: int, tmp_pa
     assert out.endswith(f",8,{declared}\n") and err == note
 
 
-@pytest.mark.parametrize(("words", "line"), [
-    (["--to", "vcd", "--table", "jobs"], "--table and --charge are for csv only, and not for vcd"),
-    (["--to", "pdf"], "invalid choice: 'pdf'"),
-    (["--to", "csv", "--table", "all"], "invalid choice: 'all'"),
-    (["--to", "csv", "--charge", "-1"], "a whole number from 0 on, not -1"),
-    (["--to", "csv", "--charge", "1.5"], "a whole number from 0 on, not 1.5"),
-])
-def test_usage(words: list[str], line: str, capsys: Captured) -> None:
-    assert line in refusal(capsys, ["convert", *words, "--trace", TEMPLATE])
-
-
 @pytest.mark.parametrize("change", ["cut", "no plan", "more"])
 def test_what_is_no_whole_trace_is_refused(change: str, tmp_path: Path, capsys: Captured) -> None:
     lines = (DATA / "offsets" / "edf_cc.trace").read_text().splitlines(keepends=True)

@@ -4,7 +4,7 @@ from fractions import Fraction
 from pathlib import Path
 
 import pytest
-from examples import TOP, XSCALE, Captured, cases, printed, refusal
+from examples import TEST_DATA, TOP, XSCALE, Captured, cases, printed, refusal
 from hypothesis import given
 from hypothesis import strategies as st
 
@@ -15,18 +15,7 @@ from rtdvs.design import (
 from rtdvs.files import Demands, FileFault, Machine, Point, Task, TaskSet
 
 # The controller and the decoder of the page on units, on operating points of the XScale.
-TASKS = """
-[[task]]
-name = "control"
-period_ms = 5
-worst_ms = 1.2
-at_mhz = 1000
-[[task]]
-name = "decode"
-period_ms = 40
-worst_cycles = 16_000_000
-usual_cycles = 8e6
-"""
+TASKS = (TEST_DATA / "board.toml").read_text()
 VOLTS = TASKS + "".join(f"[[point]]\nmhz = {mhz}\nvolts = {volts}\n" for mhz, volts, _ in XSCALE) + (
     "milliwatts = 1600\n")
 POWER = TASKS + "".join(f"[[point]]\nmhz = {mhz}\nmilliwatts = {power}\n" for mhz, _, power in XSCALE[1:])
@@ -147,22 +136,6 @@ def test_command_writes_files_and_gives_joules_back(tmp_path: Path, capsys: Capt
     assert printed(capsys, [*board, "--trace", tmp_path / "run.trace"]) == (
         "0.0331725 joules in 40 ms\n829.314 milliwatts on average\n"
         "4.46152 hours from 3700 milliwatt hours\n")
-
-
-@pytest.mark.parametrize(("words", "line"), [
-    ([], "board: give --board or --device-tree"),
-    (["--device-tree", "examples/board.dts"], "one table has to be chosen"),
-    (["--device-tree", "examples/board.dts", "--table", "little", "--unit-cycles", "1000000"],
-     "points 500 and 747.5 MHz"),
-    (["--device-tree", "absent.dts"], "absent.dts: No such file or directory"),
-    (["--device-tree", "examples"], "examples: Is a directory"),
-    (["--device-tree", "examples/board.dts", "--supported-hw", "x"], "no numbers with commas"),
-    (["--board", "examples/board.dts"], "board: not TOML"),
-    (["--board", "examples/board.dts", "--tick-ms", "0"], "--tick-ms has to be above 0"),
-])
-def test_usage(words: list[str], line: str, monkeypatch: pytest.MonkeyPatch, capsys: Captured) -> None:
-    monkeypatch.chdir(TOP)
-    assert line in refusal(capsys, ["design", *words])
 
 
 @pytest.mark.parametrize(("words", "points"), [

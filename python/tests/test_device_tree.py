@@ -1,34 +1,14 @@
 """Device trees: each expected point is read off the text by hand, or is what the text was made of."""
 
 import pytest
-from examples import TOP
+from examples import TEST_DATA, TOP
 from hypothesis import given
 from hypothesis import strategies as st
 
 from rtdvs.device_tree import Choice, operating_points
 from rtdvs.files import FileFault
 
-CHIPS = """
-/* three kinds of a chip;
-   " a quote in a comment, and { brackets } */
-#define MHZ(n) (n * 1000000)
-/ {
-    cpu_table: opp-table {
-        compatible = "operating-points-v2";
-        slow { opp-hz = /bits/ 64 <300000000>; opp-microvolt = <950000 931000 969000>; opp-supported-hw =
-        <0x06 0x10>; }; also { opp-hz = /bits/ 64 <0x11e1a300>; opp-microvolt = <1100000>; opp-supported-hw =
-        <6 0x20>, <1 0xff>; }; fast { opp-hz = /bits/ 64 <MHZ(600)>; opp-microvolt = <1200000>;
-        opp-supported-hw = <0x1 0xffff>; };
-    };
-};
-"""
-OLD = """/ { cpus { #address-cells = <1>;
-    cpu0: cpu@0 { operating-points = < /* kHz uV */
-            996000 1250000
-            0x60ae0 975000
-        >; clock-latency = <61036>; // transition
-    };
-}; };"""
+CHIPS, OLD = ((TEST_DATA / name).read_text() for name in ("chips.dts", "old.dts"))
 PLAIN = CHIPS.replace("MHZ(600)", "600000000").replace("0x1 0xffff", "8 8")
 BOARD = (TOP / "examples" / "board.dts").read_text()
 

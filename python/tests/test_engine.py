@@ -12,7 +12,7 @@ from concurrent.futures import Executor, ProcessPoolExecutor, ThreadPoolExecutor
 from pathlib import Path
 
 import pytest
-from examples import BOARD, DATA, PAPER, SOURCE, cases, fake, files
+from examples import BOARD, DATA, PAPER, SOURCE, TEST_DATA, cases, fake, files
 
 from rtdvs import engine as engine_module
 from rtdvs.engine import (
@@ -325,25 +325,11 @@ def test_answers_on_dask(echo: Engine, tmp_path: Path) -> None:
         assert seeds(echo.answers(CALLS, client.get_executor())) == [*range(12)]
 
 
-MPI = """
-import sys
-from pathlib import Path
-from mpi4py.futures import MPIPoolExecutor
-from rtdvs.engine import find_engine, workload_call
-
-if __name__ == "__main__":
-    with MPIPoolExecutor() as executor:
-        for answer in find_engine(Path(sys.argv[1])).answers(map(workload_call, range(12)), executor):
-            print(answer.out.decode(), end="")
-"""
-
-
 def test_answers_on_mpi(echo: Engine, tmp_path: Path) -> None:
     pytest.importorskip("mpi4py")
     if not shutil.which("mpiexec"):
         pytest.skip("no mpiexec")
-    (tmp_path / "sweep.py").write_text(MPI)
-    words = ["mpiexec", "-n", "2", sys.executable, "-m", "mpi4py.futures", "sweep.py", str(echo.program)]
+    words = ["mpiexec", "-n", "2", sys.executable, "-m", "mpi4py.futures", TEST_DATA / "sweep.py", str(echo.program)]
     allowed = ("ALLOW_RUN_AS_ROOT", "ALLOW_RUN_AS_ROOT_CONFIRM", "MCA_rmaps_base_oversubscribe")
     variables = {f"OMPI_{name}": "1" for name in allowed}
     environment = os.environ | variables | {"PYTHONPATH": SOURCE}

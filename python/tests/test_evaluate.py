@@ -6,7 +6,7 @@ from fractions import Fraction
 from pathlib import Path
 
 import pytest
-from examples import MINE, MY_BOARD, TOP, Captured, printed, refusal, version_1
+from examples import MINE, MY_BOARD, TOP, Captured, printed, version_1
 from hypothesis import given
 from hypothesis import strategies as st
 
@@ -126,12 +126,6 @@ def test_the_command_writes_tables(program: Path, tmp_path: Path, capsys: Captur
     assert printed(capsys, call).splitlines()[-1].endswith("2 groups, 3 denied under RM, 0 faults")
     rows = [line.split("\t") for line in (tmp_path / "tasks.tsv").read_text().splitlines()[1:]]
     assert [row[2] for row in rows if row[:2] == ["5 tasks", "edf la"] and row[3] == "1"] == ["0.1", "1.0"]
-
-
-@pytest.mark.parametrize("words", [
-    ["--utilisations", "0.15"], ["--counts", "6"], ["--sets", "0"], ["--draws", "other"], ["--jobs", "0"]])
-def test_what_cannot_be_swept(program: Path, tmp_path: Path, capsys: Captured, words: list[str]) -> None:
-    refusal(capsys, ["evaluate", "--program", program, "--folder", tmp_path, *words])
 
 
 @pytest.mark.parametrize(("old", "new", "reason"), [

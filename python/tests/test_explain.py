@@ -288,12 +288,6 @@ def test_boards(pair: str, first: int, call: Run) -> None:
     assert (status, notes, lines[first:first + len(wanted)]) == (0, "", wanted)
 
 
-@pytest.mark.parametrize("word", ["extra", "run", "--frob"])
-def test_unexpected_words(word: str, call: Run) -> None:
-    status, lines, notes = call(word)
-    assert (status, lines) == (2, []) and notes.endswith(f"unrecognized arguments: {word}\n")
-
-
 def test_last_line(call: Run) -> None:
     lines = call()[1]
     assert len([line for line in lines if line.startswith("line ")]) == 8

@@ -72,20 +72,3 @@ def test_demands_of_a_run(tmp_path: Path, capsys: Captured) -> None:
     call = ["generate", "demands", "--tasks", tmp_path / "tasks.toml", "--ticks", "11"]
     assert printed(capsys, [*call, "--share", "0.5"]) == "task,job,units\na,1,3\na,2,3\na,3,3\n"
     assert printed(capsys, [*call, "--seed", "1"]).count("\n") == 4
-
-
-ONE = "uunifast --count 1 --utilisation 1 --seed 1"
-
-
-@pytest.mark.parametrize("words", [
-    "uunifast --count 0 --utilisation 1 --seed 1", "uunifast --count 1 --utilisation 2 --seed 1",
-    "uunifast --count 1 --utilisation 1", "uunifast --count 1 --utilisation x --seed 1",
-    f"{ONE} --low 11 --high 12 --multiple 7", f"{ONE} --high abc", f"{ONE} --low -5", f"{ONE} --periods 0",
-    f"{ONE} --multiple 0", f"{ONE} --periods 10,20", f"{ONE} --periods 10 --low 5", f"{ONE} --top 0",
-    f"{ONE} --top 1.5", f"{ONE} --top 2000000", "published --count 5 --tenths 1 --number 5 --sets 4",
-    "published --count 6 --tenths 1 --number 1", "demands --tasks absent --ticks 10 --share 0.5",
-    "demands --tasks absent --ticks 10", "other",
-])
-def test_one_line_and_status_2(words: str, capsys: Captured) -> None:
-    said = refusal(capsys, ["generate", *words.split()])
-    assert said and "Traceback" not in said

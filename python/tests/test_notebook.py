@@ -7,34 +7,14 @@ from pathlib import Path
 
 import pytest
 import tour
-from examples import TOP
+from examples import TEST_DATA, TOP
 
 from rtdvs.decimals import decimal
 
 STORED = tour.read()
 CELLS = {cell["id"]: cell for cell in tour.code_cells(STORED)}
-WORKED = {  # a cell, the page that works it out, and lines that are on both
-    "admit": ("PYTHON.md", "Admitted(scheduler='edf', num=836, den=280, speed=3)"),
-    "pairs": ("LEAST.md", """
-        edf        none      700000000000   1.0000       1.7778         0  0.5625        6.0000  3.0000
-        edf        static    448000000000   0.6400       0.7778         0  0.4167        5.3333  4.0000
-        edf        cc        364000000000   0.5200       0.4444         3  0.2917        5.3333  4.0000
-        edf        la        315000000000   0.4500       0.2500         1  0.2188        5.3333  4.5000
-        rm         none      700000000000   1.0000       1.7778         0  0.5625        6.0000  3.0000
-        rm         static    700000000000   1.0000       1.7778         0  0.5625        6.0000  3.0000
-        rm         cc        514000000000   0.7343       1.0397         6  0.4167        6.0000  3.0000"""),
-    "ahead": ("TRACE.md", """
-        speed 0 12 36/3
-        speed 1 12 24/2
-        speed 2 12 15/1"""),
-    "design": ("UNITS.md", """
-        a tick is 0.1 ms, a unit 100 cycles
-        task decode: period 33.333 ms taken as 33.3 ms"""),
-    "power": ("UNITS.md", """
-        0.0810947 joules in 100 ms
-        810.947 milliwatts on average
-        4.56256 hours from 3700 milliwatt hours"""),
-}
+# Cells: the page that works one out, and lines that are on both.
+WORKED = [block.splitlines() for block in (TEST_DATA / "notebook.txt").read_text(encoding="utf-8").split("\n\n")]
 
 
 def printed(cell: str) -> str:
@@ -67,11 +47,11 @@ def test_other_outputs_are_a_fault() -> None:
     assert [fault.split(":")[0] for fault in faults(STORED, without)] == ["pairs-drawn"]
 
 
-@pytest.mark.parametrize("cell", WORKED)
-def test_numbers_of_the_pages(cell: str) -> None:
-    page, lines = WORKED[cell]
+@pytest.mark.parametrize(("place", "lines"), [(first, lines) for first, *lines in WORKED])
+def test_numbers_of_the_pages(place: str, lines: list[str]) -> None:
+    cell, page = place.split()
     text = (TOP / "docs" / page).read_text(encoding="utf-8")
-    for line in filter(None, map(str.strip, lines.splitlines())):
+    for line in lines:
         assert line in text and line in printed(cell), line
 
 

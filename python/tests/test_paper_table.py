@@ -17,7 +17,7 @@ from fractions import Fraction
 from pathlib import Path
 
 import pytest
-from examples import Captured, files, printed, refusal
+from examples import Captured, files, printed
 
 from rtdvs.engine import Engine
 from rtdvs.paper_table import EXAMPLE, PAIRS, shares
@@ -55,8 +55,3 @@ def test_printed(program: Path, capsys: Captured) -> None:
         "     3    1.000000    1.000000    0.640000    0.520000    0.714286    0.440000\n"
         "   100    1.000000    1.000000    0.640000    0.520000    0.714486    0.440100\n"
         " paper         1.0         1.0        0.64        0.52        0.71        0.44\n")
-
-
-@pytest.mark.parametrize("times", ["0", "-1", "1.5", "x"])
-def test_what_ticks_cannot_be(program: Path, capsys: Captured, times: str) -> None:
-    refusal(capsys, ["paper-table", "--program", program, "--finer", times])

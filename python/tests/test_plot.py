@@ -149,21 +149,6 @@ def test_views(view: View, line: str) -> None:
         settled(Trace.read(DATA / "paper" / "edf_none.trace"), view)
 
 
-@pytest.mark.parametrize(("words", "line"), [
-    (["--width", "200"], "--width has to be at least 320"),
-    (["--output", "a.gif"], "a picture is a file .svg, .pdf or .png"),
-    (["--background", "no"], "no colour: no"), (["--trace", "absent"], "absent: No such file or directory"),
-    (["--trace", "README.md"], "line 1: "), (["--from", "x"], "a whole number from 0 on"),
-    (["--output", "/absent/a.svg"], "/absent/a.svg: No such file or directory"),
-])
-def test_usage(words: list[str], line: str, monkeypatch: pytest.MonkeyPatch, tmp_path: Path,
-               capsys: Captured) -> None:
-    monkeypatch.chdir(TOP)
-    trace = "crates/example_runs/data/paper/edf_none.trace"
-    said = refusal(capsys, ["plot", "trace", "--trace", trace, "--output", tmp_path / "a.svg", *words])
-    assert line in said and not list(tmp_path.iterdir())
-
-
 @pytest.mark.parametrize("table", ["", "a\tb\n",
                                    "panel\tcurve\tutilisation\tsets\tmean\tlow\thigh\na\tb\tx\t1\t1\t1\t1\n"])
 def test_tables_are_refused(table: str, tmp_path: Path, capsys: Captured) -> None:

@@ -15,7 +15,7 @@ from math import ceil
 import pytest
 from examples import BOARD, DATA, PAGES, PAPER, TOP, XSCALE, files
 
-from rtdvs.compare import Case, energy_of, runs
+from rtdvs.compare import energy_of, runs
 from rtdvs.decimals import decimal
 from rtdvs.draws import PUBLISHED_MILLISECOND, PUBLISHED_SEED, PUBLISHED_TICKS, PUBLISHED_TOP
 from rtdvs.engine import Engine
