@@ -1,7 +1,9 @@
 """Device trees: each expected point is read off the text by hand, or is what the text was made of."""
 
+import re
+
 import pytest
-from examples import TEST_DATA, TOP
+from examples import TEST_DATA, TOP, cases
 from hypothesis import given
 from hypothesis import strategies as st
 
@@ -57,8 +59,7 @@ def test_points_are_added_and_deleted() -> None:
 
 
 @pytest.mark.parametrize(("text", "choice", "reason"), [
-    ("", Choice(), "no table of operating points"),
-    ("[[task]]\nname = 1", Choice(), "no table of operating points"),
+    *((text, Choice(), reason) for text, reason in cases("refused_trees")),
     (OLD + OLD.replace("cpu0", "cpu1").replace("cpus", "more"), Choice(),
      "one table has to be chosen of these: cpu0, cpu1"),
     (OLD, Choice("cpu2"), "no table cpu2; the tables are: cpu0"),
@@ -68,22 +69,11 @@ def test_points_are_added_and_deleted() -> None:
      "slow has 2 numbers in opp-supported-hw, which are no groups of 3"),
     (CHIPS, Choice(supported_hw=(1, 1)), "not a number: MHZ"),
     (CHIPS, Choice(supported_hw=(8, 8)), "no point of cpu_table is for this hardware"),
-    (table("opp-hz = <200000000>", "opp-microvolt = <1>"), Choice(), "second has an opp-hz that is neither"),
-    (table("opp-hz = /bits/ 64 <08>", "opp-microvolt = <1>"), Choice(), "not a number: 08"),
-    (table("opp-hz = /bits/ 64 <(2 * (3 + 4))>", "opp-microvolt = <1>"), Choice(),
-     r"not a number: \(2 \* \(3 \+ 4\)\)"),
-    (table("opp-hz = <1 4294967296>", "opp-microvolt = <1>"), Choice(),
-     "not a number of 32 bits: 4294967296"),
-    (table("opp-hz = /bits/ 64 <9>"), Choice(), "second has no opp-microvolt"),
     (table("opp-hz = /bits/ 64 <9>", "opp-microvolt = <1>"), Choice(supply=2), "no supply 2"),
-    ("/ {\n /* no end", Choice(), "line 2: no end of a comment"),
-    ('/ { a = "b;\n};', Choice(), "line 1: no end of a string"),
-    ("/ { a { };", Choice(), "no end of node /"),
-    ("}", Choice(), "a bracket } too many"),
     pytest.param("a { " * 5000, Choice(), "no end of node", id="nested"),
 ])
 def test_refusals(text: str, choice: Choice, reason: str) -> None:
-    with pytest.raises(FileFault, match=f"^device tree: .*{reason}"):
+    with pytest.raises(FileFault, match=f"^device tree: .*{re.escape(reason)}"):
         operating_points(text, choice)
 
 

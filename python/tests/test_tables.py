@@ -7,13 +7,13 @@ that has other numbers in its place.
 import csv
 import re
 from collections import Counter
-from collections.abc import Callable, Iterator
+from collections.abc import Callable, Iterable, Iterator
 from fractions import Fraction
 from itertools import pairwise
 from math import ceil
 
 import pytest
-from examples import BOARD, DATA, PAGES, PAPER, TOP, XSCALE, files
+from examples import BOARD, DATA, PAGES, PAPER, TOP, XSCALE, cases, files
 
 from rtdvs.compare import energy_of, runs
 from rtdvs.decimals import decimal
@@ -197,65 +197,36 @@ def taken_shares(demands: dict[tuple[str, str, str], Fraction]) -> Iterator[str]
     yield f"gives the same means within {decimal(spread, 3)}."
 
 
-def limits() -> dict[str, int]:
-    """The constants of the code by name."""
+def limits() -> dict[str, object]:
+    """The constants of the code by name; by NAME^ as powers of two, by NAME+1 and NAME-1 with one more and less."""
     texts = [path.read_text(encoding="utf-8") for path in (TOP / "crates").glob("*/src/limits.rt")]
     found = re.findall(r"^pub const ([A-Z_]+): \w+ = ([\d_]+)(?: << (\d+))?;", "\n".join(texts), re.MULTILINE)
-    return {name: int(number) << int(by or 0) for name, number, by in found}
-
-
-def power(number: int) -> str:
-    assert number.bit_count() == 1
-    return f"2^{number.bit_length() - 1}"
-
-
-def formats(engine: Engine) -> Iterator[str]:
-    of = limits()
-    yield f"an array of 1 to {of['MOST_TASKS']} tables"
-    yield f"1 to {of['NAME_BYTES']} bytes of ASCII"
-    yield f"1 to {power(of['LONGEST_PERIOD'])} ticks"
-    yield f"1 to {power(of['MOST_WORK'])} work units |"
-    yield f"0 to {power(of['LATEST_OFFSET'])} ticks; 0 if absent"
-    yield f"common multiple of the periods is at most {power(of['LONGEST_HYPERPERIOD'])}."
-    yield f"0 to {of['MOST_IDLE']} thousandths"
-    yield f"0 to {of['MOST_CHARGE']} work units; 0 if absent"
-    yield f"1 to {of['MOST_POINTS']} entries"
-    yield f"1 to {of['TOP_SPEED']} work units per tick, rising"
-    yield f"1 to {of['MOST_MILLIVOLTS']}, never falling"
-    yield f"1 to {power(of['MOST_REQUEST_UNITS'])} work units; at most {of['MOST_REQUESTS']} rows"
-
-
-def messages(engine: Engine) -> Iterator[str]:
-    of = limits()
-    yield f"More than {of['LONGEST_FILE']} bytes; for a trace, {of['LONGEST_TRACE']}."
-    yield f"At most {of['MOST_IDLE']} and {of['MOST_CHARGE']}."
-    yield f"<count> tasks, at most {of['MOST_TASKS']}`"
-    yield f"<count> points, at most {of['MOST_POINTS']}`"
-    yield f"no common multiple up to {of['LONGEST_HYPERPERIOD']}`"
-    yield f"At most {of['TOP_SPEED']} units per tick and {of['MOST_MILLIVOLTS']} mV."
-    yield f"<count> rows, at most {of['MOST_REQUESTS']}`"
-    yield f"It is line {of['MOST_LINES'] + 1}."
-    yield f"It has more than {of['LINE_BYTES'] - 1} bytes"
-    yield f"<jobs> jobs, at most {of['MOST_JOBS']}`"
-    yield f"`<key>` and `<word>` have at most {of['NAME_BYTES']} bytes"
-
-
-def rules(engine: Engine) -> Iterator[str]:
-    yield f"for more than {limits()['MOST_JOBS']} jobs;"
+    numbers = {name: int(number) << int(by or 0) for name, number, by in found}
+    powers = {f"{name}^": f"2^{number.bit_length() - 1}" for name, number in numbers.items() if number.bit_count() == 1}
+    return {**numbers, **powers, **{f"{name}{by:+}": numbers[name] + by for name in numbers for by in (-1, 1)}}
 
 
 SAID: dict[str, Callable[[Engine], Iterator[str]]] = {
     "README.md": readme, "docs/UNITS.md": units, "docs/LEAST.md": least, "docs/SERVERS.md": servers,
-    "docs/EVALUATION.md": evaluation, "docs/FORMATS.md": formats, "docs/MESSAGES.md": messages,
-    "docs/RULES.md": rules,
+    "docs/EVALUATION.md": evaluation,
 }
+LIMITS = cases("limits")
+
+
+def assert_said(page: str, wanted: Iterable[str]) -> None:
+    text = (TOP / page).read_text(encoding="utf-8")
+    faults = [fault for each in wanted if (fault := missing(page, text, each))]
+    assert not faults, "\n" + "\n".join(faults)
 
 
 @pytest.mark.parametrize("page", SAID)
 def test_what_pages_say(page: str, engine: Engine) -> None:
-    text = (TOP / page).read_text(encoding="utf-8")
-    faults = [fault for wanted in SAID[page](engine) if (fault := missing(page, text, wanted))]
-    assert not faults, "\n" + "\n".join(faults)
+    assert_said(page, SAID[page](engine))
+
+
+@pytest.mark.parametrize("page", sorted({page for page, _ in LIMITS}))
+def test_limits_that_pages_say(page: str) -> None:
+    assert_said(page, [text.format_map(limits()) for of, text in LIMITS if of == page])
 
 
 # Equations
