@@ -1,5 +1,6 @@
 """What the tests share: the examples' files, calls of commands, stand-ins, drawn sets and machines, a trace's lines."""
 
+import re
 from collections.abc import Iterable, Iterator
 from contextlib import contextmanager
 from fractions import Fraction
@@ -23,6 +24,7 @@ LIBRARY = TOP / "crates" / "rtdvs_c" / "out" / "lib" / "librtdvs.so"
 DATA = TOP / "crates" / "example_runs" / "data"
 SOURCE = str(TOP / "python" / "src")
 TEST_DATA = Path(__file__).with_name("data")
+NUMBER = r"\d+(?:\.\d+)?"
 TRACES = sorted(DATA.glob("*/*.trace"))
 WORKED, TEMPLATE = (DATA / folder / "edf_cc_with_demands.trace" for folder in ("paper", "templates"))
 SHORT = [path for path in TRACES if path.parent.name != "long"]
@@ -96,6 +98,17 @@ def version_1(text: str) -> str:
     """The same run in version 1."""
     kept = [line for line in text.splitlines() if line.split()[0] not in ("task", "energy")]
     return "\n".join(["trace 1", *kept[1:], ""])
+
+
+def value(text: str) -> Fraction:
+    """The value of a sum or a product, exactly.
+
+    >>> value("12 * 280/8 - 0.5")
+    Fraction(839, 2)
+    """
+    exact = re.sub(NUMBER, lambda number: f"Fraction('{number[0]}')", text)
+    found: Fraction = eval(exact, {"Fraction": Fraction})
+    return found
 
 
 def path_id(path: Path) -> str:

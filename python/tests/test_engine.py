@@ -329,7 +329,8 @@ def test_answers_on_mpi(echo: Engine, tmp_path: Path) -> None:
     pytest.importorskip("mpi4py")
     if not shutil.which("mpiexec"):
         pytest.skip("no mpiexec")
-    words = ["mpiexec", "-n", "2", sys.executable, "-m", "mpi4py.futures", f"{TEST_DATA}/sweep.py", str(echo.program)]
+    shutil.copy(TEST_DATA / "sweep.txt", tmp_path / "sweep.py")
+    words = ["mpiexec", "-n", "2", sys.executable, "-m", "mpi4py.futures", "sweep.py", str(echo.program)]
     allowed = ("ALLOW_RUN_AS_ROOT", "ALLOW_RUN_AS_ROOT_CONFIRM", "MCA_rmaps_base_oversubscribe")
     variables = {f"OMPI_{name}": "1" for name in allowed}
     environment = os.environ | variables | {"PYTHONPATH": SOURCE}

@@ -7,7 +7,7 @@ from fractions import Fraction
 from itertools import accumulate, pairwise
 
 import pytest
-from examples import BOARD, DATA, TEMPLATE, Captured, explained, options, printed, refusal
+from examples import BOARD, DATA, TEMPLATE, Captured, explained, options, printed, refusal, value
 from model import Model, random_case
 
 from rtdvs.compare import PAIRS
@@ -70,11 +70,6 @@ def assert_arithmetic(line: str) -> None:
     for num, den, way, rounded in re.findall(r"= (\d+)/(\d+), (up|down) to (\d+)", line):
         exact = Fraction(int(num), int(den))
         assert exact.denominator > 1 and int(rounded) == exact.__ceil__() - (way == "down"), line
-
-
-def value(text: str) -> Fraction:
-    """The value of sums, differences, products and quotients of whole numbers."""
-    return Fraction(eval(re.sub(r"\d+", r"Fraction(\g<0>)", text), {"Fraction": Fraction}))
 
 
 def facts(model: Model, tick: int) -> set[str]:

@@ -13,7 +13,7 @@ from itertools import pairwise
 from math import ceil
 
 import pytest
-from examples import BOARD, DATA, PAGES, PAPER, TOP, XSCALE, cases, files
+from examples import BOARD, DATA, NUMBER, PAGES, PAPER, TOP, XSCALE, cases, files, value
 
 from rtdvs.compare import energy_of, runs
 from rtdvs.decimals import decimal
@@ -25,7 +25,6 @@ from rtdvs.paper_table import EXAMPLE, PAIRS, PUBLISHED, shares
 from rtdvs.trace import Run, Trace
 
 TENTHS = [decimal(Fraction(tenth, 10), 1) for tenth in range(1, 11)]
-NUMBER = r"\d+(?:\.\d+)?"
 
 
 def missing(page: str, text: str, wanted: str) -> str | None:
@@ -246,17 +245,6 @@ def wrong_equations(line: str) -> Iterator[str]:
         sides = [value(side) for side in found[0].split(" = ")]
         if any(one != two for one, two in pairwise(sides)):
             yield found[0]
-
-
-def value(side: str) -> Fraction:
-    """The value of a sum or a product, exactly.
-
-    >>> value("12 * 280/8 - 0.5")
-    Fraction(839, 2)
-    """
-    exact = re.sub(NUMBER, lambda number: f"Fraction('{number[0]}')", side)
-    found: Fraction = eval(exact, {"Fraction": Fraction})
-    return found
 
 
 @pytest.mark.parametrize("page", PAGES, ids=str)

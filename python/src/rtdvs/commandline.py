@@ -206,6 +206,18 @@ def read_demands(args: argparse.Namespace, tasks: TaskSet) -> Demands | None:
     return None if args.demands is None else Demands.parse(_content(args.demands), tasks)
 
 
+def read_files(args: argparse.Namespace) -> tuple[TaskSet, Machine, Demands | None]:
+    """The contents of a task file, a machine file and a demand file; raises FileFault, OSError.
+
+    >>> files = {"tasks": b'task = [{ name = "a", period = 4, worst = 3 }]', "demands": None}
+    >>> machine = b"[[point]]\\nspeed = 2\\nmillivolts = 900"
+    >>> read_files(argparse.Namespace(machine=machine, **files))[2] is None
+    True
+    """
+    tasks = read_tasks(args)
+    return tasks, read_machine(args), read_demands(args, tasks)
+
+
 def _content(source: Input) -> bytes:
     return source if isinstance(source, bytes) else load(source)
 

@@ -21,7 +21,7 @@ from fractions import Fraction
 
 from rtdvs.commandline import (
     Commands, Input, add_engine_options, add_files, add_parser, add_ticks, engine_of, executor_of,
-    input_path, progress, read_demands, read_machine, read_tasks, read_text, whole_number,
+    input_path, progress, read_files, read_text, whole_number,
 )
 from rtdvs.decimals import aligned, decimal
 from rtdvs.engine import Answer, Denied, Engine, Least, least_call, parse_least, run_call
@@ -279,8 +279,8 @@ def add_command(commands: Commands) -> None:
 
 
 def _handle(args: argparse.Namespace) -> int:
-    engine, tasks = engine_of(args), read_tasks(args)
-    case = Case(tasks, read_machine(args), args.ticks, read_demands(args, tasks))
+    engine, (tasks, machine, demands) = engine_of(args), read_files(args)
+    case = Case(tasks, machine, args.ticks, demands)
     traces = [read_trace(source, case) for source in args.trace]
     with executor_of(args) as executor:
         rows = compare(engine, case.tasks, case.machine, case.ticks, case.demands, traces, executor)

@@ -19,9 +19,7 @@ from collections import deque
 from collections.abc import Callable, Iterable, Iterator, Sequence
 from dataclasses import dataclass
 
-from rtdvs.commandline import (
-    Commands, add_files, add_parser, open_input, read_demands, read_machine, read_tasks,
-)
+from rtdvs.commandline import Commands, add_files, add_parser, open_input, read_files
 from rtdvs.files import Demands, Machine, Point, Task, TaskSet
 from rtdvs.rules import (
     EXAMPLE, GOVERNORS, Checker, Governor, Latest, Plan, State, Summary, Wrong, WrongDecision, ceiling,
@@ -367,8 +365,7 @@ def last_line(summary: Summary, any_governor: bool, named: bool) -> str:
 
 
 def _handle(args: argparse.Namespace) -> int:
-    tasks, machine = read_tasks(args), read_machine(args)
-    demands = read_demands(args, tasks)
+    tasks, machine, demands = read_files(args)
     with open_input(args.trace) as file:
         lines = lines_of(io.TextIOWrapper(file, "latin-1", newline="\n"))
         try:

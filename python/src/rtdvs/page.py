@@ -23,8 +23,8 @@ from itertools import islice
 from pathlib import Path
 
 from rtdvs.commandline import (
-    Commands, Input, add_files, add_output, add_parser, input_path, read_demands, read_machine, read_tasks,
-    read_text, whole_number, write_output,
+    Commands, Input, add_files, add_output, add_parser, input_path, read_files, read_text, whole_number,
+    write_output,
 )
 from rtdvs.decimals import decimal
 from rtdvs.explain import Walk, WrongTrace, explain
@@ -245,8 +245,7 @@ def _handle(args: argparse.Namespace) -> int:
     traces: list[Input] = args.trace
     if len(traces) > 2:
         raise FileFault(f"{len(traces)} traces, at most 2")
-    tasks = read_tasks(args)
-    shown = Shown(tasks, read_machine(args), read_demands(args, tasks), args.most)
+    shown = Shown(*read_files(args), args.most)
     labels = ("A", "B") if len(traces) == 2 else ("",)
     texts = {label: read_text(source, "trace") for label, source in zip(labels, traces, strict=True)}
     try:

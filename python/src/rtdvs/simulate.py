@@ -9,9 +9,7 @@ import argparse
 from collections.abc import Iterator
 from dataclasses import dataclass
 
-from rtdvs.commandline import (
-    Commands, add_files, add_pair, add_parser, add_ticks, read_demands, read_machine, read_tasks,
-)
+from rtdvs.commandline import Commands, add_files, add_pair, add_parser, add_ticks, read_files
 from rtdvs.files import Demands, FileFault, Machine, TaskSet
 from rtdvs.rules import GOVERNORS, DeadlineMissed as DeadlineMissed, Governor, Latest, Needs, Plan, State
 from rtdvs.trace import Decision, Done, End, Idle, Note, Release, Run, TaskEnergy, Trace
@@ -129,8 +127,7 @@ def simulate(tasks: TaskSet, machine: Machine, scheduler: str, ticks: int, gover
 
 
 def _handle(args: argparse.Namespace) -> int:
-    tasks, machine = read_tasks(args), read_machine(args)
-    demands = read_demands(args, tasks)
+    tasks, machine, demands = read_files(args)
     governor = GOVERNORS.get((args.scheduler, args.governor))
     if governor is None:
         raise FileFault(f"{args.scheduler} has no governor {args.governor}")
