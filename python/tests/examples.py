@@ -48,7 +48,10 @@ def files(name: str | Path) -> tuple[TaskSet, Machine, Demands]:
 
 
 def cases(name: str) -> list[tuple[str, ...]]:
-    r"""The rows of a table in the folder of data: columns between " => ", with escapes such as \n; # is a comment."""
+    r"""The rows of a table in the folder of data.
+
+    Their columns are apart by " => ", and have escapes such as \n. A line that begins with # is a comment.
+    """
     lines = (TEST_DATA / f"{name}.txt").read_text(encoding="utf-8").splitlines()
     rows = (line.encode().decode("unicode_escape") for line in lines if line[:1] not in ("", "#"))
     return [tuple(row.split(" => ")) for row in rows]

@@ -6,7 +6,9 @@ from itertools import combinations, pairwise
 from pathlib import Path
 
 import pytest
-from examples import DATA, MINE, MY_BOARD, TEST_DATA, Captured, Lines, files, machines, options, printed, refusal, task_sets
+from examples import (
+    DATA, MINE, MY_BOARD, TEST_DATA, Captured, Lines, files, machines, options, printed, refusal, task_sets,
+)
 from hypothesis import given, settings
 from hypothesis import strategies as st
 

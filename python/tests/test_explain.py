@@ -12,6 +12,7 @@ from pathlib import Path
 import pytest
 from examples import DATA, SHORT, TEMPLATE, TEST_DATA, TOP, WORKED, Captured, files, version_1
 from model import random_case
+from test_rules import cases as simulated
 
 from rtdvs.cli import main
 from rtdvs.compare import PAIRS
@@ -40,8 +41,8 @@ class Inputs:
 
     def refusal(self, lines: list[str], known: bool = True, free: bool = False) -> tuple[int, str] | None:
         """The first wrong line and why, or None; the same whether boards are made or not."""
-        walk, boards, found = Walk(self.tasks, self.machine, lines, self.demands if known else None, free), [""], []
-        for show in (None, boards.append):
+        walk, found = Walk(self.tasks, self.machine, lines, self.demands if known else None, free), []
+        for show in (None, str):
             try:
                 explain(walk, show)
             except WrongTrace as fault:
@@ -244,6 +245,17 @@ def assert_altered(inputs: Inputs, rng: random.Random, lines: list[str]) -> None
         assert_wrong(inputs, wrong, wanted, "")
         if word != "speed":
             assert_wrong(inputs, wrong, wanted, "", free=True)
+
+
+@pytest.mark.parametrize("pair", PAIRS, ids="-".join)
+def test_simulated_plans(pair: tuple[str, str]) -> None:
+    """Both versions are right; altered ones are refused at the wrong line."""
+    rng = random.Random(0)
+    for model, trace in simulated(pair):
+        inputs = Inputs(model.tasks, model.machine, model.demands)
+        for text in (trace.text(), version_1(trace.text())):
+            inputs.assert_right(text)
+            assert_altered(inputs, rng, text.splitlines(True))
 
 
 def test_a_long_trace_in_little_memory() -> None:

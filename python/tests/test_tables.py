@@ -197,11 +197,12 @@ def taken_shares(demands: dict[tuple[str, str, str], Fraction]) -> Iterator[str]
 
 
 def limits() -> dict[str, object]:
-    """The constants of the code by name; by NAME^ as powers of two, by NAME+1 and NAME-1 with one more and less."""
+    """The constants of the code by name; NAME^ is a power of two, NAME+1 and NAME-1 are its neighbours."""
     texts = [path.read_text(encoding="utf-8") for path in (TOP / "crates").glob("*/src/limits.rt")]
     found = re.findall(r"^pub const ([A-Z_]+): \w+ = ([\d_]+)(?: << (\d+))?;", "\n".join(texts), re.MULTILINE)
     numbers = {name: int(number) << int(by or 0) for name, number, by in found}
-    powers = {f"{name}^": f"2^{number.bit_length() - 1}" for name, number in numbers.items() if number.bit_count() == 1}
+    powers = {f"{name}^": f"2^{number.bit_length() - 1}"
+              for name, number in numbers.items() if number.bit_count() == 1}
     return {**numbers, **powers, **{f"{name}{by:+}": numbers[name] + by for name in numbers for by in (-1, 1)}}
 
 
