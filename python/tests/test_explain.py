@@ -171,6 +171,8 @@ CC_TEXT, TEMPLATE_TEXT = WORKED.read_text(), TEMPLATE.read_text()
 UNKNOWN: list[tuple[str, list[str], int, str, bool]] = [  # without a demand file; the last entry is --any
     # t2 may need 11 units more at tick 3, and 15 fit up to tick 8.
     ("paper", edited(CC_TEXT, {12: None}), 12, "gets 11 units", False),
+    ("paper", edited(CC_TEXT, {7: "run 0:0 4:1 t1 1 13 208000000000"}), 7, "has 12 units left", False),
+    ("paper", edited(CC_TEXT, {7: "run 0:0 0:0 t1 1 0 0"}), 7, "0 units: at speed 3", False),
     ("paper", edited(CC_TEXT, {15: "done 6:0 t3 1 3"}), 15, "has had 4 units", False),
     ("paper", edited(CC_TEXT, {6: f"speed 0 3 {8 * 10**249}/280"}), 6, "more than 255 bytes", False),
     ("paper", [*edited(CC_TEXT, {33: None}), "end 16 364000000000 0"], 33, "line feed", False),
@@ -190,6 +192,13 @@ UNKNOWN: list[tuple[str, list[str], int, str, bool]] = [  # without a demand fil
 @pytest.mark.parametrize(("files", "lines", "wanted", "part", "free"), UNKNOWN)
 def test_without_demands(files: str, lines: list[str], wanted: int, part: str, free: bool) -> None:
     assert_wrong(folder(files, demands=False), lines, wanted, part, free=free)
+
+
+def test_a_demand_over_the_worst_case() -> None:
+    """The job isn't complete at its deadline."""
+    needs_more = Inputs(TaskSet((Task("t", 2, 2),)), Machine((Point(1, 1),)), Demands({("t", 1): 3}))
+    text = "trace 1\nplan edf none 4\nrelease 0 t 1\nspeed 0 1 1/1\nrun 0:0 2:0 t 1 2 2000\nrelease 2 t 2\n"
+    assert_wrong(needs_more, text.splitlines(True), 6, "t job 1 was due at 2")
 
 
 def test_any_governor() -> None:
