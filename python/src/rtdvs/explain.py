@@ -324,7 +324,7 @@ def explain(walk: Walk, show: Callable[[str], object] | None = None) -> Summary:
     1
     """
     if show is None or walk.any_governor:
-        return deque(walk.steps(quiet=True), maxlen=1)[0][2].summary
+        return deque(walk.steps(quiet=not walk.any_governor), maxlen=1)[0][2].summary
     events: list[Release | Done] = []
     for number, item, checker in walk.steps():
         if isinstance(item, (Release, Done)):
