@@ -52,7 +52,7 @@ def cases(name: str) -> list[tuple[str, ...]]:
 
     Their columns are apart by " => ", and have escapes such as \n. A line that begins with # is a comment.
     """
-    lines = (TEST_DATA / f"{name}.txt").read_text(encoding="utf-8").splitlines()
+    lines = (TEST_DATA / f"{name}.cases").read_text(encoding="utf-8").splitlines()
     rows = (line.encode().decode("unicode_escape") for line in lines if line[:1] not in ("", "#"))
     return [tuple(row.split(" => ")) for row in rows]
 
