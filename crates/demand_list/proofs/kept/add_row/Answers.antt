@@ -37,7 +37,8 @@ returns-clause-stays c _ =
     let key : ℕ × ℕ = (c.args.task, c.args.job) in
     let es : List ((ℕ × ℕ) × ℕ) = c.args.rows.now.entries in
     let first : c.insert.new.self.entries ≡ insert_entry pair_cmp es key c.args.units = IfOk-at_ok _ made c.insert.ensures.entries in
-    let second : c.insert-2.new.self.entries ≡ insert_entry pair_cmp c.insert.new.self.entries key c.in-Some.kept = IfOk-at_ok _ again c.insert-2.ensures.entries in
+    let second : c.insert-2.new.self.entries ≡ insert_entry pair_cmp c.insert.new.self.entries key c.in-Some.kept =
+    IfOk-at_ok _ again c.insert-2.ensures.entries in
     let same : keys_of c.insert.new.self.entries ≡ keys_of es = (rw c.in-Some.is at (IfOk-at_ok _ made c.insert.ensures.keys_stay)) refl in
     let found : lookup (is_at (pair_cmp key)) es ≡ Some c.in-Some.kept = sym (IfOk-at_ok _ made c.insert.ensures.old) ∙ c.in-Some.is in
     second ∙ ap (λ (e : List ((ℕ × ℕ) × ℕ)). insert_entry pair_cmp e key c.in-Some.kept) first

@@ -11,4 +11,7 @@ returns c = rw (
 )
 
 pub returns-in_err-key : goal.returns-in_err-key
-returns-in_err-key c = rw (unknown_key-find (map (λ k. k.now) c.args.known.now) c.args.table.now.entries c.in_err-key.ensures.ordered, ← c.in_err-key.ensures.found) (search rules)
+returns-in_err-key c = rw (
+  unknown_key-find (map (λ k. k.now) c.args.known.now) c.args.table.now.entries c.in_err-key.ensures.ordered,
+  ← c.in_err-key.ensures.found,
+) (search rules)
