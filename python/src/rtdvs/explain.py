@@ -284,8 +284,7 @@ class Walk:
                     raise Wrong(f"the task {item.name} is not in the task file")
                 else:
                     checker.check(item)
-                fault = faults.send(item)
-                if fault:
+                if fault := faults.send(item):
                     raise Wrong(fault)
                 yield number, item, checker
         except TraceFault as spelled:
