@@ -1,4 +1,3 @@
-#!/bin/sh
 # rtdvs.sh: runs the program from any folder, also through a symbolic link, as `sh rtdvs.sh run --tasks tasks.toml ..`.
 # It calls crates/rtdvs/out/rtdvs if that is built. Otherwise it calls `rt try`, which compiles for a minute, proves nothing
 # and is hundreds of times slower. Both ways leave the program's own output, errors and exit status; `rt try` writes them

@@ -91,7 +91,7 @@ compare . run tasks.toml --tasks
 compare . 'a "quoted" $word' '*'
 compare .
 
-# Through links, by the file's own first line and run bit: one with the whole path, one to that with a relative one.
+# Through links, by the run bit, as a shell calls a file that names none: one with the whole path, one to that with a relative one.
 mkdir "$work/links" "$work/links/more" && cd "$work/a b" || exit 2
 ln -s "$work/bare/rtdvs.sh" "$work/links/whole" && ln -s ../whole "$work/links/more/relative" || exit 2
 call own "$program" admit --tasks tasks.toml --machine machine.toml --scheduler edf

@@ -133,14 +133,14 @@ def refusal(capsys: Captured, words: Iterable[object], wanted: int = 2) -> str:
 
 
 def task_sets(most: int, *numbers: st.SearchStrategy[int]) -> st.SearchStrategy[TaskSet]:
-    """Sets of up to so many tasks t0, t1 and so on; the numbers are a period, a worst case and an offset."""
+    """Sets of up to `most` tasks t0, t1 and so on; the numbers are a period, a worst case and an offset."""
     return st.lists(st.tuples(*numbers), min_size=1, max_size=most).map(
         lambda rows: TaskSet(tuple(Task(f"t{place}", *row) for place, row in enumerate(rows))))
 
 
 @st.composite
 def machines(draw: st.DrawFn, most: int = 32, top: int = 10**6, charge: int = 10**6) -> Machine:
-    """Machines of up to so many points, with speeds and a charge up to these."""
+    """Machines of up to `most` points, with speeds up to `top` and a charge up to `charge`."""
     speeds = sorted(draw(st.sets(st.integers(1, top), min_size=1, max_size=most)))
     millivolts = sorted(draw(st.integers(1, 20_000)) for _ in speeds)
     return Machine(tuple(map(Point, speeds, millivolts)), draw(st.integers(0, 1000)), draw(st.integers(0, charge)))

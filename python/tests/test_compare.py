@@ -91,7 +91,7 @@ def bound(machine: Machine, units: int, ticks: int) -> Fraction:
 
 
 def recounted(text: str, tasks: TaskSet, machine: Machine, base: int) -> Result:
-    """What the lines of a trace come to: from units and speeds, not from its energies."""
+    """What the lines of a trace add up to: from units and speeds, not from its energies."""
     lines = Lines(text)
     square = {point.speed: point.millivolts**2 for point in machine.points}
     energy = sum(each.units * square[each.speed] * (1000 if each.task else machine.idle)

@@ -66,7 +66,7 @@ def test_points_are_added_and_deleted() -> None:
     (OLD.replace("0x60ae0", ""), Choice(), "operating-points has no pairs of kHz and microvolts"),
     (CHIPS, Choice(), "slow is for some hardware only; choose the hardware by --supported-hw"),
     (CHIPS, Choice(supported_hw=(1, 1, 1)),
-     "slow has 2 numbers in opp-supported-hw, which are no groups of 3"),
+     "slow has 2 numbers in opp-supported-hw, which aren't groups of 3"),
     (CHIPS, Choice(supported_hw=(1, 1)), "not a number: MHZ"),
     (CHIPS, Choice(supported_hw=(8, 8)), "no point of cpu_table is for this hardware"),
     (table("opp-hz = /bits/ 64 <9>", "opp-microvolt = <1>"), Choice(supply=2), "no supply 2"),

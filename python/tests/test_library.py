@@ -120,7 +120,7 @@ def test_a_call_that_never_ends(stand_in: Path) -> None:
 
 
 def test_a_call_that_ends_in_time(stand_in: Path, monkeypatch: pytest.MonkeyPatch, tmp_path: Path) -> None:
-    """The process has the package, whatever folder the call is made in."""
+    """The process has the package, for calls made in any folder."""
     (tmp_path / "rtdvs").mkdir()
     (tmp_path / "statistics.py").write_text("raise ImportError")
     monkeypatch.chdir(tmp_path)

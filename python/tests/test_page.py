@@ -151,7 +151,7 @@ def test_json_is_no_markup(text: str) -> None:
 
 @pytest.mark.parametrize("whole", [in_one_file, with_data])
 def test_hostile_text_stays_text(whole: Callable[[object], str]) -> None:
-    """The elements are those of the page without any data, whatever the data is."""
+    """The elements are those of the page without any data, for any data."""
     page, empty = Reader(whole({"name": HOSTILE})), Reader(whole({}))
     assert page.elements == empty.elements
     assert json.loads(page.texts["data"]) == {"name": HOSTILE}

@@ -18,7 +18,7 @@ from rtdvs.simulate import simulate
 from rtdvs.trace import Decision, Done, Release, Run, Trace
 
 def cases(pair: tuple[str, str], most: int = 40) -> Iterator[tuple[Model, Trace]]:
-    """Random plans of at most so many ticks that are admitted, and their simulated traces."""
+    """Random plans of at most `most` ticks that are admitted, and their simulated traces."""
     for seed in range(60):
         tasks, machine, demands, ticks = random_case(seed)
         model, plan = Model(tasks, machine, pair, demands), Plan(tasks, machine, pair[0])
@@ -127,7 +127,7 @@ def next_line(model: Model, tick: int) -> str:
     keys = {place: model.due(place, model.number(place, tick)) if edf else model.tasks.tasks[place].period
             for place in [first, *others]}
     ties = [model.tasks.tasks[place].name for place in others if keys[place] == keys[first]]
-    tie = f", and stands before {' and '.join(', '.join(ties).rsplit(', ', 1))} in the file" if ties else ""
+    tie = f", and is before {' and '.join(', '.join(ties).rsplit(', ', 1))} in the file" if ties else ""
     why = "is due first, at" if edf else "has the shortest period,"
     name = f"{model.tasks.tasks[first].name} job {model.number(first, tick)}"
     return f"{name} runs: of {1 + len(others)} open it {why} {keys[first]}{tie}"
@@ -177,7 +177,7 @@ def test_simulate_command(capsys: Captured) -> None:
     assert refusal(capsys, [*words, "la", "--scheduler", "rm"]) == "rtdvs: rm has no governor la\n"
 
 
-# Governors of one's own
+# Your own governors
 
 TASKS = TaskSet((Task("a", 4, 4), Task("b", 6, 9)))
 

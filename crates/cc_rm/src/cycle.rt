@@ -70,7 +70,7 @@ impl CcRm {
         }
     }
 
-    // The published demand from the state alone, in work units per tick, not reduced.
+    // The published demand from only the state, in work units per tick, not reduced.
     fn demand_of(&self, plan: &Admitted, view: &State) -> Frac
         requires of { IsOfPlan plan.now view.now }
         requires speed { self.now.static_speed ≡ static_speed plan.now }
@@ -158,8 +158,8 @@ impl Governor for CcRm {
         self.allotments = Some(Allotments { first, left });
     }
 
-    /// The published demand, and the lowest entry that meets it, else the highest. In a calm state the entry meets the
-    /// demand: what is left of the allotments fits at the static speed.
+    /// The published demand, and the lowest entry that meets it, otherwise the highest. In a calm state the entry meets
+    /// the demand: what is left of the allotments fits at the static speed.
     fn choose(&self, plan: &Admitted, view: &State) -> Choice
         requires of { IsOfPlan plan.now view.now }
         requires counters { AreCounters self.now.static_speed self.now.rests.items self.now.allotments

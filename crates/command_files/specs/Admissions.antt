@@ -1,4 +1,4 @@
--- The plan, where its scheduler's test passes, else the denial.
+-- The plan if its scheduler's test passes, otherwise the denial.
 use Rattle.std.specs.Prelude.{ℕ, ◌*◌, nat_lt, find, Option, Some, None, Result, Ok, Err, if◌then◌else◌}
 use Rattle.dvs_base.specs.declared.kind.Scheduler.{Scheduler}
 use Rattle.dvs_base.specs.declared.kind.Scheduler.TheVariants.{Rm, Edf}

@@ -1,4 +1,4 @@
--- What a step that loads files gives; for proofs alone.
+-- What a step that loads files gives; only for proofs.
 use Rattle.std.specs.Prelude.{Result, Bool, true, List, [], ◌∷◌, Option, Some, None, ℕ, IfOk, IfErr, IsTrue, if◌then◌else◌}
 use Rattle.dvs_base.specs.Outside.{Files, ShelfView}
 use Rattle.words.specs.Commands.{CommandView, tasks_name}

@@ -4,7 +4,7 @@
 //! `records_left`: it has the records of the text that a reader has not read, by the CSV reader's own specification,
 //! and each call of `next_record` takes the first of them; and on `rows_reader` to find the rows after one header,
 //! field by field. One record is used again for each row, so no text is kept twice. `row_line` is the line of a refused
-//! row, and `bad_number_line` that of a field that is no number.
+//! row, and `bad_number_line` that of a field that is not a number.
 #![tactic(auto)]
 
 mod fault_line;

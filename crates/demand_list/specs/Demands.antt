@@ -13,7 +13,7 @@ pub record DemandsView : Type 0 where
 abbrev pub HasWorstsOf : List Task → DemandsView → Type 0
 HasWorstsOf tasks d = d.worsts ≡ map (λ t. t.worst) tasks
 
--- the units of a job without the charge: its row's, else the task's declared worst case
+-- the units of a job without the charge: its row's, otherwise the task's declared worst case
 abbrev pub units_of : DemandsView → ℕ → ℕ → ℕ
 units_of d i k = unwrap_or (named_units d.rows i k) (slice_index d.worsts i)
 

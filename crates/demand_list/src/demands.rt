@@ -68,7 +68,7 @@ impl Demands {
         self.rows.units(task, job).is_some()
     }
 
-    /// The units of a job without the charge: its row's, else the declared worst case.
+    /// The units of a job without the charge: its row's, otherwise the declared worst case.
     pub fn units(&self, task: u32, job: u64) -> u64
         requires { task < length self.now.worsts }
         ensures units { result ≡ units_of self.now task job }

@@ -12,9 +12,9 @@ loads_before_a_failing_one :
     ≡ (1 ∷ 1 ∷ 0 ∷ 2 ∷ [])
 loads_before_a_failing_one = refl
 
--- behind the last listed load all loads are guaranteed
-loads_behind_the_last : calls_before (5 ∷ 2 ∷ []) 5 ≡ u64_end - 1
-loads_behind_the_last = refl
+-- after the last listed load all loads are guaranteed
+loads_after_the_last : calls_before (5 ∷ 2 ∷ []) 5 ≡ u64_end - 1
+loads_after_the_last = refl
 
 abbrev fail_at : ℕ → ℕ → FailAt
 fail_at call taken = record { call = call; taken = taken }

@@ -33,7 +33,7 @@ read_on-below v i (c ∷ cs) low h =
     subst (λ (k : ℕ). number_after next cs < 10 ^ k) longer
     (read_on-below next (i + 1) cs (one-digit v i c low (digit-most c parts.0)) parts.1)
 
--- a text is spelled where it can start a number and has digits alone
+-- a text is spelled if it can start a number and has only digits
 spelled-by : {A : Type 0} (cs : List ℕ) (x y : A)
     → (if starts_number cs then (if list_all is_ascii_digit cs then x else y) else y) ≡ (if is_spelled cs then x else y)
 spelled-by [] x y = refl

@@ -9,7 +9,7 @@ use Rattle.dvs_base.specs.declared.limits.TheConstants.{MOST_TICKS}
 use Rattle.dvs_base.specs.Widths.{u64_end}
 use Rattle.dvs_base.specs.Text.{number_below}
 
--- the seven pairs of a scheduler and a governor: look-ahead is for EDF alone
+-- the seven pairs of a scheduler and a governor: look-ahead is only for EDF
 abbrev pub is_pair : Scheduler → GovernorKind → Bool
 is_pair Edf Plain = true
 is_pair Edf Fixed = true

@@ -14,7 +14,7 @@ pub enum Scheduler {
 pub enum GovernorKind {
     /// `none`: always the highest speed.
     Plain,
-    /// `static`: one speed, from the worst cases alone.
+    /// `static`: one speed, from only the worst cases.
     Fixed,
     /// `cc`, cycle-conserving: work that jobs did not need lowers the speed.
     Cycle,

@@ -34,7 +34,7 @@ pub fn governor_of(word: &[u8]) -> Option<GovernorKind>
     }
 }
 
-/// Whether the scheduler and the governor are one of the seven pairs: look-ahead is for EDF alone.
+/// Whether the scheduler and the governor are one of the seven pairs: look-ahead is only for EDF.
 pub fn is_pair(scheduler: Scheduler, governor: GovernorKind) -> bool
     ensures { result ≡ is_pair scheduler governor }
 {

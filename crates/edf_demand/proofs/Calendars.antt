@@ -62,7 +62,7 @@ module _ (every within : ℕ) (some : 0 < every) where
           let one = jobs_due-above every within now m some (omega arith) in
           omega (arith, one)
 
--- an entry of a task that wasn't in the list adds that task's deadline alone
+-- an entry of a task that wasn't in the list adds only that task's deadline
 pub due_of-placed : (before : Entry → Entry → Bool) (e : Entry) (xs : List Entry) (i : ℕ) → IsAbsent e.task xs
     → due_of (with_entry before e xs) i ≡ (if nat_eq i e.task then e.due else due_of xs i)
 due_of-placed before e [] i a = refl

@@ -80,7 +80,7 @@ module _ (p : Plan) (lim : IsWithinLimits p) (relative : ℕ → ℕ) (con : IsC
   pub none-demand : processor_demand p relative 0 ≡ 0
   none-demand = grind (arith, sum_below-zero, jobs_due-most)
 
-  -- the processor demand grows at absolute deadlines alone
+  -- the processor demand grows only at absolute deadlines
   next-demand : (d : ℕ)
       → IsDeadline p relative (suc d) ⊎ (processor_demand p relative (suc d) ≤ processor_demand p relative d)
   next-demand d = elim (look (count p) (omega arith)) [

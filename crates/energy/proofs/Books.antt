@@ -28,7 +28,7 @@ books_by run idle released finished decisions tasks points = record {
   by_point = points;
 }
 
--- a table raised by `more` at place i is the table of a function that is greater by `more` there alone
+-- a table raised by `more` at place i is the table of a function that is greater by `more` only there
 raised-table : (n i more : ℕ) (f g : ℕ → ℕ) → i < n → g i ≡ f i + more → ((k : ℕ) → k < n → k ≢ i → g k ≡ f k)
     → with_more_at (list_below n f) i more ≡ list_below n g
 raised-table n i more f g lt here there =

@@ -38,7 +38,7 @@ pub record IsReached (m : Table) (units ticks : ℕ) (l : Least) : Type 0 where
 abbrev pub tick_due : Least → ℕ
 tick_due l = if l.tick_minus then 0 else l.tick_price
 
--- the part of a tick's price that is given back: the price where it is below 0, else 0
+-- the part of a tick's price that is given back: the price if it is below 0, otherwise 0
 abbrev pub tick_refund : Least → ℕ
 tick_refund l = if l.tick_minus then l.tick_price else 0
 

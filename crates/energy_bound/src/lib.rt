@@ -1,4 +1,4 @@
-//! The least energy for a number of work units in a number of ticks, with a certificate that can be checked alone.
+//! The least energy for a number of work units in a number of ticks, with a certificate that can be checked by itself.
 //!
 //! A choice for a tick is an entry of the machine's table and a number of units within its speed. [`least_energy`]
 //! finds two corners, which are full ticks or an idle one, whose mix costs the least; [`check`] tests such an answer

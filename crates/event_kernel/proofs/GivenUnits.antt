@@ -35,14 +35,14 @@ given_units-same job given given' n [] below same = refl
 given_units-same job given given' n (j ∷ js) below same =
     ap₂ (λ m us. replicate m (Held j (job j)) ++ us) (same j below.0) (given_units-same job given given' n js below.1 same)
 
--- where the tasks behind i got no units, their list of units is empty
+-- where the tasks after i got no units, their list of units is empty
 given_units-after : (key job given : ℕ → ℕ) (n i : ℕ) (js : List ℕ) → AreBelow n js → IsAhead key i js
     → ((j : ℕ) → j < n → stands_before key i j ≡ true → given j ≡ 0) → given_units given job js ≡ []
 given_units-after key job given n i [] below ahead none = refl
 given_units-after key job given n i (j ∷ js) below ahead none =
     ap₂ (λ m us. replicate m (Held j (job j)) ++ us) (none j below.0 ahead.0) (given_units-after key job given n i js below.1 ahead.1 none)
 
--- i gets units, before which it had none; nobody behind it has any
+-- i gets units, before which it had none; none after it has any
 given_units-step : (key job given given' : ℕ → ℕ) (n i : ℕ) (pre post : List ℕ) → AreBelow n (pre ++ i ∷ post) → IsOrdered key (pre ++ i ∷ post)
     → given i ≡ 0 → ((j : ℕ) → j < n → j ≢ i → given' j ≡ given j) → ((j : ℕ) → j < n → stands_before key i j ≡ true → given j ≡ 0)
     → given_units given' job (pre ++ i ∷ post) ≡ given_units given job (pre ++ i ∷ post) ++ replicate (given' i) (Held i (job i))
@@ -250,7 +250,7 @@ module _ (p : Plan) (dem : JobDemands) (past : List Tick) where
                 let other : k ≢ i = grind (arith, nat_tests) in
                 ap (λ g. not (nat_le (dem k (job k)) (had k)) && nat_le (dem k (job k)) (had k + g)) (sym (raised-there given i share k other))
 
-    -- the share of a task comes behind all units that were given
+    -- the share of a task is after all units that were given
     pub gives-units : (i share : ℕ) → 0 < rest → IsFirstOpen (count p) key (units_left p dem past) given i
         → units_by (raised given i share) ≡ units_by given ++ replicate share (Held i (job i))
     gives-units i share pos o =

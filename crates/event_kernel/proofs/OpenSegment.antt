@@ -68,7 +68,7 @@ module _ (p : Plan) (dem : JobDemands) (ask : PublishedDemand) (t : ℕ) where
       go true e = let same : dem i now ≡ used i = grind (arith, nat_tests) in rw same refl
       go false e = refl
 
-  -- the notes with one more segment have that segment's notes behind them
+  -- the notes with one more segment have that segment's notes after them
   pub notes-more : (s : Span) (done : List Piece) (r : Piece)
       → notes_with p dem ask s (done ++ r ∷ []) ≡ notes_with p dem ask s done ++ segment_notes p dem s (total done) r.units r.holder
   notes-more s done r =

@@ -191,7 +191,7 @@ module _ {set : Setting} (ok : IsSetting set) (force : InForce) where
         (subst (λ s. IsInSpan set demand force (m + 1) s (after_units p st force.from force.index h (u + f) trace)) (gives-on st u p rows first is f m (m + 1))
         (subst (λ q. IsInSpan set demand force (m + 1) (after_advance (gives mid first f) (m + 1)) q) traces next))
 
-    -- the same of n ticks
+    -- n ticks keep it too
     stays-n : (n t : ℕ) (first : Option ℕ) (st : StateView) (trace : SpanTrace) → 0 < n → IsInSpan set demand force t st trace
         → IsFirst p st first → NeedsMore st first (n * f) → t + n < set.ticks → QuietTo (t + n) st
         → IsInSpan set demand force (t + n) (after_advance (gives st first (n * f)) (t + n))

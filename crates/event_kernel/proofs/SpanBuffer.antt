@@ -12,7 +12,7 @@ kept_notes-by zero xs ys = refl
 kept_notes-by (suc n) [] ys = refl
 kept_notes-by (suc n) (x ∷ xs) ys = ap (λ l. x ∷ l) (kept_notes-by n xs ys)
 
--- kept notes with more behind them are kept like all of the notes
+-- kept notes with more after them are kept like all of the notes
 pub kept_notes-append : (xs ys : List Note) → kept_notes (kept_notes xs ++ ys) ≡ kept_notes (xs ++ ys)
 kept_notes-append xs ys = kept_notes-by MOST_NOTES xs ys
 

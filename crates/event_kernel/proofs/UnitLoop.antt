@@ -51,7 +51,7 @@ module _ (demand : OwnDemand) (p : Plan) (dem : JobDemands) (t : ℕ) where
   abbrev pub fast : ℕ
   fast = (point p (entry_in_force p dem (ask_of demand p dem) past)).speed
 
-  -- the trace holds the span with the units `us` of the tick behind it; `given` is the units that each task got
+  -- the trace holds the span with the units `us` of the tick after it; `given` is the units that each task got
   abbrev pub Wrote : (ℕ → ℕ) → List Holder → ℕ → SpanTrace → Type 0
   Wrote given us more trace =
       HoldsSpan p dem (ask_of demand p dem) (length past)

@@ -38,7 +38,7 @@ pub few-of : {E : Type 0} (r : Result Totals E) (t : Totals) → AreFew t → If
 few-of (Ok x) t few is = subst AreFew (sym is) few
 few-of (Err e) t few is = tt
 
--- each note before the `End` has its own line alone
+-- each note before the `End` has only its own line
 own-lines : (v : Version) (ns : List (List ℕ)) (p : Plan) (all notes : List Note) → AllByRecursion (IsNoteIn p) notes
     → flat_map (lines_of_note v ns all) notes ≡ map (line_of_note ns) notes
 own-lines v ns p all [] h = refl

@@ -45,7 +45,7 @@ fn call(rt: &HostRuntime, line: &str) -> Result<u8, AllocError> {
     Ok(status.code())
 }
 
-// Makes each call of the list, with its words before it and its status behind it.
+// Makes each call of the list, with its words before it and its status after it.
 fn make_calls(rt: &HostRuntime, calls: &str) -> Result<(), u8> {
     for line in calls.lines() {
         println!(rt; "rtdvs {line}").map_err(|_| NO_WRITE)?;

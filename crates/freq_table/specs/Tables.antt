@@ -33,7 +33,7 @@ highest_speed m = speed_at m (last_entry m)
 abbrev pub lowest_entry : Table → Frac → ℕ
 lowest_entry m d = min (first_from (length m.points) 0 (λ e. meets (speed_at m e) d)) (last_entry m)
 
--- the first entry that meets the demand, else the last, and whether any entry meets it
+-- the first entry that meets the demand, otherwise the last, and whether any entry meets it
 abbrev pub lowest_pick : Table → Frac → Pick
 lowest_pick m d = record { index = lowest_entry m d; met = any_below (length m.points) (λ e. meets (speed_at m e) d) }
 

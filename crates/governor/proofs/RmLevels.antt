@@ -65,7 +65,7 @@ pays : (plan : Plan) (j b c job w : ℕ) → b ≤ due_at plan j job → w ≤ c
     → w + released_since plan j b job * c ≤ released_since plan j b (job + 1) * c
 pays plan j b c job w le most = rw (counts_one plan j b job le) (omega arith)
 
--- the level of task i alone, with stretches shorter than `long`
+-- only the level of task i, with stretches shorter than `long`
 module _ (F long : ℕ) (plan : Plan) (lim : IsWithinLimits plan) (i : ℕ) (h : i < count plan) where
   pub level_opens : LevelCalm F long plan (opening plan) i
   level_opens = inl (λ j hj on. rw (opening_at plan j hj) refl)

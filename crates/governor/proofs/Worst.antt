@@ -1,4 +1,4 @@
--- The published demands of the kinds `Plain` and `Fixed` are functions of the plan alone. So the schedule under `static`
+-- The published demands of the kinds `Plain` and `Fixed` are functions of only the plan. So the schedule under `static`
 -- with every job at its worst case meets every deadline, for each number of ticks.
 use Rattle.std.proofs.lemmas.Bool.Decides.{nat_tests}
 use Rattle.std.proofs.Common.{◌≡◌, List, [], ◌∷◌, refl, ap, ℕ, ◌-◌, ◌<◌, ◌≤◌, length, arith, ◌∙◌, sym, subst}

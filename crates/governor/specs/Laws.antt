@@ -42,7 +42,7 @@ InEachRun serves Holds = (plan : Plan) (dem : JobDemands) (s : StateView) → In
 abbrev pub HasLowDen : Frac → Type 0
 HasLowDen d = (0 < d.den) × (d.den ≤ u64_end)
 
--- the entry that a governor with this demand chooses: the lowest whose speed meets it, else the highest
+-- the entry that a governor with this demand chooses: the lowest whose speed meets it, otherwise the highest
 abbrev pub chosen_entry : OwnDemand → Plan → StateView → ℕ
 chosen_entry demand plan s = lowest_entry plan.machine (demand plan s)
 

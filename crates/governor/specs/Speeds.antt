@@ -6,7 +6,7 @@ use Rattle.sched_model.specs.Plan.{Plan}
 use Rattle.sched_model.specs.StaticDemand.{static_demand}
 use Rattle.sched_model.specs.States.{StateView}
 
--- a published demand of the plan alone, the same in every state
+-- a published demand of only the plan, the same in every state
 abbrev pub unchanging : (Plan → Frac) → Plan → StateView → Frac
 unchanging demand plan s = demand plan
 

@@ -17,7 +17,7 @@ pub struct Choice {
 }
 
 /// The choice for a demand in units per tick, with a denominator from 1 to 2^64: the lowest entry whose speed meets
-/// it, else the highest.
+/// it, otherwise the highest.
 pub fn chosen(plan: &Admitted, demand: Frac) -> Choice
     requires { IsAdmitted plan.now → HasLowDen demand }
     ensures demand { result.demand ≡ demand }

@@ -1,6 +1,6 @@
 //! What a kernel asks of a governor, and the laws that each governor keeps.
 //!
-//! A governor has a published demand, and two conditions on the states of a run. From the laws of these two alone
+//! A governor has a published demand, and two conditions on the states of a run. From only the laws of these two
 //! every deadline of its schedule is met.
 #![tactic(auto)]
 
@@ -74,7 +74,7 @@ pub trait Governor: Drop {
         requires counters { stands self.old plan.now view.now }
         ensures { stands self.new plan.now (after_mark view.entry.now) };
 
-    /// The choice at a decision: the published demand in units per tick, the lowest entry that meets it, else the
+    /// The choice at a decision: the published demand in units per tick, the lowest entry that meets it, otherwise the
     /// highest, and whether that entry meets it.
     fn choose(&self, plan: &Admitted, view: &State) -> Choice
         requires of { IsOfPlan plan.now view.now }
@@ -87,7 +87,7 @@ pub trait Governor: Drop {
     /// A governor whose counters are right for a state of a plan serves the plan's scheduler.
     ghost serves_plan: { (g : Self) (plan : Plan) (s : StateView) → stands g plan s → serves plan.scheduler };
 
-    /// The counters stay right while time alone passes.
+    /// The counters stay right while only time passes.
     ghost waits: { (g : Self) (plan : Plan) (s : StateView) (to : ℕ) → s.now ≤ to → stands g plan s → stands g plan (after_advance s to) };
 
     /// The laws of the two conditions and the demand.

@@ -40,7 +40,7 @@ sum_below-one (suc n) j f lt h =
         let other : n ≢ j = grind (arith, nat_tests) in
         omega (arith, ih (omega arith), h n (omega arith) other)
 
--- two sums that differ in the term of i alone differ by that term
+-- two sums that differ only in the term of i differ by that term
 pub sum_below-change : (n : ℕ) (f g : ℕ → ℕ) (i : ℕ) → i < n → ((k : ℕ) → k < n → k ≢ i → g k ≡ f k) → sum_below n g + f i ≡ sum_below n f + g i
 sum_below-change zero f g i lt same = absurd (omega arith)
 sum_below-change (suc n) f g i lt same =

@@ -30,7 +30,7 @@ abbrev pub greatest_below : ℕ → (ℕ → ℕ) → ℕ
 greatest_below zero f = 0
 greatest_below (suc n) f = max (greatest_below n f) (f n)
 
--- the first of from, from + 1, .. from + n - 1 that passes the test, else from + n
+-- the first of from, from + 1, .. from + n - 1 that passes the test, otherwise from + n
 abbrev pub first_from : ℕ → ℕ → (ℕ → Bool) → ℕ
 first_from zero from test = from
 first_from (suc n) from test = elim (test from) [ true ↦ from | false ↦ first_from n (suc from) test ]

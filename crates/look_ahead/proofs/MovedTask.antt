@@ -29,13 +29,13 @@ first-in_order key n some = omega (arith, low, high)
     low = least-below n key (get_or (in_order key n) 0 0)
         (below-at n (in_order key n) 0 (in_order-below key n) (rw length-in_order some))
 
--- a list with x in front, in which task i goes back behind those that pass the test, up to the first that doesn't
+-- a list with x in front, in which task i goes back after those that pass the test, up to the first that doesn't
 abbrev pub moved_back : (ℕ → Bool) → ℕ → ℕ → List ℕ → List ℕ
 moved_back test i x [] = x ∷ []
 moved_back test i x (y ∷ ys) =
     if nat_eq x i && test y then y ∷ moved_back test i x ys else x ∷ moved_back test i y ys
 
--- a list in which task i is inserted again, among those behind it
+-- a list in which task i is inserted again, among those after it
 abbrev reinserted : (ℕ → ℕ) → ℕ → List ℕ → List ℕ
 reinserted key i [] = []
 reinserted key i (x ∷ xs) = if nat_eq x i then insert_by key i xs else x ∷ reinserted key i xs
@@ -155,7 +155,7 @@ module _ (key key' : ℕ → ℕ) (i : ℕ) (same : (j : ℕ) → j ≢ i → ke
   test-is : (j : ℕ) → j ≢ i → stands_before_due key i (key' i) j ≡ stands_before key' j i
   test-is j ne = ap (λ (x : ℕ). nat_lt x (key' i) || (nat_eq x (key' i) && nat_lt j i)) (sym (same j ne))
 
-  -- task i, at the front, goes to its place among the tasks behind it
+  -- task i, at the front, goes to its place among the tasks after it
   moved_back-own : (xs : List ℕ) → AreOthers i xs
       → moved_back (stands_before_due key i (key' i)) i i xs ≡ insert_by key' i xs
   moved_back-own [] o = refl

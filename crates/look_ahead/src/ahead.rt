@@ -83,7 +83,7 @@ impl Governor for LookAhead {
 
     fn settled(&mut self, _plan: &Admitted, _view: &State) {}
 
-    /// The published demand, and the lowest entry that meets it, else the highest. By equations over all tasks at
+    /// The published demand, and the lowest entry that meets it, otherwise the highest. By equations over all tasks at
     /// once, each task puts off some work units past the earliest deadline, at a rate that they then need. For each
     /// solution the demand is the sum of what is not put off, and the rate of each task, with those of the tasks
     /// after it and before it, is within what the highest speed does in a hyperperiod.

@@ -49,7 +49,7 @@ module _ (p : Plan) (due due' left left' : ℕ → ℕ) (same : (i : ℕ) → i 
       (ap₂ (λ a c. a - c) (same_left i b.0) (put_same (spread_rates p due left is) (spread_rates p due' left' is) i b.0 (rates_same is b.1)))
       (due_first-same is b.1)
 
-  -- the demand is a function of the tasks' deadlines and needs alone
+  -- the demand is a function of only the tasks' deadlines and needs
   ahead_of-same : (t : ℕ) → ahead_of p due left t ≡ ahead_of p due' left' t
   ahead_of-same t =
       ap₂ (λ (n d : ℕ). record { num = n; den = d })

@@ -111,11 +111,11 @@ module _ (p : Plan) (dem : JobDemands) (ask : PublishedDemand) (lim : IsWithinLi
       decisions-weigh : Weighs p dem ask (λ note. cond (is_decided note) 1 0) nothing
       decisions-weigh = record { run = λ from to i k units e. omega arith; idle = λ from to units e. omega arith; done = λ at_end i k used. refl }
 
-  -- 1 where the latest job of task i at tick t still needs units after these ticks, else 0
+  -- 1 if the latest job of task i at tick t still needs units after these ticks, otherwise 0
   abbrev lacks : List Tick → ℕ → ℕ → ℕ
   lacks ticks t i = if is_done p dem ticks i (latest p i t) then 0 else 1
 
-  -- 1 where the latest job of task i is open after these ticks, else 0
+  -- 1 if the latest job of task i is open after these ticks, otherwise 0
   abbrev open_job : List Tick → ℕ → ℕ
   open_job [] i = 0
   open_job (x ∷ past) i = lacks (x ∷ past) (length past) i
@@ -123,12 +123,12 @@ module _ (p : Plan) (dem : JobDemands) (ask : PublishedDemand) (lim : IsWithinLi
   abbrev open_jobs : List Tick → ℕ
   open_jobs ticks = sum_below (count p) (open_job ticks)
 
-  -- 1 where a job completed in the last tick, else 0
+  -- 1 if a job completed in the last tick, otherwise 0
   abbrev fresh : List Tick → ℕ
   fresh [] = 0
   fresh (x ∷ past) = one_if (any_below (count p) (λ i. completes_in p dem x past i))
 
-  -- 1 before the first tick, where a decision needs no cause, else 0
+  -- 1 before the first tick, where a decision needs no cause, otherwise 0
   abbrev start : List Tick → ℕ
   start [] = 1
   start (x ∷ past) = 0

@@ -103,7 +103,7 @@ module _ (n : ℕ) (key : ℕ → ℕ) (room : ℕ) (need given : ℕ → ℕ) (
       let all : room - 0 ≡ room = omega arith in
       subst (λ r. TakeTurns need given r (in_order key n)) all (turns-from [] (in_order key n) refl (omega arith))
 
--- 1 for a task that gets all it needs, if it needs anything, else 0
+-- 1 for a task that gets all it needs, if it needs anything, otherwise 0
 abbrev pub served : (need given : ℕ → ℕ) → ℕ → ℕ
 served need given i = if nat_lt 0 (need i) && nat_le (need i) (given i) then 1 else 0
 

@@ -16,7 +16,7 @@ pub record ProbeView : Type 0 where
   pub rule : Rule
   pub tally : ℕ
 
--- what a note weighs by its kind: 1 where it is of the kind that is counted, else 0; under Units a run's segment
+-- what a note weighs by its kind: 1 if it is of the kind that is counted, otherwise 0; under Units a run's segment
 -- weighs its units
 abbrev pub weight_of_kind : What → Note → ℕ
 weight_of_kind what.Releases (Release tick task job) = 1

@@ -16,7 +16,7 @@ pub enum What {
     Units,
 }
 
-/// What a probe counts: a kind of notes, of one task alone where one is named; and the tally at which it leaves, if
+/// What a probe counts: a kind of notes, of only one task if one is named; and the tally at which it leaves, if
 /// any.
 #[derive(Clone, Copy, Debug, PartialEq, Eq)]
 pub struct Rule {
@@ -32,7 +32,7 @@ pub enum Stay {
     Leave,
 }
 
-// What a note weighs by its kind alone.
+// What a note weighs by only its kind.
 fn weight_of_kind(what: What, note: &Note) -> u64
     ensures { result ≡ weight_of_kind what note.now }
 {

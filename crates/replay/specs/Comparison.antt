@@ -48,7 +48,7 @@ line_of v tasks place n = place + 3 + (if has_task_lines v then tasks else 0)
 abbrev pub differs : ℕ → TraceView → ℕ → Note → Note → ReplayFault
 differs tasks t place wanted found = fault.Differs (line_of t.version tasks place found) wanted found
 
--- the totals of a trace of `tasks` tasks where its notes differ nowhere from those wanted, else the first difference
+-- the totals of a trace of `tasks` tasks if its notes are those wanted, otherwise the first difference
 abbrev pub unless_unequal : ℕ → TraceView → Option (ℕ × Note × Note) → Result Totals ReplayFault
 unless_unequal tasks t None = Ok (totals_of t.notes)
 unless_unequal tasks t (Some (place, wanted, found)) = Err (differs tasks t place wanted found)

@@ -83,7 +83,7 @@ fn compare<G: Governor>(
     }
 }
 
-// The totals of a trace that passes its replay, else the refusal.
+// The totals of a trace that passes its replay, otherwise the refusal.
 fn check<G: Governor>(
     alloc: Global,
     plan: &Admitted,

@@ -20,7 +20,7 @@ use Rattle.sched_model.proofs.Allotments.{allotment-same}
 use Rattle.sched_model.proofs.Limits.{latest-early}
 use Rattle.replay_laws.proofs.SameNotes.{Alike, IsBlind, same-complete, same-wleft, alike-marked}
 
--- what look-ahead puts off depends on the tasks' needs alone
+-- what look-ahead puts off depends only on the tasks' needs
 module _ (p : Plan) (due left other : ℕ → ℕ) (same : (i : ℕ) → i < count p → left i ≡ other i) where
   put_off-reads : (after i : ℕ) → i < count p → put_off p due left after i ≡ put_off p due other after i
   put_off-reads after i lt =

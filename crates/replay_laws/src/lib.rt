@@ -1,4 +1,4 @@
-//! The law behind a replay: notes of a schedule are those of the schedule for the demand list that they fix.
+//! The law of a replay: notes of a schedule are those of the schedule for the demand list that they fix.
 //!
 //! Notes fix the demand of each job that completes in them; each other job has its worst case. A schedule depends on a
 //! job's demand only once the job completes. So the schedule for that list is the same tick for tick, and so are its

@@ -35,7 +35,7 @@ is_level_served p i t = nat_le (level_work_in p t i) (top_speed p * t)
 abbrev pub IsUnserved : Plan → ℕ → ℕ → Type 0
 IsUnserved p i t = (u : ℕ) → 1 ≤ u → u < t → top_speed p * u < level_work_in p u i
 
--- the response of task i: the least t from 1 to its period such that t ticks serve, else one more than the period
+-- the response of task i: the least t from 1 to its period such that t ticks serve, otherwise one more than the period
 unfoldable pub response : Plan → ℕ → ℕ
 response p i = first_from (period p i) 1 (is_level_served p i)
 

@@ -136,7 +136,7 @@ read_files files machine tasks found = rw (tasks, found) refl
 no_server : (files : Files) → tasks_at (codes "t") files ≡ Ok later → loads_needed (Some files) (poll_for (codes "b")) ≡ 1
 no_server files tasks = rw tasks refl
 
--- `least` loads its machine alone, also where that is refused
+-- `least` loads only its machine, also if that is refused
 least_alone : (files : Files) (why : Status) → machine_at (codes "m") files ≡ Err why → loads_needed (Some files) least_words ≡ 1
 least_alone files why machine = rw machine refl
 
@@ -152,7 +152,7 @@ shelf faults sure = record { held = None; faults = faults; sure = sure }
 second_load : LoadFailed (shelf 0 1) (shelf 1 0) (Ok admit_words) (Load Machine)
 second_load = inr (refl, inl (refl, inr (omega arith, omega arith)))
 
--- but not where it was sure of two, whatever the files are
+-- but not if it was sure of two, with any files
 sure_of_two : (held : Option Files) → LoadFailed (record { held = held; faults = 0; sure = 2 }) (shelf 1 1) (Ok admit_words) (Load Machine) → ⊥
 sure_of_two held (inl tasks) = absurd (let same = tasks.0 in cc)
 sure_of_two held (inr (passed, inl (same, inl lacks))) = omega (arith, lacks.1)

@@ -1,4 +1,4 @@
--- What a command prepares, how its put ends, and what is then known; for proofs alone.
+-- What a command prepares, how its put ends, and what is then known; only for proofs.
 use Rattle.std.specs.Prelude.{ℕ, List, Result, Option, ⊤, ◌≤◌, ◌≡◌, Ok, Some, None, Err, ◌<◌, length, Bool, false, IfOk, IfErr}
 use Rattle.dvs_base.specs.Outside.{ShelfView, SinkView, Files}
 use Rattle.dvs_base.specs.declared.kind.GovernorKind.{GovernorKind}

@@ -66,8 +66,8 @@ text_under v kind r = run_text_in v r.plan kind (job_demands r) r.ticks
 pub record HasMet (v : Version) (kind : GovernorKind) (r : Run) : Type 0 where
   -- the scheduler's stated test passes at the highest speed
   pub admitted : PassesTest r.plan.scheduler r.plan
-  -- the run's ticks are the one schedule, in which each speed is the lowest entry that meets the published demand, else
-  -- the highest
+  -- the run's ticks are the one schedule, in which each speed is the lowest entry that meets the published demand,
+  -- otherwise the highest
   pub schedule : IsTheSchedule r.plan kind (job_demands r) r.ticks (ticks_under kind r)
   -- each job that is due within the run has had its demand by its deadline
   pub deadlines : IsMet r.plan (job_demands r) (ticks_under kind r)

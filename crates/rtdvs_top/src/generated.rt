@@ -80,7 +80,7 @@ fn drive_away<G: Governor>(kernel: Kernel<'_, G>, names: &[Name]) -> Totals
     told.unwrap()
 }
 
-// The totals of a run of `ticks` ticks under a governor that stands for the opening of its plan.
+// The totals of a run of `ticks` ticks under a governor that takes the place of the opening of its plan.
 fn totals_from_opening<G: Governor>(
     alloc: Global,
     plan: &Admitted,

@@ -25,7 +25,7 @@ use words::read_words;
 /// After a run with `--probes` that is done, the line of each probe that is left goes to `notes`; after the first put
 /// that fails no more is put there.
 /// Files are loaded from `shelf` in the order tasks, machine, and then demands, trace, deadlines or requests, each
-/// before it is read; `least` loads the machine alone. `NoMemory` may come at any step before the first byte of `out`,
+/// before it is read; `least` loads only the machine. `NoMemory` may come at any step before the first byte of `out`,
 /// and never after it; a fault of `notes` changes no status.
 pub fn rtdvs<S: Shelf, W: Sink, E: Sink>(
     alloc: Global,
@@ -44,7 +44,7 @@ pub fn rtdvs<S: Shelf, W: Sink, E: Sink>(
     ensures write { result ≡ Status.Write → Rose (W.shows out.old).faults (W.shows out.new).faults }
     ensures shown { IsShown result }
 
-    // What is on `out`: the whole answer, where a put failed a first part of it, else nothing.
+    // What is on `out`: the whole answer, if a put failed a first part of it, otherwise nothing.
     ensures done { result ≡ Status.Done
         → Writes (asked_for words.now (S.shows shelf.old)) (W.shows out.old) (W.shows out.new) }
     ensures part { result ≡ Status.Write
@@ -63,7 +63,7 @@ pub fn rtdvs<S: Shelf, W: Sink, E: Sink>(
     ensures polled { ProvesPoll (asked_for words.now (S.shows shelf.old)) result }
     ensures least { ProvesLeast (asked_for words.now (S.shows shelf.old)) (W.shows out.old) (W.shows out.new) result }
 
-    // What is on `notes`, and what the probes were told: a run's notes where the words ask for probes, else nothing.
+    // What is on `notes`, and what the probes were told: a run's notes if the words ask for probes, otherwise nothing.
     ensures notes { PutsNotes (asked_for words.now (S.shows shelf.old)) (map (λ b. seen b) probes.new.items) result
         (E.shows notes.old) (E.shows notes.new) }
     ensures kept { LeavesProbes (probes_asked (command_asked words.now)) result probes.old probes.new }

@@ -150,12 +150,12 @@ shares_by_rank n key room need (suc m) i lt small = go (last_of key (λ k. stand
 pub allotment-shares : (n : ℕ) (key : ℕ → ℕ) (room : ℕ) (need : ℕ → ℕ) → SharesOut n key room need (allotment n key room need)
 allotment-shares n key room need i lt = shares_by_rank n key room need (suc (sum_before n key (λ _. 1) i)) i lt (omega arith)
 
--- whether units are shared out by the order depends on the shares of the tasks alone
+-- whether units are shared out by the order depends only on the shares of the tasks
 pub shares-same : (n : ℕ) (key : ℕ → ℕ) (room : ℕ) (need a b : ℕ → ℕ) → ((k : ℕ) → k < n → a k ≡ b k)
     → SharesOut n key room need a → SharesOut n key room need b
 shares-same n key room need a b e h i lt = grind (arith, nat_tests, sum_where-same)
 
--- an allotment depends on the needs of the tasks alone
+-- an allotment depends only on the needs of the tasks
 pub allotment-same : (n : ℕ) (key : ℕ → ℕ) (room : ℕ) (f g : ℕ → ℕ) → ((j : ℕ) → j < n → f j ≡ g j) → (k : ℕ) → k < n
     → allotment n key room f k ≡ allotment n key room g k
 allotment-same n key room f g e k lt =

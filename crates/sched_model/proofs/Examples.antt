@@ -198,7 +198,7 @@ rm_static_demand_of_equals_out_of_order : static_demand (record {
 }) ≡ fraction 30 5
 rm_static_demand_of_equals_out_of_order = refl
 
--- of two tasks with one period the level of the earlier is that task alone, and the level of the later is both:
+-- of two tasks with one period the level of the earlier is only that task, and the level of the later is both:
 -- 6 units, where 4 can be done
 level_of_the_earlier_of_equals : level_work denied_set 0 ≡ 3
 level_of_the_earlier_of_equals = refl
@@ -219,7 +219,7 @@ backlog_at_the_static_speed : backlog light_set 2 1 ≡ 6
 unfolding backlog published in_order release due latest schedule_by
 backlog_at_the_static_speed = refl
 
--- the level of the task with the shorter period is that task alone, though it is second in the file
+-- the level of the task with the shorter period is only that task, though it is second in the file
 backlog_of_a_level_in_rm_order : backlog two_tasks 1 1 ≡ 2
 unfolding backlog published in_order release due latest schedule_by
 backlog_of_a_level_in_rm_order = refl

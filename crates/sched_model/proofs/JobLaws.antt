@@ -1,4 +1,4 @@
--- The laws of `release`, `due` and `latest`; other proofs use these alone.
+-- The laws of `release`, `due` and `latest`; other proofs use only these.
 use Rattle.std.proofs.Common.{◌≡◌, ℕ, zero, suc, ◌+◌, ◌-◌, ◌/◌, ◌<◌, ◌≤◌, true, false, List, [], ◌∷◌, length, refl, inl, inr, nat_le, arith, ap, ◌∙◌, sym, add-mul, one-mul, zero-mul, add-one}
 use Rattle.std.proofs.Math.Nat.{le-mul_of_pos_right}
 use Rattle.std.proofs.lemmas.Bool.{cases_lt}

@@ -46,7 +46,7 @@ pub sum-each : {A : Type 0} (f : A → ℕ) (lists : ℕ → List A) (n : ℕ)
 sum-each f lists zero = refl
 sum-each f lists (suc n) = grind (arith, nat_tests, flat_map-append, sum_by-append, sum-each f lists n)
 
--- 1 where the test is true, else 0
+-- 1 if the test is true, otherwise 0
 abbrev pub one_if : Bool → ℕ
 one_if b = if b then 1 else 0
 
@@ -67,7 +67,7 @@ module _ (p : Plan) (dem : JobDemands) (t : ℕ) (f : Note → ℕ) where
   abbrev released : ℕ → ℕ
   released i = one_if (releases_at p i t)
 
-  -- 1 where task i releases a job that needs nothing, else 0
+  -- 1 if task i releases a job that needs nothing, otherwise 0
   abbrev empty : ℕ → ℕ
   empty i = one_if (releases_at p i t && nat_eq (dem i (latest p i t)) 0)
 
@@ -93,7 +93,7 @@ module _ (p : Plan) (dem : JobDemands) (t : ℕ) (f : Note → ℕ) where
         sum_below-times (count p) done empty,
       )
 
--- 1 where what a job has had reaches its demand, else 0
+-- 1 if what a job has had reaches its demand, otherwise 0
 abbrev pub reached : ℕ → ℕ → ℕ
 reached need had = if nat_le need had then 1 else 0
 
@@ -106,7 +106,7 @@ reached-none need had lt = let e : nat_le need had ≡ false = grind (arith, nat
 pub reached-up : (need had more : ℕ) → had ≤ more → reached need had ≤ reached need more
 reached-up need had more le = grind (arith, nat_tests)
 
--- 1 where job k of task i has had its demand in these ticks, else 0
+-- 1 if job k of task i has had its demand in these ticks, otherwise 0
 abbrev pub done_by : Plan → JobDemands → ℕ → ℕ → List Tick → ℕ
 done_by p dem i k ticks = reached (dem i k) (exec p ticks i k)
 
@@ -169,7 +169,7 @@ module _ (p : Plan) (dem : JobDemands) (s : Span) (i k : ℕ) where
             segment-told front r.units r.holder some.0 now (omega (arith, within, most)),
           )
 
-  -- the segments of a span have the completion once where what the job has had rises to its demand in them, else never
+  -- a span's segments have the completion once if what the job has had rises to its demand in them, otherwise never
   pub units-told : had_of s.units ≤ dem i k
       → count_by (tells_done i k) (pieces_notes p dem s 0 (pieces_of s.units)) + reached (dem i k) (exec p s.past i k)
       ≡ reached (dem i k) (had_of s.units)
@@ -314,7 +314,7 @@ module _ (p : Plan) (dem : JobDemands) (ask : PublishedDemand) where
     still = λ y past ticks e. refl;
   }
 
-  -- a measure of segments alone: it is 0 for releases and decisions
+  -- a measure of only segments: it is 0 for releases and decisions
   pub record IsOfSegments (f : Note → ℕ) : Type 0 where
     pub release : (tick i k : ℕ) → f (Release tick i k) ≡ 0
     pub speed : (tick speed num den : ℕ) → f (Speed tick speed num den) ≡ 0

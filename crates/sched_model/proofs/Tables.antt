@@ -24,7 +24,7 @@ pub table-same : {A : Type 0} (n : ℕ) (f g : ℕ → A) → ((k : ℕ) → k <
 table-same zero f g h = refl
 table-same (suc n) f g h = ap₂ (λ xs x. xs ++ x ∷ []) (table-same n f g (λ k l. h k (omega arith))) (h n (omega arith))
 
--- writing one place of a table gives the table of a function that differs there alone
+-- writing one place of a table gives the table of a function that differs only there
 pub set-table : {A : Type 0} (n : ℕ) (f g : ℕ → A) (i : ℕ) (v : A) → i < n → g i ≡ v → ((k : ℕ) → k < n → k ≢ i → g k ≡ f k)
     → set (list_below n f) i v ≡ list_below n g
 set-table n f g i v lt here there =

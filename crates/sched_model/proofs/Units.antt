@@ -105,7 +105,7 @@ module _ (p : Plan) (past : List Tick) (x : Tick) where
         sum_below-times (count p) unit (share x),
       )
 
-  -- the units of a job are its task's share where it is the latest job, else none
+  -- the units of a job are its task's share if it is the latest job, otherwise none
   units-own : (i k : ℕ) → i < count p
       → count_by (same_holder (Held i k)) (tick_units p past x) ≡ (if nat_eq k (latest p i (length past)) then share x i else 0)
   units-own i k lt =

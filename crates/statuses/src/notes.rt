@@ -35,7 +35,8 @@ pub fn note_status<E: Sink>(status: &Status, tasks: Option<&TaskSet>, notes: &mu
     }
 }
 
-/// Puts to `notes` how a command ended: the probes' lines if they were told and it is done, else those of its status.
+/// Puts to `notes` how a command ended: the probes' lines if they were told and it is done, otherwise those of its
+/// status.
 pub fn note_end<E: Sink, P: Probe>(
     told: bool,
     status: &Status,

@@ -11,7 +11,7 @@
 // | `fail put N K` | in the next call the Nth put of the answer fails after K bytes |
 // | `fail note N K` | in the next call the Nth put of the notes fails after K bytes |
 // | `probe WHAT` | the next call has one more probe, which counts `speeds` or `dones`, or the `units` of each task |
-// | `probe WHAT LIMIT` | the same of a probe that leaves at this tally |
+// | `probe WHAT LIMIT` | the same, and the probe leaves at this tally |
 // | `call WORDS` | makes the call: its words, with escapes, are those between single blanks |
 //
 // So each case has its own files. A call that names one of the four which its case doesn't have is no form of the list.

@@ -2,7 +2,7 @@
 use crate::Trouble;
 use crate::stage::Ending;
 
-// The lines of a text, each behind this mark. A text that doesn't end with a line feed says so in a line of its own.
+// The lines of a text, each after this mark. A text that doesn't end with a line feed says so in a line of its own.
 fn show_text(rt: &HostRuntime, mark: char, text: &[u8]) -> Result<(), Trouble> {
     let text = std::str::from_utf8(text).map_err(|_| Trouble::Script)?;
     if text.is_empty() {
@@ -18,7 +18,7 @@ fn show_text(rt: &HostRuntime, mark: char, text: &[u8]) -> Result<(), Trouble> {
     }
 }
 
-/// The words of a call, the lines of the answer behind `|`, those of the notes behind `!`, the exit status, and how many
+/// The words of a call, the lines of the answer after `|`, those of the notes after `!`, the exit status, and how many
 /// loads, puts of the answer and puts of the notes failed, where some did.
 pub(crate) fn show_call(rt: &HostRuntime, words: &str, ending: &Ending) -> Result<(), Trouble> {
     let blank = if words.is_empty() { "" } else { " " };

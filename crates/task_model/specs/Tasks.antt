@@ -30,7 +30,7 @@ first_offset offset n = find (λ i. not (offset i == 0)) (list_below n (λ i. i)
 abbrev pub hyper_of : List Task → ℕ
 hyper_of tasks = least_common_multiple (map (λ t. t.period) tasks)
 
--- the value where n is within the limit, else None
+-- the value if n is within the limit, otherwise None
 abbrev pub where_within : {A : Type 0} → ℕ → ℕ → A → Option A
 where_within most n value = if nat_le n most then Some value else None
 

@@ -148,7 +148,7 @@ fn loads_first_bytes(
 }
 
 // The reader takes pieces of 4096 bytes. Files of one, two and three pieces, of `room` bytes, of one byte more and of
-// two more. Files that end a byte before or behind a piece, with room for more.
+// two more. Files that end a byte before or after a piece, with room for more.
 #[test]
 fn a_host_shelf_reads_files_of_several_pieces(rt: HostRuntime) -> Result<(), Fail> {
     for (length, room, given) in [

@@ -29,7 +29,7 @@ use Rattle.trace_reader.proofs.ShareTexts.{rest_text, energy-end, HaveNoEnd, tol
 use Rattle.trace_reader.proofs.NoteTexts.{Reads, wanted-some, notes_from-found, answer, notes_from-text, at_line-ok}
 use Rattle.trace_reader.proofs.HeadTexts.{IsUpTo, version-found, version-text, version-line, version-read, IsPlan, plan-found, plan-text, AreLines, TasksRead, tasks-found, tasks-text}
 
--- the notes as those before the last, and the last, which alone ends the run
+-- the notes as those before the last, and the last, the only one that ends the run
 record EndsWith (notes : List Note) : Type 0 where
   body : List Note
   last : Note

@@ -4,7 +4,7 @@ use Rattle.dvs_base.specs.declared.limits.TheConstants.{MOST_TASKS}
 use Rattle.dvs_base.specs.declared.note.Note.{Note}
 use Rattle.trace_text.specs.TraceText.{task_energy}
 
--- the number where it is below 2^128, else None
+-- the number if it is below 2^128, otherwise None
 abbrev pub narrow : ℕ → Option ℕ
 narrow n = if nat_lt n (2 ^ 128) then Some n else None
 

@@ -135,7 +135,7 @@ fn energy_in(version: Version, names: &[Name], fields: &[u8]) -> Result<Item, Tr
     Ok(Item::Share { task, energy })
 }
 
-// The item of the line, or the error in it when it is read alone.
+// The item of the line, or the error in it when it is read by itself.
 #[tactic(auto, unfolding(crate::specs::Items::item_of))]
 pub(crate) fn item_of(version: Version, names: &[Name], line: &[u8]) -> Result<Item, TraceKind>
     requires { length names.now ≤ MOST_TASKS }

@@ -174,7 +174,7 @@ fn known_names(names: &[Name])
 
 /// The trace of a text of version 1, for tasks with these names, which are distinct and at most
 /// [`MOST_TASKS`](dvs_base::MOST_TASKS). `Refused` has the first line with an error, and the first error in it. Memory
-/// is taken for the notes alone.
+/// is only taken for the notes.
 pub fn read_trace(alloc: Global, bytes: &[u8], names: &[Name]) -> Result<Trace, TraceFault>
     requires few { length names.now ≤ MOST_TASKS }
     requires distinct { AllPairs (λ a b. a ≢ b) names.now }
@@ -196,7 +196,7 @@ pub fn read_trace(alloc: Global, bytes: &[u8], names: &[Name]) -> Result<Trace, 
 
 /// The trace of a text of either version, for tasks with these names, which are distinct and at most
 /// [`MOST_TASKS`](dvs_base::MOST_TASKS), and these lines. `Refused` has the first line with an error, and the first
-/// error in it. Memory is taken for the notes alone.
+/// error in it. Memory is only taken for the notes.
 pub fn read_any(
     alloc: Global,
     bytes: &[u8],

@@ -51,7 +51,7 @@ unnoted_line text = record { text = text; notes = [] }
 abbrev pub line_of_note : List (List ℕ) → Note → NotedLine
 line_of_note names n = record { text = note_text names n; notes = n ∷ [] }
 
--- whether a trace has a line for each task, and one for its energy: in version 2 alone
+-- whether a trace has a line for each task, and one for its energy: only in version 2
 abbrev pub has_task_lines : Version → Bool
 has_task_lines One = false
 has_task_lines Two = true

@@ -1,4 +1,4 @@
--- The lines that show no note, how they are written, and where they are among those of notes; for proofs alone.
+-- The lines that show no note, how they are written, and where they are among those of notes; only for proofs.
 use Rattle.std.specs.Prelude.{ℕ, List, [], ◌∷◌, ◌++◌, slice_index, Result}
 use Rattle.grid_fraction.specs.Numbers.{list_below}
 use Rattle.dvs_base.specs.declared.kind.Version.{Version}

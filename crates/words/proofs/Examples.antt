@@ -52,7 +52,7 @@ repeated = refl
 no_value : command_of (codes "least" ∷ codes "--units" ∷ []) ≡ Err (fault.NoValue 2 (codes "--units"))
 no_value = refl
 
--- a command with its task file alone
+-- a command with only its task file
 abbrev with_tasks : List ℕ → Result CommandView WordFault
 with_tasks verb = command_of (verb ∷ codes "--tasks" ∷ codes "t" ∷ [])
 

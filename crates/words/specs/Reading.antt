@@ -31,7 +31,7 @@ with_option g place word (Some k) =
     else (if takes_value k then Ok (record { given = g; waits = Some k })
     else with_given place word (with_value g k word))
 
--- the reading after one word: the value that an option waits for, else an option
+-- the reading after one word: the value that an option waits for, otherwise an option
 abbrev pub word_at : Verb → ReadingView → Option Key → ℕ → List ℕ → Result ReadingView WordFault
 word_at v r (Some k) place word = with_given place word (with_value r.given k word)
 word_at v r None place word = with_option r.given place word (option_named (options_of v) word)

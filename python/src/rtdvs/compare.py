@@ -183,7 +183,7 @@ def compare(engine: Engine, tasks: TaskSet, machine: Machine, ticks: int, demand
             traces: Sequence[Trace] = (), executor: Executor | None = None) -> tuple[Row, ...]:
     """A row for each of the seven pairs, and for each trace given beside them.
 
-    Raises TraceFault if a trace is of other ticks, and whatever the program refuses, but for a pair that is
+    Raises TraceFault if a trace is of other ticks, and what the program raises, but not for a pair that is
     denied.
 
     >>> from rtdvs import Point, Task, find_engine

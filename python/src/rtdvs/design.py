@@ -413,7 +413,7 @@ def _quantity(where: str, table: Mapping[str, Any], key: str,
     if value is None:
         return None
     if isinstance(value, bool) or not isinstance(value, int | Fraction):
-        raise _fault(f"{where}{key} is no number")
+        raise _fault(f"{where}{key} is not a number")
     if value < least if least is not None else value <= 0:
         raise _fault(f"{where}{key} has to be {'above 0' if least is None else f'{least} or more'}")
     return Fraction(value)
@@ -431,7 +431,7 @@ def _task(where: str, table: Mapping[str, Any]) -> BoardTask:
                 {"name", "period_ms", "offset_ms", "worst_cycles", "worst_ms", "at_mhz", "usual_cycles"})
     name = table.get("name")
     if not isinstance(name, str):
-        raise _fault(f"{where}missing name" if name is None else f"{where}name is no text")
+        raise _fault(f"{where}missing name" if name is None else f"{where}name is not text")
     if ("worst_ms" in table) == ("worst_cycles" in table):
         raise _fault(f"{where}give either worst_cycles, or worst_ms and at_mhz")
     worst = (_needed(where, table, "worst_ms") * _needed(where, table, "at_mhz") * 1000

@@ -216,7 +216,7 @@ def _is_supported(node: _Node, hardware: Sequence[int]) -> bool:
         raise _fault(f"{node.path.name} is for some hardware only; choose the hardware by --supported-hw")
     if hardware and len(masks) % len(hardware):
         raise _fault(f"{node.path.name} has {len(masks)} numbers in opp-supported-hw, "
-                     f"which are no groups of {len(hardware)}")
+                     f"which aren't groups of {len(hardware)}")
     groups = zip(*[iter(masks)] * len(hardware))
     return not hardware or any(all(map(and_, group, hardware)) for group in groups)
 

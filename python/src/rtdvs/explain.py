@@ -215,7 +215,7 @@ def _next_job(state: State) -> str:
     key, place = state.open[0]
     others = [state.jobs[other].task.name for value, other in state.open[1:] if value == key]
     why = "is due first, at" if state.plan.scheduler == "edf" else "has the shortest period,"
-    tie = f", and stands before {_listed(others)} in the file" if others else ""
+    tie = f", and is before {_listed(others)} in the file" if others else ""
     return f"{state.jobs[place]} runs: of {len(state.open)} open it {why} {key}{tie}"
 
 
@@ -260,7 +260,7 @@ class Walk:
     def steps(self, quiet: bool = False) -> Iterator[tuple[int, Item, Checker]]:
         """Each line's number and content, after it was checked. Raises WrongTrace, FileFault.
 
-        A quiet walk leaves out lines that are right by their text alone.
+        A quiet walk leaves out lines that are right by their text.
 
         >>> lines = ["trace 1\\n", "plan edf none 1\\n", "release 0 a 1\\n"]
         >>> steps = Walk(EXAMPLE.tasks, EXAMPLE.machine, lines).steps()

@@ -547,7 +547,7 @@ class Checker:
         self.checks[kind](note)
 
     def follows(self, line: str) -> bool:
-        """Whether a line is right by its text alone; it is then taken as checked. `check` is for all others.
+        """Whether a line is right by its text; it is then taken as checked. `check` is for all others.
 
         >>> checker = Checker(State.begin(EXAMPLE), 4, full, None)
         >>> for note in Release(0, "a", 1), Release(0, "b", 1), Decision(0, 4, 4, 1):

@@ -170,7 +170,7 @@ def sensitivity(engine: Engine, tasks: TaskSet, machine: Machine, test: str,
     """The limits of a test (edf, rm or response), each by bisection over calls of the program.
 
     A set that is denied has limits below its own numbers: it has to shrink to them. Raises Denied if
-    `response` meets an offset, and whatever else the program refuses.
+    `response` meets an offset, and what else the program raises.
 
     >>> from rtdvs import Point, Task, find_engine
     >>> tasks = TaskSet((Task("a", 10, 6), Task("b", 10, 10)))

@@ -434,7 +434,7 @@ class _Handler(BaseHTTPRequestHandler):
         self.wfile.flush()
 
     def log_error(self, format: str, *args: Any) -> None:
-        """Answers a request whose first lines don't come to an end."""
+        """Answers a request whose first lines don't end."""
         if format.startswith("Request timed out"):
             self.wfile.write(_bare(HTTPStatus.REQUEST_TIMEOUT))
 

@@ -1,6 +1,6 @@
 """Traces of runs: their notes, read strictly, and what these say of the jobs.
 
-The text is that of docs/TRACE.md in version 1 or 2, except that any word may stand for the governor.
+The text is that of docs/TRACE.md in version 1 or 2, except that any word may be the governor.
 Energies and work units are whole numbers of any size. A position is a tick and the units of that tick that
 have passed; as a time it is an exact fraction of ticks, the units over the speed in force.
 """

@@ -65,7 +65,7 @@ fn the_most_lines(rt: HostRuntime) -> Result<(), Fail> {
         .refuses_file(&rt, "trace: line 800001: too many lines")
 }
 
-// A line of one byte more than the most bytes, behind the head of a trace and `count` `idle` lines.
+// A line of one byte more than the most bytes, after the head of a trace and `count` `idle` lines.
 fn long_after(alloc: Global, count: u64) -> Result<Vec<u8>, AllocError> {
     let mut trace = idle_lines(alloc, count)?;
     let long = vec![in alloc; b'a'; LONGEST_LINE + 1]?;

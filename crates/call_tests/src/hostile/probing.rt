@@ -214,7 +214,7 @@ fn stay_at_put(alloc: Global, number: u64, tallies: &[u64]) -> Result<(), Fail> 
 }
 
 // The first completion is the sixth line after the head, so the probe of completions has left before the next put. The
-// last put is behind all seven running segments.
+// last put is after all seven running segments.
 #[test]
 fn a_probe_that_left_before_a_put_fails(rt: HostRuntime) -> Result<(), Fail> {
     stay_at_put(rt.alloc(), 8, &[0, 1])?;

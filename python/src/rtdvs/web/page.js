@@ -330,7 +330,7 @@ function marksOf(row) {
 
 /**
  * Draws marks of a kind: each as an element that can be chosen, or, if they are many, all as one path. Of many bars one
- * stands for those that are near; many arrows, circles or diamonds aren't drawn.
+ * takes the place of those that are near; many arrows, circles or diamonds aren't drawn.
  */
 function drawMarks(pen, kind, list, times, shape) {
   if (!pen.single && times !== RUNS && countWithin(list, times) * 2 * pen.near > state.to - state.from) {
