@@ -88,7 +88,7 @@ module _ (p : Plan) (s : StateView) where
     earlier : (k : ℕ) → k < count p → k ≢ x.task → x.due ≡ (row_at s k).deadline → x.task < k
     earlier k lt ne same = let b = next-before k lt ne in grind (arith, nat_tests, b)
 
-    -- where a task is released now, the first entry of a calendar is that of the first such task
+    -- if a task is released now, the first entry of a calendar is that of the first such task
     pub first-due : x.due ≡ s.now → IsFirstDue p s x.task
     first-due e = record {
       below = next-own.0;
@@ -135,7 +135,7 @@ module _ (p : Plan) (s : StateView) (i : ℕ) (r : Row) (lt : i < length s.rows)
   others-kept test test' xs same h = holds-keep p s (without i test) (with_row s i r) (without i test') xs (λ k lt. same k)
       (λ k lt t. ap (λ (q : Row). record { task = k; due = q.deadline; period = period p k }) (sym (row-there s i r k (without-apart i test k t)))) h
 
-  -- where the row of task i keeps its deadline, all entries stay right
+  -- if the row of task i keeps its deadline, all entries stay right
   entries-kept : (test : ℕ → Bool) (xs : List Entry) → r.deadline ≡ (row_at s i).deadline → HoldsTasks p s test xs
       → HoldsTasks p (with_row s i r) test xs
   entries-kept test xs same h = holds-keep p s test (with_row s i r) test xs (λ k lk. refl)
@@ -147,14 +147,14 @@ module _ (p : Plan) (s : StateView) (i : ℕ) (r : Row) (lt : i < length s.rows)
   ready-others xs = others-kept (is_open s) (is_open (with_row s i r)) xs
       (by-row s i r lt (λ k q. without i (is_open s) k ≡ (if nat_eq k i then false else not q.done)) (grind (arith, nat_tests)) (λ k ne. refl))
 
-  -- where the job of task i is now complete, a ready queue without its entry is right
+  -- if the job of task i is now complete, a ready queue without its entry is right
   ready-closed : (xs : List Entry) → r.done ≡ true → HoldsTasks p s (without i (is_open s)) xs → HoldsReady p (with_row s i r) xs
   ready-closed xs done h =
       holds-keep p (with_row s i r) (without i (is_open (with_row s i r))) (with_row s i r) (is_open (with_row s i r)) xs
       (λ k lk. by-row s i r lt (λ k q. (if nat_eq k i then false else not q.done) ≡ not q.done) (grind (arith, nat_tests, done))
       (λ k ne. grind (arith, nat_tests, ne)) k) (λ k lk t. refl) (ready-others xs h)
 
-  -- where the job of task i is now incomplete, a ready queue with its entry is right
+  -- if the job of task i is now incomplete, a ready queue with its entry is right
   ready-opened : (xs : List Entry) → i < count p → r.done ≡ false → HoldsTasks p s (without i (is_open s)) xs
       → HoldsReady p (with_row s i r) (with_entry (before_of p.scheduler) (task_entry p (with_row s i r) i) xs)
   ready-opened xs lp unfinished h =
@@ -358,7 +358,7 @@ due-falls p s i done lt some d =
     later : nat_eq ((row_at s i).deadline + period p i) s.now ≡ false
     later = let is : (row_at s i).deadline ≡ s.now = d.due in grind (arith, nat_tests)
 
--- the next release is now exactly where some task is to be released now
+-- the next release is now exactly if some task is to be released now
 pub release-now : (p : Plan) (s : StateView) → 0 < count p → NonePast p s
     → nat_eq (earliest_in p s) s.now ≡ any_below (count p) (λ i. nat_eq (row_at s i).deadline s.now)
 release-now p s some past = go (nat_eq (earliest_in p s) s.now) refl

@@ -68,11 +68,11 @@ pub record IsFirstDue (p : Plan) (s : StateView) (i : ℕ) : Type 0 where
 abbrev pub NonePast : Plan → StateView → Type 0
 NonePast p s = (i : ℕ) → i < count p → s.now ≤ (row_at s i).deadline
 
--- a row after the release of its next job, which is complete at once where `done`
+-- a row after the release of its next job, which is complete at once if `done`
 abbrev pub next_job_row : ℕ → Bool → Row → Row
 next_job_row period done row = record (released_row period row) { done = done }
 
--- the state after the release of the next job of task i, which is complete at once where `done`
+-- the state after the release of the next job of task i, which is complete at once if `done`
 abbrev pub with_next_job : Plan → StateView → ℕ → Bool → StateView
 with_next_job p s i done = record s { rows = slice_set s.rows i (next_job_row (period p i) done (row_at s i)) }
 

@@ -43,7 +43,7 @@ impl Agenda {
         })
     }
 
-    /// The first task in the scheduler's order whose job is incomplete; `None` where all jobs are complete.
+    /// The first task in the scheduler's order whose job is incomplete; `None` if all jobs are complete.
     pub fn first_ready(&self, _plan: &Admitted, _state: &State) -> Option<u32>
         requires { Stands _plan.now _state.now self.now }
         ensures none { IfNone result ((k : ℕ) → k < count _plan.now → (row_at _state.entry.now k).done ≡ true) }
@@ -64,7 +64,7 @@ impl Agenda {
         }
     }
 
-    /// The first task in file order that is to be released now; `None` where there is none.
+    /// The first task in file order that is to be released now; `None` if there is none.
     pub fn first_due(&self, plan: &Admitted, state: &State) -> Option<u32>
         requires stand { Stands plan.now state.now self.now }
         requires past { NonePast plan.now state.now }

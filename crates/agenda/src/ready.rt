@@ -54,7 +54,7 @@ impl Ready {
         }
     }
 
-    /// The job that comes before all others; `None` exactly where there is no job.
+    /// The job that comes before all others; `None` exactly if there is no job.
     pub fn first(&self) -> Option<Entry>
         ensures value { result ≡ slice_get self.now.entries 0 }
         ensures first { IfSome result (λ e. ComesFirst (before_of self.now.scheduler) e self.now.entries) }
@@ -65,7 +65,7 @@ impl Ready {
         }
     }
 
-    /// Takes out and returns the job that comes before all others; `None` exactly where there is no job.
+    /// Takes out and returns the job that comes before all others; `None` exactly if there is no job.
     pub fn take_first(&mut self) -> Option<Entry>
         ensures entries { MatchOption result ((self.old.entries ≡ []) × (self.new.entries ≡ []))
             (λ e. self.old.entries ≡ e ∷ self.new.entries) }

@@ -23,7 +23,7 @@ rose-since earlier before now since rose = omega (arith, since, rose)
 rose-until : (before now later : ℕ) → now ≤ later → Rose before now → Rose before later
 rose-until before now later until rose = omega (arith, until, rose)
 
--- an answer stays one where other counts have risen too
+-- an answer stays one if other counts have risen too
 module _ {loads puts more_loads more_puts : Type 0} (of_loads : loads → more_loads) (of_puts : puts → more_puts) where
   is-answer : (answer : Result (List ℕ) Status) (s : Status) → IsAnswer loads puts answer s
       → IsAnswer more_loads more_puts answer s
@@ -62,7 +62,7 @@ wanted-few : (files : Option Files) (c : Result CommandView WordFault) → loads
 wanted-few files (Ok c) = few-loads (passes files c) (files_of c)
 wanted-few files (Err why) = omega arith
 
--- no load fails where the shelf guarantees those that both commands name
+-- no load fails if the shelf guarantees those that both commands name
 pub both-steady : (old mid new : ShelfView) (first second : Result CommandView WordFault)
     → MakesLoads (loads_wanted old.held first) old mid
     → (loads_asked first ≤ old.sure → mid.faults ≡ old.faults)

@@ -9,7 +9,7 @@ use test_inputs::{Ending, Outcome, words_of};
 // The bytes that each sink of a call has room for.
 const ROOM: usize = 65536;
 
-// The bytes that each sink has room for where the answer is one short line.
+// The bytes that each sink has room for if the answer is one short line.
 const SMALL_ROOM: usize = 64;
 
 /// A call: its files, with the names T, M and F, and its words.
@@ -178,7 +178,7 @@ impl<'a> Call<'a> {
         self.leaves(rt, 0, text, "")
     }
 
-    /// Where this put of the answer fails, the call ends with 8 and leaves this text on `out`.
+    /// If this put of the answer fails, the call ends with 8 and leaves this text on `out`.
     /// Otherwise the error says what differs.
     pub fn fails_at(self, rt: &impl AllocGlobal, put: FailAt, out: &str) -> Result<(), Fail> {
         let faults = Faults {

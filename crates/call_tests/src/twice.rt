@@ -19,7 +19,7 @@ pub struct TwoCalls<'a> {
 /// Makes two calls, both without probes, and returns their statuses.
 ///
 /// Each is an answer over the files that the shelf is known to hold before the first call, however that call ended.
-/// Where the shelf guarantees the loads of both calls, none fails.
+/// If the shelf guarantees the loads of both calls, none fails.
 pub fn twice<S: Shelf, W: Sink, E: Sink>(
     alloc: Global,
     words: &TwoCalls<'_>,

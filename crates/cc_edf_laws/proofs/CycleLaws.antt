@@ -51,19 +51,19 @@ module _ (plan : Plan) (dem : JobDemands) (f : ℕ) (s : StateView) (shares : Li
       → sum_where (count plan) (due_by s d) (share_in shares) ≡ min f (sum_where (count plan) (due_by s d) (left_in dem s))
   due_gets d = due_by_gets (count plan) deadlines d f (left_in dem s) (share_in shares) by_deadline
 
-  -- where the speed covers what the tasks due by d need, each of them is complete after the tick
+  -- if the speed covers what the tasks due by d need, each of them is complete after the tick
   pub due_closes : (d : ℕ) → sum_where (count plan) (due_by s d) (left_in dem s) ≤ f → (i : ℕ) → i < count plan
       → due_by s d i ≡ true → (row_at (after_tick dem shares s) i).done ≡ true
   due_closes d low i h on =
       tick-closes plan dem f s shares bel legal i h
       (sum_where-tight (count plan) (due_by s d) (left_in dem s) (share_in shares) (legal_most plan dem f s shares legal) (omega (arith, due_gets d)) i h on)
 
-  -- where the tasks due by d need all units of the tick, they get them all
+  -- if the tasks due by d need all units of the tick, they get them all
   pub due_full : (d : ℕ) → f ≤ sum_where (count plan) (due_by s d) (left_in dem s)
       → sum_where (count plan) (due_by s d) (share_in shares) ≡ f
   due_full d high = omega (arith, due_gets d)
 
-  -- where the tasks due by d need all units of the tick, no task that is due later gets any
+  -- if the tasks due by d need all units of the tick, no task that is due later gets any
   pub later_none : (d : ℕ) → f ≤ sum_where (count plan) (due_by s d) (left_in dem s) → (i : ℕ) → i < count plan
       → d < (row_at s i).deadline → share_in shares i ≡ 0
   later_none d high i h later =
@@ -148,14 +148,14 @@ module _ (plan : Plan) (lim : IsWithinLimits plan) (dem : JobDemands) (s : State
     soon : (i : ℕ) → i < count plan → (row_at s i).done ≡ false → (row_at s i).deadline ≤ s.now + period plan i
     soon i h open_job = grind (arith, cases_lt, due_soon, unborn_done)
 
-    -- where the speed covers what the tasks due by d need, they need nothing after the tick
+    -- if the speed covers what the tasks due by d need, they need nothing after the tick
     all_done : (d : ℕ) → sum_where (count plan) (due_by s d) (left_in dem s) ≤ f → due_work plan next d ≡ 0
     all_done d low =
         sum_where-zero (count plan) (due_by next d) (wleft_at next) (λ i h on.
         let due : due_by s d i ≡ true = rw (tick_at plan dem shares s bel i h) at on in
         rw (due_closes plan dem f s shares edf bel legal d low i h due) refl)
 
-    -- where the tasks due by d need all units of the tick, their work stays paid for
+    -- if the tasks due by d need all units of the tick, their work stays paid for
     all_paid : (d : ℕ) → s.now + 1 ≤ d → f ≤ sum_where (count plan) (due_by s d) (left_in dem s)
         → hyper plan * due_work plan next d + hyper plan * f + credit plan s d
         ≤ hyper plan * due_work plan s d + credit plan next d + (edf_cycle_demand plan s).num

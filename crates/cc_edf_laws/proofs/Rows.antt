@@ -35,7 +35,7 @@ opened_pays false h q p c now d after whole le is =
           rw (le-leb after d fits, span, sub-zero c) (omega (arith, work))
     ]
 
--- at a boundary, where each row that is due is complete, the work stays paid for
+-- at a boundary, if each row that is due is complete, the work stays paid for
 pub boundary_pays : (plan : Plan) (dem : JobDemands) (h q now d i : ℕ) (row : Row) → q * period plan i ≡ h
     → (row.deadline ≡ now → row.done ≡ true) → now ≤ d
     → h * owed d (boundary_row plan dem now i row) + credit_of q now d row ≤ h * owed d row + credit_of q now d (boundary_row plan dem now i row)

@@ -7,7 +7,7 @@ use Rattle.sched_model.specs.CycleDemand.{rate_for, edf_cycle_of}
 use Rattle.sched_model.specs.States.{StateView, row_at}
 use Rattle.governor.specs.ServedSchedulers.{ServesEdf}
 
--- the units that a row's task is charged with: what its job had where it is complete, and otherwise its worst case
+-- the units that a row's task is charged with: what its job had if it is complete, and otherwise its worst case
 abbrev pub charged_of : Row → ℕ
 charged_of row = if row.done then row.used else row.worst
 

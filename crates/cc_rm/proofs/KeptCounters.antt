@@ -16,7 +16,7 @@ use Rattle.cc_rm_laws.specs.Allotments.{base_of, allotted_in, allotment_left_in}
 use Rattle.cc_rm.specs.declared.counters.Allotments.{Allotments}
 use Rattle.cc_rm.specs.Counters.{AreOf, AreCounters, allotments_after}
 
--- where one term of a sum falls, the sum falls by as much
+-- if one term of a sum falls, the sum falls by as much
 sum_below-fall : (n : ℕ) (f g : ℕ → ℕ) (i by : ℕ) → i < n → g i + by ≡ f i → ((k : ℕ) → k ≢ i → g k ≡ f k)
     → sum_below n g ≡ sum_below n f - by
 sum_below-fall n f g i by lt own other = omega (arith, own, sum_below-change n f g i lt (λ k l ne. other k ne))

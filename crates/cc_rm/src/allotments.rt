@@ -27,7 +27,7 @@ fn base_of(view: &State, i: u32) -> u64
     view.base[i as usize]
 }
 
-// What is left of `allotted` work units of task i: 0 where its job is complete.
+// What is left of `allotted` work units of task i: 0 if its job is complete.
 fn left_of(view: &State, i: u32, allotted: u128) -> u128
     requires task { i < length view.now.rows }
     requires base { wleft_at view.now i ≤ base_of view.now i }

@@ -10,12 +10,12 @@ none_of c b g u x less le = omega arith
 most_of : (c b g : ℕ) → min c (b + g) - min c b ≤ g
 most_of c b g = omega arith
 
--- where task j gets some units, each task before it gets all that it needs
+-- if task j gets some units, each task before it gets all that it needs
 pub allotment-full : (n : ℕ) (key : ℕ → ℕ) (room : ℕ) (need : ℕ → ℕ) (k j : ℕ) → k < n → stands_before key k j ≡ true
     → 0 < allotment n key room need j → allotment n key room need k ≡ need k
 allotment-full n key room need k j lt h pos = grind (arith, up_to-before)
 
--- where task j gets less than it needs, each task after it gets no unit
+-- if task j gets less than it needs, each task after it gets no unit
 pub allotment-none : (n : ℕ) (key : ℕ → ℕ) (room : ℕ) (need : ℕ → ℕ) (j k : ℕ) → j < n → stands_before key j k ≡ true
     → allotment n key room need j < need j → allotment n key room need k ≡ 0
 allotment-none n key room need j k lt h less = grind (arith, up_to-before)

@@ -49,17 +49,17 @@ static-same : (p : Plan) → p.scheduler ≡ Rm → (past : List Tick)
 static-same p rm past = grind (arith, entry-same, published-fixed)
 
 module _ (p : Plan) (adm : IsAdmitted p) where
-  -- where a task has no release, it lacks as much after the releases as before
+  -- if a task has no release, it lacks as much after the releases as before
   pub quiet_row : (t j : ℕ) → j < count p → IsQuiet p t j → lack_after p t j ≡ lack p t j
   quiet_row = lack-quiet p adm.limits (asked p)
 
-  -- where a job of a task is due, the task lacks nothing
+  -- if a job of a task is due, the task lacks nothing
   pub lack-none : (t i k : ℕ) → i < count p → t ≡ due p i k → lack p t i ≡ 0
   lack-none zero i k h e = refl
   lack-none (suc t) i zero h e = grind (arith, lack-long, due-none, latest-none)
   lack-none (suc t) i (suc k) h e = lacking-none p adm (suc t) i (suc k) h (omega arith) e
 
-  -- where a job of a task is due, the task lacks its whole worst case after the releases
+  -- if a job of a task is due, the task lacks its whole worst case after the releases
   pub released-lack : (t i k : ℕ) → i < count p → t ≡ due p i k → lack_after p t i ≡ worst p i
   released-lack = lack-released p adm.limits (asked p)
 
@@ -76,7 +76,7 @@ module _ (p : Plan) (adm : IsAdmitted p) where
   backlog-span rm test down r d quiet =
       lack-span p adm.limits (asked p) rm (static_speed p) (static-same p rm) test down r d quiet
 
-  -- where task i lacks units at r and none at a later tick up to the next release, its level lacks none there
+  -- if task i lacks units at r and none at a later tick up to the next release, its level lacks none there
   pub backlog-empties : p.scheduler ≡ Rm → (i r d : ℕ) → i < count p
       → ((u j : ℕ) → r < u → u < r + suc d → j < count p → IsQuiet p u j)
       → 0 < lack_after p r i → lack p (r + suc d) i ≡ 0 → backlog p (r + suc d) i ≡ 0

@@ -32,7 +32,7 @@ use Rattle.freq_table.proofs.Chosen.{speeds_rise, below_highest, lowest_within, 
 use Rattle.governor.specs.Laws.{GovernorLaws}
 use Rattle.governor.specs.ServedSchedulers.{ServesRm}
 
--- what is left still fits into the rest of the time, where it is 0 or fell by the speed
+-- what is left still fits into the rest of the time, if it is 0 or fell by the speed
 room_falls : (left_in left' f x y : ℕ) → x ≡ y + 1
     → (left' ≡ 0) ⊎ (left' + f ≤ left_in) → left_in ≤ f * x → left' ≤ f * y
 room_falls left_in left' f x y e b le = grind arith
@@ -84,7 +84,7 @@ module _ (plan : Plan) (adm : IsAdmitted plan) (rm : plan.scheduler ≡ Rm) (dem
     short_allotment : allotment (count plan) (period plan) f (left_in dem s) k < left_in dem s k
     short_allotment = grind (arith, allotment_of (count plan) (period plan) f (left_in dem s) (share_in shares) out k hk, short)
 
-    -- where task k has some left after the tick, each unit of a task before it lowers what that task has left
+    -- if task k has some left after the tick, each unit of a task before it lowers what that task has left
     takes_before : (j : ℕ) → j < count plan → stands_before (period plan) j k ≡ true
         → left_by (row_at ticked j).done (allotted_in plan s j) (base_of s j) (wleft_at ticked j) + share_in shares j
         ≤ allotment_left_in plan s j
@@ -114,7 +114,7 @@ module _ (plan : Plan) (adm : IsAdmitted plan) (rm : plan.scheduler ≡ Rm) (dem
     takes : (j : ℕ) → j < count plan → allotment_left_in plan ticked j + share_in shares j ≤ allotment_left_in plan s j
     takes j h = grind (arith, left_then, takes_before, takes_own, takes_after)
 
-    -- where task k has some left after the tick, all units of the tick are handed out
+    -- if task k has some left after the tick, all units of the tick are handed out
     all_out : sum_below (count plan) (share_in shares) ≡ f
     all_out =
         let n = count plan in

@@ -9,7 +9,7 @@ pub left-marked : (done : Bool) (al base w : ℕ) → base ≡ w
     → al ≤ base → (done ≡ true → w ≡ 0) → left_by done al base w ≡ al
 left-marked done al base w e a z = grind arith
 
--- where a job's base is wholly allotted, a tick of `sh` units takes at least these from what is left
+-- if a job's base is wholly allotted, a tick of `sh` units takes at least these from what is left
 pub left-full : (done done' : Bool) (al base w w' sh : ℕ) → al ≡ base → w ≤ base → w' + sh ≤ w → (done ≡ true → w ≡ 0)
     → (done' ≡ true → w' ≡ 0) → (done ≡ true → done' ≡ true) → left_by done' al base w' + sh ≤ left_by done al base w
 left-full done done' al base w w' sh e a b z z' d = grind arith
@@ -19,6 +19,6 @@ pub left-idle : (done done' : Bool) (al base w w' sh : ℕ) → w' + sh ≤ w �
     → left_by done' al base w' + sh ≤ left_by done al base w
 left-idle done done' al base w w' sh b z d = grind arith
 
--- where some is left, the job is incomplete and has some units allotted
+-- if some is left, the job is incomplete and has some units allotted
 pub left-open : (done : Bool) (al base w : ℕ) → 0 < left_by done al base w → (done ≡ false) × (0 < al)
 left-open done al base w pos = grind arith

@@ -33,7 +33,7 @@ since_mark : (worst need now first : ℕ) → first ≤ now → now < need
 since_mark worst need now first a b c = omega arith
 
 module _ (p : Plan) (adm : IsAdmitted p) where
-  -- where no job of task i is released, the latest job is that of the tick before
+  -- if no job of task i is released, the latest job is that of the tick before
   job-stays : (t i : ℕ) → i < count p → releases_at p i (suc t) ≡ false → latest p i (suc t) ≡ latest p i t
   job-stays t i h none = go (nat_eq (suc t) (due p i (latest p i t))) refl
     where

@@ -32,7 +32,7 @@ allotted_units plan s = units_at_mark plan (since_mark plan s)
 abbrev pub allotted_in : Plan → StateView → ℕ → ℕ
 allotted_in plan s i = allotted_of plan (since_mark plan s) i
 
--- what is left of the allotment of task i; 0 where its job is complete
+-- what is left of the allotment of task i; 0 if its job is complete
 abbrev pub allotment_left_in : Plan → StateView → ℕ → ℕ
 allotment_left_in plan s i = allotment_left_of plan (since_mark plan s) i
 

@@ -16,7 +16,7 @@ module _ (test : ℕ → Bool) (key : ℕ → ℕ) (n : ℕ) where
   find-none [] b none = refl
   find-none (j ∷ js) b none = rw (none j b.0) (find-none js b.1 none)
 
-  -- the search finds the number that passes where none before it does
+  -- the search finds the number that passes if none before it does
   pub first-in_order : (i : ℕ) → i < n → test i ≡ true
       → ((k : ℕ) → k < n → stands_before key k i ≡ true → test k ≡ false) → find test (in_order key n) ≡ Some i
   first-in_order i lt found others =
@@ -25,6 +25,6 @@ module _ (test : ℕ → Bool) (key : ℕ → ℕ) (n : ℕ) where
       ap (find test) e
       ∙ find-here i at.0 at.1.0 (subst (AreBelow n) e (in_order-below key n)) (subst (IsOrdered key) e (in_order-ordered key n)) found others
 
-  -- the search finds none where no number passes
+  -- the search finds none if no number passes
   pub none-in_order : ((k : ℕ) → k < n → test k ≡ false) → find test (in_order key n) ≡ None
   none-in_order none = find-none (in_order key n) (in_order-below key n) none

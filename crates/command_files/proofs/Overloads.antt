@@ -26,7 +26,7 @@ overloaded-none p h =
     (λ k lt. le-ltb (top_speed p * period p k) (level_work p k) (h k lt))
 
 module _ (test : ℕ → Bool) where
-  -- where a search finds nothing, nothing in the list passes
+  -- if a search finds nothing, nothing in the list passes
   found-none : (js : List ℕ) → find test js ≡ None → (k : ℕ) → Stands k js → test k ≡ false
   found-none [] e k (pre, (post, at)) = none-stands pre at
     where

@@ -1,4 +1,4 @@
--- A demand file is refused by a row over its worst case only where the row is over it.
+-- A demand file is refused by a row over its worst case only if the row is over it.
 use Rattle.std.proofs.Common.{◌≡◌, ◌≢◌, ◌<◌, ◌+◌, ◌^◌, ◌==◌, refl, subst, ℕ, Bool, true, false, List, [], ◌∷◌, Option, Some, None, Result, Ok, Err, nat_lt, slice_index, arith, if◌then◌else◌}
 use Rattle.std.specs.Prelude.{⊤, ok_or, length}
 use Rattle.std.proofs.lemmas.Bool.Decides.{nat_tests}
@@ -30,7 +30,7 @@ then-shown : {A B : Type 0} (step : Result A DemandFault) (next : A → Result B
 then-shown (Ok a) next here later = later a
 then-shown (Err e) next here later = here
 
--- where it finds nothing a step gives e, whose numbers show it
+-- if it finds nothing a step gives e, whose numbers show it
 found-shown : {A : Type 0} (o : Option A) (e : DemandFault) → IsShownFault e → IsShownStep (ok_or o e)
 found-shown None e h = h
 found-shown (Some x) e h = tt

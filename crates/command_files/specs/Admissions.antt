@@ -20,12 +20,12 @@ abbrev pub rm_status : RmFault → Status
 rm_status (rm_fault.Denied i num cap) = status.NotAdmitted (denied.Rm i num cap)
 rm_status rm_fault.NoMemory = status.NoMemory
 
--- an admission under RM: the plan, where no task is overloaded
+-- an admission under RM: the plan, if no task is overloaded
 abbrev pub admission_from : Plan → Option ℕ → Result Plan Status
 admission_from p None = Ok p
 admission_from p (Some i) = Err (status.NotAdmitted (denied.Rm i (level_work p i) (top_speed p * period p i)))
 
--- the plan, where the test of a scheduler passes
+-- the plan, if the test of a scheduler passes
 abbrev pub admission_by : Scheduler → Plan → Result Plan Status
 admission_by Edf p =
     if nat_lt (top_speed p * hyper p) (total_rate p)
@@ -33,6 +33,6 @@ admission_by Edf p =
     else Ok p
 admission_by Rm p = admission_from p (first_overloaded p)
 
--- the plan, where the test of its own scheduler passes
+-- the plan, if the test of its own scheduler passes
 abbrev pub admission : Plan → Result Plan Status
 admission p = admission_by p.scheduler p

@@ -10,7 +10,7 @@ use Rattle.task_model.specs.declared.task.Task.{Task}
 use Rattle.task_model.specs.Tasks.{names_of}
 use Rattle.command_files.specs.Meanings.{tasks_at, machine_at, server_at}
 
--- at most `most` loads were made: the files stay, the count never falls, and stays where the shelf was sure of `most`
+-- at most `most` loads were made: the files stay, the count never falls, and stays if the shelf was sure of `most`
 pub record MakesLoads (most : ℕ) (old new : ShelfView) : Type 0 where
   pub held : new.held ≡ old.held
   pub later : old.faults ≤ new.faults
@@ -30,12 +30,12 @@ pub record NamedFile : Type 0 where
   pub kind : FileKind
   pub name : List ℕ
 
--- whether the loads of a command go on after one of its files; where the files are not known, they may
+-- whether the loads of a command go on after one of its files; if the files are not known, they may
 abbrev pub passes : Option Files → CommandView → NamedFile → Bool
 passes None c f = true
 passes (Some files) c f = is_passed c f.kind f.name files
 
--- the number of these files that are loaded: each after the first only where the one before it is passed
+-- the number of these files that are loaded: each after the first only if the one before it is passed
 abbrev pub loads_while : (NamedFile → Bool) → List NamedFile → ℕ
 loads_while passed [] = 0
 loads_while passed (f ∷ fs) = 1 + (if passed f then loads_while passed fs else 0)
@@ -60,7 +60,7 @@ files_of (constrain r) = named_file file.Tasks r.tasks ∷ named_file file.Machi
 files_of (poll q) = named_file file.Tasks q.tasks ∷ named_file file.Machine q.machine ∷ named_file file.Requests q.requests ∷ []
 files_of (least l) = named_file file.Machine l.machine ∷ []
 
--- the most loads that a command's answer needs: each file after the first only where the answer gets that far
+-- the most loads that a command's answer needs: each file after the first only if the answer gets that far
 abbrev pub loads_needed : Option Files → CommandView → ℕ
 loads_needed files c = loads_while (passes files c) (files_of c)
 
@@ -68,7 +68,7 @@ loads_needed files c = loads_while (passes files c) (files_of c)
 abbrev pub loads_of : CommandView → ℕ
 loads_of c = length (files_of c)
 
--- the known files that an answer depends on: where no file is named, none is needed
+-- the known files that an answer depends on: if no file is named, none is needed
 abbrev pub files_needed : Option Files → List NamedFile → Option Files
 files_needed held [] = Some []
 files_needed held (f ∷ fs) = held

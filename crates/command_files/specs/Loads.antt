@@ -28,7 +28,7 @@ abbrev pub but_first : List NamedFile → List NamedFile
 but_first [] = []
 but_first (f ∷ fs) = fs
 
--- these files without the tasks, which come first where there are tasks
+-- these files without the tasks, which come first if there are tasks
 abbrev pub but_tasks : Option (List ℕ) → List NamedFile → List NamedFile
 but_tasks None fs = fs
 but_tasks (Some name) fs = but_first fs
@@ -37,11 +37,11 @@ but_tasks (Some name) fs = but_first fs
 abbrev pub files_after : CommandView → List NamedFile
 files_after c = but_tasks (tasks_name c) (files_of c)
 
--- the loads of a command after its tasks, where its files may be known
+-- the loads of a command after its tasks, if its files may be known
 abbrev pub later_files : {A : Type 0} → Option Files → CommandView → (Files → Result A Status) → LoadOf A
 later_files held c means = record { files = files_after c; passed = passes held c; means = means }
 
--- the number of loads of the tasks, where a file of them is named
+-- the number of loads of the tasks, if a file of them is named
 abbrev pub tasks_loads : Option (List ℕ) → ℕ
 tasks_loads None = 0
 tasks_loads (Some name) = 1

@@ -26,7 +26,7 @@ longest file.Trace = LONGEST_TRACE
 longest file.Deadlines = LONGEST_FILE
 longest file.Requests = LONGEST_FILE
 
--- the bytes of a file, where the shelf holds it and it is not too long
+-- the bytes of a file, if the shelf holds it and it is not too long
 abbrev pub bytes_from : FileKind → Option (List ℕ) → Result (List ℕ) Status
 bytes_from kind None = Err (status.Load kind)
 bytes_from kind (Some bytes) = if nat_lt (longest kind) (length bytes) then Err (status.Text (text.TooLong kind)) else Ok bytes
@@ -47,14 +47,14 @@ machine_at name files = do
   bytes ← bytes_at file.Machine name files
   or_status machine_status (machine_file bytes)
 
--- the demands of a file; where none is named, every job needs its worst case
+-- the demands of a file; if none is named, every job needs its worst case
 abbrev pub demands_at : List Task → Option (List ℕ) → Files → Result DemandsView Status
 demands_at tasks None files = Ok (worst_list tasks)
 demands_at tasks (Some name) files = do
   bytes ← bytes_at file.Demands name files
   or_status demand_status (demand_file tasks bytes)
 
--- the place of the server, where a task has its name
+-- the place of the server, if a task has its name
 abbrev pub server_from : List ℕ → Option ℕ → Result ℕ Status
 server_from name None = Err (status.Text (text.Server (short_of name)))
 server_from name (Some i) = Ok i

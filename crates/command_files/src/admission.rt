@@ -13,7 +13,7 @@ use statuses::{Denied, Status};
 use std::alloc::Global;
 use task_model::TaskSet;
 
-// The plan under EDF, where its test passes.
+// The plan under EDF, if its test passes.
 fn admit_edf(alloc: Global, tasks: &TaskSet, machine: &Machine) -> Result<Admitted, Status>
     ensures { IsTestStep (admission (plan_of tasks.now machine.now Scheduler.Edf)) result (λ p. p) }
 {
@@ -33,14 +33,14 @@ fn rm_status(why: RmFault) -> Status
     }
 }
 
-// The plan under RM, where its test passes.
+// The plan under RM, if its test passes.
 fn admit_rm(alloc: Global, tasks: &TaskSet, machine: &Machine) -> Result<Admitted, Status>
     ensures { IsTestStep (admission (plan_of tasks.now machine.now Scheduler.Rm)) result (λ p. p) }
 {
     rm_admit(alloc, tasks, machine).map_err(rm_status)
 }
 
-/// The plan of these tasks and this machine under a scheduler. `NotAdmitted` exactly where the scheduler's test fails,
+/// The plan of these tasks and this machine under a scheduler. `NotAdmitted` exactly if the scheduler's test fails,
 /// with the two numbers that show it, unless memory runs out.
 pub fn admit(
     alloc: Global,

@@ -27,7 +27,7 @@ fn longest(file: FileKind) -> u64
     }
 }
 
-/// The bytes of a file of a kind. `Load` where the shelf lacks the name or its load failed, `Text` where the file is
+/// The bytes of a file of a kind. `Load` if the shelf lacks the name or its load failed, `Text` if the file is
 /// longer than its kind may be, in bytes.
 pub fn load_file<S: Shelf>(
     alloc: Global,
@@ -51,7 +51,7 @@ pub fn load_file<S: Shelf>(
     Ok(bytes)
 }
 
-/// The tasks of a file. `Load` and `Text` as for its bytes; `Text` where it isn't a task file, with its first fault.
+/// The tasks of a file. `Load` and `Text` as for its bytes; `Text` if it isn't a task file, with its first fault.
 pub fn load_tasks<S: Shelf>(alloc: Global, name: &str, shelf: &mut S) -> Result<TaskSet, Status>
     ensures step { IsLoadStep (one_file FileKind.Tasks name.now (tasks_at name.now)) (S.shows shelf.old)
         (S.shows shelf.new) result (λ v. v) }
@@ -61,7 +61,7 @@ pub fn load_tasks<S: Shelf>(alloc: Global, name: &str, shelf: &mut S) -> Result<
     Ok(TaskSet::read(alloc, &bytes)?)
 }
 
-/// The machine of a file. `Load` and `Text` as for its bytes; `Text` where it isn't a machine file, with its first fault.
+/// The machine of a file. `Load` and `Text` as for its bytes; `Text` if it isn't a machine file, with its first fault.
 pub fn load_machine<S: Shelf>(alloc: Global, name: &str, shelf: &mut S) -> Result<Machine, Status>
     ensures step { IsLoadStep (one_file FileKind.Machine name.now (machine_at name.now)) (S.shows shelf.old)
         (S.shows shelf.new) result (λ v. v) }
@@ -86,8 +86,8 @@ fn load_named_demands<S: Shelf>(
     Ok(Demands::read(alloc, &bytes, tasks)?)
 }
 
-/// The demands of a file, or every job's worst case where none is named. `Load` and `Text` as for its bytes; `Text` or
-/// `OverWorst` where it isn't a demand file of these tasks, with its first fault.
+/// The demands of a file, or every job's worst case if none is named. `Load` and `Text` as for its bytes; `Text` or
+/// `OverWorst` if it isn't a demand file of these tasks, with its first fault.
 pub fn load_demands<S: Shelf>(
     alloc: Global,
     name: Option<&str>,

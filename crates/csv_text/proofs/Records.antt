@@ -65,11 +65,11 @@ module _ (names : List (Bor (List ℕ))) (d : Bor (List ℕ)) (fields : List (Li
   by-field : has_fields (texts names) fields ≡ (bytes_eq f name && from (suc k) names fields)
   by-field = so_far ∙ one-field names d fields k f inside field_is ∙ ap (λ n. bytes_eq f n && from (suc k) names fields) (sym name_is)
 
-  -- where a field differs from the header's, the record is not the header
+  -- if a field differs from the header's, the record is not the header
   pub field-differs : true ≡ not (bytes_eq f name) → false ≡ has_fields (texts names) fields
   field-differs e = grind (arith, nat_tests, by-field)
 
-  -- where a field is the header's, the record is the header if the fields after it are
+  -- if a field is the header's, the record is the header if the fields after it are
   pub field-same : false ≡ not (bytes_eq f name) → has_fields (texts names) fields ≡ from (k + 1) names fields
   field-same e = grind (arith, nat_tests, by-field)
 
@@ -108,7 +108,7 @@ unfolding records_from
 none_left cfg zero = refl
 none_left cfg (suc n) = rw (nothing cfg) refl
 
--- two bounds above the length of the text give equal records, where they do after the first record
+-- two bounds above the length of the text give equal records, if they do after the first record
 more : (cfg : Config) (xs : List ℕ) (n m : ℕ) (p : Read) → Shrinks xs (Some p) → length xs < suc n → length xs < suc m
     → (length p.2 < n → length p.2 < m → records_from cfg n p.1 p.2 ≡ records_from cfg m p.1 p.2)
     → records_from cfg n p.1 p.2 ≡ records_from cfg m p.1 p.2
@@ -132,7 +132,7 @@ records_from-bound cfg (suc n) (suc m) s xs h k =
     next_same cfg xs n m (next_record cfg s [] [] xs) (next_record-shrinks cfg s [] [] xs) h k
     (λ p. records_from-bound cfg n m p.1 p.2)
 
--- where a record is read, the records of the text are it and those of the rest
+-- if a record is read, the records of the text are it and those of the rest
 records_in-Some : (s : State) (xs : List ℕ) (p : Read) → next_record default_config s [] [] xs ≡ Some p
     → records_in s (Some xs) ≡ p.0 ∷ records_in p.1 (Some p.2)
 unfolding records_from
@@ -165,12 +165,12 @@ pub left-read : (a b : TextReader) (f : List (List ℕ)) → IsDefault a → Rea
     → records_left a ≡ f ∷ records_left b
 left-read a b f h r = (reader_took a b f (unread a) h.config refl h.known r).1
 
--- where no record is read, none was left
+-- if no record is read, none was left
 pub left-ended : (a b : TextReader) (f : List (List ℕ)) → IsDefault a → ReadRecord (λ s. Some s.now) a b false f
     → records_left a ≡ []
 left-ended a b f h r = reader_ended a b f (unread a) h.config refl h.known r
 
--- where at most n records come after the first, a text has at most n + 1
+-- if at most n records come after the first, a text has at most n + 1
 next_few : (n : ℕ) (cfg : Config) (o : Option Read) → ((p : Read) → length (records_from cfg n p.1 p.2) ≤ n)
     → length (records_next (records_from cfg n) o) ≤ suc n
 next_few n cfg None few = omega arith

@@ -43,7 +43,7 @@ has_fields [] [] = true
 has_fields (name ∷ names) (field ∷ fields) = bytes_eq field name && has_fields names fields
 has_fields _ _ = false
 
--- the records after the header, and None where the first record isn't the header
+-- the records after the header, and None if the first record isn't the header
 abbrev pub rows_after : List (List ℕ) → List (List (List ℕ)) → Option (List (List (List ℕ)))
 rows_after header [] = None
 rows_after header (first ∷ rows) = if has_fields header first then Some rows else None

@@ -20,7 +20,7 @@ use dvs_base::NoMemory;
 pub use fault_line::{bad_number_line, row_line};
 use std::alloc::Global;
 
-// A reader of the records of a text, of any number of fields, the first one included. It fails only where memory runs
+// A reader of the records of a text, of any number of fields, the first one included. It fails only if memory runs
 // out. The reader is given an empty header row first, so that it keeps no copy of the first record.
 fn text_reader(alloc: Global, text: &[u8]) -> Result<Reader<&[u8]>, NoMemory>
     ensures default_reader { IfOk result (λ reader. IsDefault reader) }
@@ -41,7 +41,7 @@ fn no_record(error: Error) -> NoMemory
     NoMemory
 }
 
-/// Reads the fields of the next record, and returns whether there is one. It fails only where memory runs out.
+/// Reads the fields of the next record, and returns whether there is one. It fails only if memory runs out.
 pub fn next_record(reader: &mut Reader<&[u8]>, fields: &mut ByteRecord) -> Result<bool, NoMemory>
     requires { IsDefault reader.old }
     ensures some { result ≡ Ok true → records_left reader.old ≡ fields_of fields.new ∷ records_left reader.new }
@@ -94,8 +94,8 @@ fn has_fields(fields: &ByteRecord, names: &[&str]) -> bool
     true
 }
 
-/// A reader of the rows of a text after its header, and None where the first record is not the header or there is no
-/// record. It fails only where memory runs out.
+/// A reader of the rows of a text after its header, and None if the first record is not the header or there is no
+/// record. It fails only if memory runs out.
 pub fn rows_reader<'a>(
     alloc: Global,
     text: &'a [u8],

@@ -18,7 +18,7 @@ pair = task_of (codes "a") 4 ∷ task_of (codes "b") 6 ∷ []
 abbrev lines : List (List ℕ) → List ℕ
 lines ls = flat_map (λ l. l ++ 10 ∷ []) ls
 
--- a deadline may be the period, and is the period where a task has no row
+-- a deadline may be the period, and is the period if a task has no row
 periods : deadline_file pair (lines (codes "task,deadline" ∷ codes "b,6" ∷ [])) ≡ Ok (4 ∷ 6 ∷ [])
 unfolding strip_bom records_from next_record
 periods = refl

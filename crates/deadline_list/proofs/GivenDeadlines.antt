@@ -8,7 +8,7 @@ use Rattle.sched_model.proofs.Tables.{length-list_below, get-table}
 use Rattle.deadline_list.specs.Deadlines.{AreFor}
 use Rattle.deadline_list.specs.DeadlineFile.{given_to, none_given, relative_deadline, all_deadlines, AreGiven}
 
--- where there is no row, no task has a given deadline
+-- if there is no row, no task has a given deadline
 none-at : (tasks : List Task) (i : ℕ) → i < length tasks → given_to (none_given tasks) i ≡ None
 none-at tasks i lt = get-table (length tasks) (λ k. None) i None lt
 

@@ -48,7 +48,7 @@ given_from tasks row given (fields ∷ rest) = do
 abbrev pub none_given : List Task → List (Option ℕ)
 none_given tasks = list_below (length tasks) (λ i. None)
 
--- the relative deadline of task i: its row's, or its period where it has no row
+-- the relative deadline of task i: its row's, or its period if it has no row
 abbrev pub relative_deadline : List Task → List (Option ℕ) → ℕ → ℕ
 relative_deadline tasks given i = unwrap_or (given_to given i) (task_at tasks i).period
 

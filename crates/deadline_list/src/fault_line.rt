@@ -40,7 +40,7 @@ fn repeated_line(row: u64, name: &Option<Name>) -> Line
     )
 }
 
-/// The line of a deadline file's refusal, with the tasks' names where they were read. It takes no memory.
+/// The line of a deadline file's refusal, with the tasks' names if they were read. It takes no memory.
 pub fn deadline_fault_line(why: &DeadlineFault, tasks: Option<&TaskSet>) -> Line
     ensures { result ≡ deadline_fault_text (names_of (option_copied tasks.entry)) why.now }
 {

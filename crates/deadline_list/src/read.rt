@@ -34,7 +34,7 @@ fn read_row(tasks: &TaskSet, row: u64, fields: &ByteRecord) -> Result<(u32, u64)
     Ok((task, deadline))
 }
 
-// Adds the deadline of a row, or refuses it where its task has an earlier row.
+// Adds the deadline of a row, or refuses it if its task has an earlier row.
 fn add_row(
     given: &mut [Option<u64>],
     tasks: &TaskSet,
@@ -104,7 +104,7 @@ fn read_given(
     read_rows(&mut reader, &mut fields, tasks, given)
 }
 
-// The deadline of each task: its row's, or its period where it has no row.
+// The deadline of each task: its row's, or its period if it has no row.
 fn all_deadlines(
     alloc: Global,
     tasks: &TaskSet,

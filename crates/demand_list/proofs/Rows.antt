@@ -37,7 +37,7 @@ module _ (tasks : List Task) (i : ℕ) (name : List ℕ) (known : IsTaskSet task
       let within : nat_lt i (length tasks) ≡ true = grind (arith, nat_tests) in
       rw (place, within) refl
 
--- the map's keys are equal where the row's task and job are
+-- the map's keys are equal if the row's task and job are
 is_eq-key : (i k a b : ℕ) → is_eq (pair_cmp (i, k) (a, b)) ≡ (nat_eq a i && nat_eq b k)
 is_eq-key i k a b = grind (arith, nat_tests)
 
@@ -115,7 +115,7 @@ each-with_row P (s ∷ rows) r h p = by (precedes r s) (each-with_row P rows r h
 pub IsDemands-with_row : (d : DemandsView) (r : DemandRow) → IsDemands d → IsRow d.worsts r → IsDemands (record { worsts = d.worsts; rows = with_row d.rows r })
 IsDemands-with_row d r h p = record { few = h.few; each = each-with_row (IsRow d.worsts) d.rows r h.each p }
 
--- an added row is within its worst case, and where none is added the rows stay
+-- an added row is within its worst case, and if none is added the rows stay
 pub IsDemands-after : {E : Type 0} (result : Result Bool E) (worsts : List ℕ) (old new : List DemandRow) (r : DemandRow)
     → (result ≡ Ok true → new ≡ with_row old r) → (result ≡ Ok false → new ≡ old) → OnErr result (new ≡ old)
     → IsDemands (record { worsts = worsts; rows = old }) → IsRow worsts r → IsDemands (record { worsts = worsts; rows = new })

@@ -17,7 +17,7 @@ use Rattle.demand_list.specs.declared.fault.DemandFault.TheVariants as fault
 abbrev pub MeansDemands : {T A : Type 0} → (T → A) → Result T DemandFault → Result A DemandFault → Type 0
 MeansDemands shown = IsUnlessMemory fault.NoMemory shown
 
--- the number of a job, which is refused where it is 0
+-- the number of a job, which is refused if it is 0
 abbrev pub job_from : ℕ → ℕ → Result ℕ DemandFault
 job_from row job = if job == 0 then Err (fault.JobZero row) else Ok job
 

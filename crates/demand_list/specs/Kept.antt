@@ -25,7 +25,7 @@ abbrev pub AscendInOrder : KeptRows → Type 0
 AscendInOrder (kept.InOrder list) = AreAscending (rows_of list.items)
 AscendInOrder (kept.AnyOrder map) = ⊤
 
--- a demand list with these worst cases and rows, whose rows ascend where they are kept in their order
+-- a demand list with these worst cases and rows, whose rows ascend if they are kept in their order
 pub record IsDemandList (worsts : List ℕ) (rows : KeptRows) : Type 0 where
   pub demands : IsDemands (record { worsts = worsts; rows = kept_rows rows })
   pub in_order : AscendInOrder rows

@@ -39,7 +39,7 @@ impl Demands {
     }
 
     /// Adds a row for a job that has none: a task of the list, a job from 1 on, and at most the task's worst case of
-    /// work units. False where the job has a row already, which stays. After NoMemory the list is as before.
+    /// work units. False if the job has a row already, which stays. After NoMemory the list is as before.
     pub fn set(&mut self, task: u32, job: u64, units: u64) -> Result<bool, NoMemory>
         requires task { task < length self.old.worsts }
         requires job { 1 ≤ job }

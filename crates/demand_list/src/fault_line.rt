@@ -56,7 +56,7 @@ fn repeated_line(row: u64, name: &Option<Name>, job: u64) -> Line
     )
 }
 
-/// The line of a demand file's refusal, with the tasks' names where they were read. It takes no memory.
+/// The line of a demand file's refusal, with the tasks' names if they were read. It takes no memory.
 pub fn demand_fault_line(why: &DemandFault, tasks: Option<&TaskSet>) -> Line
     ensures { result ≡ demand_fault_text (names_of (option_copied tasks.entry)) why.now }
 {

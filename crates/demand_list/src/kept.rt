@@ -28,7 +28,7 @@ fn is_next(rows: &[((u32, u64), u64)], task: u32, job: u64) -> bool
     }
 }
 
-// The units of a job's row, where the rows ascend. Where they are those of one task from its first job on, as in a
+// The units of a job's row, if the rows ascend. If they are those of one task from its first job on, as in a
 // `poll` run, the row of job k is the k-th.
 fn units_in(rows: &[((u32, u64), u64)], task: u32, job: u64) -> Option<u64>
     requires { AreAscending (rows_of rows.now) }

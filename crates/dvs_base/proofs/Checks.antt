@@ -5,7 +5,7 @@ use Rattle.std.proofs.lemmas.Option.{same_Some}
 use Rattle.dvs_base.specs.Checks.{◌>>=◌}
 use Rattle.dvs_base.specs.Parts.{two_of}
 
--- where a sequence of two steps gives a value, each step gave one
+-- if a sequence of two steps gives a value, each step gave one
 pub step-ok : {A B F : Type 0} (r : Result A F) (f : A → Result B F) (y : B) → (r >>= f) ≡ Ok y → (x : A) × (r ≡ Ok x) × (f x ≡ Ok y)
 step-ok (Ok x) f y e = (x, refl, e)
 step-ok (Err d) f y e = absurd cc

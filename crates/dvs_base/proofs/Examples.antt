@@ -23,7 +23,7 @@ fail_at call taken = record { call = call; taken = taken }
 room : (sure_bytes (empty_sink 7 []) ∷ sure_bytes (after_put (empty_sink 7 []) (1 ∷ 2 ∷ []) None) ∷ []) ≡ (7 ∷ 5 ∷ [])
 room = refl
 
--- where a failing put is listed no byte is guaranteed, not even before that put
+-- if a failing put is listed no byte is guaranteed, not even before that put
 room_of_a_failing_sink : sure_bytes (empty_sink 7 (fail_at 9 7 ∷ [])) ≡ 0
 room_of_a_failing_sink = refl
 

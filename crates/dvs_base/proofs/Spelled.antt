@@ -14,7 +14,7 @@ use Rattle.dvs_base.proofs.Numbers.{own}
 digit-range : (c : ℕ) → is_ascii_digit c ≡ true → (48 ≤ c) × (c ≤ 57)
 digit-range c h = grind (arith, nat_tests)
 
--- a text has a first digit, which is above 0 where the number is
+-- a text has a first digit, which is above 0 if the number is
 abbrev Leads : ℕ → List ℕ → Type 0
 Leads n ds = (0 < length ds) × (0 < n → 48 < get_or ds 0 0)
 

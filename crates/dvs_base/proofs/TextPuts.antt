@@ -16,7 +16,7 @@ appends-none (Some xs) = sym (append-nil xs)
 pub wrote-none : (a : SinkView) → Wrote a a []
 wrote-none a = record { bytes = appends-none a.written; steady = refl; surety = omega arith }
 
--- where two texts were written whole, one after the other, both together were written whole
+-- if two texts were written whole, one after the other, both together were written whole
 pub wrote-then : (a b c : SinkView) (t u : List ℕ) → Wrote a b t → Wrote b c u → Wrote a c (t ++ u)
 wrote-then a b c t u w x = record {
   bytes = Appends-trans a.written b.written c.written t u w.bytes x.bytes;
@@ -24,7 +24,7 @@ wrote-then a b c t u w x = record {
   surety = omega (arith, length-append t u, w.surety, x.surety);
 }
 
--- where a text was written whole and the next in part, both together were written in part
+-- if a text was written whole and the next in part, both together were written in part
 pub wrote-then-some : (a b c : SinkView) (t u : List ℕ) → Wrote a b t → WroteSome b c u → WroteSome a c (t ++ u)
 wrote-then-some a b c t u w x = record {
   part = (
@@ -37,7 +37,7 @@ wrote-then-some a b c t u w x = record {
   unsure = omega (arith, length-append t u, w.surety, x.unsure);
 }
 
--- where a text was written in part, so was any longer text that begins with it
+-- if a text was written in part, so was any longer text that begins with it
 pub wrote-some-more : (a b : SinkView) (t u : List ℕ) → WroteSome a b t → WroteSome a b (t ++ u)
 wrote-some-more a b t u w = record {
   part = (

@@ -1,7 +1,7 @@
 -- One check after another: the first refusal is the answer.
 use Rattle.std.specs.Prelude.{Result, Ok, Err, Option, Some, None, ⊤, ◌≡◌, ◌≢◌}
 
--- the next check, where this one passed
+-- the next check, if this one passed
 abbrev pub and_then : {A B F : Type 0} → Result A F → (A → Result B F) → Result B F
 and_then (Ok value) next = next value
 and_then (Err e) next = Err e
@@ -11,7 +11,7 @@ infixl 10 ◌>>=◌
 abbrev pub ◌>>=◌ : {A B F : Type 0} → Result A F → (A → Result B F) → Result B F
 r >>= next = and_then r next
 
--- the next step, where this check passed, or this one's refusal
+-- the next step, if this check passed, or this one's refusal
 infixl 10 ◌>>◌
 abbrev pub ◌>>◌ : {B F : Type 0} → Result ⊤ F → Result B F → Result B F
 r >> next = and_then r (λ _. next)

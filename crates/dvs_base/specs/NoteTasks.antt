@@ -12,7 +12,7 @@ note_task (Idle from to units energy) = None
 note_task (Done at task job used) = Some task
 note_task (End ticks run idle) = None
 
--- the energy of a note where it is a run of task i
+-- the energy of a note if it is a run of task i
 abbrev pub energy_of_task : ℕ → Note → ℕ
 energy_of_task i (Run from to task job units energy) = if nat_eq task i then energy else 0
 energy_of_task i _ = 0

@@ -54,11 +54,11 @@ abbrev pub most_of : List Part → ℕ
 most_of [] = 0
 most_of (p ∷ parts) = most_bytes p + most_of parts
 
--- a name, or nothing where there is none
+-- a name, or nothing if there is none
 abbrev pub name_text : Option (List ℕ) → List ℕ
 name_text None = []
 name_text (Some name) = name
 
--- a task's name by its number, empty where there is none
+-- a task's name by its number, empty if there is none
 abbrev pub name_of : List (List ℕ) → ℕ → List ℕ
 name_of names i = slice_index_or names i []

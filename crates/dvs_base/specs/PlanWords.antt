@@ -38,7 +38,7 @@ governor_of word =
     else (if bytes_eq word (codes "cc") then Some Cycle
     else (if bytes_eq word (codes "la") then Some Ahead else None)))
 
--- the number, where it is 1 to the most ticks of a run
+-- the number, if it is 1 to the most ticks of a run
 abbrev pub ticks_from : Option ℕ → Option ℕ
 ticks_from None = None
 ticks_from (Some n) = if nat_le 1 n && nat_le n MOST_TICKS then Some n else None

@@ -27,23 +27,23 @@ abbrev pub unknown_key : List (List ℕ) → Members → Option (List ℕ)
 unknown_key keys no_members = None
 unknown_key keys (member key value rest) = if is_known keys key then unknown_key keys rest else Some (lesser key (unknown_key keys rest))
 
--- the number, where it is whole and within its limits
+-- the number, if it is whole and within its limits
 abbrev pub number_from : ℕ → ℕ → Option ℤ → Result ℕ MemberFault
 number_from low high None = Err fault.Kind
 number_from low high (Some (pos n)) = if nat_le low n && nat_le n high then Ok n else Err fault.Range
 number_from low high (Some (negsuc n)) = Err fault.Range
 
--- the whole number at a key, where it is within its limits
+-- the whole number at a key, if it is within its limits
 abbrev pub number_at : ℕ → ℕ → Option Data → Result ℕ MemberFault
 number_at low high None = Err fault.Missing
 number_at low high (Some value) = number_from low high (as_integer value)
 
--- the number at a key that a table may lack, where it is at most `high`; 0 where the key is absent
+-- the number at a key that a table may lack, if it is at most `high`; 0 if the key is absent
 abbrev pub number_or_zero : ℕ → Option Data → Result ℕ MemberFault
 number_or_zero high None = Ok 0
 number_or_zero high (Some value) = number_from 0 high (as_integer value)
 
--- the text of a value, where it has one
+-- the text of a value, if it has one
 abbrev pub text_from : Option (List ℕ) → Result (List ℕ) MemberFault
 text_from None = Err fault.Kind
 text_from (Some text) = Ok text

@@ -8,7 +8,7 @@ ghost use Rattle.dvs_base.specs.declared.digits.TheConstants.{SAFE_DIGITS};
 /// Any number of this many digits is below 2^64.
 pub(crate) const SAFE_DIGITS: usize = 19;
 
-// The number that the digits spell, and None where a byte is no digit.
+// The number that the digits spell, and None if a byte is no digit.
 fn digits_in(bytes: &[u8]) -> Option<u64>
     requires { length bytes.now ≤ SAFE_DIGITS }
     ensures { result ≡ (if list_all is_ascii_digit bytes.now then Some (number_after 0 bytes.now) else None) }

@@ -5,7 +5,7 @@ ghost use Rattle.dvs_base.specs.FaultLines.{place_text, settings_text, too_many_
 
 use crate::{Line, Part, Short, line_of, push_number, push_part, push_word};
 
-// The beginning of a line about a settings file: the file, and where the place isn't 0, which of its entries.
+// The beginning of a line about a settings file: the file, and if the place isn't 0, which of its entries.
 fn place_line(file: &Short, entry: &Short, place: u32) -> Line
     ensures text { result ≡ place_text file.now entry.now place }
     ensures most { length result ≤ 2 * NAME_BYTES + NUMBER_BYTES + 5 }
@@ -22,7 +22,7 @@ fn place_line(file: &Short, entry: &Short, place: u32) -> Line
     line
 }
 
-/// The line of a refusal in a settings file: the file, where the place isn't 0 which of its entries, and then `what`
+/// The line of a refusal in a settings file: the file, if the place isn't 0 which of its entries, and then `what`
 /// and `which`. It takes no memory.
 pub fn settings_line(file: &Short, entry: &Short, place: u32, what: &[u8], which: &[u8]) -> Line
     requires what { length what.now ≤ NAME_BYTES }

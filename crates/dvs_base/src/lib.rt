@@ -1,7 +1,7 @@
 //! Names, numbers and lines as text, the notes of a run, and the traits of the outside.
 //!
 //! A [`Shelf`] is where files are loaded from, and a [`Sink`] is where bytes are written to. Callers may rely on this
-//! of both: an answer `Failed` comes only where the count of faults rose in that call, the count never falls, and what
+//! of both: an answer `Failed` comes only if the count of faults rose in that call, the count never falls, and what
 //! is guaranteed (`sure`) does not fail. `MemShelf` and `MemSink` are an outside in memory and say exactly what each
 //! call does, `VoidSink` keeps nothing, and `HostShelf` and `HostSink` are the edge to the system.
 //! [`whole`], [`wide`], [`Name`] and [`Short`] read text exactly, and so do the calls that read the words of a plan,

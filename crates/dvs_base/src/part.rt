@@ -26,7 +26,7 @@ pub enum Part<'a> {
     Ratio(u128, u128),
 }
 
-/// The name as a part, which is empty where there is none. It takes no memory.
+/// The name as a part, which is empty if there is none. It takes no memory.
 pub fn name_part(name: &Option<Name>) -> Part<'_>
     ensures text { part_text result ≡ name_text name.now }
     ensures most { most_bytes result ≤ NAME_BYTES }

@@ -6,7 +6,7 @@ use crate::{Failed, Line, Sink};
 
 /// Puts a line that isn't empty.
 ///
-/// `Failed` comes only where the sink's count of faults rose, with a first part of the line put.
+/// `Failed` comes only if the sink's count of faults rose, with a first part of the line put.
 pub fn put_line<W: Sink>(line: &Line, out: &mut W) -> Result<(), Failed>
     requires { 0 < length line.now }
     ensures { WritesText (W.shows out.old) (W.shows out.new) line.now result }
@@ -16,7 +16,7 @@ pub fn put_line<W: Sink>(line: &Line, out: &mut W) -> Result<(), Failed>
 
 /// Puts two lines that aren't empty, one after the other.
 ///
-/// `Failed` comes only where the sink's count of faults rose, with a first part of the two lines put.
+/// `Failed` comes only if the sink's count of faults rose, with a first part of the two lines put.
 pub fn put_two<W: Sink>(first: &Line, second: &Line, out: &mut W) -> Result<(), Failed>
     requires first { 0 < length first.now }
     requires second { 0 < length second.now }

@@ -103,7 +103,7 @@ fn number_of(value: &Value, low: u64, high: u64) -> Result<u64, MemberFault>
     }
 }
 
-/// The whole number at a key, where it is within `low` and `high`.
+/// The whole number at a key, if it is within `low` and `high`.
 pub fn number_at(table: &Table, key: &str, low: u64, high: u64) -> Result<u64, MemberFault>
     ensures meaning { result ≡ number_at low high (get_member key.now (table_view table.now)) }
     ensures within { IfOk result (λ n. (low ≤ n) × (n ≤ high)) }
@@ -112,7 +112,7 @@ pub fn number_at(table: &Table, key: &str, low: u64, high: u64) -> Result<u64, M
     number_of(value, low, high)
 }
 
-/// The whole number at a key that the table may lack, where it is at most `high`; 0 where the key is absent.
+/// The whole number at a key that the table may lack, if it is at most `high`; 0 if the key is absent.
 pub fn number_or_zero(table: &Table, key: &str, high: u64) -> Result<u64, MemberFault>
     ensures meaning { result ≡ number_or_zero high (get_member key.now (table_view table.now)) }
     ensures within { IfOk result (λ n. n ≤ high) }

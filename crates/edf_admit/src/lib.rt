@@ -1,7 +1,7 @@
 //! Admission under EDF: whether the highest speed does the work of every hyperperiod (Liu and Layland 1973; Pillai and
 //! Shin 2001, their static test at the ratio 1).
-//! Callers may rely on `Denied` exactly where the test fails, with the two numbers that show it, and on a plan that
-//! passes the test. The test itself takes no memory, so `NoMemory` comes only where it passes.
+//! Callers may rely on `Denied` exactly if the test fails, with the two numbers that show it, and on a plan that
+//! passes the test. The test itself takes no memory, so `NoMemory` comes only if it passes.
 #![tactic(auto)]
 
 ghost use Rattle.std.specs.Prelude.{◌≡◌, IfOk, OnOk, IfErr};
@@ -26,7 +26,7 @@ pub enum EdfFault {
 }
 
 /// The plan of `tasks` on `machine` under EDF. The sum of `Ci*(H/Pi)` is at most `fm*H`.
-/// `Denied` exactly where it is more.
+/// `Denied` exactly if it is more.
 pub fn edf_admit(alloc: Global, tasks: &TaskSet, machine: &Machine) -> Result<Admitted, EdfFault>
     ensures plan { IfOk result (λ plan. plan ≡ plan_of tasks.now machine.now Edf) }
     ensures test { OnOk result (IsEdfFeasible (plan_of tasks.now machine.now Edf)) }

@@ -71,7 +71,7 @@ due_of-placed before e (x ∷ xs) i a = grind (arith, nat_tests, due_of-placed b
 due-order : (e x : Entry) → due_before e x ≡ true → e.due ≤ x.due
 due-order e x b = grind (arith, nat_tests)
 
--- where an entry comes before all others of a list, its deadline is at most theirs
+-- if an entry comes before all others of a list, its deadline is at most theirs
 others-later : (e : Entry) (xs : List Entry) (i : ℕ)
     → AllByRecursion (λ x. x.task ≢ e.task → due_before e x ≡ true) xs → i ≢ e.task → 1 ≤ due_of xs i
     → e.due ≤ due_of xs i
@@ -281,7 +281,7 @@ module _ (p : Plan) (lim : IsWithinLimits p) where
           | inr goes ↦ inr (goes.0, moves ∙ goes.1)
         ]
 
-  -- where the earliest of the next deadlines is another tick, all jobs due at `now` are taken
+  -- if the earliest of the next deadlines is another tick, all jobs due at `now` are taken
   module _ (old next : ℕ → ℕ) (now work : ℕ) (t : Taken p old next now work)
       (other : least_below (count p) next ≢ now) where
     all-later : (i : ℕ) → i < count p → now < next i

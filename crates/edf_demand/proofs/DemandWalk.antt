@@ -219,7 +219,7 @@ module _ (p : Plan) (lim : IsWithinLimits p) (relative : ℕ → ℕ) (con : IsC
       | inr before ↦ inl before
     ]
 
-    -- where the demand at the tick isn't greater, the greatest so far stays
+    -- if the demand at the tick isn't greater, the greatest so far stays
     busiest-kept : h now * best.den ≤ best.num * now → IsBusiest p relative now best
     busiest-kept low = record {
       some = w.busiest.some;
@@ -233,7 +233,7 @@ module _ (p : Plan) (lim : IsWithinLimits p) (relative : ℕ → ℕ) (con : IsC
       least = w.busiest.least;
     }
 
-    -- where the demand at the tick is greater than the greatest so far, it is greater than each earlier one
+    -- if the demand at the tick is greater than the greatest so far, it is greater than each earlier one
     busier : (d : ℕ) → IsDeadline p relative d → d ≤ w.taken → best.num * now < h now * best.den → h d * now < h now * d
     busier d at le more = elim (cases_lt (h d * now) (h now * d)) [
       | inl less ↦ less

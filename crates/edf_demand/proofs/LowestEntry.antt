@@ -49,7 +49,7 @@ module _ (p : Plan) (relative : ℕ → ℕ) where
       answer-denied cap cap_is met =
           looked_at ∙ (rw met refl ∙ ap (λ n. Err (Denied demand.den demand.num n)) (sym cap_is))
 
--- where the highest speed doesn't meet a demand, no entry does
+-- if the highest speed doesn't meet a demand, no entry does
 none-meets : (m : Table) → IsTable m → (d : Frac) → highest_speed m * d.den < d.num → (lowest_pick m d).met ≡ false
 none-meets m table d over =
     any_below-none (length m.points) (λ e. meets (speed_at m e) d) (λ e lt. false_from_ne_true (meets (speed_at m e) d) (λ is.

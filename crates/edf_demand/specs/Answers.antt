@@ -55,14 +55,14 @@ ShowsCause (TooManyJobs jobs) = MOST_JOBS < jobs
 ShowsCause (Denied at num cap) = cap < num
 ShowsCause e = ⊤
 
--- the demand with the entry picked, where this meets the demand, and otherwise the denial
+-- the demand with the entry picked, if this meets the demand, and otherwise the denial
 abbrev pub pick_answer : Plan → Frac → Pick → Result Constrained ConstrainFault
 pick_answer p demand pick =
     if pick.met
     then Ok (record { demand = demand; point = pick.index })
     else Err (Denied demand.den demand.num (top_speed p * demand.den))
 
--- the constrained demand with the lowest entry that meets it, or the denial where none does
+-- the constrained demand with the lowest entry that meets it, or the denial if none does
 abbrev pub demand_answer : Plan → Frac → Result Constrained ConstrainFault
 demand_answer p demand = pick_answer p demand (lowest_pick p.machine demand)
 
@@ -74,7 +74,7 @@ tested_answer_from p relative None =
     then Err (TooManyJobs (hyper_jobs p.tasks))
     else demand_answer p (constrained_demand p relative)
 
--- The answer of the test: the first task in file order with an offset; where none has one, that a hyperperiod has too
+-- The answer of the test: the first task in file order with an offset; if none has one, that a hyperperiod has too
 -- many jobs; and otherwise the constrained demand with the lowest entry that meets it, or that none does.
 abbrev pub tested_answer : Plan → (ℕ → ℕ) → Result Constrained ConstrainFault
 tested_answer p relative = tested_answer_from p relative (first_offset (offset p) (count p))

@@ -12,7 +12,7 @@ use Rattle.edf_demand_laws.specs.ProcessorDemand.{jobs_due}
 abbrev pub next_deadline : Plan → (ℕ → ℕ) → ℕ → ℕ → ℕ
 next_deadline p relative t i = relative i + jobs_due (period p i) (relative i) t * period p i
 
--- the tick at which the entry of task i is due; 0 where it has no entry
+-- the tick at which the entry of task i is due; 0 if it has no entry
 abbrev pub due_of : List Entry → ℕ → ℕ
 due_of [] i = 0
 due_of (e ∷ entries) i = if nat_eq i e.task then e.due else due_of entries i

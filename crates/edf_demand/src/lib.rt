@@ -3,7 +3,7 @@
 //!
 //! `constrain` goes once over the jobs of one hyperperiod, at most 100000, each a step of a queue of the tasks.
 //! Callers may rely on its speed meeting every deadline in every schedule within the worst cases, for any number of
-//! ticks, and on each lower speed missing one at worst. A denial comes exactly where its cause holds, unless memory
+//! ticks, and on each lower speed missing one at worst. A denial comes exactly if its cause holds, unless memory
 //! runs out: `Offset`, then `TooManyJobs`, then `Denied`.
 #![tactic(auto)]
 

@@ -39,9 +39,9 @@ pub enum ConstrainFault {
 
 /// The lowest speed at which tasks with these deadlines meet them all under EDF: the lowest that meets the greatest
 /// processor demand per tick, over the absolute deadlines of one hyperperiod; of equal ones the earliest (Baruah,
-/// Rosier and Howell 1990). `Offset` exactly where a task is first released after tick 0; otherwise `TooManyJobs`
-/// exactly where a hyperperiod has more than 100000 jobs; and otherwise, unless memory runs out, `Denied` exactly
-/// where no entry meets the demand.
+/// Rosier and Howell 1990). `Offset` exactly if a task is first released after tick 0; otherwise `TooManyJobs`
+/// exactly if a hyperperiod has more than 100000 jobs; and otherwise, unless memory runs out, `Denied` exactly
+/// if no entry meets the demand.
 pub fn constrain(
     alloc: Global,
     tasks: &TaskSet,

@@ -1,4 +1,4 @@
--- Every constrained schedule is met where the processor demand of each span fits into what the speed does in it, and the
+-- Every constrained schedule is met if the processor demand of each span fits into what the speed does in it, and the
 -- schedule of worst cases is met only there.
 use Rattle.std.proofs.Common.{◌≡◌, ℕ, zero, suc, ◌+◌, ◌-◌, ◌*◌, ◌<◌, ◌≤◌, min, Bool, true, false, eqb, List, [], ◌∷◌, length, refl, arith, if◌then◌else◌, inl, inr, ◌/◌, nat_le, ap, ◌∙◌, sym, subst, eq-or-lt_of_le, add-one, div-mul-le_self, mul-le-mul_right}
 use Rattle.std.proofs.lemmas.Bool.Decides.{nat_tests}
@@ -128,7 +128,7 @@ jobs_after-step : (every key d : ℕ) → 0 < every → key + every ≤ d
     → jobs_after every key d ≡ jobs_after every (key + every) d + 1
 jobs_after-step every key d some le = grind arith
 
--- the jobs by d after `key` are among those due in the span from t to d, where t is at most the next release
+-- the jobs by d after `key` are among those due in the span from t to d, if t is at most the next release
 jobs_after-most : (every within key d t : ℕ) → 0 < every → t + within ≤ key + every
     → jobs_after every key d ≤ jobs_due every within (d - t)
 jobs_after-most every within key d t some le = go (jobs_after every key d) (div-mul-le_self (d - key) every)

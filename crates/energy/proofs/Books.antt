@@ -218,7 +218,7 @@ count-most : (test : Note → Bool) (told : List Told) → count_by test (noted 
 count-most test [] = omega arith
 count-most test (t ∷ told) = omega (arith, count-append test (t.0 ∷ []) (noted told), count-most test told, one-or-none (test t.0))
 
--- there is room for a note where the sum of all energies and the number of notes are low
+-- there is room for a note if the sum of all energies and the number of notes are low
 pub has-room : (tasks points : ℕ) (told : List Told) (note : Note) (e : ℕ) → HasTask (books_of tasks points told) note → e < points
     → length told + 1 < 2 ^ 64
     → sum_by run_energy_told (noted told) + sum_by idle_energy_told (noted told) + (run_energy_told note + idle_energy_told note) < 2 ^ 128

@@ -2,7 +2,7 @@
 use Rattle.std.specs.Prelude.{ℕ, ◌*◌, Bool, if◌then◌else◌}
 use Rattle.freq_table.specs.Tables.{Table, point_at}
 
--- what a unit costs, in thousandths: 1000 where a job runs, and the machine's idle share where none does
+-- what a unit costs, in thousandths: 1000 if a job runs, and the machine's idle share if none does
 abbrev pub thousandths : Table → Bool → ℕ
 thousandths m idle = if idle then m.idle else 1000
 

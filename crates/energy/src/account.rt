@@ -32,7 +32,7 @@ fn zeros(alloc: Global, count: u32) -> Result<Vec<u128>, NoMemory>
 }
 
 impl Account {
-    /// An account for `tasks` tasks and the entries of a machine, with sums of 0. It fails only where memory runs out.
+    /// An account for `tasks` tasks and the entries of a machine, with sums of 0. It fails only if memory runs out.
     pub fn new(alloc: Global, tasks: u32, machine: &Machine) -> Result<Account, NoMemory>
         ensures { IfOk result (λ a. a ≡ books_of tasks (length machine.now.points) []) }
     {

@@ -13,7 +13,7 @@ fn thousandths(machine: &Machine, idle: bool) -> u64
 }
 
 /// The energy of a segment of `units` units at an entry of the table: the units times the square of the millivolts,
-/// times 1000 where a job runs in it, and times the machine's idle share where it is idle.
+/// times 1000 if a job runs in it, and times the machine's idle share if it is idle.
 pub fn energy_of(machine: &Machine, point: u32, units: u64, idle: bool) -> u128
     requires point { point < length machine.now.points }
     requires units { units < 2 ^ 63 }

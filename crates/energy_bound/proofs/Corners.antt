@@ -104,7 +104,7 @@ module _ (m : Table) (table : IsTable m) (units ticks : ℕ) where
   pub last-units : corner_units m (last_corner m) ≡ highest_speed m
   last-units = grind (arith, nat_tests)
 
-  -- where the highest speed does the units in the ticks, some two corners hold
+  -- if the highest speed does the units in the ticks, some two corners hold
   pub some-holds : units ≤ ticks * highest_speed m → (a : ℕ) × ((b : ℕ) × Holds m units ticks a b)
   some-holds fits = go (last_corner m) refl
     where
@@ -128,7 +128,7 @@ module _ (m : Table) (table : IsTable m) (units ticks : ℕ) where
             ),
           )
 
-  -- where no low corner below a holds with any, and b is the first that holds with a, they are the first pair
+  -- if no low corner below a holds with any, and b is the first that holds with a, they are the first pair
   pub first-pair : (a b : ℕ) → ((c d : ℕ) → c < a → Holds m units ticks c d → ⊥) → IsFirstPartner m units ticks a b → IsFirstPair m units ticks a b
   first-pair a b none r = grind (arith, nat_tests, cases_lt, units-rise, units-climb)
 
@@ -181,7 +181,7 @@ module _ (m : Table) (units ticks : ℕ) where
       (λ d less. not-holding c d (omega arith) (omega arith) (none c d lt)))
       (any_below-found (corner_count m) (is_holding m units ticks a) b (omega (arith, h.high)) (holding-true a b h))
 
-  -- where the units are not too many, the answer is the certificate of the first corner with a partner and the partner
+  -- if the units are not too many, the answer is the certificate of the first corner with a partner and the partner
   pub found-is : (a b : ℕ) (l : Least) → units ≤ ticks * highest_speed m
       → ((c d : ℕ) → c < a → Holds m units ticks c d → ⊥) → IsFirstPartner m units ticks a b
       → l ≡ least_of m units ticks a b → Ok l ≡ least_energy_of m units ticks

@@ -96,7 +96,7 @@ over_mix : (w r f v share f0 v0 : ℕ) → f0 * v0 * v0 ≤ f * v * v
     → r * (f0 * v0 * v0 * share) + w * (f * v * v * 1000) ≤ f * (v * v * (1000 * w + share * r))
 over_mix w r f v share f0 v0 h = grind (arith, mul-le-mul_left (r * share) h)
 
--- where an idle tick and a full one are on or above a line, so is the tick: M * units + s is at most D * cost + g
+-- if an idle tick and a full one are on or above a line, so is the tick: M * units + s is at most D * cost + g
 over_line : (w r f M D s g idle full cost : ℕ) → w + r ≡ f → 0 < f → s ≤ D * idle + g → M * f + s ≤ D * full + g
     → r * idle + w * full ≤ f * cost → M * w + s ≤ D * cost + g
 over_line w r f M D s g idle full cost whole pos h0 hf mix =
@@ -115,7 +115,7 @@ mixed_units D ua ub T W h l rise low high =
 mixed_ticks : (D ua ub T W h l : ℕ) → ua + D ≡ ub → T * ua + h ≡ W → W + l ≡ T * ub → l + h ≡ D * T
 mixed_ticks D ua ub T W h l rise low high = omega (arith, ap (λ v. T * v) rise, low, high)
 
--- where each tick is on or above the line, so are their sums
+-- if each tick is on or above the line, so are their sums
 over_all : (M D s g : ℕ) (m : Table) (xs : List Choice) → AllByRecursion (λ x. M * x.units + s ≤ D * choice_cost m x + g) xs
     → M * total_units xs + length xs * s ≤ D * total_cost m xs + length xs * g
 over_all M D s g m [] each = omega arith

@@ -38,7 +38,7 @@ slope-sums p c U C x y E M D N pe cm xd yn =
       ap (λ v. E * v) yn,
     )
 
--- the point (x, y) is on or above the line from (p, c) to (U, C) where the slope from (x, y) to (U, C) is at most that
+-- the point (x, y) is on or above the line from (p, c) to (U, C) if the slope from (x, y) to (U, C) is at most that
 -- from (p, c), by the amounts by which (U, C) exceeds both
 pub slope-above : (p c U C x y E M D N : ℕ) → p + E ≡ U → c + M ≡ C → x + D ≡ U → y + N ≡ C → N * E ≤ M * D → Above p c U C x y
 slope-above p c U C x y E M D N pe cm xd yn h = omega (arith, slope-sums p c U C x y E M D N pe cm xd yn, h)
@@ -46,7 +46,7 @@ slope-above p c U C x y E M D N pe cm xd yn h = omega (arith, slope-sums p c U C
 pub above-slope : (p c U C x y E M D N : ℕ) → p + E ≡ U → c + M ≡ C → x + D ≡ U → y + N ≡ C → Above p c U C x y → N * E ≤ M * D
 above-slope p c U C x y E M D N pe cm xd yn h = omega (arith, slope-sums p c U C x y E M D N pe cm xd yn, h)
 
--- where one point is on or above the line of a pair, and the first of the pair is on or above the line from that
+-- if one point is on or above the line of a pair, and the first of the pair is on or above the line from that
 -- point to a last one, the last one is on or above the line of the pair
 chain-by : (p c D M P X Q Y : ℕ) → 0 < P → Above p c (p + D) (c + M) (p + P) (c + X)
     → Above (p + P) (c + X) (p + P + Q) (c + X + Y) p c

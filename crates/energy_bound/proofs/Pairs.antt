@@ -91,11 +91,11 @@ module _ (u c : ℕ → ℕ) (last : ℕ)
   first-two : (T W : ℕ) → u 0 ≡ 0 → 1 ≤ last → W ≤ T * u 1 → Enclosed T W 1
   first-two T W none le fits = grind (arith, up_to-more, above-first (u 0) (c 0) (u 1) (c 1), above-second (u 0) (c 0) (u 1) (c 1))
 
-  -- with one more point, the tangent to it encloses W where it begins low enough
+  -- with one more point, the tangent to it encloses W if it begins low enough
   with-tangent : (T W n p : ℕ) → W ≤ T * u (suc n) → Touches n (suc n) p → T * u p ≤ W → Enclosed T W (suc n)
   with-tangent T W n p fits t low = grind (arith, nat_tests, up_to-more, above-second)
 
-  -- with one more point, the pair before it encloses W where the tangent begins too high
+  -- with one more point, the pair before it encloses W if the tangent begins too high
   with-before : (T W n p a b : ℕ) → suc n ≤ last → Touches n (suc n) p → W < T * u p → Encloses T W n a b → Encloses T W (suc n) a b
   with-before T W n p a b le t over h = record {
     order = h.order;

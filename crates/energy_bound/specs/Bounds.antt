@@ -34,7 +34,7 @@ pub record IsReached (m : Table) (units ticks : ℕ) (l : Least) : Type 0 where
   pub high : ℕ
   pub reached : IsReachedAt m units ticks l low high
 
--- the part of a tick's price that is paid for it: the price, and 0 where it is below 0
+-- the part of a tick's price that is paid for it: the price, and 0 if it is below 0
 abbrev pub tick_due : Least → ℕ
 tick_due l = if l.tick_minus then 0 else l.tick_price
 

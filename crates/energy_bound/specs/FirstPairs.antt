@@ -29,11 +29,11 @@ is_holding m units ticks a b =
     && (nat_le (ticks * corner_units m a) units
     && (nat_le units (ticks * corner_units m b) && is_supporting m a b))
 
--- the first corner that holds with corner a, and one past the last where none does
+-- the first corner that holds with corner a, and one past the last if none does
 abbrev pub high_corner : Table → ℕ → ℕ → ℕ → ℕ
 high_corner m units ticks a = first_from (corner_count m) 0 (is_holding m units ticks a)
 
--- the first corner with which some corner holds, and one past the last where none does
+-- the first corner with which some corner holds, and one past the last if none does
 abbrev pub low_corner : Table → ℕ → ℕ → ℕ
 low_corner m units ticks =
     first_from (corner_count m) 0 (λ a. any_below (corner_count m) (is_holding m units ticks a))

@@ -22,7 +22,7 @@ choice_of p x = record { entry = x.entry; units = sum_below (count p) (share x) 
 abbrev pub choices_of : Plan → List Tick → List Choice
 choices_of p ticks = map (choice_of p) ticks
 
--- the units of a note where it is a running segment
+-- the units of a note if it is a running segment
 abbrev pub run_units : Note → ℕ
 run_units (Run from to i k units energy) = units
 run_units _ = 0

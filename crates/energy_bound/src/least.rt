@@ -12,7 +12,7 @@ use freq_table::Machine;
 
 /// The least energy for a number of work units in a number of ticks, in units times millivolts squared times
 /// thousandths. Over `rounds` repetitions of the ticks, `low_ticks` ticks at the corner with `low` units a tick and
-/// `high_ticks` at the one with `high` do the units and cost `energy`. `unit_price` and `tick_price`, below 0 where
+/// `high_ticks` at the one with `high` do the units and cost `energy`. `unit_price` and `tick_price`, below 0 if
 /// `tick_minus`, are prices that show that nothing costs less.
 #[derive(Clone, Copy, Debug, PartialEq, Eq)]
 pub struct Least {
@@ -76,7 +76,7 @@ fn first_partner(machine: &Machine, units: u64, ticks: u64, a: u32) -> Option<u3
 }
 
 /// The least energy for `units` work units in `ticks` ticks, at most 2^40, with its certificate: that of the corners
-/// that hold with the least low speed, and then the least high one. `Over` exactly where the units are more than the
+/// that hold with the least low speed, and then the least high one. `Over` exactly if the units are more than the
 /// highest speed does in the ticks, with these two numbers.
 pub fn least_energy(machine: &Machine, units: u64, ticks: u64) -> Result<Least, Over>
     requires { ticks ≤ MOST_TICKS }

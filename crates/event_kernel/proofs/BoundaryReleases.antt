@@ -74,7 +74,7 @@ releasing-start p dem past = record {
 }
 
 module _ (p : Plan) (dem : JobDemands) (past : List Tick) (periods : (i : ℕ) → 0 < period p i) where
-  -- the row of a task is the same after m and after n steps where it isn't between them, or isn't due
+  -- the row of a task is the same after m and after n steps if it isn't between them, or isn't due
   mixed-same : (m n i : ℕ) → m ≤ n → dem i 0 ≡ 0 → (m ≤ i → i < n → nat_eq (prior_row p dem past i).deadline (length past) ≡ false)
       → mixed p dem past m i ≡ mixed p dem past n i
   mixed-same m n i le none early = go (nat_lt i m) refl (nat_lt i n) refl

@@ -35,7 +35,7 @@ given_units-same job given given' n [] below same = refl
 given_units-same job given given' n (j ∷ js) below same =
     ap₂ (λ m us. replicate m (Held j (job j)) ++ us) (same j below.0) (given_units-same job given given' n js below.1 same)
 
--- where the tasks after i got no units, their list of units is empty
+-- if the tasks after i got no units, their list of units is empty
 given_units-after : (key job given : ℕ → ℕ) (n i : ℕ) (js : List ℕ) → AreBelow n js → IsAhead key i js
     → ((j : ℕ) → j < n → stands_before key i j ≡ true → given j ≡ 0) → given_units given job js ≡ []
 given_units-after key job given n i [] below ahead none = refl
@@ -208,7 +208,7 @@ module _ (p : Plan) (dem : JobDemands) (past : List Tick) where
         needs : had i + given i < dem i (job i)
         needs = omega (arith, o.needs)
 
-        -- the job has all its units exactly where the share is what it lacks
+        -- the job has all its units exactly if the share is what it lacks
         is_whole : nat_le (dem i (job i)) (had i + given i + share) ≡ nat_eq share (dem i (job i) - (had i + given i))
         is_whole = let low : share ≤ dem i (job i) - (had i + given i) = omega (arith, se) in grind (arith, nat_tests, needs, low)
 

@@ -20,7 +20,7 @@ kept_notes-append xs ys = kept_notes-by MOST_NOTES xs ys
 pub kept_notes-all : (xs : List Note) → length xs ≤ MOST_NOTES → kept_notes xs ≡ xs
 kept_notes-all xs le = take_all MOST_NOTES xs le
 
--- where there is no room, none is added
+-- if there is no room, none is added
 pub kept_notes-full : (xs ys : List Note) → length xs ≤ MOST_NOTES → MOST_NOTES ≤ length xs → xs ≡ kept_notes (xs ++ ys)
 kept_notes-full xs ys le ge = sym (take-append-le MOST_NOTES xs ys ge ∙ take_all MOST_NOTES xs le)
 

@@ -67,7 +67,7 @@ module _ (demand : OwnDemand) (p : Plan) (dem : JobDemands) where
           ∙ go t (is_decision p dem (course demand p dem t)) refl in
           rw (e, is) refl
 
-  -- where no decision follows tick t, the next tick belongs to the same span
+  -- if no decision follows tick t, the next tick belongs to the same span
   pub span-on : (t : ℕ) → is_decision p dem (course demand p dem (t + 1)) ≡ false → span_at demand p dem (t + 1) ≡ whole_span demand p dem t
   span-on t e =
       rw e (ap (λ ps. first_span (spans_of p dem ps)) (course-next demand p dem t) ∙ ap first_span (spans-whole t))
@@ -86,7 +86,7 @@ module _ (demand : OwnDemand) (p : Plan) (dem : JobDemands) where
       ap notes_to (course-next demand p dem t)
       ∙ notes-span p dem asks (tick_at demand p dem t ∷ course demand p dem t) (whole_span demand p dem t).past (whole_span demand p dem t) (spans-whole t)
 
-  -- where longer lists keep a property, it passes from the notes before a decision to those before any later tick
+  -- if longer lists keep a property, it passes from the notes before a decision to those before any later tick
   module _ (P : List Note → Type 0) (more : (xs ys : List Note) → P xs → P (xs ++ ys)) (t : ℕ) (here : P (notes_to (course demand p dem t))) where
     next-keeps : (n : ℕ) → P (notes_to (span_at demand p dem (t + n)).past) → P (notes_to (course demand p dem (t + n + 1)))
     next-keeps n at = subst P (sym (notes-whole (t + n))) (more _ (span_notes p dem asks (whole_span demand p dem (t + n))) at)

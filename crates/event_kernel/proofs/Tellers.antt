@@ -1,4 +1,4 @@
--- The lines of the notes that a teller heard were written, the last one in part where it stopped.
+-- The lines of the notes that a teller heard were written, the last one in part if it stopped.
 use Rattle.std.proofs.Common.{◌≡◌, ℕ, inl, inr, List, [], ◌∷◌, map, refl, ◌∙◌, subst}
 use Rattle.dvs_base.specs.Outside.{SinkView}
 use Rattle.dvs_base.specs.declared.note.Note.{Note}

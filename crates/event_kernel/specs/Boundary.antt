@@ -13,7 +13,7 @@ use Rattle.freq_table.specs.Tables.{lowest_entry}
 abbrev pub needs_nothing : JobDemands → StateView → ℕ → Bool
 needs_nothing dem s i = nat_eq (dem i ((row_at s i).job + 1)) 0
 
--- the notes of the release of a task's next job: the release, and the completion where the job needs nothing
+-- the notes of the release of a task's next job: the release, and the completion if the job needs nothing
 abbrev pub opening_notes : JobDemands → StateView → ℕ → List Note
 opening_notes dem s i =
     Release s.now i ((row_at s i).job + 1)

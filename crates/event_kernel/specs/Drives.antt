@@ -21,12 +21,12 @@ pub record Drives {L E : Type 0} (heard balked : L → Note → L → Type 0) (s
   pub few : IfOk result AreFew
   -- every deadline within the run is met
   pub deadlines : MeetsDeadlines demand r
-  -- so is the published demand at each decision, where the kind's is always met
+  -- so is the published demand at each decision, if the kind's is always met
   pub demands : IsAlwaysMet kind → MeetsDemands demand r
   -- at Ok the listener heard all notes
   pub ran : OnOk result (HasHeard heard old (notes_of_run demand r) new)
   -- at an error it balked after a proper prefix of them
   pub broke_off : OnErr result (HasBalked heard balked old (notes_of_run demand r) new)
-  -- its count of stops never falls, and an error comes only where it rose
+  -- its count of stops never falls, and an error comes only if it rose
   pub never_falls : stops old ≤ stops new
   pub rose : OnErr result (Rose (stops old) (stops new))

@@ -77,7 +77,7 @@ is_turn trace h = nat_lt 0 trace.segment.units && not (same_holder trace.segment
 abbrev pub with_units : Holder → ℕ → SpanTrace → SpanTrace
 with_units h n trace = record { segment = record { holder = h; start = trace.segment.start; units = trace.segment.units + n }; notes = trace.notes }
 
--- the trace after n units of the holder h: where another holder's segment is open, its notes are added first
+-- the trace after n units of the holder h: if another holder's segment is open, its notes are added first
 abbrev pub after_units : Plan → StateView → ℕ → ℕ → Holder → ℕ → SpanTrace → SpanTrace
 after_units p s from e h n trace = with_units h n (if is_turn trace h then after_segment p s from e trace else trace)
 

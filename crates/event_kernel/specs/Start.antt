@@ -28,5 +28,5 @@ pub record IsAtStart {G : Type 0} (stands : G → Plan → StateView → Type 0)
   pub current : IsCurrent stands set progress
   -- the account has no note yet
   pub booked : HasBooked set.plan.now account []
-  -- for any number of ticks, every deadline will be met, and so will the demands where the kind's always are
+  -- for any number of ticks, every deadline will be met, and so will the demands if the kind's always are
   pub met : (t : ℕ) → IsMetRun kind demand (record { plan = set.plan.now; demands = set.demands.now; ticks = t })

@@ -41,7 +41,7 @@ fn decide<G: Governor>(plan: &Admitted, governor: &G, state: &State, notes: &mut
 }
 
 impl<G: Governor> Progress<G> {
-    // Releases a task's next job, and completes it where its demand is 0.
+    // Releases a task's next job, and completes it if its demand is 0.
     fn release_one(&mut self, set: &Setting<'_>, task: u32)
         requires list { IsListOf set.now.plan.now set.now.demands.now }
         requires of { IsOfPlan set.now.plan.now self.old.state }
@@ -86,7 +86,7 @@ impl<G: Governor> Progress<G> {
         }
     }
 
-    // Releases every job that is due now, in the order of the tasks, and sets the mark where there was one.
+    // Releases every job that is due now, in the order of the tasks, and sets the mark if there was one.
     fn release_all(&mut self, set: &Setting<'_>)
         requires set { IsSetting set.now }
         requires at { IsAtBoundary set.now G.demand self.old.state }

@@ -39,7 +39,7 @@ pub fn count_jobs(plan: &Admitted, ticks: u64) -> u64
     count
 }
 
-/// A plan's demand list without rows: every job needs its worst case. It fails only where memory runs out.
+/// A plan's demand list without rows: every job needs its worst case. It fails only if memory runs out.
 pub fn worst_demands(alloc: Global, plan: &Admitted) -> Result<Demands, NoMemory>
     ensures list { IfOk result (IsListOf plan.now) }
     ensures rows { IfOk result (λ d. d.rows ≡ []) }
@@ -75,7 +75,7 @@ pub(crate) fn lacking(_set: &Setting<'_>, state: &State, needs: &[u64], task: u3
     needs[task as usize] - state.rows[task as usize].used
 }
 
-/// The holder that is the latest job of the task `first`; nobody where it is `None`.
+/// The holder that is the latest job of the task `first`; nobody if it is `None`.
 pub(crate) fn holder_of(state: &State, first: Option<u32>) -> Holder
     requires { IfSome first (λ i. i < length state.now.rows) }
     ensures { result ≡ holder_at state.entry.now first }

@@ -75,8 +75,8 @@ fn finish<L: Listener>(ticks: u64, account: &Account, to: &mut L) -> Result<Tota
 
 impl<'a, G: Governor> Kernel<'a, G> {
     /// A kernel for `ticks` ticks, 1 to 2^40, of a plan and its demands. All its memory is taken here.
-    /// `TooManyJobs` comes exactly where more than `MOST_JOBS` jobs are released before tick `ticks`, with their
-    /// number; `NoMemory` comes only where memory runs out.
+    /// `TooManyJobs` comes exactly if more than `MOST_JOBS` jobs are released before tick `ticks`, with their
+    /// number; `NoMemory` comes only if memory runs out.
     pub fn new(
         alloc: Global,
         plan: &'a Admitted,
@@ -115,7 +115,7 @@ impl<'a, G: Governor> Kernel<'a, G> {
     }
 
     /// Hands the listener all notes of the governor's schedule, in order; the sums and counts over them. `Stopped`
-    /// comes only where the listener stopped, after a proper prefix of them. Every job that is due within the run has
+    /// comes only if the listener stopped, after a proper prefix of them. Every job that is due within the run has
     /// its demand by its deadline.
     pub fn drive<L: Listener>(self, to: &mut L) -> Result<Totals, Stopped>
         ensures { Drives L.heard L.balked L.stops G.the_kind G.demand self.entry to.old to.new result }

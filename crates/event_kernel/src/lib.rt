@@ -1,7 +1,7 @@
 //! The kernel: it runs an admitted plan under a governor and hands a listener every note of the schedule.
 //!
 //! It is generic over the governor and learns each demand from `choose` alone. A listener hears all notes, in order;
-//! where it stops, it has heard a proper prefix of them. `Kernel::run` is the run with a listener that writes each note's
+//! if it stops, it has heard a proper prefix of them. `Kernel::run` is the run with a listener that writes each note's
 //! line by `trace_writer` and then gives the note to probes.
 #![tactic(auto)]
 

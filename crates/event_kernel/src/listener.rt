@@ -26,7 +26,7 @@ pub trait Listener {
     /// How often it has stopped. The count never falls.
     ghost stops: { Self → ℕ };
 
-    /// Hears one note. `Stopped` comes only where the count of stops rose.
+    /// Hears one note. `Stopped` comes only if the count of stops rose.
     fn hear(&mut self, note: &Note) -> Result<(), Stopped>
         ensures heard { OnOk result (heard self.old note.now self.new) }
         ensures balked { OnErr result (balked self.old note.now self.new) }

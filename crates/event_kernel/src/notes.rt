@@ -32,7 +32,7 @@ impl Model for SpanNotes {
 }
 
 impl SpanNotes {
-    /// No notes, with room for those of a span. It fails only where memory runs out.
+    /// No notes, with room for those of a span. It fails only if memory runs out.
     pub(crate) fn new(alloc: Global) -> Result<SpanNotes, NoMemory>
         ensures { IfOk result (λ s. s ≡ []) }
     {
@@ -47,7 +47,7 @@ impl SpanNotes {
         self.notes.clear();
     }
 
-    /// Adds a note where there is room.
+    /// Adds a note if there is room.
     pub(crate) fn push(&mut self, note: Note)
         ensures { self.new ≡ kept_notes (self.old ++ note ∷ []) }
     {
@@ -57,7 +57,7 @@ impl SpanNotes {
     }
 
     /// Hands each note to a listener, and then adds it to the account under the entry `point`. `Stopped` comes only
-    /// where the listener stopped.
+    /// if the listener stopped.
     pub(crate) fn tell<L: Listener>(
         &self,
         point: u32,

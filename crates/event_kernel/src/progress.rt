@@ -33,7 +33,7 @@ pub struct Progress<G: Governor> {
 }
 
 impl<G: Governor> Progress<G> {
-    /// A run before its first tick, with room for the notes of a span. It fails only where memory runs out.
+    /// A run before its first tick, with room for the notes of a span. It fails only if memory runs out.
     pub(crate) fn new(alloc: Global, set: &Setting<'_>, governor: G) -> Result<Self, NoMemory>
         requires { G.stands governor set.now.plan.now (opening set.now.plan.now) }
         ensures state { IfOk result (λ x. x.state ≡ opening set.now.plan.now) }

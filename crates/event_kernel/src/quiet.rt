@@ -31,7 +31,7 @@ impl<G: Governor> Progress<G> {
         }
     }
 
-    // Runs `units` of the first incomplete job, which stays incomplete; where there is none, nothing changes.
+    // Runs `units` of the first incomplete job, which stays incomplete; if there is none, nothing changes.
     fn serve_first(&mut self, set: &Setting<'_>, first: Option<u32>, units: u64)
         requires of { IsOfPlan set.now.plan.now self.old.state }
         requires can { IfSome first (λ i. CanRun self.old.state i units) }

@@ -25,7 +25,7 @@ impl Segment {
         }
     }
 
-    /// Begins the holder's next segment where this one ends.
+    /// Begins the holder's next segment if this one ends.
     pub(crate) fn pass(&mut self)
         requires { self.old.start + self.old.units < u64_end }
         ensures { self.new ≡ record { holder = self.old.holder; start = self.old.start + self.old.units; units = 0 } }

@@ -100,7 +100,7 @@ impl SpanTrace {
         });
     }
 
-    // Adds the note of a job's segment, and that of the job's completion where its row is done.
+    // Adds the note of a job's segment, and that of the job's completion if its row is done.
     fn add_run(&mut self, at: Moment<'_>, task: u32, job: u64)
         requires can { CanAdd at.plan.now at.state.now at.force.from at.force.index self.old }
         requires held { self.old.segment.holder ≡ Held task job }
@@ -143,7 +143,7 @@ impl SpanTrace {
         self.segment.pass();
     }
 
-    /// Adds units of a holder. Where another holder's segment is open, its notes are added first.
+    /// Adds units of a holder. If another holder's segment is open, its notes are added first.
     pub(crate) fn enter(&mut self, at: Moment<'_>, holder: Holder, units: u64)
         requires { CanEnter at.plan.now at.state.now at.force.from at.force.index units self.old }
         ensures { self.new ≡ after_units at.entry.plan.now at.entry.state.now at.entry.force.from

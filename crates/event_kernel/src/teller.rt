@@ -129,9 +129,9 @@ fn notes_into<G: Governor, W: Sink, P: Probe>(
 
 impl<'a, G: Governor> Kernel<'a, G> {
     /// Writes the whole trace in this version to the sink, one `put` a line, and tells the probes each note after
-    /// its line was put; the totals of the notes. `WriteFault` comes only where the sink failed at some line: the lines
+    /// its line was put; the totals of the notes. `WriteFault` comes only if the sink failed at some line: the lines
     /// before it were put and their notes told, the line itself was put in part, and nothing after it. It never comes
-    /// where the sink was sure of as many bytes as the trace has.
+    /// if the sink was sure of as many bytes as the trace has.
     pub fn run<W: Sink, P: Probe>(
         self,
         out: &mut W,

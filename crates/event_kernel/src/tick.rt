@@ -15,7 +15,7 @@ use governor::Governor;
 use sched_model::Holder;
 
 impl<G: Governor> Progress<G> {
-    /// Runs `units` of the first incomplete job, and completes it where `ends`. The governor and the agenda hear of it.
+    /// Runs `units` of the first incomplete job, and completes it if `ends`. The governor and the agenda hear of it.
     pub(crate) fn serve(&mut self, set: &Setting<'_>, task: u32, units: u64, ends: bool)
         requires of { IsOfPlan set.now.plan.now self.old.state }
         requires can { CanRun self.old.state task units }

@@ -1,7 +1,7 @@
 //! Calls of the whole program over the files of the examples, one after another: the words of each, what it writes to both
 //! streams, and its exit status. What this prints is kept beside it, and each build is compared with that.
 //!
-//! It ends with 3 where the list of calls can't be read, with 8 where a write fails and with 9 where memory runs out.
+//! It ends with 3 if the list of calls can't be read, with 8 if a write fails and with 9 if memory runs out.
 #![tactic(auto)]
 
 use dvs_base::{HostShelf, HostSink, Shelf};

@@ -1,4 +1,4 @@
--- The speeds of a table rise, and the entry that a demand picks, found among the entries, meets it where the last one does.
+-- The speeds of a table rise, and the entry that a demand picks, found among the entries, meets it if the last one does.
 use Rattle.std.proofs.Common.{◌≡◌, ◌⊎◌, inl, inr, ℕ, zero, suc, ◌+◌, ◌*◌, ◌<◌, ◌≤◌, Bool, true, false, length, refl, sym, ◌∙◌, ap, arith, true≢false, eq-or-lt_of_le, ◌-◌, min}
 use Rattle.std.proofs.lemmas.Bool.{le-leb, leb-true, cases_lt}
 use Rattle.grid_fraction.specs.declared.Frac.{Frac}
@@ -33,7 +33,7 @@ pub lowest-most : (m : Table) (d : Frac) (k : ℕ) → d.num ≤ speed_at m k * 
 lowest-most m d k h =
     omega (arith, first_from-most (length m.points) 0 k (λ e. meets (speed_at m e) d) (omega arith) (le-leb d.num (speed_at m k * d.den) h))
 
--- where the highest speed meets a demand, the speed of the picked entry does
+-- if the highest speed meets a demand, the speed of the picked entry does
 pub picked_meets : (m : Table) → IsTable m → (d : Frac) → d.num ≤ highest_speed m * d.den → d.num ≤ speed_at m (lowest_entry m d) * d.den
 picked_meets m table d h =
     let test : ℕ → Bool = λ e. meets (speed_at m e) d in
@@ -50,7 +50,7 @@ picked_meets m table d h =
           rw same (leb-true _ _ found.0)
     ]
 
--- where the highest speed meets a demand, the pick says that it is met
+-- if the highest speed meets a demand, the pick says that it is met
 pub picked_met : (m : Table) → IsTable m → (d : Frac) → d.num ≤ highest_speed m * d.den → (lowest_pick m d).met ≡ true
 picked_met m table d h = go (any_below (length m.points) (λ e. meets (speed_at m e) d)) refl
   where

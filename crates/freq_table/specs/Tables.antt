@@ -29,7 +29,7 @@ last_entry m = length m.points - 1
 abbrev pub highest_speed : Table → ℕ
 highest_speed m = speed_at m (last_entry m)
 
--- the first entry whose speed meets the demand, and the last entry where none does
+-- the first entry whose speed meets the demand, and the last entry if none does
 abbrev pub lowest_entry : Table → Frac → ℕ
 lowest_entry m d = min (first_from (length m.points) 0 (λ e. meets (speed_at m e) d)) (last_entry m)
 

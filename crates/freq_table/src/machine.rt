@@ -58,7 +58,7 @@ impl Machine {
         }
     }
 
-    /// The machine with these numbers and points. It fails only where memory runs out.
+    /// The machine with these numbers and points. It fails only if memory runs out.
     pub fn of(alloc: Global, idle: u64, charge: u64, points: &[Point]) -> Result<Machine, NoMemory>
         requires { IsTable (record { points = points.now; idle = idle; charge = charge }) }
         ensures { IfOk result (λ m. m ≡ (record { points = points.now; idle = idle; charge = charge })) }
@@ -67,7 +67,7 @@ impl Machine {
         Ok(Machine::from_points(points, idle, charge))
     }
 
-    /// A copy equal to this machine, within the limits that every machine keeps. It fails only where memory runs out.
+    /// A copy equal to this machine, within the limits that every machine keeps. It fails only if memory runs out.
     pub fn copy(&self, alloc: Global) -> Result<Machine, NoMemory>
         ensures equal { IfOk result (λ m. m ≡ self.now) }
         ensures limits { IfOk result (λ m. IsTable m) }
@@ -75,7 +75,7 @@ impl Machine {
         Machine::of(alloc, self.idle, self.charge, &self.points)
     }
 
-    /// The first entry whose speed meets the demand, with `met` true; where none does, the last, with `met` false.
+    /// The first entry whose speed meets the demand, with `met` true; if none does, the last, with `met` false.
     pub fn lowest(&self, d: Frac) -> Pick
         requires some { 1 ≤ d.den }
         requires fits { d.den ≤ u64_end }

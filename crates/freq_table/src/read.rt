@@ -141,7 +141,7 @@ fn read_table(alloc: Global, table: &Table) -> Result<Machine, MachineFault>
 
 impl Machine {
     /// The machine of the file: an array of tables under the key `point`, each with a `speed` in work units per tick
-    /// and its `millivolts`, and the numbers `idle` and `charge`, which are 0 where they are absent. For any other
+    /// and its `millivolts`, and the numbers `idle` and `charge`, which are 0 if they are absent. For any other
     /// file, its first refusal, unless memory runs out.
     pub fn read(alloc: Global, bytes: &[u8]) -> Result<Machine, MachineFault>
         ensures { MeansMachine (λ m. m) result (machine_file bytes.now) }

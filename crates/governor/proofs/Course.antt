@@ -1,4 +1,4 @@
--- The laws of a governor along its schedule: every deadline is met, and each demand but that of look-ahead. Where its
+-- The laws of a governor along its schedule: every deadline is met, and each demand but that of look-ahead. If its
 -- demand is the published one of its kind, that is the schedule of the kind.
 use Rattle.std.proofs.lemmas.Bool.Decides.{nat_tests}
 use Rattle.std.proofs.Common.{◌≡◌, ℕ, zero, suc, ◌-◌, ◌<◌, ◌≤◌, Bool, true, false, List, [], ◌∷◌, length, drop, refl, arith, if◌then◌else◌, ap, ◌∙◌, sym, subst, true≢false, ◌⊎◌, inl, inr, eq-or-lt_of_le}
@@ -44,7 +44,7 @@ at-schedule p dem ask t r le = ap (λ n. drop (n - r) (schedule_by p dem ask t))
             ∙ (ap (drop (suc (t - r))) (schedule-suc p dem ask t)
             ∙ ih (omega arith))
 
--- where the row of a job that is due is complete, the job has had its demand
+-- if the row of a job that is due is complete, the job has had its demand
 pub due-had : (p : Plan) → IsWithinLimits p → (dem : JobDemands) (past : List Tick) → Belongs p dem (prior_state p dem past)
     → (i k : ℕ) → i < count p → 1 ≤ k → due p i k ≡ length past
     → ((row_at (prior_state p dem past) i).deadline ≡ length past → (row_at (prior_state p dem past) i).done ≡ true)
@@ -76,7 +76,7 @@ module _ (kind : GovernorKind) (serves : Serving) (demand : OwnDemand) (calm : C
   speed_now past = speed_at p.machine (entry_at past)
 
   -- what holds before the releases of the tick after `past`: the state belongs to the demands and is calm,
-  -- and it is safe where the tick isn't a decision
+  -- and it is safe if the tick isn't a decision
   pub record Kept (past : List Tick) : Type 0 where
     pub belongs : Belongs p dem (prior_state p dem past)
     pub is_calm : calm p (prior_state p dem past)
@@ -152,7 +152,7 @@ module _ (kind : GovernorKind) (serves : Serving) (demand : OwnDemand) (calm : C
   kept-none : Kept []
   kept-none = grind (arith, nat_tests, belongs_opening)
 
-  -- at each tick of the governor's schedule the state belongs and is calm, and is safe where it isn't a decision
+  -- at each tick of the governor's schedule the state belongs and is calm, and is safe if it isn't a decision
   pub kept : (t : ℕ) → Kept (course demand p dem t)
   kept zero = subst Kept (sym (schedule-none p dem ask)) kept-none
   kept (suc t) = subst Kept (sym (schedule-suc p dem ask t)) (kept-next (course demand p dem t) (kept t))

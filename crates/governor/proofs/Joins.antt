@@ -59,7 +59,7 @@ module _ (p : Plan) (dem : JobDemands) (periods : (i : ℕ) → 0 < period p i) 
   pub boundary-is : (past : List Tick) → after_boundary p dem (prior_state p dem past) ≡ state_of p dem past
   boundary-is past = grind (arith, nat_tests, boundary-rows, some-due, state-marked, state-unmarked)
 
-  -- after a tick the units had reach the demand exactly where they did before, or where they equal it now
+  -- after a tick the units had reach the demand exactly if they did before, or if they equal it now
   done-is : (d u sh : ℕ) → sh ≤ d - u → nat_le d (u + sh) ≡ (nat_le d u || (u + sh == d))
   done-is d u sh fits = grind (arith, nat_tests)
 

@@ -71,7 +71,7 @@ module _ (p : Plan) (lim : IsWithinLimits p) (ask : PublishedDemand) where
       → lack_after p ask (suc t) i ≡ lack p ask (suc t) i
   lack-same t i h other = grind (arith, nat_tests, lack-long, stays)
 
-  -- where a task has no release, it lacks as much after the releases as before
+  -- if a task has no release, it lacks as much after the releases as before
   pub lack-quiet : (t j : ℕ) → j < count p → IsQuiet p t j → lack_after p ask t j ≡ lack p ask t j
   lack-quiet zero j h quiet =
       let ticks = worst_ticks p ask 0 in
@@ -102,7 +102,7 @@ module _ (p : Plan) (lim : IsWithinLimits p) (ask : PublishedDemand) where
       → sum_where (count p) test (lack_after p ask t) ≡ sum_where (count p) test (lack p ask t)
   all-quiet t test quiet = sum_where-same (count p) test (lack_after p ask t) (lack p ask t) (λ i h. lack-quiet t i h (quiet i h))
 
-  -- under RM, where the entries in force all have the speed F
+  -- under RM, if the entries in force all have the speed F
   module _ (rm : p.scheduler ≡ Rm) (F : ℕ)
       (same : (past : List Tick) → (point p (entry_in_force p (worst_demand p) ask past)).speed ≡ F) where
     -- the ticks are legal at the speed F, in RM order
@@ -165,7 +165,7 @@ module _ (p : Plan) (lim : IsWithinLimits p) (ask : PublishedDemand) where
     empties : (b l x a c : ℕ) → 0 < a → b ≡ x - c → b + l ≡ (x + a) - c → l ≡ 0 → b + l ≡ 0
     empties b l x a c pos e g z = omega arith
 
-    -- where task i lacks units at r and none at a later tick up to the next release, its level lacks none there
+    -- if task i lacks units at r and none at a later tick up to the next release, its level lacks none there
     pub lack-empties : (i r d : ℕ) → i < count p → ((u j : ℕ) → r < u → u < r + suc d → j < count p → IsQuiet p u j)
         → 0 < lack_after p ask r i → lack p ask (r + suc d) i ≡ 0
         → sum_where (count p) (is_up_to (period p) i) (lack p ask (r + suc d)) ≡ 0

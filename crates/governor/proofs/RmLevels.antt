@@ -46,7 +46,7 @@ spaced plan j b (suc k) = go (nat_le b (release plan j (suc k))) refl (spaced pl
     go false e (inl none) = inl (omega arith)
     go false e (inr some) = inr (omega (arith, later))
 
--- where q periods cover l ticks, at most q jobs are released at b or later and before b + l
+-- if q periods cover l ticks, at most q jobs are released at b or later and before b + l
 in_window : (plan : Plan) (j b k l q : ℕ) → 0 < period plan j → (0 < k → release plan j k < b + l)
     → l ≤ q * period plan j → released_since plan j b k ≤ q
 in_window plan j b k l q pos last covers = grind (arith, nat_tests, spaced, cases_lt, mul-le-mul_right, release-due)
@@ -94,7 +94,7 @@ module _ (F long : ℕ) (plan : Plan) (lim : IsWithinLimits plan) (i : ℕ) (h :
         omega (arith, none, paid))
         (λ later. omega arith)
 
-    -- where a row was complete, its need after the boundary is at most the work that its task asks for from now on
+    -- if a row was complete, its need after the boundary is at most the work that its task asks for from now on
     row_pays_alone : (j : ℕ) → j < count plan → (row_at s j).done ≡ true
         → wleft_at (after_boundary plan dem s) j ≤ asked_since plan (after_boundary plan dem s) s.now j
     row_pays_alone j hj closed =

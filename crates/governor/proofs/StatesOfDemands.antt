@@ -44,13 +44,13 @@ done_none row e = rw e refl
 pub wleft-most : (row : Row) → row_wleft row ≤ row.worst
 wleft-most row = grind (arith, nat_tests)
 
--- where no row passes the test, the row at each place fails it
+-- if no row passes the test, the row at each place fails it
 pub none_due_at : (p : Row → Bool) (rows : List Row) (j : ℕ) → list_any p rows ≡ false → j < length rows → p (get_or rows j no_row) ≡ false
 none_due_at p [] j none h = absurd (omega arith)
 none_due_at p (row ∷ rows) zero none h = (or_parts (p row) (list_any p rows) none).0
 none_due_at p (row ∷ rows) (suc j) none h = none_due_at p rows j (or_parts (p row) (list_any p rows) none).1 (omega arith)
 
--- where some row passes the test, it is at some place
+-- if some row passes the test, it is at some place
 pub some_due_at : (p : Row → Bool) (rows : List Row) → list_any p rows ≡ true
     → (j : ℕ) × (j < length rows) × (p (get_or rows j no_row) ≡ true)
 some_due_at p rows some =
@@ -103,7 +103,7 @@ belongs_opening plan dem fits =
     (λ i h. subst (λ (row : Row). row_wleft row ≤ slice_index (opening plan).base i) (sym (opening_at plan i h)) (omega arith))
     fits ok
 
--- the job that is released where a row is due has the row's deadline as its release
+-- the job that is released if a row is due has the row's deadline as its release
 pub opened_release : (plan : Plan) (dem : JobDemands) (i : ℕ) (row : Row) → row.deadline ≡ due_at plan i row.job
     → release_of plan i (opened_row plan dem i row) ≡ row.deadline
 opened_release plan dem i row e = latest_since-suc plan i row.job ∙ sym e
@@ -121,7 +121,7 @@ opened_row_ok plan dem now i row at_now ok = record {
   closed_job = λ e pos. sym (eqb-true (dem i (row.job + 1)) 0 e);
 }
 
--- a fact of the opened row, where the row is due, and of the row itself, where it isn't,
+-- a fact of the opened row, if the row is due, and of the row itself, if it isn't,
 -- is a fact of the row after the boundary
 pub boundary_row-by : (plan : Plan) (dem : JobDemands) (now i : ℕ) (row : Row) (P : Row → Type 0)
     → (row.deadline ≡ now → P (opened_row plan dem i row)) → (row.deadline ≢ now → P row) → P (boundary_row plan dem now i row)
@@ -131,7 +131,7 @@ pub boundary_at : (plan : Plan) (dem : JobDemands) (s : StateView) → Belongs p
     → row_at (after_boundary plan dem s) i ≡ boundary_row plan dem s.now i (row_at s i)
 boundary_at plan dem s bel i h = get-each_row (boundary_row plan dem s.now) s.rows i (in_rows plan dem s bel i h)
 
--- a fact of the opened row, where a row is due, and of the row itself, where it isn't,
+-- a fact of the opened row, if a row is due, and of the row itself, if it isn't,
 -- is a fact of the row in the state after the boundary
 pub boundary-by : (plan : Plan) (dem : JobDemands) (s : StateView) → Belongs plan dem s → (i : ℕ) → i < count plan → (P : Row → Type 0)
     → ((row_at s i).deadline ≡ s.now → P (opened_row plan dem i (row_at s i))) → ((row_at s i).deadline ≢ s.now → P (row_at s i))
@@ -260,7 +260,7 @@ belongs_tick plan dem f s shares bel before legal =
     (λ i h. rw (tick_at plan dem shares s bel i h) (row_after_tick plan dem shares s.now i (row_at s i) (λ k. bel.demand.most i k h)
     (before i h) (legal_most plan dem f s shares legal i h) (row_ok plan dem s bel i h)))
 
--- where the present tick is before every deadline, it is before the earliest one
+-- if the present tick is before every deadline, it is before the earliest one
 pub earliest-later : (plan : Plan) → IsWithinLimits plan → (s : StateView) → IsBeforeAll plan s → s.now < earliest_in plan s
 earliest-later plan lim s before = least-above (count plan) (λ i. (row_at s i).deadline) (suc s.now) (some_task plan lim) before
 

@@ -42,7 +42,7 @@ pub published-fixed : (p : Plan) (dem : JobDemands) (past : List Tick) → publi
 unfolding published
 published-fixed p dem past = fixed_by p.scheduler p dem past
 
--- where the published demand is always d, the entry in force is always the one for d
+-- if the published demand is always d, the entry in force is always the one for d
 pub entry-same : (p : Plan) (dem : JobDemands) (ask : PublishedDemand) (d : Frac) → ((past : List Tick) → ask past ≡ d)
     → (past : List Tick) → entry_in_force p dem ask past ≡ lowest_entry p.machine d
 entry-same p dem ask d same [] = ap (lowest_entry p.machine) (same [])
@@ -72,7 +72,7 @@ worst-met p adm t =
     (course-met Fixed ServesBoth (unchanging static_demand) (CalmAt fixed_speed) (SafeAt fixed_speed) (static_laws pairs_fixed) p
     (worst_demand p) adm (worst-within p) tt t)
 
--- at a tick where a job of task i is due, the job lacks nothing
+-- at a tick if a job of task i is due, the job lacks nothing
 pub lacking-none : (p : Plan) → IsAdmitted p → (t i k : ℕ) → i < count p → 1 ≤ k → t ≡ due p i k
     → lacking p (schedule p Fixed (worst_demand p) t) i ≡ 0
 lacking-none p adm t i k h pos e =

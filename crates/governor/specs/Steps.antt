@@ -23,7 +23,7 @@ is_due now row = row.deadline == now
 abbrev pub opened_row : Plan → JobDemands → ℕ → Row → Row
 opened_row plan dem i row = record (released_row (period plan i) row) { done = (dem i (row.job + 1) == 0) }
 
--- a row after a boundary: after its release where it is due, and otherwise unchanged
+-- a row after a boundary: after its release if it is due, and otherwise unchanged
 abbrev pub boundary_row : Plan → JobDemands → ℕ → ℕ → Row → Row
 boundary_row plan dem now i row = if is_due now row then opened_row plan dem i row else row
 
@@ -31,7 +31,7 @@ boundary_row plan dem now i row = if is_due now row then opened_row plan dem i r
 abbrev pub boundary_rows : Plan → JobDemands → StateView → List Row
 boundary_rows plan dem s = each_row (boundary_row plan dem s.now) 0 s.rows
 
--- the state after the releases of a boundary, and after its mark where some task is released
+-- the state after the releases of a boundary, and after its mark if some task is released
 abbrev pub after_boundary : Plan → JobDemands → StateView → StateView
 after_boundary plan dem s = record {
   now = s.now;
@@ -44,19 +44,19 @@ after_boundary plan dem s = record {
 abbrev pub release_of : Plan → ℕ → Row → ℕ
 release_of plan i row = latest_since plan i row.job
 
--- the last release of the rows' jobs; 0 where there is none
+-- the last release of the rows' jobs; 0 if there is none
 abbrev pub last_marked : Plan → StateView → ℕ
 last_marked plan s = greatest_below (count plan) (λ i. release_of plan i (row_at s i))
 
--- the units that the row's job of task i still needs; 0 where it is complete
+-- the units that the row's job of task i still needs; 0 if it is complete
 abbrev pub left_of : JobDemands → ℕ → Row → ℕ
 left_of dem i row = if row.done then 0 else dem i row.job - row.used
 
--- the units that the job of task i still needs in a state; 0 where it is complete
+-- the units that the job of task i still needs in a state; 0 if it is complete
 abbrev pub left_in : JobDemands → StateView → ℕ → ℕ
 left_in dem s i = left_of dem i (row_at s i)
 
--- the units that the job of task i may still need at most; 0 where it is complete
+-- the units that the job of task i may still need at most; 0 if it is complete
 abbrev pub wleft_at : StateView → ℕ → ℕ
 wleft_at s i = row_wleft (row_at s i)
 
@@ -100,7 +100,7 @@ pub record IsAtDecision (plan : Plan) (s : StateView) : Type 0 where
   pub base : (i : ℕ) → i < count plan → row_wleft (row_at s i) ≤ slice_index s.base i
 
 -- the state is one of a run of the plan with these demands: its rows have the plan's deadlines and releases,
--- its mark is the last release, and a job is complete exactly where it has had its demand
+-- its mark is the last release, and a job is complete exactly if it has had its demand
 pub record Belongs (plan : Plan) (dem : JobDemands) (s : StateView) : Type 0 where
   pub of : IsOfPlan plan s
   pub demand : IsWithin plan dem

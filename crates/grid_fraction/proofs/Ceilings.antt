@@ -27,7 +27,7 @@ above_quotient n d q (suc r) e lt =
     let one : min 1 (suc r) ≡ 1 = omega arith in
     rw one (omega (arith, add-mul q 1 d), omega (arith, add-mul q 1 d, add-mul (q + 1) 1 d))
 
--- the quotient, and one more where there is a remainder, is the quotient rounded up
+-- the quotient, and one more if there is a remainder, is the quotient rounded up
 pub div_ceil_is : (n d : ℕ) → 0 < d → div_ceil n d ≡ ceil_div n d
 div_ceil_is n d some =
     let bounds = above_quotient n d (n / d) (n % d) (omega arith) (omega arith) in

@@ -61,7 +61,7 @@ divides_all-dvd (n ∷ ns) m k h d =
     let parts : (nat_eq (m % n) 0 ≡ true) × (divides_all ns m ≡ true) = and_parts _ _ h in
     rw (divides-test n k (dvd_trans n (divides-from_test n m parts.0) d), divides_all-dvd ns m k parts.1 d) refl
 
--- the numbers of two lists all divide k exactly where those of each list do
+-- the numbers of two lists all divide k exactly if those of each list do
 pub divides_all-append : (ns ms : List ℕ) (k : ℕ) → divides_all (ns ++ ms) k ≡ (divides_all ns k && divides_all ms k)
 divides_all-append ns ms k = list_all-append (λ n. nat_eq (k % n) 0) ns ms
 

@@ -105,7 +105,7 @@ last_up_to-greatest (suc t) r test le e = go (test (suc t)) refl (eq-or-lt_of_le
     go false q (inl c) ih = absurd (true≢false (sym e ∙ (ap test c ∙ q)))
     go false q (inr c) ih = rw (q, last_up_to) (ih (omega arith) e)
 
--- where any of the numbers below n passes, there is such a number
+-- if any of the numbers below n passes, there is such a number
 pub any-some : (n : ℕ) (test : ℕ → Bool) → any_below n test ≡ true → (i : ℕ) × (i < n) × (test i ≡ true)
 any-some zero test e = absurd (true≢false (sym e))
 any-some (suc n) test e = go (any_below n test) refl (any-some n test)
@@ -114,6 +114,6 @@ any-some (suc n) test e = go (any_below n test) refl (any-some n test)
     go true f ih = let (i, lt, on) = ih f in (i, omega arith, on)
     go false f ih = (n, omega arith, sym (ap (λ (b : Bool). b || test n) f) ∙ e)
 
--- where each number below n passes, all do
+-- if each number below n passes, all do
 pub all-found : (n : ℕ) (test : ℕ → Bool) → ((k : ℕ) → k < n → test k ≡ true) → all_below n test ≡ true
 all-found n test each = ap not (any_below-none n (λ k. not (test k)) (λ k lt. ap not (each k lt)))

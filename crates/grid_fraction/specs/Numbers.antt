@@ -19,13 +19,13 @@ any_below (suc n) test = any_below n test || test n
 abbrev pub all_below : ℕ → (ℕ → Bool) → Bool
 all_below n test = not (any_below n (λ j. not (test j)))
 
--- the least of f 0 .. f (n - 1), where n is at least 1
+-- the least of f 0 .. f (n - 1), if n is at least 1
 abbrev pub least_below : ℕ → (ℕ → ℕ) → ℕ
 least_below zero f = 0
 least_below (suc zero) f = f 0
 least_below (suc (suc n)) f = min (least_below (suc n) f) (f (suc n))
 
--- the greatest of f 0 .. f (n - 1), and 0 where n is 0
+-- the greatest of f 0 .. f (n - 1), and 0 if n is 0
 abbrev pub greatest_below : ℕ → (ℕ → ℕ) → ℕ
 greatest_below zero f = 0
 greatest_below (suc n) f = max (greatest_below n f) (f n)
@@ -35,7 +35,7 @@ abbrev pub first_from : ℕ → ℕ → (ℕ → Bool) → ℕ
 first_from zero from test = from
 first_from (suc n) from test = elim (test from) [ true ↦ from | false ↦ first_from n (suc from) test ]
 
--- the last of the numbers 1 to t that passes the test, and 0 where none does
+-- the last of the numbers 1 to t that passes the test, and 0 if none does
 abbrev pub last_up_to : ℕ → (ℕ → Bool) → ℕ
 last_up_to zero test = 0
 last_up_to (suc t) test = elim (test (suc t)) [ true ↦ suc t | false ↦ last_up_to t test ]

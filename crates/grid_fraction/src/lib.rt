@@ -19,7 +19,7 @@ pub struct Frac {
     pub den: u128,
 }
 
-/// The least common multiple of the periods, 1 for none; None exactly where it exceeds `cap`.
+/// The least common multiple of the periods, 1 for none; None exactly if it exceeds `cap`.
 pub fn lcm_within(periods: &[u64], cap: u64) -> Option<u64>
     requires periods { All (λ n. 1 ≤ n) periods.now }
     requires cap { 1 ≤ cap }
@@ -37,7 +37,7 @@ pub fn lcm_within(periods: &[u64], cap: u64) -> Option<u64>
     Some(multiple)
 }
 
-/// The least common multiple of two numbers; None exactly where it exceeds `cap`.
+/// The least common multiple of two numbers; None exactly if it exceeds `cap`.
 fn joint_multiple(a: u64, b: u64, cap: u64) -> Option<u64>
     requires a { 1 ≤ a }
     requires b { 1 ≤ b }

@@ -111,7 +111,7 @@ module _ (p : Plan) (adm : IsAdmitted p) where
         (let here : m ≡ k = omega (arith, lo, hi) in subst (λ i. (row_at s i).deadline ≢ s.now) here apart) in
         record { rows = (skips (every_period p adm.limits) h.rows (m + 1) (λ i. refl) (omega arith) (omega (arith, lt)) only).0; of = h.of }
 
-  -- all tasks without an offset are released, and the tick is marked where there are any
+  -- all tasks without an offset are released, and the tick is marked if there are any
   module _ (m : ℕ) (s : StateView) (all : m ≡ count p) where
     marked-is : HasFirstReleased p m true s → after_mark s ≡ state_of p one_unit []
     marked-is h = released-marked (every_period p adm.limits) refl (subst (λ n. HasReleased p one_unit [] n true s) all h.rows)

@@ -17,7 +17,7 @@ use static_gov::{Full, Static};
 use std::alloc::Global;
 use std::test::Fail;
 
-// Releases the first job of each task without an offset, and marks the tick where there is one.
+// Releases the first job of each task without an offset, and marks the tick if there is one.
 fn release_all<G: Governor>(plan: &Admitted, governor: &mut G, state: &mut State)
     requires state { state.old ≡ opening plan.now }
     requires counters { G.stands governor.old plan.now state.old }

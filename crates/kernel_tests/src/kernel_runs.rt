@@ -54,7 +54,7 @@ struct WrittenRun {
     tallies: Vec<u64>,
 }
 
-// The run of a kernel with these probes, where these puts fail.
+// The run of a kernel with these probes, if these puts fail.
 fn written<G: Governor>(
     alloc: Global,
     kernel: Kernel<'_, G>,
@@ -72,7 +72,7 @@ fn written<G: Governor>(
     })
 }
 
-// The run of the example at the highest speed, where these puts fail.
+// The run of the example at the highest speed, if these puts fail.
 fn paper_run(alloc: Global, failing: &[FailAt]) -> Result<WrittenRun, Fail> {
     let mut probes = probes_of!(alloc, &two_probes());
     let Some(planned) = edf_planned(alloc, PAPER_AT_WORST)? else {

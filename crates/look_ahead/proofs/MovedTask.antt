@@ -146,7 +146,7 @@ module _ (key key' : ℕ → ℕ) (i : ℕ) (same : (j : ℕ) → j ≢ i → ke
       go (inr l) ih =
           reinserted-other n (λ q. omega arith) (in_order key n) (in_order-ordered key n) ∙ ap (insert_by key' n) (ih l)
 
-  -- where task i isn't in the list, nothing moves
+  -- if task i isn't in the list, nothing moves
   moved_back-none : (x : ℕ) (xs : List ℕ) → x ≢ i → AreOthers i xs
       → moved_back (stands_before_due key i (key' i)) i x xs ≡ x ∷ xs
   moved_back-none x [] ne o = refl

@@ -43,7 +43,7 @@ pub(crate) fn opening_order(alloc: Global, plan: &Admitted) -> Result<Vec<u32>, 
     tasks_of(alloc, &offsets)
 }
 
-// The deadline of a task's latest job; 0 where the task has no row.
+// The deadline of a task's latest job; 0 if the task has no row.
 fn deadline_of(view: &State, task: u32) -> u64
     ensures { result ≡ deadline_at view.entry.now task }
 {

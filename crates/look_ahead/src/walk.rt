@@ -33,7 +33,7 @@ struct Pending {
     slack: u64,
 }
 
-// `n / d`, rounded up; a short division where `n` fits in 64 bits.
+// `n / d`, rounded up; a short division if `n` fits in 64 bits.
 fn up_short(n: u128, d: u64) -> u128
     requires { 1 ≤ d }
     ensures { result ≡ ceil_div n d }
@@ -116,7 +116,7 @@ impl LookAhead {
         view.rows[self.order[0] as usize].deadline
     }
 
-    // The latest job of a task, where the earliest deadline is `soonest`.
+    // The latest job of a task, if the earliest deadline is `soonest`.
     fn pending(&self, plan: &Admitted, view: &State, soonest: u64, task: u32) -> Pending
         requires of { IsOfPlan plan.now view.now }
         requires counters { Keeps self.now.left.items self.now.order.items self.now.rates.items plan.now view.now }

@@ -26,7 +26,7 @@ use Rattle.governor.proofs.EdfLaws.{load_is, edf_opens, edf_releases, edf_choose
 use Rattle.look_ahead_laws.specs.Ahead.{deadline_at, edf_order, ahead_demand, AheadCalm, AheadSafe}
 use Rattle.look_ahead_laws.proofs.PutOffWork.{due_work, all_paid, before_is, rate_within, work_within}
 
--- where the highest speed doesn't meet a demand, the last entry is picked
+-- if the highest speed doesn't meet a demand, the last entry is picked
 last_picked : (m : Table) → IsTable m → (d : Frac) → highest_speed m * d.den < d.num → lowest_entry m d ≡ last_entry m
 last_picked m table d over = grind (arith, lowest_pick-none, mul-le-mul_right, below_highest)
 

@@ -97,7 +97,7 @@ module _ (plan : Plan) (due left : ℕ → ℕ) where
   work_more x (i ∷ xs) =
       omega (arith, work_more x xs, work_row (spread_rate plan due left (spread_rates plan due left xs) i) (rate plan i) (slack plan due i) x)
 
-  -- where the slack of task i is above x, all tasks after it have their spread rates at x
+  -- if the slack of task i is above x, all tasks after it have their spread rates at x
   all_spread : (x i : ℕ) (xs : List ℕ) → x < slack plan due i → IsAhead due i xs
       → past_rate x xs ≡ spread_rates plan due left xs
   all_spread x i [] lt ahead = refl

@@ -30,7 +30,7 @@ module _ (plan : Plan) (s : StateView) where
   back_below l xs e = below-from (count plan) l xs (subst (AreBelow (count plan)) e (in_order-below due (count plan)))
 
   module _ (y v : ℕ → ℕ) (spread : IsSpreadIn plan s y v) where
-    -- where the sum of the rates after a task is the definition's, the units that it puts off are the definition's
+    -- if the sum of the rates after a task is the definition's, the units that it puts off are the definition's
     put_same : (i after : ℕ) → i < count plan → rates_after plan s v i ≡ after → y i ≡ put_off plan due left after i
     put_same i after lt e = spread.put i lt ∙ ap (λ (a : ℕ). put_off plan due left a i) e
 

@@ -32,7 +32,7 @@ use Rattle.note_laws.specs.InTime.{IsBy}
 pub count-next : {A : Type 0} (test : A → Bool) (x : A) (xs : List A) → count_by test (x ∷ xs) ≡ one_if (test x) + count_by test xs
 count-next test x xs = sum_by-cons (λ y. cond (test y) 1 0) x xs
 
--- where a count is 0, no element of the list passes the test
+-- if a count is 0, no element of the list passes the test
 pub none-counted : {A : Type 0} (test : A → Bool) (xs : List A) → count_by test xs ≡ 0 → AllByRecursion (λ x. test x ≡ false) xs
 none-counted test [] e = tt
 none-counted test (x ∷ xs) e = grind (arith, count-next test x xs, none-counted test xs (omega (arith, count-next test x xs, e)))
@@ -47,7 +47,7 @@ pub record IsAlone {A : Type 0} (test : A → Bool) (xs : List A) : Type 0 where
   pub none_front : AllByRecursion (λ x. test x ≡ false) front
   pub none_back : AllByRecursion (λ x. test x ≡ false) back
 
--- where a count is 1, there is exactly one such element
+-- if a count is 1, there is exactly one such element
 pub alone : {A : Type 0} (test : A → Bool) (xs : List A) → count_by test xs ≡ 1 → IsAlone test xs
 alone test [] e = absurd (omega (arith, e))
 alone test (x ∷ xs) e = go (test x) refl (alone test xs)
@@ -133,7 +133,7 @@ module _ (p : Plan) (dem : JobDemands) (ask : PublishedDemand) (lim : IsWithinLi
   start [] = 1
   start (x ∷ past) = 0
 
-  -- a sum of ones over the tasks has one where a task passes the test
+  -- a sum of ones over the tasks has one if a task passes the test
   some-counted : (test : ℕ → Bool) → one_if (any_below (count p) test) ≤ sum_below (count p) (λ i. one_if (test i))
   some-counted test = go (any_below (count p) test) refl
     where
@@ -145,7 +145,7 @@ module _ (p : Plan) (dem : JobDemands) (ask : PublishedDemand) (lim : IsWithinLi
   decision-cause : (past : List Tick) → one_if (is_decision p dem past) ≤ start past + (fresh past + releases p (length past))
   decision-cause past = grind (arith, nat_tests, some-counted, one_if)
 
-  -- where task i has no release, its open job before is its latest job, unless that has had its demand
+  -- if task i has no release, its open job before is its latest job, unless that has had its demand
   open-before : (past : List Tick) (i : ℕ) → releases_at p i (length past) ≡ false → open_job past i ≡ lacks past (length past) i
   open-before [] i unreleased = rw (first (latest p i 0) refl) refl
     where
@@ -205,7 +205,7 @@ module _ (p : Plan) (dem : JobDemands) (ask : PublishedDemand) (lim : IsWithinLi
 pub has-few : (p : Plan) → IsWithinLimits p → HasFewDecisions p
 has-few p lim dem needless ask ticks h = few p dem ask lim needless ticks h
 
--- where the note is the completion of job k of task i, it isn't after the beginning of tick t
+-- if the note is the completion of job k of task i, it isn't after the beginning of tick t
 abbrev pub IsInTime : ℕ → ℕ → ℕ → Note → Type 0
 IsInTime t i k (Done at_end j l used) = (nat_eq i j && nat_eq k l) ≡ true → IsBy t at_end
 IsInTime t i k _ = Unit {0}
@@ -222,7 +222,7 @@ module _ (p : Plan) (dem : JobDemands) (ask : PublishedDemand) (lim : IsWithinLi
   abbrev told : List Note → ℕ
   told = count_by (tells_done i k)
 
-  -- the release notes of a tick have the completion of the job where it is released there and needs nothing
+  -- the release notes of a tick have the completion of the job if it is released there and needs nothing
   at-release : (t : ℕ) → told (all_release_notes p dem t) ≡ one_if (nat_eq (dem i k) 0 && nat_eq (release p i k) t)
   at-release t =
       release-sum p dem t (λ note. cond (tells_done i k note) 1 0)

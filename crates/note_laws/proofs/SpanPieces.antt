@@ -97,7 +97,7 @@ module _ (n : ℕ) (key : ℕ → ℕ) (room : ℕ) (need given : ℕ → ℕ) (
             (omega (arith, both, sum_list-snoc given before i, sum_list-snoc need before i))),
       )
 
-  -- where units are shared out by a key, all tasks in the order of the key take them in turn
+  -- if units are shared out by a key, all tasks in the order of the key take them in turn
   pub take-turns : TakeTurns need given room (in_order key n)
   take-turns =
       let all : room - 0 ≡ room = omega arith in
@@ -113,7 +113,7 @@ pub segments-most : (need given job : ℕ → ℕ) (room : ℕ) (is : List ℕ) 
 segments-most need given job room [] turns = grind (arith, append-nil (replicate room Nobody), run-most Nobody room)
 segments-most need given job room (i ∷ is) turns = grind (arith, run-most, segments-most need given job (room - given i) is turns.1)
 
--- the holder for the first task of a list that needs something: its job, or nobody where no task needs any
+-- the holder for the first task of a list that needs something: its job, or nobody if no task needs any
 abbrev pub first_holder : (need job : ℕ → ℕ) → List ℕ → Holder
 first_holder need job [] = Nobody
 first_holder need job (i ∷ is) = if nat_eq (need i) 0 then first_holder need job is else Held i (job i)
@@ -153,7 +153,7 @@ first-leads need given job room (i ∷ is) turns = go (nat_eq (need i) 0) refl (
         own : (m : ℕ) → given i ≡ m → 0 < need i → Leads (Held i (job i)) (laid_out given job room (i ∷ is))
         own m q some = grind (arith, nat_tests, none-laid)
 
--- where no task gets all it needs, the first task that needs something gets every unit
+-- if no task gets all it needs, the first task that needs something gets every unit
 pub first-alone : (need given job : ℕ → ℕ) (room : ℕ) (is : List ℕ) → TakeTurns need given room is
     → sum_list (served need given) is ≡ 0 → laid_out given job room is ≡ replicate room (first_holder need job is)
 first-alone need given job room [] turns none = refl
@@ -218,7 +218,7 @@ module _ (p : Plan) (dem : JobDemands) (ask : PublishedDemand) (lim : IsWithinLi
   tick-leads : (past : List Tick) (x : Tick) → IsNext p dem ask past x → Leads (first_at past) (tick_units p past x)
   tick-leads past x next = grind (arith, nat_tests, units-laid, first-leads, turns)
 
-  -- where no decision follows a tick, no job completes in it
+  -- if no decision follows a tick, no job completes in it
   none-served : (past : List Tick) (x : Tick) → IsNext p dem ask past x → is_decision p dem (x ∷ past) ≡ false
       → (i : ℕ) → i < count p → served (units_left p dem past) (share x) i ≡ 0
   none-served past x next e i lt =
@@ -227,12 +227,12 @@ module _ (p : Plan) (dem : JobDemands) (ask : PublishedDemand) (lim : IsWithinLi
       let zero : one_if (completes_in p dem x past i) ≡ 0 = ap one_if none in
       omega (arith, served-completes past x next i lt, zero)
 
-  -- where no decision follows a tick, one holder has all its units
+  -- if no decision follows a tick, one holder has all its units
   tick-alone : (past : List Tick) (x : Tick) → IsNext p dem ask past x → is_decision p dem (x ∷ past) ≡ false
       → tick_units p past x ≡ replicate (speed x) (first_at past)
   tick-alone past x next e = grind (arith, nat_tests, sum_list, sum_list-in_order, sum_below-zero, none-served, units-laid, first-alone, turns)
 
-  -- where no decision follows a tick, the first unit of the next tick has the same holder
+  -- if no decision follows a tick, the first unit of the next tick has the same holder
   first-stays : (past : List Tick) (x : Tick) → IsNext p dem ask past x → is_decision p dem (x ∷ past) ≡ false
       → first_at (x ∷ past) ≡ first_at past
   first-stays past x next e =
@@ -257,7 +257,7 @@ module _ (p : Plan) (dem : JobDemands) (ask : PublishedDemand) (lim : IsWithinLi
           ap (λ n. nat_eq n 0) (left-stays p dem x past i (every_period p lim i) (needless i) (same-job i lt))
           ∙ part (units_left p dem past i) (share x i) (none-served past x next e i lt)
 
-  -- the span that ends with tick x has few segments; where no decision follows, it has one holder
+  -- the span that ends with tick x has few segments; if no decision follows, it has one holder
   pub record HasFew (x : Tick) (past : List Tick) (s : Span) : Type 0 where
     pub few : segments s.units ≤ suc (completions p dem x past)
     pub alone : is_decision p dem (x ∷ past) ≡ false → (n : ℕ) × (s.units ≡ replicate n (first_at (x ∷ past)))

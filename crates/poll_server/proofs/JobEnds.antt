@@ -29,7 +29,7 @@ abbrev pub IsEndBy : ℕ → Option Pos → Type 0
 IsEndBy t (Some at_end) = IsBy t at_end
 IsEndBy t None = ⊥
 
--- where no note says that the job is done, it has no end
+-- if no note says that the job is done, it has no end
 pub never-done : (i k : ℕ) (notes : List Note) → AllByRecursion (λ n. tells_done i k n ≡ false) notes → done_at notes i k ≡ None
 never-done i k [] none = refl
 never-done i k (n ∷ notes) none = rw (off n none.0) (never-done i k notes none.1)
@@ -38,7 +38,7 @@ never-done i k (n ∷ notes) none = rw (off n none.0) (never-done i k notes none
     off (Done q j l used) e = rw e refl
     off _ e = refl
 
--- where some note says that the job is done and each that does is in time, the first such note is
+-- if some note says that the job is done and each that does is in time, the first such note is
 pub ends-by : (t i k : ℕ) (notes : List Note) → 0 < count_by (tells_done i k) notes → AllByRecursion (IsInTime t i k) notes
     → IsEndBy t (done_at notes i k)
 ends-by t i k [] some early = absurd (omega arith)
@@ -65,7 +65,7 @@ module _ (p : Plan) (dem : JobDemands) (ask : PublishedDemand) (lim : IsWithinLi
   ends-never later =
       never-done i k notes (none-counted (tells_done i k) notes (told-never p dem ask lim i k lt some ticks sched later))
 
-  -- where the deadlines are met, a job that is due within the ticks is done by then
+  -- if the deadlines are met, a job that is due within the ticks is done by then
   pub ends-in-time : IsMet p dem ticks → due p i k ≤ length ticks → IsEndBy (due p i k) (done_at notes i k)
   ends-in-time met within =
       let by : exec p (at (due p i k) ticks) i k ≡ dem i k = met i k lt some within in

@@ -91,7 +91,7 @@ module _ (s : ServerView) (h : AreRequests s.requests) (some : 0 < period s.plan
   asked_below-is : r.asked ≡ asked_with s m
   asked_below-is = reached.asked_for ∙ ap (asked_below s) (add-one m)
 
-  -- where the jobs so far take what was asked for, the request belongs to the last of them
+  -- if the jobs so far take what was asked for, the request belongs to the last of them
   pub job-is : r.asked ≤ r.waiting.taken → job_of s m ≡ r.job
   job-is enough =
       let here : BelongsTo s m r.job = record {
@@ -100,7 +100,7 @@ module _ (s : ServerView) (h : AreRequests s.requests) (some : 0 < period s.plan
       } in
       one-job s m (job_of s m) r.job (belongs s h some room m lt) here
 
-  -- where the jobs so far take what was asked for, the walk is at some job
+  -- if the jobs so far take what was asked for, the walk is at some job
   pub reached-some : r.asked ≤ r.waiting.taken → 1 ≤ r.job
   reached-some enough = grind (arith, reached.stands.counted, taken-none s, enough, asked_below-is, asked-some s h some room m lt)
 
@@ -115,7 +115,7 @@ module _ (s : ServerView) (h : AreRequests s.requests) (some : 0 < period s.plan
         ap (λ (k : ℕ). outcome_by k (done_at notes s.task k)) (job-is enough)
         ∙ ap (outcome_by r.job) (sym told)
 
-    -- where all n jobs take less than was asked for, the request is pending
+    -- if all n jobs take less than was asked for, the request is pending
     pub outcome-pending : r.waiting.taken < r.asked → r.job ≡ n → outcome_of s notes m ≡ Pending
     outcome-pending less last =
         let own = belongs s h some room m lt in

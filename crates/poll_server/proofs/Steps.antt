@@ -24,7 +24,7 @@ some-period s adm = every_period s.plan adm.limits s.task
 pub asked_below-fits : (s : ServerView) → AreRequests s.requests → (m : ℕ) → m < request_count s → asked_below s m + units s m < 2 ^ 128
 asked_below-fits s h m lt = omega (arith, asked_below-low s h m (omega arith), (h.each m lt).low, h.few)
 
--- where the next request arrives after tick t, the units of the requests passed are those that arrived by t
+-- if the next request arrives after tick t, the units of the requests passed are those that arrived by t
 pub passed-arrived : (s : ServerView) → AreRequests s.requests → (t : ℕ) (w : Waiting) → HasPassed s t w
     → (w.next < request_count s → t < arrival s w.next) → w.arrived ≡ arrived_units s t
 passed-arrived s h t w passed late =

@@ -74,7 +74,7 @@ counts-early s t m le = let e : nat_le (arrival s m) t ≡ true = grind (arith, 
 counts-late : (s : ServerView) (t m : ℕ) → t < arrival s m → counts s t m ≡ 0
 counts-late s t m lt = let e : nat_le (arrival s m) t ≡ false = grind (arith, nat_tests) in rw e refl
 
--- where the requests before n arrived by tick t and the others didn't, the units arrived are those of the first n
+-- if the requests before n arrived by tick t and the others didn't, the units arrived are those of the first n
 pub arrived-counted : (s : ServerView) → AreRequests s.requests → (t n : ℕ) → n ≤ request_count s
     → ((m : ℕ) → m < n → arrival s m ≤ t) → (n < request_count s → t < arrival s n) → arrived_units s t ≡ asked_below s n
 arrived-counted s h t n le early late =
@@ -83,7 +83,7 @@ arrived-counted s h t n le early late =
     let first : t < arrival s n = late (omega arith) in
     omega (arith, first, arrival-up s h n m low high)))
 
--- where a request has arrived, all units up to and including it have arrived
+-- if a request has arrived, all units up to and including it have arrived
 pub arrived-all : (s : ServerView) → AreRequests s.requests → (m t : ℕ) → m < request_count s → arrival s m ≤ t
     → asked_with s m ≤ arrived_units s t
 arrived-all s h m t lt le =
@@ -117,7 +117,7 @@ released-before s t k some first le =
     take-one zero q lt = absurd (omega arith)
     take-one (suc j) q lt = let e : suc j - 1 ≡ j = omega arith in rw e (omega arith)
 
--- Where all units up to and including a request have arrived by the release of each job after the first b, d jobs more
+-- If all units up to and including a request have arrived by the release of each job after the first b, d jobs more
 -- take d times the budget, or reach the request.
 pub reach : (s : ServerView) (m b : ℕ) → ((k : ℕ) → b < k → asked_with s m ≤ arrived_units s (job_release s k)) → (d k : ℕ)
     → k ≡ b + d → min (asked_with s m) (taken_up_to s b + d * budget s) ≤ taken_up_to s k

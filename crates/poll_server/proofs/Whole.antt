@@ -73,7 +73,7 @@ module _ (s : ServerView) (h : AreRequests s.requests) (some : 0 < period s.plan
   served-by t u m None le by = absurd by
   served-by t u m (Some q) le by = by-later t u q le by
 
-  -- the bound is kept, where each job of the server that is due within the run is done by then
+  -- the bound is kept, if each job of the server that is due within the run is done by then
   pub keeps-bound : (ticks : ℕ)
       → ((k : ℕ) → 1 ≤ k → due s.plan s.task k ≤ ticks → IsEndBy (due s.plan s.task k) (done_at notes s.task k))
       → KeepsBound s ticks (served_by s notes)

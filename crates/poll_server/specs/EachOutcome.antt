@@ -16,7 +16,7 @@ use Rattle.poll_server.specs.Polled.{polled_notes}
 abbrev pub job_of : ServerView → ℕ → ℕ
 job_of s m = first_from (latest_job s m) 1 (λ k. nat_le (asked_with s m) (taken_up_to s k))
 
--- a request is served where its job is done, and pending where its job isn't done
+-- a request is served if its job is done, and pending if its job isn't done
 abbrev pub outcome_by : ℕ → Option Pos → Outcome
 outcome_by job (Some at_end) = Served job at_end
 outcome_by job None = Pending

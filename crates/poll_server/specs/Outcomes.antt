@@ -27,7 +27,7 @@ done_at [] i k = None
 done_at (note ∷ notes) i k = option_or (done_position note i k) (done_at notes i k)
 
 -- Whether this is the outcome of request m by these notes: served by its job, at the position where the notes have
--- that job as done, and pending where they don't.
+-- that job as done, and pending if they don't.
 abbrev pub IsOutcome : ServerView → List Note → ℕ → Outcome → Type 0
 IsOutcome s notes m (Served job at_end) = BelongsTo s m job × (done_at notes s.task job ≡ Some at_end)
 IsOutcome s notes m Pending = (k : ℕ) → BelongsTo s m k → done_at notes s.task k ≡ None

@@ -51,7 +51,7 @@ taken_up_to s (suc k) =
 abbrev pub waiting : ServerView → ℕ → ℕ
 waiting s k = arrived_units s (job_release s k) - taken_up_to s (k - 1)
 
--- the units that job k takes: the budget, or what waits where that is less
+-- the units that job k takes: the budget, or what waits if that is less
 abbrev pub taken_units : ServerView → ℕ → ℕ
 taken_units s k = min (budget s) (waiting s k)
 

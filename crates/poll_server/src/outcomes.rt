@@ -29,7 +29,7 @@ struct Reached {
 }
 
 impl Reached {
-    // Adds request `m`: goes on to the job that takes its last unit, or to the last job where none does.
+    // Adds request `m`: goes on to the job that takes its last unit, or to the last job if none does.
     fn add(&mut self, jobs: &Jobs<'_>, m: usize)
         requires server { IsServer jobs.now.server.now jobs.now.count }
         requires request { m < request_count jobs.now.server.now }

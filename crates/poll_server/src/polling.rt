@@ -25,9 +25,9 @@ use std::alloc::Global;
 /// request and the totals of the run.
 ///
 /// A job of the server takes at its release what waits, up to the task's declared worst case, and needs that with the
-/// charge; all other jobs need their worst cases. A request is served where the job that takes its last unit is done.
-/// `TooManyJobs`, with their number, exactly where more than `MOST_JOBS` jobs are released below `ticks`; `NoMemory`
-/// where memory ran out.
+/// charge; all other jobs need their worst cases. A request is served if the job that takes its last unit is done.
+/// `TooManyJobs`, with their number, exactly if more than `MOST_JOBS` jobs are released below `ticks`; `NoMemory`
+/// if memory ran out.
 #[tactic(auto, using(crate::proofs::Whole::server_jobs))]
 pub fn poll<G: Governor>(
     alloc: Global,
@@ -45,7 +45,7 @@ pub fn poll<G: Governor>(
     // The answer is this function of the arguments.
     ensures served { IfOk result (λ r. r ≡ served_of G.demand (server_of plan.now server requests.now) ticks) }
 
-    // Each request is served exactly where its job is done in the governor's schedule within the run, at that position.
+    // Each request is served exactly if its job is done in the governor's schedule within the run, at that position.
     ensures outcomes { IfOk result (IsPolled (server_of plan.now server requests.now)
         (polled_notes G.demand (server_of plan.now server requests.now) ticks)) }
 
@@ -56,7 +56,7 @@ pub fn poll<G: Governor>(
     // that deadline lies within the run; Q is the budget.
     ensures bound { IfOk result (KeepsBound (server_of plan.now server requests.now) ticks) }
 
-    // `TooManyJobs` exactly where more than `MOST_JOBS` jobs are released, with their number.
+    // `TooManyJobs` exactly if more than `MOST_JOBS` jobs are released, with their number.
     ensures few { OnOk result (released_jobs plan.now ticks ≤ MOST_JOBS) }
     ensures many { (n : ℕ) → IsErrOf result (PollFault.TooManyJobs n)
         → (n ≡ released_jobs plan.now ticks) × (MOST_JOBS < n) }

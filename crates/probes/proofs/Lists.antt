@@ -11,7 +11,7 @@ module _ {X : Type 0} (f : X → ProbeView) (note : Note) where
   abbrev pub told_from : ℕ → List X → List ProbeView
   told_from i xs = take i (map f xs) ++ told_all note (drop i (map f xs))
 
-  -- where the probe at i was told and stays, the next place is i + 1
+  -- if the probe at i was told and stays, the next place is i + 1
   stays : (xs : List X) (i : ℕ) (y d : X) → i < length xs → f y ≡ probe_after note (f (get_or xs i d))
       → stay_of (probe_after note (f (get_or xs i d))) ≡ stay.Stay → told_from (suc i) (set xs i y) ≡ told_from i xs
   stays [] i y d within same here = absurd (omega (arith, within))
@@ -21,7 +21,7 @@ module _ {X : Type 0} (f : X → ProbeView) (note : Note) where
   stays (x ∷ xs) (suc i) y d within same here =
       ap (λ (ps : List ProbeView). f x ∷ ps) (stays xs i y d (omega (arith, within)) same here)
 
-  -- where the probe at i was told and is taken out, the next place is i
+  -- if the probe at i was told and is taken out, the next place is i
   leaves : (xs : List X) (i : ℕ) (y d : X) → i < length xs → stay_of (probe_after note (f (get_or xs i d))) ≡ stay.Leave
       → told_from i (remove (set xs i y) i) ≡ told_from i xs
   leaves [] i y d within here = absurd (omega (arith, within))
@@ -30,7 +30,7 @@ module _ {X : Type 0} (f : X → ProbeView) (note : Note) where
   leaves (x ∷ xs) (suc i) y d within here =
       ap (λ (ps : List ProbeView). f x ∷ ps) (leaves xs i y d (omega (arith, within)) here)
 
-  -- where the probe read at i was told and stays, the next place is i + 1
+  -- if the probe read at i was told and stays, the next place is i + 1
   pub stays-at : (xs : List X) (i : ℕ) (y p : X) → i < length xs → p ≡ get_or xs i p → f y ≡ probe_after note (f p)
       → stay_of (probe_after note (f p)) ≡ stay.Stay → told_from (i + 1) (set xs i y) ≡ told_from i xs
   stays-at xs i y p within is same here =

@@ -49,7 +49,7 @@ capped_count n = min n most
 abbrev pub probe_after : Note → ProbeView → ProbeView
 probe_after note p = record { rule = p.rule; tally = capped_count (p.tally + weight p.rule note) }
 
--- a probe leaves exactly where its rule has a limit and the tally is at least that
+-- a probe leaves exactly if its rule has a limit and the tally is at least that
 abbrev pub stay_at : Option ℕ → ℕ → Stay
 stay_at None tally = stay.Stay
 stay_at (Some limit) tally = if nat_le limit tally then stay.Leave else stay.Stay
@@ -58,7 +58,7 @@ stay_at (Some limit) tally = if nat_le limit tally then stay.Leave else stay.Sta
 abbrev pub stay_of : ProbeView → Stay
 stay_of p = stay_at p.rule.limit p.tally
 
--- the other probes, with this one before them where it stays
+-- the other probes, with this one before them if it stays
 abbrev pub with_staying : Stay → ProbeView → List ProbeView → List ProbeView
 with_staying stay.Stay p ps = p ∷ ps
 with_staying stay.Leave p ps = ps

@@ -18,7 +18,7 @@ pub trait Probe: Drop {
     fn tally(&self) -> u64
         ensures { result ≡ (seen self.now).tally };
 
-    /// Adds the weight of the note under the rule. Leave comes exactly where the rule has a limit and the tally is now
+    /// Adds the weight of the note under the rule. Leave comes exactly if the rule has a limit and the tally is now
     /// at least the limit.
     fn tell(&mut self, note: &Note) -> Stay
         ensures seen { seen self.new ≡ probe_after note.now (seen self.old) }

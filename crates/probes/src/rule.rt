@@ -69,7 +69,7 @@ pub(crate) fn weight(rule: Rule, note: &Note) -> u64
     }
 }
 
-/// Leave exactly where there is a limit and the tally is at least the limit.
+/// Leave exactly if there is a limit and the tally is at least the limit.
 pub(crate) fn stay_at(limit: Option<u64>, tally: u64) -> Stay
     ensures { result ≡ stay_at limit tally }
 {

@@ -48,7 +48,7 @@ impl<O: Order> Queue<O> {
         rise(&mut self.heap, &self.order, at);
     }
 
-    /// The entry that comes before all others; `None` exactly where the queue is empty.
+    /// The entry that comes before all others; `None` exactly if the queue is empty.
     pub fn first(&self) -> Option<Entry>
         ensures value { result ≡ slice_get self.now.entries 0 }
         ensures first { IfSome result (λ e. ComesFirst O.comes_before e self.now.entries) }
@@ -56,7 +56,7 @@ impl<O: Order> Queue<O> {
         self.heap.first().copied()
     }
 
-    /// Takes out and returns the entry that comes before all others; `None` exactly where the queue is empty.
+    /// Takes out and returns the entry that comes before all others; `None` exactly if the queue is empty.
     pub fn take_first(&mut self) -> Option<Entry>
         ensures entries { MatchOption result ((self.old.entries ≡ []) × (self.new.entries ≡ []))
             (λ e. self.old.entries ≡ e ∷ self.new.entries) }

@@ -27,7 +27,7 @@ pub unequal-self : (at : ℕ) (notes : List Note) → first_unequal at notes not
 unequal-self at [] = refl
 unequal-self at (n ∷ notes) = rw (same-self n) (unequal-self (at + 1) notes)
 
--- where notes end once and the first isn't the end, those after it end once
+-- if notes end once and the first isn't the end, those after it end once
 tail-once : (n : Note) (notes : List Note) → is_end n ≡ false → IsEnded (n ∷ notes) → IsEnded notes
 tail-once n [] other h = absurd (true≢false (sym h ∙ other))
 tail-once n (m ∷ notes) other h = h.1
@@ -111,7 +111,7 @@ module _ {L : Type 0} (rest : L → List Note) (wanted : L → Option Note) wher
       stopped-later at from n (m ∷ notes) later.0 to later.1
       (balked-first (at + 1) later.0 (m ∷ notes) to once.1 (tail-once n (rest later.0) once.0 (subst IsEnded later.1 ends)) later.2)
 
-  -- where a listener stopped, comparing the notes gives the refusal at the first two unequal ones
+  -- if a listener stopped, comparing the notes gives the refusal at the first two unequal ones
   pub stopped-compared : (tasks : ℕ) (t : TraceView) (from : L) (notes : List Note) (to : L) (w : Note) (why : ReplayFault)
       → rest from ≡ t.notes → StoppedAt 0 from notes to → wanted to ≡ Some w
       → ((found : Note) (more : List Note) → rest to ≡ found ∷ more → why ≡ differs tasks t (length t.notes - length (rest to)) w found)
@@ -141,11 +141,11 @@ module _ {L : Type 0} (rest : L → List Note) (wanted : L → Option Note)
   ends : IsEnded (rest from)
   ends = subst IsEnded (sym notes_are) ended
 
-  -- where the listener heard all notes, they are those of the trace
+  -- if the listener heard all notes, they are those of the trace
   pub run-same : HasHeard (HeardNext rest wanted) from (notes_of_run demand run) to → t.notes ≡ notes_of_run demand run
   run-same h = sym notes_are ∙ heard-same rest wanted from (notes_of_run demand run) to once ends h
 
-  -- where the listener stopped, it stopped at the first unequal note
+  -- if the listener stopped, it stopped at the first unequal note
   pub run-stopped : HasBalked (HeardNext rest wanted) (HeardOther rest wanted) from (notes_of_run demand run) to
       → StoppedAt rest wanted 0 from (notes_of_run demand run) to
   run-stopped h = balked-first rest wanted 0 from (notes_of_run demand run) to once ends h

@@ -157,7 +157,7 @@ module _ (p : Plan) (lim : IsWithinLimits p) (asked : Asking) (t : TraceView) (e
       let own : JobDemands = demand_of p (fixed_of p t.notes) in
       schedule-ended p own (asked own) (ticks_by p asked own t.plan.ticks)
 
-  -- a trace passes where no end is over its worst case, the jobs are few, and its notes are those of its own list
+  -- a trace passes if no end is over its worst case, the jobs are few, and its notes are those of its own list
   pub record Passes : Type 0 where
     pub none_over : first_over p t.notes ≡ None
     pub few : too_many p t.plan.ticks ≡ None
@@ -213,7 +213,7 @@ module _ (p : Plan) (lim : IsWithinLimits p) (asked : Asking) (t : TraceView) (e
       same = own.notes_are;
     }
 
-    -- where the jobs are few, notes of the schedule for some list pass their replay
+    -- if the jobs are few, notes of the schedule for some list pass their replay
     pub some-replayed : (rows : List DemandRow) → AreNotesFor p asked t.plan.ticks t.notes rows
         → released_jobs p t.plan.ticks ≤ MOST_JOBS
         → replay_of p asked t ≡ Ok (totals_of t.notes)
@@ -233,7 +233,7 @@ module _ (p : Plan) (lim : IsWithinLimits p) (asked : Asking) (t : TraceView) (e
           list = law.list t.plan.ticks t.notes own;
         }
 
-    -- where a call answers totals, the trace is replayed with them
+    -- if a call answers totals, the trace is replayed with them
     pub ok-replayed : (r : Result Totals ReplayFault)
         → IsUnlessMemory fault.NoMemory (λ (totals : Totals). totals) r (replay_of p asked t)
         → IfOk r (λ totals. IsReplayed p asked t totals)

@@ -48,7 +48,7 @@ last = End 2 0 0
 version_1 : comparison 3 (trace One (first ∷ idle ∷ last ∷ [])) (first ∷ last ∷ []) ≡ Err (Differs 4 last idle)
 version_1 = refl
 
--- in version 2 it is after the lines of three tasks too, also where the run has its end there
+-- in version 2 it is after the lines of three tasks too, also if the run has its end there
 end_wanted : comparison 3 (trace Two (first ∷ idle ∷ last ∷ [])) (first ∷ last ∷ []) ≡ Err (Differs 7 last idle)
 end_wanted = refl
 
@@ -56,7 +56,7 @@ end_wanted = refl
 end_found : comparison 3 (trace Two (first ∷ last ∷ [])) (first ∷ idle ∷ last ∷ []) ≡ Err (Differs 10 idle last)
 end_found = refl
 
--- an end differs where its energy does
+-- an end differs if its energy does
 energy_of_end : comparison 3 (trace One (last ∷ [])) (End 2 0 1 ∷ []) ≡ Err (Differs 3 (End 2 0 1) last)
 energy_of_end = refl
 

@@ -21,7 +21,7 @@ use Rattle.replay.specs.declared.fault.ReplayFault.TheVariants as fault
 pub drop-next : {A : Type 0} (l : List A) (i : ℕ) (x : A) → i < length l → drop i l ≡ get_or l i x ∷ drop (i + 1) l
 drop-next l i x lt = rw add-one (drop-cons l i x lt)
 
--- where no end is over its worst case, each note is fit
+-- if no end is over its worst case, each note is fit
 pub over-fit : (p : Plan) (notes : List Note) → first_over p notes ≡ None → AllByRecursion (IsFit p) notes
 over-fit p [] none = tt
 over-fit p (Done q i k used ∷ notes) none = go (nat_lt (worst p i) used) refl none (over-fit p notes)
@@ -34,7 +34,7 @@ over-fit p (Done q i k used ∷ notes) none = go (nat_lt (worst p i) used) refl 
     go false low e rest = (grind (arith, nat_tests, low), rest e)
 over-fit p (n ∷ notes) none = (tt, over-fit p notes none)
 
--- where each note is fit, no end is over its worst case
+-- if each note is fit, no end is over its worst case
 pub fit-over : (p : Plan) (notes : List Note) → AllByRecursion (IsFit p) notes → first_over p notes ≡ None
 fit-over p [] fit = refl
 fit-over p (Done q i k used ∷ notes) fit =

@@ -1,4 +1,4 @@
--- The schedules for two lists have the same text exactly where they have the same notes.
+-- The schedules for two lists have the same text exactly if they have the same notes.
 use Rattle.std.proofs.Common.{◌≡◌, ◌<◌, ◌∙◌, ℕ, true, List, [], ◌∷◌, ap, append-nil}
 use Rattle.dvs_base.specs.Text.{is_name}
 use Rattle.dvs_base.specs.declared.kind.GovernorKind.{GovernorKind}

@@ -50,7 +50,7 @@ abbrev pub too_many : Plan → ℕ → Option ReplayFault
 too_many p ticks =
     let jobs = released_jobs p ticks in if nat_lt MOST_JOBS jobs then Some (fault.TooManyJobs jobs) else None
 
--- the refusal, or the next result where nothing is refused
+-- the refusal, or the next result if nothing is refused
 abbrev pub unless : Option ReplayFault → Result Totals ReplayFault → Result Totals ReplayFault
 unless (Some why) next = Err why
 unless None next = next
@@ -59,8 +59,8 @@ unless None next = next
 abbrev pub own_notes : Plan → Asking → TraceView → List Note
 own_notes p asked t = notes_by p asked (demand_of p (fixed_of p t.notes)) t.plan.ticks
 
--- What a replay answers: the refusal of the first end over its worst case; else of too many jobs; else of the first
--- difference from the schedule for the demands that the trace fixes; else the totals of its notes.
+-- What a replay answers: the refusal of the first end over its worst case; then of too many jobs; then of the first
+-- difference from the schedule for the demands that the trace fixes; otherwise the totals of its notes.
 abbrev pub replay_of : Plan → Asking → TraceView → Result Totals ReplayFault
 replay_of p asked t =
     unless (first_over p t.notes) (

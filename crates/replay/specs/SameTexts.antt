@@ -11,7 +11,7 @@ use Rattle.trace_writer.specs.RunText.{task_texts, run_text_in}
 use Rattle.replay_laws.specs.OwnList.{Asking, ticks_by, notes_by, TellSame}
 use Rattle.trace_laws.specs.RunTraces.{IsLimitedRun}
 
--- the trace, in a version, of the schedule under a published demand, where the plan line names this governor
+-- the trace, in a version, of the schedule under a published demand, if the plan line names this governor
 abbrev pub trace_by : Version → Plan → Asking → GovernorKind → JobDemands → ℕ → TraceView
 trace_by v p ask g dem ticks = record {
   version = v;
@@ -29,7 +29,7 @@ pub record HasTextFor (v : Version) (p : Plan) (ask : Asking) (g : GovernorKind)
   pub within : IsWithin p (demand_of p rows)
   pub trace : IsTrace (names p) (task_texts p) (trace_by v p ask g (demand_of p rows) ticks)
 
--- where the schedules for two lists have texts, these are the same exactly where each job that completes needs the same
+-- if the schedules for two lists have texts, these are the same exactly if each job that completes needs the same
 -- by both lists, and each other released job needs more by the second list than it has had
 abbrev pub HasSameTextBy : Plan → Asking → GovernorKind → Type 0
 HasSameTextBy p ask g =
@@ -38,7 +38,7 @@ HasSameTextBy p ask g =
     → (text_by v p ask g (demand_of p others) ticks ≡ text_by v p ask g (demand_of p rows) ticks)
     ↔ TellSame p (demand_of p rows) (demand_of p others) (ticks_by p ask (demand_of p rows) ticks)
 
--- two runs within the limits have the same text exactly where each job that completes needs the same by both lists, and
+-- two runs within the limits have the same text exactly if each job that completes needs the same by both lists, and
 -- each other released job needs more by the second list than it has had
 abbrev pub HasSameText : Plan → Type 0
 HasSameText p =

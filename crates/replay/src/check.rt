@@ -108,10 +108,10 @@ fn check<G: Governor>(
 
 /// The totals of a trace whose notes are those of the governor's schedule for the demands that the notes fix.
 ///
-/// The first `Done` of a job fixes its demand: the units used, or twice the charge where that is more. A job without one
+/// The first `Done` of a job fixes its demand: the units used, or twice the charge if that is more. A job without one
 /// has its worst case, and `Done` of job 0 fixes nothing. The refusals come in this order: `OverWorst` at the first `Done`
-/// whose units exceed the worst case of its task; `TooManyJobs` where more than `MOST_JOBS` jobs would be released;
-/// `Differs` at the first unequal note, with its line. `NoMemory` where memory ran out.
+/// whose units exceed the worst case of its task; `TooManyJobs` if more than `MOST_JOBS` jobs would be released;
+/// `Differs` at the first unequal note, with its line. `NoMemory` if memory ran out.
 pub fn replay<G: Governor>(
     alloc: Global,
     plan: &Admitted,
@@ -131,18 +131,18 @@ pub fn replay<G: Governor>(
         (replay_of plan.now (ask_of G.demand plan.now) trace.now) }
 
     // At Ok the notes are those of the schedule for the demand list that they fix. Within the limit on jobs, notes of
-    // the schedule for some demand list are refused only where memory ran out.
+    // the schedule for some demand list are refused only if memory ran out.
     ensures own_list { IfOk result (λ totals. IsReplayed plan.now (ask_of G.demand plan.now) trace.now totals) }
     ensures some_list { (rows : List DemandRow)
         → AreNotesFor plan.now (ask_of G.demand plan.now) trace.now.plan.ticks trace.now.notes rows
         → released_jobs plan.now trace.now.plan.ticks ≤ MOST_JOBS
         → IsUnlessMemory ReplayFault.NoMemory (λ totals. totals) result (Ok (totals_of trace.now.notes)) }
 
-    // The schedules for two demand lists have the same notes, and the same text, exactly where each job that completes
+    // The schedules for two demand lists have the same notes, and the same text, exactly if each job that completes
     // needs the same by both lists, and each other released job needs more by the second list than it has had.
     ensures same_notes { HasSameNotes plan.now (ask_of G.demand plan.now) }
     ensures same_text { HasSameTextBy plan.now (ask_of G.demand plan.now) G.the_kind }
-    // So do the runs under the published demand of each governor, where they are within the limits.
+    // So do the runs under the published demand of each governor, if they are within the limits.
     ensures same_published { HasSameText plan.now }
 
     // A refusal shows its cause, and a difference is the first one.

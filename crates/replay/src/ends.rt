@@ -78,7 +78,7 @@ fn fix(plan: &Admitted, note: &Note, demands: &mut Demands) -> Result<(), NoMemo
     Ok(())
 }
 
-/// The demand list that notes fix; no `Done` exceeds the worst case of its task. It fails only where memory runs out.
+/// The demand list that notes fix; no `Done` exceeds the worst case of its task. It fails only if memory runs out.
 pub(crate) fn fixed_demands(
     alloc: Global,
     plan: &Admitted,

@@ -55,12 +55,12 @@ fixed-demand p notes i (suc k) some =
     go None = refl
     go (Some used) = omega arith
 
--- where the note is the completion of job k of task i, its units are the job's demand, which the job has had
+-- if the note is the completion of job k of task i, its units are the job's demand, which the job has had
 abbrev pub TellsTrue : ℕ → ℕ → ℕ → ℕ → Note → Type 0
 TellsTrue i k need had (Done at_end j l used) = (nat_eq i j && nat_eq k l) ≡ true → (used ≡ need) × (need ≤ had)
 TellsTrue i k need had _ = Unit {0}
 
--- what notes fix of a job: nothing, where none is its completion, and else its demand, which it has had
+-- what notes fix of a job: nothing, if none is its completion, and otherwise its demand, which it has had
 abbrev pub Fixes : Plan → JobDemands → ℕ → ℕ → ℕ → Option ℕ → ℕ → Type 0
 Fixes p dem i k had row ends = ((row ≡ None) × (ends ≡ 0)) ⊎ ((row ≡ Some (dem i k - 2 * p.machine.charge)) × (dem i k ≤ had))
 
@@ -90,7 +90,7 @@ module _ (p : Plan) (dem : JobDemands) (ask : PublishedDemand) (lim : IsWithinLi
             (same, omega (arith, same, had, whole, had-most p s q i k, l.had lim i k inside some_job, first.less i k));
       }
 
-  -- these notes fix nothing of the job where it has no end, and else its demand
+  -- these notes fix nothing of the job if it has no end, and otherwise its demand
   abbrev AreFixed : ℕ → List Note → ℕ → Type 0
   AreFixed had notes ends = Fixes p dem i k had (named_units (fixed_of p notes) i k) ends
 
@@ -231,7 +231,7 @@ IsOfTask p (Done at_end i k used) = i < count p
 IsOfTask p _ = Unit {0}
 
 module _ (p : Plan) (lim : IsWithinLimits p) (dem : JobDemands) (ask : PublishedDemand) where
-  -- each completion is within its worst case, where no demand exceeds its worst case
+  -- each completion is within its worst case, if no demand exceeds its worst case
   pub notes-fit : IsWithin p dem → (ticks : List Tick) → AllByRecursion (IsFit p) (notes_of p dem ask ticks)
   notes-fit within = notes-each p dem ask (IsFit p) fit (λ ticks run idle. tt)
     where

@@ -1,4 +1,4 @@
--- Which demand lists have schedules with the same notes: notes are those of a schedule for some demand list exactly where
+-- Which demand lists have schedules with the same notes: notes are those of a schedule for some demand list exactly if
 -- they are those for the list that they fix.
 use Rattle.std.specs.Prelude.{count_by}
 use Rattle.std.proofs.Common.{◌≡◌, ◌<◌, ◌≤◌, ℕ, true, false, List, length, refl, ap, ◌∙◌, sym, subst, arith, inl, inr}

@@ -172,7 +172,7 @@ shares-alike n key room need other given h alike i lt = go (cases_lt (sum_up_to 
     least : sum_up_to n key given i ≤ sum_up_to n key other i
     least = omega (arith, sum_where-mono n (λ j. stands_before key j i) given other (λ j l b. fits j l), fits i lt)
 
-    -- where some room is left after task j, it needs the same by both
+    -- if some room is left after task j, it needs the same by both
     whole : (j : ℕ) → j < n → sum_up_to n key given j < room → need j ≡ other j
     whole j l more =
         let all : given j ≡ need j = omega (arith, more, h j l, allotment_of n key room need given h j l) in

@@ -27,7 +27,7 @@ fixed_of p (note ∷ notes) = fixed_before p note (fixed_of p notes)
 abbrev pub fixed_list : Plan → List Note → DemandsView
 fixed_list p notes = record { worsts = map (λ t. t.worst) p.tasks; rows = fixed_of p notes }
 
--- the units of job k of task i, where the note is its completion
+-- the units of job k of task i, if the note is its completion
 abbrev pub end_of : Note → ℕ → ℕ → Option ℕ
 end_of (Done at_end j l used) i k = if nat_eq j i && nat_eq l k then Some used else None
 end_of _ i k = None
@@ -37,7 +37,7 @@ abbrev pub first_end : List Note → ℕ → ℕ → Option ℕ
 first_end [] i k = None
 first_end (note ∷ notes) i k = option_or (end_of note i k) (first_end notes i k)
 
--- the demand that notes fix for a job from 1 on: the units of its first completion, or twice the charge where that is
--- more, and its worst case where the notes have no completion of it
+-- the demand that notes fix for a job from 1 on: the units of its first completion, or twice the charge if that is
+-- more, and its worst case if the notes have no completion of it
 abbrev pub fixed_demand : Plan → List Note → ℕ → ℕ → ℕ
 fixed_demand p notes i k = unwrap_or (option_map (λ used. max used (2 * p.machine.charge)) (first_end notes i k)) (worst p i)

@@ -47,7 +47,7 @@ LooksAtNone p ask =
     (dem other : JobDemands) (ticks : ℕ) → TellSame p dem other (ticks_by p ask dem ticks)
     → (ticks_by p ask other ticks ≡ ticks_by p ask dem ticks) × (notes_by p ask other ticks ≡ notes_by p ask dem ticks)
 
--- the schedules for two lists have the same notes exactly where each job that completes needs the same by both lists,
+-- the schedules for two lists have the same notes exactly if each job that completes needs the same by both lists,
 -- and each other released job needs more by the second list than it has had
 abbrev pub HasSameNotes : Plan → Asking → Type 0
 HasSameNotes p ask =
@@ -70,7 +70,7 @@ pub record AreOwn (p : Plan) (ask : Asking) (ticks : ℕ) (notes : List Note) : 
   pub fit : AllByRecursion (IsFit p) notes
   pub notes_are : notes ≡ notes_by p ask (demand_of p (fixed_of p notes)) ticks
 
--- notes are those of the schedule for some list exactly where they are those for the list that they fix, which is then
+-- notes are those of the schedule for some list exactly if they are those for the list that they fix, which is then
 -- a demand list of the plan
 pub record HasOwnList (p : Plan) (ask : Asking) : Type 0 where
   pub of_some : (ticks : ℕ) (notes : List Note) (rows : List DemandRow)

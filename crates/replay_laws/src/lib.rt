@@ -2,7 +2,7 @@
 //!
 //! Notes fix the demand of each job that completes in them; each other job has its worst case. A schedule depends on a
 //! job's demand only once the job completes. So the schedule for that list is the same tick for tick, and so are its
-//! notes. Notes are therefore those of a schedule for some demand list exactly where they are those for the list that
-//! they fix. The schedules for two lists have the same notes exactly where each job that completes needs the same by
+//! notes. Notes are therefore those of a schedule for some demand list exactly if they are those for the list that
+//! they fix. The schedules for two lists have the same notes exactly if each job that completes needs the same by
 //! both, and each other released job needs more by the second list than it has had.
 #![tactic(auto)]

@@ -206,7 +206,7 @@ found requests bytes are e =
       rows = rows ∙ ap (λ rs. request_header ∷ rs) (same ∙ read.rows_are ∙ ap (map row_fields) (sym read.all));
     }
 
--- where the answer is a list of requests, the bytes are a text of them
+-- if the answer is a list of requests, the bytes are a text of them
 pub found-if : (result : Result (List Request) RequestFault) (bytes : List ℕ)
     → IsUnlessMemory fault.NoMemory (λ r. r) result (request_file bytes) → IfOk result AreRequests → IfOk result (λ rs. IsRequestText rs bytes)
 found-if (Ok requests) bytes file are = found requests bytes are file

@@ -19,7 +19,7 @@ units_from row n = if n == 0 || nat_lt MOST_REQUEST_UNITS n then Err (fault.Rang
 abbrev pub arrival_in_order : ℕ → ℕ → ℕ → Result ℕ RequestFault
 arrival_in_order row earlier arrival = if nat_lt arrival earlier then Err (fault.Early row) else Ok arrival
 
--- the request of a row, where the row before it arrives at `earlier`
+-- the request of a row, if the row before it arrives at `earlier`
 abbrev pub request_of_row : ℕ → ℕ → List (List ℕ) → Result Request RequestFault
 request_of_row row earlier fields = do
   two ← ok_or (two_of fields) (fault.Fields row (length fields))

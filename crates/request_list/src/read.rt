@@ -15,7 +15,7 @@ use csv_text::{next_record, rows_reader, two_fields};
 use dvs_base::{NoMemory, whole};
 use std::alloc::Global;
 
-// The request of a row, where the row before it arrives at `earlier`.
+// The request of a row, if the row before it arrives at `earlier`.
 fn read_row(row: u64, earlier: u64, fields: &ByteRecord) -> Result<Request, RequestFault>
     ensures row { result ≡ request_of_row row earlier (fields_of fields.now) }
     ensures limits { IfOk result (λ r. IsRequest r) }
@@ -40,7 +40,7 @@ fn read_row(row: u64, earlier: u64, fields: &ByteRecord) -> Result<Request, Requ
     Ok(Request { arrival, units })
 }
 
-// The refusal of a file where the row `count`, the last that was read, is refused: too many rows come before `why`.
+// The refusal of a file if the row `count`, the last that was read, is refused: too many rows come before `why`.
 fn refusal(
     mut count: u64,
     why: RequestFault,
@@ -104,7 +104,7 @@ fn read_requests(alloc: Global, bytes: &[u8]) -> Result<Requests, RequestFault>
 }
 
 impl Requests {
-    /// The requests of a file: arrivals in ticks, units in work units. A file is read exactly where it is the text
+    /// The requests of a file: arrivals in ticks, units in work units. A file is read exactly if it is the text
     /// of some requests within the limits and in order, unless memory runs out. Otherwise the first refusal is
     /// returned: that of the header, then more than 100000 rows, and then row by row the number of fields, the
     /// arrival as a number, the units as a number, their range, and an arrival below that of the row before.

@@ -1,5 +1,5 @@
 //! The governor reserve: one speed for a plan, the lowest that meets the static demand and a tenth of it, or the highest
-//! where none does.
+//! if none does.
 //!
 //! It serves both schedulers, keeps nothing that a run changes, and takes no memory. Every deadline of its schedule is
 //! met, and its entry is never below that of static. Its kind is `Fixed`, so the `plan` line of its trace has the word

@@ -1,7 +1,7 @@
 //! Admission under RM: whether the highest speed does the work that each task and those before it can ask for in one
 //! of its periods (Pillai and Shin 2001, their static test at the ratio 1). Callers may rely on `Denied` exactly
-//! where the test fails, with the first task in RM order that fails it and the two numbers that show it, and on a
-//! plan that passes the test. The test itself takes no memory, so `NoMemory` comes only where it passes.
+//! if the test fails, with the first task in RM order that fails it and the two numbers that show it, and on a
+//! plan that passes the test. The test itself takes no memory, so `NoMemory` comes only if it passes.
 #![tactic(auto)]
 
 ghost use Rattle.std.specs.Prelude.{◌≡◌, ◌*◌, ◌<◌, ◌↔◌, IsTrue, IfOk, OnOk, IfErr, length, MatchOption};
@@ -56,7 +56,7 @@ fn first_overloaded(tasks: &TaskSet, machine: &Machine) -> Option<u32>
 }
 
 /// The plan of `tasks` on `machine` under RM. For each task the sum of `ceil(Pi/Pj)*Cj`, over it and the tasks before
-/// it, is at most `fm*Pi`. `Denied` exactly where it is more for some task.
+/// it, is at most `fm*Pi`. `Denied` exactly if it is more for some task.
 pub fn rm_admit(alloc: Global, tasks: &TaskSet, machine: &Machine) -> Result<Admitted, RmFault>
     ensures plan { IfOk result (λ plan. plan ≡ plan_of tasks.now machine.now Rm) }
     ensures test { OnOk result (IsRmFeasible (plan_of tasks.now machine.now Rm)) }

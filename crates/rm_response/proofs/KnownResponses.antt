@@ -73,7 +73,7 @@ module _ (p : Plan) (js : List ℕ) (is : js ≡ in_order (period p) (count p)) 
         ∙ sym (get-table (count p) (response p) i 0 h));
   }
 
--- where each task has a response, each is the least tick at which the task's first job is complete
+-- if each task has a response, each is the least tick at which the task's first job is complete
 pub are-least : (p : Plan) → IsWithinLimits p → p.scheduler ≡ Rm → NoneOffset (offset p) (count p)
     → AllRespond p → AreLeast p (responses p)
 are-least p lim rm none all i h =

@@ -43,7 +43,7 @@ spare-does r b units h u c done rates = elim (cases_lt units c) [
         let whole : (x + c) * u ≡ units * u = ap (λ y. y * u) e in
         omega (arith, whole)
 
--- where each number that passes also passes s later, with s at most d, one of the d numbers after `low` passes, and is at
+-- if each number that passes also passes s later, with s at most d, one of the d numbers after `low` passes, and is at
 -- least t, if t passes and is no later than the last of them
 later-past : (P : ℕ → Type 0) (s d low : ℕ) → 1 ≤ s → s ≤ d → ((t : ℕ) → P t → P (t + s))
     → (n t : ℕ) → t ≤ low + d → low < t + n → P t → (u : ℕ) × (t ≤ u) × (low < u) × (u ≤ low + d) × P u
@@ -92,7 +92,7 @@ rates-work h t (x ∷ xs) each rates =
     let right : h * work_of (x ∷ xs) t ≡ h * (held t x + work_of xs t) = ap (λ n. h * n) (sum_by-cons (held t) x xs) in
     omega (arith, first, others, left, right)
 
--- where `rest` units take more than `most` ticks of what the rates leave, they don't fit
+-- if `rest` units take more than `most` ticks of what the rates leave, they don't fit
 pub none-beyond : (s : Supply) (xs : List Load) (rest most : ℕ) → All IsLoad xs → All (HasRate s.hyper) xs
     → (s.units - rates_of xs) * most < rest * s.hyper → NoneFits s xs rest 0 (most + 1)
 none-beyond s xs rest most each rates over t from lt =
@@ -104,7 +104,7 @@ none-beyond s xs rest most each rates over t from lt =
           absurd (omega (arith, less, within, over))
     ]
 
--- where `rest` units and the work of `least` ticks are more than `next` ticks less one do, they fit into none before those
+-- if `rest` units and the work of `least` ticks are more than `next` ticks less one do, they fit into none before those
 pub none-raised : (s : Supply) (xs : List Load) (rest low least next : ℕ) → All IsLoad xs → NoneFits s xs rest low least
     → ((t : ℕ) → t < next → IsMore s (rest + work_of xs least) t) → NoneFits s xs rest low next
 none-raised s xs rest low least next each none over t from lt =
@@ -185,7 +185,7 @@ module _ (s : Supply) (x : Load) (xs : List Load) (loads : AreLoads s (x ∷ xs)
       let two = ap (λ u. ceil_div u d) second ∙ ceil-after q d (m - q * d) (omega arith) (omega arith) in
       ap (λ n. n * x.worst) (one ∙ sym two)
 
-  -- Units fit beside the loads only where they fit beside the others and the jobs of the first: in the period of the
+  -- Units fit beside the loads only if they fit beside the others and the jobs of the first: in the period of the
   -- first that has the last of the ticks, or in the one before it.
   none-first : (rest low most q : ℕ) → 1 ≤ low → q * d < most → most ≤ q * d + d
       → NoneFits s xs (rest + held most x) (max low (q * d + 1)) (most + 1)
@@ -257,7 +257,7 @@ module _ (s : Supply) (x : Load) (xs : List Load) (loads : AreLoads s (x ∷ xs)
     found-in begun after None is (inl some') = absurd cc
     found-in begun after None is (inr early) = neither (in-period begun after None is) (λ le. absurd (omega (arith, early, le)))
 
-    -- where they find none, the jobs that begin before the last release decide
+    -- if they find none, the jobs that begin before the last release decide
     pub found-before : (begun after ended : ℕ) (first found : Option ℕ) → FindsIn begun after first → is_some first ≡ false
         → ended ≡ held release x → FindsFit s xs (rest + ended) low release found → FindsFit s (x ∷ xs) rest low most found
     found-before begun after ended (Some t) found is e jobs later = absurd cc

@@ -33,7 +33,7 @@ pub record AreFirst (p : Plan) (js : List ℕ) (k : ℕ) (xs : List Load) : Type
   pub in_turn : AreInTurn (full_supply p) xs
   pub work : (t : ℕ) → work_of xs t ≡ sum_list (held_work p t) (take k js)
 
--- what holds of a list's elements and of one more holds of all where that is put in
+-- what holds of a list's elements and of one more holds of all if that is put in
 all-insert : (P : Load → Type 0) (xs : List Load) (k : ℕ) (x : Load) → All P xs → P x → All P (insert xs k x)
 all-insert P xs k x all here =
     All-append P (take k xs) (x ∷ drop k xs) (All-take P k xs all) (All-cons P x (drop k xs) here (All-drop P k xs all))
@@ -100,7 +100,7 @@ module _ (p : Plan) (i : ℕ) (xs : List Load) (before : AreBefore p i xs) where
       let one : ceil_div t (period p i) ≡ 1 = ap (λ u. ceil_div u (period p i)) (omega arith) ∙ ceil-after 0 (period p i) t pos le in
       ap (λ n. n * worst p i) one ∙ omega arith
 
-  -- where fewer ticks don't serve the level of task i, the first ticks from there on into which one job of it fits are its
+  -- if fewer ticks don't serve the level of task i, the first ticks from there on into which one job of it fits are its
   -- response
   first-full : 1 ≤ hyper p → (from job last first : ℕ) → job ≡ worst p i → last ≡ period p i → 1 ≤ from
       → IsUnserved p i from → IsFirstFit (full_supply p) xs job from last first → first ≡ response p i

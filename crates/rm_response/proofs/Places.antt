@@ -12,7 +12,7 @@ ahead-at key i [] k a h = absurd (omega arith)
 ahead-at key i (j ∷ js) zero a h = a.0
 ahead-at key i (j ∷ js) (suc k) a h = ahead-at key i js k a.1 (omega arith)
 
--- in an ordered list a number comes before another exactly where its place does
+-- in an ordered list a number comes before another exactly if its place does
 places-ordered : (key : ℕ → ℕ) (js : List ℕ) (m k : ℕ) → IsOrdered key js → m < length js → k < length js
     → stands_before key (slice_index js m) (slice_index js k) ≡ nat_lt m k
 places-ordered key [] m k o g h = absurd (omega arith)

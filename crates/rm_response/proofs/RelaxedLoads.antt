@@ -70,7 +70,7 @@ module _ (s : Supply) (xs ys : List Load) (k n : ℕ) (below : k < length xs) (e
         omega (arith, is.work t, work-next t, rate-held s.hyper t x is_load rate, left);
   }
 
--- where some ticks serve one job of a load within its period beside loads that can be taken away in turn, so can all
+-- if some ticks serve one job of a load within its period beside loads that can be taken away in turn, so can all
 pub turn-found : (s : Supply) (x : Load) (xs : List Load) (job : ℕ) (found : Option ℕ) → job ≡ x.worst
     → FindsFit s xs job 1 x.period found → is_some found ≡ true → AreInTurn s xs → AreInTurn s (x ∷ xs)
 turn-found s x xs job None own fit some turn = absurd cc

@@ -64,7 +64,7 @@ exact_answer_from p None None = Ok (responses p)
 abbrev pub first_late : (ℕ → ℕ) → (ℕ → ℕ) → ℕ → Option ℕ
 first_late period response n = find (λ i. nat_lt (period i) (response i)) (in_order period n)
 
--- The answer of the test: the first task in file order with an offset; where none has one, the first task in RM order
--- without a response; and where there is neither, the responses.
+-- The answer of the test: the first task in file order with an offset; if none has one, the first task in RM order
+-- without a response; and if there is neither, the responses.
 abbrev pub exact_answer : Plan → Result (List ℕ) ResponseFault
 exact_answer p = exact_answer_from p (first_offset (offset p) (count p)) (first_late (period p) (response p) (count p))

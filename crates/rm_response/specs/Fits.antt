@@ -39,7 +39,7 @@ pub record NoneBefore (s : Supply) (xs : List Load) (rest low most first : ℕ) 
   pub within : first ≤ most + 1
   pub none : NoneFits s xs rest low first
 
--- `first` is the first of the ticks `low` to `most` into which `rest` units fit; one more than the last where there is
+-- `first` is the first of the ticks `low` to `most` into which `rest` units fit; one more than the last if there is
 -- none
 pub record IsFirstFit (s : Supply) (xs : List Load) (rest low most first : ℕ) : Type 0 where
   pub before : NoneBefore s xs rest low most first

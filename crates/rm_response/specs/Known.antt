@@ -1,4 +1,4 @@
--- What is known where each task has a response, and the first task without one.
+-- What is known if each task has a response, and the first task without one.
 use Rattle.std.specs.Prelude.{◌≡◌, ℕ, List, Option}
 use Rattle.sched_model.specs.Plan.{Plan, count, period}
 use Rattle.rm_response_laws.specs.Responses.{response, AllRespond}

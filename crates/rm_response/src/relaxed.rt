@@ -82,7 +82,7 @@ fn are_in_turn(supply: Supply, loads: &[Load]) -> bool
 }
 
 // The first of the ticks of the span into which `rest` units fit in a relaxed search for at most `most` of the loads.
-// Where these can't be taken away in turn, it is the first of all.
+// If these can't be taken away in turn, it is the first of all.
 fn first_with(supply: Supply, loads: &[Load], most: usize, rest: u128, span: Span) -> u64
     requires supply { IsSupply supply }
     requires loads { AreLoads supply loads.now }

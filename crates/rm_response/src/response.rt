@@ -72,7 +72,7 @@ struct Late {
     work: u128,
 }
 
-// The response of task i in ticks; one more than its period where it has none. `from` is a number of ticks, and fewer
+// The response of task i in ticks; one more than its period if it has none. `from` is a number of ticks, and fewer
 // ticks don't serve its level. The loads are the tasks before it.
 fn response_of(tasks: &TaskSet, machine: &Machine, loads: &[Load], from: u64, i: u32) -> u64
     requires task { i < length tasks.now }
@@ -153,7 +153,7 @@ fn missing(tasks: &TaskSet, machine: &Machine, late: Late) -> ResponseFault
 
 /// The response of each task under RM at the highest speed `fm`, in file order: the least `t` from 1 to its period
 /// such that the sum of `ceil(t/Pj)*Cj`, over it and the tasks before it in RM order, is at most `fm*t` (Joseph and
-/// Pandya 1986). `Offset` exactly where some task has an offset, otherwise `Misses` exactly where some task has no
+/// Pandya 1986). `Offset` exactly if some task has an offset, otherwise `Misses` exactly if some task has no
 /// response, unless memory runs out.
 pub fn rm_response(
     alloc: Global,

@@ -61,7 +61,7 @@ pub(crate) fn fits(supply: Supply, loads: &[Load], rest: u128, ticks: u64) -> bo
 }
 
 // The first ticks of a span raised to those that the work of `rest` units and of the loads in them takes, at most
-// `steps` times (the iteration of Joseph and Pandya 1986); one more than the last where they pass it.
+// `steps` times (the iteration of Joseph and Pandya 1986); one more than the last if they pass it.
 pub(crate) fn raised(supply: Supply, loads: &[Load], rest: u128, span: Span, steps: u32) -> u64
     requires supply { IsSupply supply }
     requires few { length loads.now ≤ MOST_TASKS }
@@ -153,7 +153,7 @@ pub(crate) fn fitting(supply: Supply, loads: &[Load], rest: u128, span: Span) ->
 }
 
 // The first of the ticks of the span into which `rest` units fit beside the work of the loads; one more than the last
-// where there is none.
+// if there is none.
 pub(crate) fn first_fitting(supply: Supply, loads: &[Load], rest: u128, span: Span) -> u64
     requires supply { IsSupply supply }
     requires loads { AreLoads supply loads.now }

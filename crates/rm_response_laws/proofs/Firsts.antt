@@ -23,7 +23,7 @@ use Rattle.rm_response_laws.proofs.Ceilings.{ceil-after}
 use Rattle.rm_response_laws.specs.Responses.{IsUnserved, full_worst_ticks, is_first_done}
 use Rattle.rm_response_laws.proofs.BusyStretches.{full_ask, full-same}
 
--- where a task is first released at tick 0, its deadlines are the multiples of its period
+-- if a task is first released at tick 0, its deadlines are the multiples of its period
 pub due-is : (p : Plan) (i k : ℕ) → offset p i ≡ 0 → due p i k ≡ k * period p i
 unfolding due
 due-is p i k first = omega (arith, first)
@@ -66,7 +66,7 @@ quiet-off p t j q r first pos low e k is =
     ]
 
 module _ (p : Plan) (lim : IsWithinLimits p) (ask : PublishedDemand) where
-  -- where task j lacks nothing of a job due at t, the releases of t add as much to its lack as tick t to its work
+  -- if task j lacks nothing of a job due at t, the releases of t add as much to its lack as tick t to its work
   lack-asks : (t j : ℕ) → j < count p → offset p j ≡ 0 → ((k : ℕ) → t ≡ due p j k → lack p ask t j ≡ 0)
       → lack_after p ask t j + held p t j * worst p j ≡ lack p ask t j + held p (suc t) j * worst p j
   lack-asks t j h first met = go (t % period p j) refl
@@ -101,7 +101,7 @@ module _ (p : Plan) (lim : IsWithinLimits p) (ask : PublishedDemand) where
   pick true x y e = e refl
   pick false x y e = refl
 
-  -- where a level lacks nothing of a job due at t, the releases of t add as much to its lack as tick t to its work
+  -- if a level lacks nothing of a job due at t, the releases of t add as much to its lack as tick t to its work
   pub level-asks : (i t : ℕ) → i < count p → NoneOffset (offset p) (count p)
       → ((j k : ℕ) → j < count p → level p i j ≡ true → t ≡ due p j k → lack p ask t j ≡ 0)
       → sum_where (count p) (level p i) (lack_after p ask t) + level_work_in p t i

@@ -25,7 +25,7 @@ use Rattle.rm_response_laws.proofs.ResponseSearch.{before-response, response-bou
 before-or-last : (p : Plan) (i j : ℕ) → level p i j ≡ true → eqb j i ≡ false → stands_before (period p) j i ≡ true
 before-or-last p i j on other = grind (arith, nat_tests)
 
--- where task j comes before task i, each task of its level does
+-- if task j comes before task i, each task of its level does
 level-before : (p : Plan) (i j k : ℕ) → level p j k ≡ true → stands_before (period p) j i ≡ true
     → stands_before (period p) k i ≡ true
 level-before p i j k lv on =
@@ -35,7 +35,7 @@ level-before p i j k lv on =
     ]
 
 module _ (p : Plan) (lim : IsWithinLimits p) (rm : p.scheduler ≡ Rm) where
-  -- where each task has a response, every deadline is met
+  -- if each task has a response, every deadline is met
   pub always-meets : AllRespond p → MeetsAllDeadlines p
   always-meets all dem within t i k h pos le =
       let long = (schedule_exists p dem (full_ask p dem) t).1 in
@@ -89,7 +89,7 @@ module _ (p : Plan) (lim : IsWithinLimits p) (rm : p.scheduler ≡ Rm) where
               first-not_done p lim rm i h first level-kept t (omega arith) (λ u a b. none u a (omega arith));
         }
 
-    -- where there is no response, the first job is not complete at its deadline
+    -- if there is no response, the first job is not complete at its deadline
     pub first-misses : period p i < response p i → is_first_done p i (period p i) ≡ false
     first-misses none =
         first-not_done p lim rm i h first level-kept (period p i) (omega arith)

@@ -59,7 +59,7 @@ unfolding response
 response-most p i t pos served =
     first_from-most (period p i) 1 t (is_level_served p i) pos (le-leb (level_work_in p t i) (top_speed p * t) served)
 
--- ticks that serve, where no fewer do, are the response
+-- ticks that serve, if no fewer do, are the response
 pub response-is : (p : Plan) (i t : ℕ) → 1 ≤ t → t ≤ period p i → IsUnserved p i t
     → level_work_in p t i ≤ top_speed p * t → response p i ≡ t
 response-is p i t pos le un served =
@@ -72,7 +72,7 @@ response-is p i t pos le un served =
       | inr same ↦ omega arith
     ]
 
--- where no ticks up to the period serve, there is no response
+-- if no ticks up to the period serve, there is no response
 pub response-none : (p : Plan) (i : ℕ) → IsUnserved p i (suc (period p i)) → response p i ≡ 1 + period p i
 unfolding response
 response-none p i un =

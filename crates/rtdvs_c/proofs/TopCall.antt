@@ -53,7 +53,7 @@ text-with s text none = sym none
 not-rose : Rose 0 0 → ⊥
 not-rose rose = omega (arith, rose)
 
--- no put failed, where the status isn't `Write`
+-- no put failed, if the status isn't `Write`
 pub no-fault : (s : Status) (faults : ℕ) → s ≢ status.Write → CountsPuts 0 faults s → faults ≡ 0
 no-fault status.Write faults other h = absurd (other refl)
 no-fault s faults other h = h
@@ -101,7 +101,7 @@ module _ (files : Files) (c : CommandView) (s : Status) (text noted : List ℕ) 
   of-answer : (P : SinkView → Status → Type 0) → P (holding text) s → P (answered files c) (status_at files c)
   of-answer P h = subst (λ v. P v (status_at files c)) (sym answered-is) (subst (P (holding text)) (sym status-is) h)
 
-  -- no status but `Done` and `NoMemory` is left where a trace file is that of a schedule
+  -- no status but `Done` and `NoMemory` is left if a trace file is that of a schedule
   exact-is : AcceptsScheduleTexts (with_files files c) ⊥ ⊥ s
   exact-is = go c p.exact
     where
@@ -195,12 +195,12 @@ module _ (files : Files) (c : CommandView) (s : Status) (text noted : List ℕ) 
       (ap code_of status-is) (ap text_of answer-is ∙ text-with s text left.none)
       (ap (noted_text (asks_probes c) (names_by c files) (probes_after c files)) status-is ∙ sym (notes ∙ told-probes))
 
--- what follows of a value follows where there is one
+-- what follows of a value follows if there is one
 pub if-ok : {A E : Type 0} (r : Result A E) {P Q : A → Type 0} → (IsOk r → (value : A) → P value → Q value) → IfOk r P → IfOk r Q
 if-ok (Ok value) f h = f refl value h
 if-ok (Err e) f h = tt
 
--- what the sink of the answer is left with, where no put failed
+-- what the sink of the answer is left with, if no put failed
 pub left-none : (s : Status) (old new : GrownText) → s ≢ status.Write → old.bytes.items ≡ [] → Leaves s old new → HasNoText s new.bytes.items
 left-none status.Done old new written empty leaves = tt
 left-none status.Write old new written empty leaves = absurd (written refl)
@@ -210,7 +210,7 @@ left-none s old new written empty leaves = ap (λ (t : GrownText). t.bytes.items
 abbrev pub grown : List ℕ → ℕ → SinkView
 grown bytes faults = record { written = Some bytes; faults = faults; sure = 0 }
 
--- the top call's promises over sinks that were empty, where no put failed
+-- the top call's promises over sinks that were empty, if no put failed
 pub from-empty : (files : Files) (asked : Result CommandView WordFault) (s : Status)
     {began text began_notes noted : List ℕ} {m n i j : ℕ} {before after : List ProbeView}
     → began ≡ [] → m ≡ 0 → n ≡ 0 → began_notes ≡ [] → i ≡ 0 → j ≡ 0 → before ≡ program_probes

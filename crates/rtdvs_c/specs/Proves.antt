@@ -49,7 +49,7 @@ pub record IsDeniedRun (answer : Result (List ℕ) Status) (w : Run) : Type 0 wh
 
 -- The headline. The files of a run describe these tasks, this machine and these demands, and the run releases no more
 -- jobs than the limit. Then the answer is the run of these demands for the plan of these tasks, this machine and the
--- words' scheduler, or the plan is denied. Where the files of the exact test under RM describe these tasks and this
+-- words' scheduler, or the plan is denied. If the files of the exact test under RM describe these tasks and this
 -- machine, all tasks have responses, or they are denied.
 abbrev pub IsAnsweredOrDenied : Files → CommandView → Type 0
 IsAnsweredOrDenied files (run r) =
@@ -81,7 +81,7 @@ pub record ProvesCommand (files : Files) (c : CommandView) : Type 0 where
   -- the numbers of the status show its cause
   pub shown : IsShown (status_at files c)
 
--- what the answer proves, where the words are a command
+-- what the answer proves, if the words are a command
 abbrev pub Proves : Files → Option (Result CommandView WordFault) → Type 0
 Proves files (Some (Ok c)) = ProvesCommand files c
 Proves files asked = ⊤

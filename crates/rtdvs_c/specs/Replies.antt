@@ -73,7 +73,7 @@ reply_from (Ok c) files =
 reply_from (Err why) files =
     record { code = code_of (status.Words why); text = []; notes = status_text [] (status.Words why) }
 
--- the reply to what the words ask for; where a word is not UTF-8, an exit status and no text
+-- the reply to what the words ask for; if a word is not UTF-8, an exit status and no text
 abbrev pub reply_if : Option (Result CommandView WordFault) → Files → ReplyView
 reply_if (Some asked) files = reply_from asked files
 reply_if None files = record { code = NO_WORDS; text = []; notes = [] }
@@ -82,7 +82,7 @@ reply_if None files = record { code = NO_WORDS; text = []; notes = [] }
 abbrev pub reply_of : List ℕ → Files → ReplyView
 reply_of words files = reply_if (asked_by words) files
 
--- the exit status of a reply, where there is room for this many bytes of the answer
+-- the exit status of a reply, if there is room for this many bytes of the answer
 abbrev pub code_for : ℕ → ReplyView → ℕ
 code_for room r = if nat_le (length r.text) room then r.code else NO_ROOM
 

@@ -10,7 +10,7 @@ use Rattle.words.specs.declared.command.WordFault.{WordFault}
 abbrev pub with_word : List (List ℕ) → List ℕ → Option (List (List ℕ))
 with_word words word = if is_utf8 word then Some (words ++ word ∷ []) else None
 
--- The words after these, where a word has begun, of the bytes that are left: a zero byte ends a word, and the end of the
+-- The words after these, if a word has begun, of the bytes that are left: a zero byte ends a word, and the end of the
 -- bytes ends one that has begun.
 abbrev pub words_from : List (List ℕ) → List ℕ → List ℕ → Option (List (List ℕ))
 words_from words begun [] = if length begun == 0 then Some words else with_word words begun
@@ -23,7 +23,7 @@ words_from words begun (b ∷ bytes) =
 abbrev pub words_of : List ℕ → Option (List (List ℕ))
 words_of bytes = words_from [] [] bytes
 
--- the command that the bytes ask for, or why their words are refused; none where a word is not UTF-8
+-- the command that the bytes ask for, or why their words are refused; none if a word is not UTF-8
 abbrev pub asked_by : List ℕ → Option (Result CommandView WordFault)
 asked_by bytes = option_map command_of (words_of bytes)
 

@@ -5,7 +5,7 @@
 //! `specs/Proves.antt`.
 //!
 //! Why there is no premise about the system: of the system the call only asks for memory. Its files are the caller's
-//! bytes, so no load fails. Its texts grow in memory, so a put fails only where memory runs out; the exit status is then
+//! bytes, so no load fails. Its texts grow in memory, so a put fails only if memory runs out; the exit status is then
 //! 9, and nothing else is said. So what the top call promises unless a load, a put or memory failed, this call promises
 //! of each answer. Nothing is opened, read, written or printed.
 #![tactic(auto)]
@@ -26,16 +26,16 @@ use crate::files::CallFiles;
 use crate::reply::{Reply, reply_to};
 use std::alloc::{AllocError, Global};
 
-/// The exit status where the answer is longer than the room for it.
+/// The exit status if the answer is longer than the room for it.
 const NO_ROOM: u8 = 8;
 
-/// The exit status where memory ran out.
+/// The exit status if memory ran out.
 const NO_MEMORY: u8 = 9;
 
-/// The exit status where a word is not UTF-8.
+/// The exit status if a word is not UTF-8.
 const NO_WORDS: u8 = 10;
 
-/// How many bytes the answer and the notes have, also where there is only room for a first part.
+/// How many bytes the answer and the notes have, also if there is only room for a first part.
 #[derive(Clone, Copy, Debug, PartialEq, Eq)]
 #[repr(C)]
 pub struct Lengths {
@@ -53,7 +53,7 @@ fn fill(room: &mut [u8], text: &[u8]) -> usize
     text.len()
 }
 
-// The exit status, where there is room for this many bytes of the answer.
+// The exit status, if there is room for this many bytes of the answer.
 fn code_of(reply: &Reply, room: usize) -> u8
     ensures { result ≡ code_for room (shown_reply reply.now) }
 {
@@ -93,7 +93,7 @@ pub extern "C" fn rtdvs_call(
     ensures lengths { result ≢ NO_MEMORY → lengths.new ≡ lengths_of
         (reply_of words.now (call_files tasks.now machine.now list.now)) }
 
-    // where memory ran out there is no answer, and no note
+    // if memory ran out there is no answer, and no note
     ensures no_out { result ≡ NO_MEMORY → out.new ≡ out.old }
     ensures no_notes { result ≡ NO_MEMORY → notes.new ≡ notes.old }
     ensures no_lengths { result ≡ NO_MEMORY → lengths.new ≡ record { out = 0; notes = 0 } }

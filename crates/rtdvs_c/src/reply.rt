@@ -23,7 +23,7 @@ pub(crate) struct Reply {
     pub(crate) notes: Vec<u8>,
 }
 
-// The reply of a call that ended with this status, and with these texts. It fails where memory ran out, which is the
+// The reply of a call that ended with this status, and with these texts. It fails if memory ran out, which is the
 // one reason why a put of these texts fails.
 fn ended(status: Status, out: GrownText, notes: GrownText) -> Result<Reply, AllocError>
     ensures reply { IfOk result (λ reply. shown_reply reply
@@ -84,7 +84,7 @@ fn reply_to_texts(
     reply_with(alloc, words, files, &mut probes)
 }
 
-/// The reply to the words that the bytes are. It fails only where memory runs out.
+/// The reply to the words that the bytes are. It fails only if memory runs out.
 pub(crate) fn reply_to(
     alloc: Global,
     words: &[u8],

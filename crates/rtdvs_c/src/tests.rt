@@ -11,7 +11,7 @@ const ADMIT: &[u8] = b"admit\0--tasks\0tasks\0--machine\0machine\0--scheduler\0e
 
 const ROOM: usize = 40;
 
-// The exit status, both texts and their lengths, where `out` has room for this many bytes.
+// The exit status, both texts and their lengths, if `out` has room for this many bytes.
 fn left(alloc: Global, words: &[u8], room: usize) -> (u8, [u8; ROOM], [u8; ROOM], Lengths) {
     let mut out = [b'.'; ROOM];
     let mut notes = [b'.'; ROOM];

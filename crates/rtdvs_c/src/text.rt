@@ -4,7 +4,7 @@ ghost use Rattle.std.specs.Prelude.{◌≡◌, [], Some};
 use dvs_base::{Failed, Sink};
 use std::alloc::Global;
 
-/// A text that grows as it is written. A put takes memory, and fails only where memory runs out.
+/// A text that grows as it is written. A put takes memory, and fails only if memory runs out.
 #[derive(Drop)]
 pub(crate) struct GrownText {
     pub(crate) bytes: Vec<u8>,

@@ -24,7 +24,7 @@ use Rattle.statuses.specs.declared.status.Status.{Status}
 use Rattle.statuses.specs.declared.status.Status.TheVariants as status
 use Rattle.rtdvs_top.proofs.DeniedPlans.{DeniesNot, is_denial, status_of, file-denies-not, tasks_at-denies-not, machine_at-denies-not, demands_at-denies-not, server_at-denies-not, within-denies-not, traced-denies-not, admission-gives, denied-plan}
 
--- a step gives a value only where the plan passes its test, and denies only where it fails it
+-- a step gives a value only if the plan passes its test, and denies only if it fails it
 record Tests {A : Type 0} (step : Result A Status) (plan : Result Plan Status) : Type 0 where
   given : (a : A) → step ≡ Ok a → Passes plan
   denied : (why : Denied) → step ≡ Err (status.NotAdmitted why) → AdmitsOrDenies plan (status.NotAdmitted why)

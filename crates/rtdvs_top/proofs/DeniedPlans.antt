@@ -62,7 +62,7 @@ then-denies-not : {A B : Type 0} (step : Result A Status) (next : A → Result B
 then-denies-not (Ok a) next here later = later a
 then-denies-not (Err s) next here later = here
 
--- a chain that denies does so in a later step, where the first denies nothing
+-- a chain that denies does so in a later step, if the first denies nothing
 pub denied-later : {A B : Type 0} (step : Result A Status) (next : A → Result B Status) (why : Denied)
     → DeniesNot step → and_then step next ≡ Err (status.NotAdmitted why)
     → (a : A) × (step ≡ Ok a) × (next a ≡ Err (status.NotAdmitted why))

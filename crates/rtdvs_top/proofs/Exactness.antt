@@ -1,4 +1,4 @@
--- A replay or a migration is done exactly where the trace file is the text of a run, which then has a text in version 2.
+-- A replay or a migration is done exactly if the trace file is the text of a run, which then has a text in version 2.
 use Rattle.std.proofs.Common.{◌≡◌, ℕ, ◌≤◌, Bool, true, false, List, Some, None, Result, Ok, Err, IsOk, refl, sym, ap, ◌∙◌, true≢false, nat_lt, if◌then◌else◌, arith, inl, inr, [], ◌∷◌, length, map, Option, subst}
 use Rattle.std.proofs.lemmas.Bool.Decides.{nat_tests}
 use Rattle.dvs_base.specs.declared.kind.Version.TheVariants.{Two}
@@ -61,7 +61,7 @@ pub replayed-some : (r : Result Totals ReplayFault) → IsOk (or_status replay_s
 replayed-some (Ok totals) h = (totals, refl)
 replayed-some (Err why) h = absurd (true≢false (sym h))
 
--- the limit on jobs holds where it refuses nothing
+-- the limit on jobs holds if it refuses nothing
 pub few-of-none : (p : Plan) (ticks : ℕ) → too_many p ticks ≡ None → released_jobs p ticks ≤ MOST_JOBS
 few-of-none p ticks = go (nat_lt MOST_JOBS (released_jobs p ticks)) refl
   where
@@ -174,7 +174,7 @@ module _ (r : TracedView) (files : Files) (v : Version) (p : Plan) (g : Governor
   traced-is : traced_of r p.tasks files ≡ Ok (p, t)
   traced-is = rw (of.machine_is, read-at, admitted) refl
 
-  -- where the trace file is the text of a schedule, the answer is what is printed for its trace
+  -- if the trace file is the text of a schedule, the answer is what is printed for its trace
   pub printed-done : trace_answer r files ≡ Ok (use_text r.asked (p, t) (totals_of t.notes))
   unfolding totals_at
   printed-done = rw (of.tasks_are, traced-is, compared) refl
@@ -188,7 +188,7 @@ held-file kind (Some b) bytes e = fits (nat_lt (longest kind) (length b)) e
     fits true e = absurd (cc)
     fits false e = cc
 
--- what a trace file means, where it has a meaning
+-- what a trace file means, if it has a meaning
 trace-given : (t : TraceView) (r : Result TraceView TraceFault) → or_status trace_status r ≡ Ok t → r ≡ Ok t
 trace-given t (Ok u) h = cc
 trace-given t (Err e) h = absurd (cc)
@@ -257,7 +257,7 @@ done-own r files tasks p t ts e adm ok =
     first-ok (Ok y) next h = refl
     first-ok (Err s) next h = absurd (true≢false (sym h))
 
--- where there is an answer, the status is `Done`, unless the outside or memory explains it
+-- if there is an answer, the status is `Done`, unless the outside or memory explains it
 pub done-unless : (loads_rose puts_rose : Type 0) (answer : Result (List ℕ) Status) (s : Status)
     → IsAnswer loads_rose puts_rose answer s → IsOk answer → IsDoneUnless loads_rose puts_rose s
 done-unless loads_rose puts_rose answer status.Done h ok = tt

@@ -117,17 +117,17 @@ with_tasks =
     run_with (Some (codes "f")) ∷ run_with None ∷ admit_words ∷ traced_words Replay ∷ traced_words Migrate
     ∷ response (record { tasks = codes "t"; machine = codes "m" }) ∷ constrain words ∷ poll_for (codes "a") ∷ []
 
--- where the tasks are refused no further load is needed
+-- if the tasks are refused no further load is needed
 refused_tasks : (files : Files) (why : Status) → tasks_at (codes "t") files ≡ Err why
     → map (loads_needed (Some files)) with_tasks ≡ (1 ∷ 1 ∷ 1 ∷ 1 ∷ 1 ∷ 1 ∷ 1 ∷ 1 ∷ [])
 refused_tasks files why tasks = rw tasks refl
 
--- where the tasks are read and the machine is refused, the third load isn't needed
+-- if the tasks are read and the machine is refused, the third load isn't needed
 refused_machine : (files : Files) (why : Status) → tasks_at (codes "t") files ≡ Ok later → machine_at (codes "m") files ≡ Err why
     → map (loads_needed (Some files)) with_tasks ≡ (2 ∷ 2 ∷ 2 ∷ 2 ∷ 2 ∷ 2 ∷ 2 ∷ 2 ∷ [])
 refused_machine files why tasks machine = rw (tasks, machine) refl
 
--- where both are read the third file is loaded, where there is one
+-- if both are read the third file is loaded, if there is one
 read_files : (files : Files) (machine : Table) → tasks_at (codes "t") files ≡ Ok later → machine_at (codes "m") files ≡ Ok machine
     → map (loads_needed (Some files)) with_tasks ≡ (3 ∷ 2 ∷ 2 ∷ 3 ∷ 3 ∷ 2 ∷ 3 ∷ 3 ∷ [])
 read_files files machine tasks found = rw (tasks, found) refl
@@ -140,7 +140,7 @@ no_server files tasks = rw tasks refl
 least_alone : (files : Files) (why : Status) → machine_at (codes "m") files ≡ Err why → loads_needed (Some files) least_words ≡ 1
 least_alone files why machine = rw machine refl
 
--- `workload` loads nothing; where the files are not known, each file may be loaded
+-- `workload` loads nothing; if the files are not known, each file may be loaded
 files_unknown : (loads_needed None (workload 1) ≡ 0) × (map (loads_needed None) with_tasks ≡ (3 ∷ 2 ∷ 2 ∷ 3 ∷ 3 ∷ 2 ∷ 3 ∷ 3 ∷ []))
 files_unknown = (refl, refl)
 
@@ -148,7 +148,7 @@ files_unknown = (refl, refl)
 abbrev shelf : ℕ → ℕ → ShelfView
 shelf faults sure = record { held = None; faults = faults; sure = sure }
 
--- the machine's load is the second: it may fail where the shelf was sure of one load
+-- the machine's load is the second: it may fail if the shelf was sure of one load
 second_load : LoadFailed (shelf 0 1) (shelf 1 0) (Ok admit_words) (Load Machine)
 second_load = inr (refl, inl (refl, inr (omega arith, omega arith)))
 
@@ -167,7 +167,7 @@ sure_of_three (inr (passed, inr (read, inl (same, inl lacks)))) = omega (arith, 
 sure_of_three (inr (passed, inr (read, inl (same, inr failed)))) = omega (arith, failed.1)
 sure_of_three (inr (passed, inr (read, inr none))) = none.1
 
--- a load of the machine shows that the tasks were read, where the files are known
+-- a load of the machine shows that the tasks were read, if the files are known
 read_first : (files : Files) (new : ShelfView) → LoadFailed (record { held = Some files; faults = 0; sure = 0 }) new (Ok admit_words) (Load Machine)
     → IsTrue (is_ok (tasks_at (codes "t") files))
 read_first files new (inl tasks) = absurd (let same = tasks.0 in cc)
@@ -193,7 +193,7 @@ changed_by Done leaves = inl refl
 changed_by Write leaves = inr refl
 changed_by s leaves = absurd (omega (arith, leaves))
 
--- probes that aren't asked for stay as they were, also where a run is done; those that are asked for change only by the
+-- probes that aren't asked for stay as they were, also if a run is done; those that are asked for change only by the
 -- same two statuses
 probes_left : (LeavesProbes {V = ℕ} false Done 1 2 → ⊥) × (LeavesProbes {V = ℕ} false Write 1 2 → ⊥)
     × (LeavesProbes {V = ℕ} true (Limit 100001) 1 2 → ⊥)
@@ -231,7 +231,7 @@ as_many_jobs files r tasks machine demands out means jobs none headline =
     neither (inl done) = absurd (let same = done.0 in cc)
     neither (inr (why, same, by)) = absurd (cc)
 
--- a first part of an answer was put only where there is a plan, which is admitted
+-- a first part of an answer was put only if there is a plan, which is admitted
 put_in_part : (why : Status) → AdmitsOrDenies (Err why) Write → ⊥
 put_in_part why passes = absurd (let same = passes.1 in cc)
 

@@ -28,7 +28,7 @@ text-is : (l : LeastView) (files : Files) (m : Table) (a : Least) (text : List �
 unfolding least_on
 text-is l files m a text e f h = given-once h (ap (λ x. and_then x (least_on l)) e ∙ ap least_from f)
 
--- where the answer is denied, the machine does fewer units in the ticks than are asked for
+-- if the answer is denied, the machine does fewer units in the ticks than are asked for
 too-many : (l : LeastView) (m : Table) (why : Denied) → least_on l m ≡ Err (status.NotAdmitted why) → AreTooMany m l why
 unfolding least_on
 too-many l m why h = go (nat_lt (l.ticks * highest_speed m) l.units) refl h

@@ -81,7 +81,7 @@ module _ (demand : OwnDemand) (kind : GovernorKind) (p : Plan) (d : DemandsView)
     abbrev text : List ℕ
     text = text_under v kind (run_of ticks)
 
-    -- what probes were told where all lines of a run are written, and where the writing stops in one of them
+    -- what probes were told if all lines of a run are written, and if the writing stops in one of them
     pub writing-told : {T E : Type 0} (r : Result T E) → WritesLines old new before after (own_lines k) r
         → TellsRun v kind (run_of ticks) old new before after (status_of_writing r)
     writing-told (Ok t) wrote =

@@ -13,7 +13,7 @@ use Rattle.statuses.specs.declared.status.Status.{Status}
 use Rattle.statuses.specs.declared.status.Status.TheVariants as status
 use Rattle.rtdvs_top.proofs.DeniedPlans.{status_of}
 
--- the answer ends with the load of the first of these files that is lacking, where those before it are passed
+-- the answer ends with the load of the first of these files that is lacking, if those before it are passed
 abbrev StopsAt : Files → CommandView → List NamedFile → Result (List ℕ) Status → Type 0
 StopsAt files c [] answer = Unit {0}
 StopsAt files c (f ∷ fs) answer =
@@ -43,7 +43,7 @@ fails-answer files c old new answer kind known place (f ∷ fs) stop (inl (same,
 fails-answer files c old new answer kind known place (f ∷ fs) stop (inr (read, later)) =
     fails-answer files c old new answer kind known (place + 1) fs (stop.1 read) later
 
--- where a load of these files failed, those that are needed are the shelf's
+-- if a load of these files failed, those that are needed are the shelf's
 held-are : (files : Files) (passed : NamedFile → Bool) (old new : ShelfView) (kind : FileKind) (fs : List NamedFile)
     → files_needed old.held fs ≡ Some files → FailsFrom passed old new 1 fs kind → old.held ≡ Some files
 held-are files passed old new kind [] known fails = absurd fails
@@ -70,7 +70,7 @@ answers-of (Some files) c old new out_old out_new (status.Load kind) known ends 
 answers-of (Some files) c old new out_old out_new status.NoMemory known ends failed = tt
 answers-of (Some files) c old new out_old out_new s known ends failed = ends
 
--- where no load and no put failed and memory didn't run out, the status is the answer's
+-- if no load and no put failed and memory didn't run out, the status is the answer's
 pub undisturbed : (loads_rose puts_rose : Type 0) (answer : Result (List ℕ) Status) (s : Status)
     → IsAnswer loads_rose puts_rose answer s → (loads_rose → ⊥) → (puts_rose → ⊥) → s ≢ status.NoMemory → s ≡ status_of answer
 undisturbed loads_rose puts_rose (Ok text) status.Done h still whole memory = refl
@@ -98,7 +98,7 @@ pub not-words : (files : Option Files) (c : CommandView) (s : Status) (old new :
 not-words None c s old new why ends refused = subst (EndsAs old new None (answer_of_command c)) refused ends
 not-words (Some files) c s old new why ends refused = subst (EndsAs old new (Some files) (answer_of_command c)) refused ends
 
--- what was written where the answer is done, and where a put failed
+-- what was written if the answer is done, and if a put failed
 pub writes-of : (files : Option Files) (c : CommandView) (s : Status) (old new : SinkView)
     → EndsAs old new files (answer_of_command c) s → s ≡ status.Done → Writes (asked_with files c) old new
 writes-of None c s old new ends done = let e = subst (EndsAs old new None (answer_of_command c)) done ends in (e.0, e.2)

@@ -176,7 +176,7 @@ more-made old new more made = record {
   surety = omega (arith, made.surety, more);
 }
 
--- A load that failed, where `few` loads were made before it, failed in a later place.
+-- A load that failed, if `few` loads were made before it, failed in a later place.
 module _ (passed : NamedFile → Bool) (old mid new : ShelfView) (kind : FileKind) (few : ℕ) (made : MakesLoads few old mid)
     (still : mid.faults ≡ old.faults) where
   fails-later : (near far : ℕ) (fs : List NamedFile) → near + few ≤ far → FailsFrom passed mid new near fs kind
@@ -191,7 +191,7 @@ module _ (passed : NamedFile → Bool) (old mid new : ShelfView) (kind : FileKin
 
 -- a load that failed after the tasks of a command were read
 module _ (old mid new : ShelfView) (kind : FileKind) (still : mid.faults ≡ old.faults) where
-  -- the files that a command needs are the shelf's, where one of their loads failed
+  -- the files that a command needs are the shelf's, if one of their loads failed
   known : (c : CommandView) (fs : List NamedFile) → FailsFrom (passes old.held c) old new 1 fs kind
       → FailsFrom (passes (files_needed old.held fs) c) old new 1 fs kind
   known c [] fails = absurd fails

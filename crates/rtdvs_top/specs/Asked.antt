@@ -18,8 +18,8 @@ abbrev pub asked_with : Option Files → CommandView → Asked
 asked_with (Some files) c = with_files files c
 asked_with None c = without_files c
 
--- A command, or the refusal of the words, where a shelf may be known to hold some files. The known files of a command are
--- those that its answer depends on, so they are known where it needs none.
+-- A command, or the refusal of the words, if a shelf may be known to hold some files. The known files of a command are
+-- those that its answer depends on, so they are known if it needs none.
 abbrev pub asked_of : Option Files → Result CommandView WordFault → Asked
 asked_of held (Ok c) = asked_with (files_for held c) c
 asked_of held (Err why) = refused_words why

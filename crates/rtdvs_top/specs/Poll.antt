@@ -117,7 +117,7 @@ poll_answer q files = do
   tasks ← tasks_at q.tasks files
   poll_after_tasks q tasks files
 
--- What a `poll` run has kept: each request is served exactly where its job is done in the one schedule, at that
+-- What a `poll` run has kept: each request is served exactly if its job is done in the one schedule, at that
 -- position; a later request never has an earlier job; and a request with backlog B is served by the deadline of the
 -- ceil(B/Q)-th job released at or after its arrival, if that lies within the run.
 pub record HasServed (s : ServerView) (governor : GovernorKind) (ticks : ℕ) : Type 0 where

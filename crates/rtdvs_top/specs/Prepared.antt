@@ -66,7 +66,7 @@ Ends old new answer status.Done = (text : List ℕ) × (answer ≡ Ok text) × W
 Ends old new answer status.Write = (text : List ℕ) × (answer ≡ Ok text) × WroteSome old new text
 Ends old new answer s = EndsWith answer s
 
--- how the writing of an answer ends, where the files are known, and where they aren't
+-- how the writing of an answer ends, if the files are known, and if they aren't
 abbrev pub EndsAs : SinkView → SinkView → Option Files → (Files → Result (List ℕ) Status) → Status → Type 0
 EndsAs old new files answer status.Done = (text : List ℕ) × Gives files answer text × Wrote old new text
 EndsAs old new files answer status.Write = (text : List ℕ) × Gives files answer text × WroteSome old new text
@@ -93,14 +93,14 @@ abbrev pub ProvesDone : Option Files → CommandView → Status → Type 0
 ProvesDone files c status.Done = IsKnownDone files c
 ProvesDone files c s = ⊤
 
--- Where the files are known, the lines of a status have the names of the command's tasks. Where a command that asks for
+-- If the files are known, the lines of a status have the names of the command's tasks. If a command that asks for
 -- probes is done, these are the names that the probes' lines have.
 abbrev pub HasTaskNames : Option Files → CommandView → Option (List Task) → Status → Type 0
 HasTaskNames None c tasks s = ⊤
 HasTaskNames (Some files) c tasks status.Done = IfAsked (asks_probes c) (names_of tasks ≡ names_by c files)
 HasTaskNames (Some files) c tasks s = status_text (names_of tasks) s ≡ status_text (names_by c files) s
 
--- a command was answered with this status, and its tasks where they were read
+-- a command was answered with this status, and its tasks if they were read
 pub record IsAnswered (c : CommandView) (old new : CallView) (s : Status) (tasks : Option (List Task)) : Type 0 where
   -- the answer's text was written, or a first part of it, or the status is the answer's refusal
   pub ended : EndsAs old.out new.out (files_for old.shelf.held c) (answer_of_command c) s
@@ -139,12 +139,12 @@ abbrev pub status_of_put : {T : Type 0} → Result T Status → Status
 status_of_put (Ok v) = status.Done
 status_of_put (Err s) = s
 
--- the status of the writing of a run: `Done`, or `Write` where it failed
+-- the status of the writing of a run: `Done`, or `Write` if it failed
 abbrev pub status_of_writing : {T E : Type 0} → Result T E → Status
 status_of_writing (Ok v) = status.Done
 status_of_writing (Err e) = status.Write
 
--- a status that the put of an answer can end with; `Limit` only where the answer is that refusal
+-- a status that the put of an answer can end with; `Limit` only if the answer is that refusal
 abbrev pub PutEnds : Result (List ℕ) Status → Status → Type 0
 PutEnds answer status.Done = ⊤
 PutEnds answer status.Write = ⊤
@@ -208,7 +208,7 @@ pub record IsPutStep {W V : Type 0} (out : W × W) (probes : V × V) (shows : W 
   pub ended : Ends (shows out.0) (shows out.1) (answer_of p) s
   -- no other status is possible
   pub ends : PutEnds (answer_of p) s
-  -- where nothing was put the sink is as before
+  -- if nothing was put the sink is as before
   pub leaves : Leaves s out.0 out.1
   -- probes that are not told are as before
   pub kept : LeavesProbes (tells_probes p) s probes.0 probes.1
@@ -217,7 +217,7 @@ pub record IsPutStep {W V : Type 0} (out : W × W) (probes : V × V) (shows : W 
   -- what the status shows by itself
   pub shown : IsShown s
 
--- where the files are known, the command has this answer
+-- if the files are known, the command has this answer
 abbrev pub HasAnswer : Option Files → CommandView → Result (List ℕ) Status → Type 0
 HasAnswer None c answer = ⊤
 HasAnswer (Some files) c answer = answer_of_command c files ≡ answer
@@ -234,7 +234,7 @@ pub record IsPrepared (files : Option Files) (c : CommandView) (tasks : Option (
   pub told : (old new : SinkView) (before after : List ProbeView) (s : Status) → PutTells p old new before after s
       → TellsProbes (asked_with files c) old new before after s
 
--- these are the tasks of a named file, where a file is named; known files hold them
+-- these are the tasks of a named file, if a file is named; known files hold them
 abbrev pub AreTasksAt : Option Files → Option (List ℕ) → Option (List Task) → Type 0
 AreTasksAt files None None = ⊤
 AreTasksAt files (Some name) (Some tasks) = Gives files (tasks_at name) tasks
@@ -247,7 +247,7 @@ pub record IsRefused (files : Option Files) (c : CommandView) (tasks : Option (L
   pub named : HasTaskNames files c tasks s
   pub shown : IsShown s
 
--- What the load of a command's tasks gives: the tasks, where the command names a file of them, or its refusal.
+-- What the load of a command's tasks gives: the tasks, if the command names a file of them, or its refusal.
 pub record IsTasksStep (old new : ShelfView) (c : CommandView) (r : Result (Option (List Task)) Status) : Type 0 where
   pub read : IfOk r (AreTasksAt old.held (tasks_name c))
   pub refused : IfErr r (IsRefused (files_for old.held c) c None)

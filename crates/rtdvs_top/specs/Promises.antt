@@ -66,7 +66,7 @@ traced_plan r files = do
   t ← trace_at tasks r.trace files
   Ok (plan_of tasks machine t.plan.scheduler)
 
--- the plan of `poll`: the tasks and the machine of its files, where a task has the server's name and the requests are
+-- the plan of `poll`: the tasks and the machine of its files, if a task has the server's name and the requests are
 -- read too
 abbrev pub poll_plan : PollView → Files → Result Plan Status
 poll_plan q files = do
@@ -95,14 +95,14 @@ pub record IsDeniedBy (p : Plan) (why : Denied) : Type 0 where
   pub by : IsDenial p why
   pub fails : PassesTest p.scheduler p → ⊥
 
--- an answer is written, whole or in part, only where its plan passes the test, and denied only where its plan fails it
+-- an answer is written, whole or in part, only if its plan passes the test, and denied only if its plan fails it
 abbrev pub AdmitsOrDenies : Result Plan Status → Status → Type 0
 AdmitsOrDenies plan status.Done = Passes plan
 AdmitsOrDenies plan status.Write = Passes plan
 AdmitsOrDenies plan (status.NotAdmitted why) = (p : Plan) × (plan ≡ Ok p) × IsDeniedBy p why
 AdmitsOrDenies plan s = ⊤
 
--- What the answer of `run`, `admit`, `replay`, `migrate` or `poll` shows of its scheduler's test, where its files are
+-- What the answer of `run`, `admit`, `replay`, `migrate` or `poll` shows of its scheduler's test, if its files are
 -- known.
 abbrev pub AdmitsByTest : Asked → Status → Type 0
 AdmitsByTest (with_files files (run r)) s = AdmitsOrDenies (run_plan r files) s
@@ -122,7 +122,7 @@ answer_of_command (constrain r) files = constrain_answer r files
 answer_of_command (poll q) files = poll_answer q files
 answer_of_command (least l) files = least_answer l files
 
--- The status is the answer's; or a load failed, and the shelf's count of faults rose; or a put failed, where the answer
+-- The status is the answer's; or a load failed, and the shelf's count of faults rose; or a put failed, if the answer
 -- has a text, and the sink's count rose; or memory ran out.
 abbrev pub IsAnswer : Type 0 → Type 0 → Result (List ℕ) Status → Status → Type 0
 IsAnswer loads_rose puts_rose answer status.NoMemory = ⊤
@@ -131,19 +131,19 @@ IsAnswer loads_rose puts_rose answer status.Done = IsOk answer
 IsAnswer loads_rose puts_rose answer status.Write = IsOk answer × puts_rose
 IsAnswer loads_rose puts_rose answer s = answer ≡ Err s
 
--- where the files are known, the status is that of the command's answer, unless the outside or memory explains it
+-- if the files are known, the status is that of the command's answer, unless the outside or memory explains it
 abbrev pub Answers : Asked → Type 0 → Type 0 → Status → Type 0
 Answers (without_files c) loads_rose puts_rose s = ⊤
 Answers (refused_words why) loads_rose puts_rose s = s ≡ status.Words why
 Answers (with_files files c) loads_rose puts_rose s = IsAnswer loads_rose puts_rose (answer_of_command c files) s
 
--- where the files are known, the answer's text was written whole; where they are not known, some text was
+-- if the files are known, the answer's text was written whole; if they are not known, some text was
 abbrev pub Writes : Asked → SinkView → SinkView → Type 0
 Writes (with_files files c) old new = (text : List ℕ) × (answer_of_command c files ≡ Ok text) × Wrote old new text
 Writes (without_files c) old new = (text : List ℕ) × Wrote old new text
 Writes (refused_words why) old new = ⊤
 
--- where the files are known, a first part of the answer's text was written; where they are not known, one of some text
+-- if the files are known, a first part of the answer's text was written; if they are not known, one of some text
 abbrev pub WritesPart : Asked → SinkView → SinkView → Type 0
 WritesPart (with_files files c) old new =
     (text : List ℕ) × (answer_of_command c files ≡ Ok text) × WroteSome old new text
@@ -155,7 +155,7 @@ abbrev pub IsSureOf : Asked → SinkView → Type 0
 IsSureOf (with_files files c) sink = (text : List ℕ) → answer_of_command c files ≡ Ok text → length text ≤ sink.sure
 IsSureOf a sink = ⊥
 
--- A load that failed is of one of the command's files, by its place among them. Where the files are known, those before
+-- A load that failed is of one of the command's files, by its place among them. If the files are known, those before
 -- it were read; the machine of `poll` is loaded only after its server was found.
 abbrev pub LoadFailed : ShelfView → ShelfView → Result CommandView WordFault → Status → Type 0
 LoadFailed old new (Ok c) s = OfLoad (FailsFrom (passes (files_for old.held c) c) old new 1 (files_of c)) s
@@ -172,7 +172,7 @@ pub record IsDoneRun (v : Version) (kind : GovernorKind) (r : Run) (old new : Si
   pub text : Appends old.written new.written (text_under v kind r)
   pub run : HasMet v kind r
 
--- The run, where its files are known, without a premise. A run that is done, or that is denied, is of the tasks, the
+-- The run, if its files are known, without a premise. A run that is done, or that is denied, is of the tasks, the
 -- machine and the demands that its files mean.
 abbrev pub ProvesRun : Asked → SinkView → SinkView → Status → Type 0
 ProvesRun (with_files files (run r)) old new status.Done =
@@ -184,14 +184,14 @@ ProvesRun (with_files files (run r)) old new (status.NotAdmitted why) =
     × IsDeniedBy (plan_of tasks machine r.scheduler) why
 ProvesRun a old new s = ⊤
 
--- what an exact test proves, where the command is one
+-- what an exact test proves, if the command is one
 abbrev pub ProvesTests : Asked → Status → Type 0
 ProvesTests (with_files files (response r)) s = ProvesResponses files r s
 ProvesTests (with_files files (constrain r)) s = ProvesDeadlines files r s
 ProvesTests a s = ⊤
 
--- A `poll` run that is done, where its files are known, has served its requests in the one schedule of its server's
--- plan: each exactly where its job is done, a later one never by an earlier job, and each by the deadline that its
+-- A `poll` run that is done, if its files are known, has served its requests in the one schedule of its server's
+-- plan: each exactly if its job is done, a later one never by an earlier job, and each by the deadline that its
 -- backlog bounds, if that lies within the run.
 abbrev pub ProvesPoll : Asked → Status → Type 0
 ProvesPoll (with_files files (poll q)) status.Done =
@@ -208,7 +208,7 @@ RunsOrIsDenied v kind r old new s =
 -- The headline. The files of a run are known and describe these tasks, this machine and these demands; the run releases
 -- no more jobs than the limit; no load and no put failed, and memory didn't run out. Then the plan of these tasks, this
 -- machine and the words' scheduler runs with these demands, or it is denied. Under the same premises the exact test
--- under RM is done where all tasks of its files have responses, and else it denies them.
+-- under RM is done if all tasks of its files have responses, and otherwise it denies them.
 abbrev pub IsDoneOrDenied : Asked → Type 0 → SinkView → SinkView → Status → Type 0
 IsDoneOrDenied (with_files files (run r)) loads_rose old new s =
     (tasks : List Task) (machine : Table) (demands : DemandsView) → MeansRun r files tasks machine demands
@@ -221,7 +221,7 @@ IsDoneOrDenied (with_files files (response r)) loads_rose old new s =
     → RespondsOrIsDenied (plan_of tasks machine Rm) s
 IsDoneOrDenied a loads_rose old new s = ⊤
 
--- The answer of `least`, where its file is known, without a premise. One that is done has written the lines of the
+-- The answer of `least`, if its file is known, without a premise. One that is done has written the lines of the
 -- answer for the machine that its file means, which passes the check and is the minimum; one that is denied asks for
 -- more units than that machine does in the ticks.
 abbrev pub ProvesLeast : Asked → SinkView → SinkView → Status → Type 0

@@ -25,7 +25,7 @@ use Rattle.command_files.specs.Meanings.{tasks_at}
 use Rattle.rtdvs_top.specs.ToldRuns.{IfAsked, TellsRun}
 use Rattle.command_files.specs.PlannedRuns.{prepared_of, run_with}
 
--- the text, where the run doesn't release too many jobs
+-- the text, if the run doesn't release too many jobs
 abbrev pub within_jobs : ℕ → List ℕ → Result (List ℕ) Status
 within_jobs jobs bytes = if nat_lt MOST_JOBS jobs then Err (status.Limit jobs) else Ok bytes
 

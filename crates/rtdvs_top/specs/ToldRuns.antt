@@ -16,7 +16,7 @@ use Rattle.statuses.specs.declared.status.Status.TheVariants as status
 abbrev pub notes_under : GovernorKind → Run → List Note
 notes_under kind r = run_notes r.plan kind (demands_of r.plan r.demands) r.ticks
 
--- A run told probes the notes of its schedule. Where it is done they were told the notes, one by one. Where a write
+-- A run told probes the notes of its schedule. If it is done they were told the notes, one by one. If a write
 -- failed they were told those of the lines before the one that was put.
 abbrev pub TellsRun : Version → GovernorKind → Run → SinkView → SinkView → List ProbeView → List ProbeView → Status → Type 0
 TellsRun v kind r old new before after status.Done = after ≡ told_notes (notes_under kind r) before
@@ -24,7 +24,7 @@ TellsRun v kind r old new before after status.Write =
     StoppedIn old new before after (run_lines v r.plan kind r.ticks (notes_under kind r))
 TellsRun v kind r old new before after s = ⊤
 
--- X holds, where it is asked for
+-- X holds, if it is asked for
 abbrev pub IfAsked : Bool → Type 0 → Type 0
 IfAsked true X = X
 IfAsked false X = ⊤

@@ -74,7 +74,7 @@ IsDoneUnless loads_rose puts_rose status.Write = puts_rose
 IsDoneUnless loads_rose puts_rose status.NoMemory = ⊤
 IsDoneUnless loads_rose puts_rose s = ⊥
 
--- A replay or a migration is done, where the files are known, exactly where the trace file is the text, in either
+-- A replay or a migration is done, if the files are known, exactly if the trace file is the text, in either
 -- version, of a schedule for some demand list: one that is done shows the list, which the text fixes, and each such
 -- file is done, unless a load, a put or memory failed.
 abbrev pub AcceptsScheduleTexts : Asked → Type 0 → Type 0 → Status → Type 0
@@ -122,7 +122,7 @@ replay_status (replay_fault.TooManyJobs jobs) = status.Limit jobs
 replay_status (replay_fault.Differs line wanted found) = status.Differs line wanted found
 replay_status replay_fault.NoMemory = status.NoMemory
 
--- the totals of a trace of a plan, where its notes are those of the schedule for the demands that they fix
+-- the totals of a trace of a plan, if its notes are those of the schedule for the demands that they fix
 unfoldable pub totals_at : Plan × TraceView → Result Totals Status
 totals_at x = or_status replay_status (replay_of x.0 (published x.0 x.1.plan.governor) x.1)
 

@@ -15,7 +15,7 @@ use std::alloc::Global;
 use task_model::TaskSet;
 use words::command::Command;
 
-// The tasks of a command, where it names a file of them.
+// The tasks of a command, if it names a file of them.
 fn load_its_tasks<S: Shelf>(
     alloc: Global,
     command: &Command<'_>,
@@ -39,7 +39,7 @@ fn status_of_put(wrote: Result<(), Status>) -> Status
     }
 }
 
-/// Answers a command: its status, and its tasks where they were read. Where the command is refused nothing is put.
+/// Answers a command: its status, and its tasks if they were read. If the command is refused nothing is put.
 pub(crate) fn answer_command<S: Shelf, W: Sink, P: Probe>(
     alloc: Global,
     command: &Command<'_>,

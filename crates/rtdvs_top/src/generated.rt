@@ -27,7 +27,7 @@ use std::alloc::Global;
 use trace_text::{governor_word, write_note};
 use workload::make;
 
-// The admitted plan of the generated tasks, and the demands of their jobs. It fails only where memory runs out.
+// The admitted plan of the generated tasks, and the demands of their jobs. It fails only if memory runs out.
 fn made_plan(alloc: Global, made: Workload) -> Result<(Admitted, Demands), NoMemory>
     requires { IsSmall made }
     ensures plan { IfOk result (λ x. x.0 ≡ workload_plan made.seed made.tasks) }
@@ -118,7 +118,7 @@ fn governed_totals<G: Publishing>(
     totals_from_opening(alloc, plan, demands, governor, ticks)
 }
 
-/// The totals of the runs of a workload under each governor that serves EDF. It fails only where memory runs out.
+/// The totals of the runs of a workload under each governor that serves EDF. It fails only if memory runs out.
 pub(crate) fn made_totals(alloc: Global, made: Workload) -> Result<EdfTotals, NoMemory>
     requires { IsSmall made }
     ensures { IfOk result (λ t. t ≡ workload_totals made.seed made.tasks made.ticks) }

@@ -14,7 +14,7 @@ use probes::Probe;
 use std::alloc::Global;
 use trace_writer::put_trace;
 
-/// Puts what a command prepared. It reads no file, and takes memory only before the first put. `Write` where a put
+/// Puts what a command prepared. It reads no file, and takes memory only before the first put. `Write` if a put
 /// failed; a run may end with `Limit` or `NoMemory` before it puts anything.
 pub(crate) fn put<W: Sink, P: Probe>(
     alloc: Global,

@@ -54,7 +54,7 @@ fn written(wrote: Result<Totals, WriteFault>) -> Result<(), Status>
     }
 }
 
-// Writes the trace of a run under governor `G`, and tells it to the probes where they are asked for.
+// Writes the trace of a run under governor `G`, and tells it to the probes if they are asked for.
 fn run_governed<G: Publishing, W: Sink, P: Probe>(
     alloc: Global,
     run: &ReadyRun,
@@ -81,8 +81,8 @@ fn run_governed<G: Publishing, W: Sink, P: Probe>(
     written(kernel.run(out, &mut none, run.version))
 }
 
-/// Writes the trace of a run of an admitted plan, under the governor of its pair. The probes are told its notes where
-/// they are asked for, and else left as they are.
+/// Writes the trace of a run of an admitted plan, under the governor of its pair. The probes are told its notes if
+/// they are asked for, and otherwise left as they are.
 pub(crate) fn put_run<W: Sink, P: Probe>(
     alloc: Global,
     run: &ReadyRun,

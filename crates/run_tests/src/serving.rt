@@ -65,7 +65,7 @@ struct Case<'a> {
     ticks: u64,
 }
 
-// A request's job and the tick and offset at which it is done, or none where it is pending.
+// A request's job and the tick and offset at which it is done, or none if it is pending.
 type Done = Option<(u64, u64, u64)>;
 
 fn done(outcome: Outcome) -> Done {

@@ -115,7 +115,7 @@ pub before_gets : (n : ℕ) (key : ℕ → ℕ) (room : ℕ) (need given : ℕ �
 before_gets n key room need given h i =
     down-set-gets n key (λ k. stands_before key k i) room need given (λ j k lj lk b t. before-trans key j k i b t) h
 
--- where units are shared out by the order, each task gets its allotment
+-- if units are shared out by the order, each task gets its allotment
 pub allotment_of : (n : ℕ) (key : ℕ → ℕ) (room : ℕ) (need given : ℕ → ℕ) → SharesOut n key room need given
     → (i : ℕ) → i < n → given i ≡ allotment n key room need i
 allotment_of n key room need given h i lt =
@@ -161,7 +161,7 @@ pub allotment-same : (n : ℕ) (key : ℕ → ℕ) (room : ℕ) (f g : ℕ → �
 allotment-same n key room f g e k lt =
     ap₂ (λ a b. min room (a + b) - min room a) (sum_where-same n (λ j. stands_before key j k) f g e) (e k lt)
 
--- where j comes before i, the need of the tasks up to j is at most the need of the tasks before i
+-- if j comes before i, the need of the tasks up to j is at most the need of the tasks before i
 pub up_to-before : (n : ℕ) (key f : ℕ → ℕ) (j i : ℕ) → j < n → stands_before key j i ≡ true → sum_up_to n key f j ≤ sum_before n key f i
 up_to-before n key f j i lt h =
     let own : ℕ → ℕ = λ k. if eqb k j then f k else 0 in
@@ -239,7 +239,7 @@ handed-step n key room need given given' rest i h pos o here there = record {
     all : (k : ℕ) → k < n → 0 < rest - min rest (need i - given i) → (b : Bool) → eqb k i ≡ b → (given' k ≡ 0) ⊎ (given' k ≡ need k)
     all k lt pos' b e = grind (arith, nat_tests)
 
--- where no unit is left or no task needs more, each task has its allotment
+-- if no unit is left or no task needs more, each task has its allotment
 pub handed-end : (n : ℕ) (key : ℕ → ℕ) (room : ℕ) (need given : ℕ → ℕ) (rest : ℕ) → IsHandedOut n key room need given rest
     → (rest ≡ 0) ⊎ ((k : ℕ) → k < n → need k ≤ given k) → (i : ℕ) → i < n → given i ≡ allotment n key room need i
 handed-end n key room need given rest h e i lt = grind (arith, nat_tests)

@@ -114,7 +114,7 @@ pub exec-none : (p : Plan) (past : List Tick) (i : ℕ) → exec p past i 0 ≡ 
 exec-none p [] i = refl
 exec-none p (x ∷ past) i = grind (arith, due-none p i, release-none p i, exec-none p past i)
 
--- a tick adds the task's share to what the latest job has had, also for job 0 where no task gets more than it needs
+-- a tick adds the task's share to what the latest job has had, also for job 0 if no task gets more than it needs
 pub exec-legal : (p : Plan) (dem : JobDemands) (x : Tick) (past : List Tick) (i : ℕ) → 0 < period p i → dem i 0 ≡ 0 → share x i ≤ units_left p dem past i
     → exec p (x ∷ past) i (latest p i (length past)) ≡ exec p past i (latest p i (length past)) + share x i
 exec-legal p dem x past i pos none fits = grind (arith, nat_tests, exec-none, exec-latest)

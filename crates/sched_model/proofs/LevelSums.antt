@@ -41,7 +41,7 @@ sum_where-term n test f i lt on =
     let all = sum_below-term n (λ k. if test k then f k else 0) i lt in
     subst (λ (b : Bool). (if b then f i else 0) ≤ sum_where n test f) on all
 
--- where each term of g is at most that of f, and the sum of f at most that of g, each term of f is at most that of g
+-- if each term of g is at most that of f, and the sum of f at most that of g, each term of f is at most that of g
 pub sum_where-tight : (n : ℕ) (test : ℕ → Bool) (f g : ℕ → ℕ) → ((k : ℕ) → k < n → g k ≤ f k) → sum_where n test f ≤ sum_where n test g
     → (i : ℕ) → i < n → test i ≡ true → f i ≤ g i
 sum_where-tight n test f g below tight i lt on =

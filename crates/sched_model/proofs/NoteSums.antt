@@ -36,7 +36,7 @@ abbrev pub tells_done : ℕ → ℕ → Note → Bool
 tells_done i k (Done at_end j l used) = nat_eq i j && nat_eq k l
 tells_done i k _ = false
 
--- a function of tasks and jobs has one value where the tests of both numbers pass
+-- a function of tasks and jobs has one value if the tests of both numbers pass
 pub same-numbers : (f : ℕ → ℕ → ℕ) (i j k l : ℕ) → (nat_eq i j && nat_eq k l) ≡ true → f j l ≡ f i k
 same-numbers f i j k l e = grind (arith, nat_tests)
 
@@ -77,7 +77,7 @@ module _ (p : Plan) (dem : JobDemands) (t : ℕ) (f : Note → ℕ) where
       + one_if (releases_at p i t && nat_eq (dem i (latest p i t)) 0) * f (Done (record { tick = t; offset = 0 }) i (latest p i t) 0))
   release-sum = grind (arith, nat_tests, sum-each, sum_below-same)
 
-  -- the sum where all releases add the same, and so do all completions with a release
+  -- the sum if all releases add the same, and so do all completions with a release
   pub release-counts : (each done : ℕ) → ((i k : ℕ) → f (Release t i k) ≡ each)
       → ((i k : ℕ) → f (Done (record { tick = t; offset = 0 }) i k 0) ≡ done)
       → sum_by f (all_release_notes p dem t) ≡ each * releases p t + done * empty_jobs p dem t
@@ -128,7 +128,7 @@ module _ (p : Plan) (dem : JobDemands) (s : Span) (i k : ℕ) where
   had-more us n h =
       omega (arith, count-append (same_holder (Held i k)) us (replicate n h), count-replicate (same_holder (Held i k)) n h)
 
-  -- the notes of a segment have the completion where its units take the job to its demand
+  -- the notes of a segment have the completion if its units take the job to its demand
   segment-told : (front : List Holder) (u : ℕ) (h : Holder) → 0 < u → had_by p s (length front + u) i k ≡ had_of (front ++ replicate u h)
       → had_of (front ++ replicate u h) ≤ dem i k
       → count_by (tells_done i k) (segment_notes p dem s (length front) u h) + reached (dem i k) (had_of front)
@@ -182,7 +182,7 @@ abbrev IsDoneOf : ℕ → (ℕ → ℕ) → Note → Type 0
 IsDoneOf n job (Done at_end i k used) = (i < n) × (k ≡ job i)
 IsDoneOf n job _ = Unit {0}
 
--- where the completions are of one job of each task, all completions are the sum of the completions of each
+-- if the completions are of one job of each task, all completions are the sum of the completions of each
 finished-each : (n : ℕ) (job : ℕ → ℕ) (notes : List Note) → AllByRecursion (IsDoneOf n job) notes
     → count_by is_finished notes ≡ sum_below n (λ i. count_by (tells_done i (job i)) notes)
 finished-each n job [] all = sym (sum_below-zero n (λ i. 0) (λ i lt. refl))
@@ -215,7 +215,7 @@ module _ (p : Plan) (dem : JobDemands) (ask : PublishedDemand) where
   unfolding notes_before_end
   none-sum f = refl
 
-  -- where there is no decision, the notes have no release
+  -- if there is no decision, the notes have no release
   none-at : (f : Note → ℕ) (past : List Tick) → is_decision p dem past ≡ false → sum_by f (all_release_notes p dem (length past)) ≡ 0
   none-at f past e =
       release-sum p dem (length past) f ∙ sum_below-zero (count p) _ (λ i lt. let off = none-released p dem past e i lt in rw off (omega arith))
@@ -300,7 +300,7 @@ module _ (p : Plan) (dem : JobDemands) (ask : PublishedDemand) where
     pieces-sum q [] = refl
     pieces-sum q (r ∷ rs) = grind (arith, sum_by-append, sum_by-replicate, pieces-sum (q + r.units) rs)
 
-  -- a sum over the notes of pieces, where a segment adds at most `each`, and a completion at most `done`
+  -- a sum over the notes of pieces, if a segment adds at most `each`, and a completion at most `done`
   pub pieces-most : (f : Note → ℕ) (each done : ℕ) → ((from to : Pos) (i k units energy : ℕ) → f (Run from to i k units energy) ≤ each)
       → ((from to : Pos) (units energy : ℕ) → f (Idle from to units energy) ≤ each) → ((at_end : Pos) (i k used : ℕ) → f (Done at_end i k used) ≤ done)
       → (s : Span) (q : ℕ) (rs : List Piece) → sum_by f (pieces_notes p dem s q rs) ≤ (each + done) * length rs
@@ -372,7 +372,7 @@ module _ (p : Plan) (dem : JobDemands) (ask : PublishedDemand) where
   abbrev pub all_done : ℕ → List Tick → ℕ
   all_done t ticks = sum_below (count p) (λ i. done_by p dem i (latest p i t) ticks)
 
-  -- all completions, where job 0 of each task needs nothing
+  -- all completions, if job 0 of each task needs nothing
   pub tells-all : IsWithinLimits p → ((i : ℕ) → dem i 0 ≡ 0) → Measures (λ note. cond (is_finished note) 1 0) nothing all_done
   tells-all lim needless = record {
     segments = segments;

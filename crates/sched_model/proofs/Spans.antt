@@ -52,7 +52,7 @@ abbrev pub IsNow : Plan → JobDemands → ℕ → Holder → Type 0
 IsNow p dem t Nobody = Unit {0}
 IsNow p dem t (Held i k) = (i < count p) × (k ≡ latest p i t) × (0 < dem i k)
 
--- where there is no decision, no job is released
+-- if there is no decision, no job is released
 pub none-released : (p : Plan) (dem : JobDemands) (past : List Tick) → is_decision p dem past ≡ false → (i : ℕ) → i < count p
     → releases_at p i (length past) ≡ false
 none-released p dem [] e i lt = absurd (true≢false e)
@@ -60,13 +60,13 @@ none-released p dem (x ∷ past) e i lt =
     any_below-false (count p) (λ j. releases_at p j (length (x ∷ past))) (or_parts (is_release p (length (x ∷ past))) _ e).0 i lt
 
 module _ (p : Plan) (dem : JobDemands) (periods : (i : ℕ) → 0 < period p i) where
-  -- where no job of a task is released, its latest job stays
+  -- if no job of a task is released, its latest job stays
   pub stays-unreleased : (x : Tick) (past : List Tick) (i : ℕ) → releases_at p i (length (x ∷ past)) ≡ false
       → latest p i (length (x ∷ past)) ≡ latest p i (length past)
   stays-unreleased x past i none =
       same_job p dem periods x past i (false_from_ne_true _ (λ q. true≢false (sym (due_released p dem periods (x ∷ past) i true q) ∙ none)))
 
-  -- the latest jobs stay where there is no decision
+  -- the latest jobs stay if there is no decision
   pub stays : (x : Tick) (past : List Tick) → is_decision p dem (x ∷ past) ≡ false → (i : ℕ) → i < count p
       → latest p i (length (x ∷ past)) ≡ latest p i (length past)
   stays x past e i lt = stays-unreleased x past i (none-released p dem (x ∷ past) e i lt)
@@ -152,7 +152,7 @@ module _ (p : Plan) (dem : JobDemands) (ask : PublishedDemand) where
       go true e l = (record { past = y ∷ past; entry = x.entry; units = tick_units p (y ∷ past) x }, opened x (y ∷ past) h.0 h.1 e)
       go false e l = (record { past = l.0.past; entry = l.0.entry; units = l.0.units ++ tick_units p (y ∷ past) x }, grows x y past l.0 l.1 h e)
 
-  -- where job 0 of each task needs nothing, it holds no units, so the last span adds its units to what each job has had
+  -- if job 0 of each task needs nothing, it holds no units, so the last span adds its units to what each job has had
   pub had-each : IsWithinLimits p → ((i : ℕ) → dem i 0 ≡ 0) → (x : Tick) (past : List Tick) (s : Span) → IsLastSpan x past s → (i k : ℕ) → i < count p
       → exec p (x ∷ past) i k ≡ exec p s.past i k + count_by (same_holder (Held i k)) s.units
   had-each lim needless x past s l i zero lt = omega (arith, exec-none p (x ∷ past) i, exec-none p s.past i, none s.units (l.now lim))
@@ -165,7 +165,7 @@ module _ (p : Plan) (dem : JobDemands) (ask : PublishedDemand) where
       none (h ∷ us) all = omega (arith, sum_by-cons (λ u. cond (same_holder (Held i 0) u) 1 0) h us, one h all.0, none us all.1)
   had-each lim needless x past s l i (suc k) lt = l.had lim i (suc k) lt (omega arith)
 
-  -- what holds of no ticks, and of ticks where it holds of those before their last span, holds of each schedule
+  -- what holds of no ticks, and of ticks if it holds of those before their last span, holds of each schedule
   pub by-spans : (P : List Tick → Type 0) → P []
       → ((x : Tick) (past : List Tick) (s : Span) → IsScheduleBy p dem ask (x ∷ past) → IsLastSpan x past s → P s.past → P (x ∷ past))
       → (ticks : List Tick) → IsScheduleBy p dem ask ticks → P ticks

@@ -87,7 +87,7 @@ module _ (p : Plan) (dem : JobDemands) (periods : (i : ℕ) → 0 < period p i) 
   pub prior-due : (past : List Tick) (i : ℕ) → length past ≤ (prior_row p dem past i).deadline
   prior-due past i = grind (arith, lt-due)
 
-  -- where a row is due, the latest job is the one after the row's job
+  -- if a row is due, the latest job is the one after the row's job
   pub next_job : (past : List Tick) (i : ℕ) → (prior_row p dem past i).deadline ≡ length past → latest p i (length past) ≡ (prior_row p dem past i).job + 1
   next_job [] i e = grind (arith, latest-unique, release-suc p i 0, due-none p i, due-suc p i 0)
   next_job (x ∷ past) i e =
@@ -100,7 +100,7 @@ module _ (p : Plan) (dem : JobDemands) (periods : (i : ℕ) → 0 < period p i) 
   due_next : (past : List Tick) (i : ℕ) → due p i ((prior_row p dem past i).job + 1) ≡ (prior_row p dem past i).deadline + period p i
   due_next past i = due-suc p i (prior_row p dem past i).job ∙ ap (λ d. d + period p i) (sym (prior_due-is past i))
 
-  -- where a row isn't due, the latest job is that of the tick before
+  -- if a row isn't due, the latest job is that of the tick before
   pub same_job : (x : Tick) (past : List Tick) (i : ℕ) → nat_eq (prior_row p dem (x ∷ past) i).deadline (length (x ∷ past)) ≡ false
       → latest p i (length (x ∷ past)) ≡ latest p i (length past)
   same_job x past i e =
@@ -108,7 +108,7 @@ module _ (p : Plan) (dem : JobDemands) (periods : (i : ℕ) → 0 < period p i) 
       let before : length past + 1 < due p i (latest p i (length past)) = grind (arith, nat_tests, lt-due p i (length past) (periods i)) in
       ap (latest p i) now ∙ latest-stays p i (length past) (periods i) before
 
-  -- a row is due exactly where the plan has a release
+  -- a row is due exactly if the plan has a release
   pub due_released : (past : List Tick) (i : ℕ) (b : Bool) → nat_eq (prior_row p dem past i).deadline (length past) ≡ b → releases_at p i (length past) ≡ b
   due_released past i true e = grind (arith, next_job, release_next past i)
   due_released [] i false e = grind (arith, latest-none, release-none p i)
@@ -165,7 +165,7 @@ module _ (p : Plan) (dem : JobDemands) (periods : (i : ℕ) → 0 < period p i) 
       not_due i lt true q = absurd (true≢false (sym (due_released past i true q) ∙ any_below-false (count p) (λ i. releases_at p i (length past)) e i lt))
       not_due i lt false q = q
 
-  -- after a tick a row has the tick's units added, and is complete where they complete its job
+  -- after a tick a row has the tick's units added, and is complete if they complete its job
   pub row-ran : (x : Tick) (past : List Tick) (i : ℕ) → dem i 0 ≡ 0 → share x i ≤ units_left p dem past i
       → prior_row p dem (x ∷ past) i ≡ row_by (row_of p dem past i).deadline (row_of p dem past i).job ((row_of p dem past i).used
       + share x i) (nat_le (dem i (latest p i (length past))) ((row_of p dem past i).used + share x i)) (row_of p dem past i).worst

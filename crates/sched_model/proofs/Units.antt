@@ -92,7 +92,7 @@ module _ (p : Plan) (past : List Tick) (x : Tick) where
       + ((point p x.entry).speed - sum_below (count p) (share x)) * weight Nobody
   units-sum weight = grind (arith, nat_tests, sum_by-append, sum_by-replicate, given-sum, sum_list-in_order)
 
-  -- the weight of a tick's units, where all jobs' units weigh the same
+  -- the weight of a tick's units, if all jobs' units weigh the same
   pub units-weight : (weight : Holder → ℕ) (unit : ℕ) → ((i k : ℕ) → weight (Held i k) ≡ unit)
       → sum_by weight (tick_units p past x)
       ≡ sum_below (count p) (share x) * unit + ((point p x.entry).speed - sum_below (count p) (share x)) * weight Nobody

@@ -26,7 +26,7 @@ put_off p due left after i =
     then 0
     else min (left i) (((top_speed p * hyper p) - before - after) * slack p due i / hyper p)
 
--- vi, the rate that task i needs from the earliest deadline on for the units that it put off; ui where Li is 0
+-- vi, the rate that task i needs from the earliest deadline on for the units that it put off; ui if Li is 0
 abbrev pub spread_rate : Plan → (ℕ → ℕ) → (ℕ → ℕ) → ℕ → ℕ → ℕ
 spread_rate p due left after i =
     if nat_eq (slack p due i) 0

@@ -7,7 +7,7 @@ use Rattle.sched_model.specs.Ticks.{Tick, exec}
 use Rattle.sched_model.specs.Priority.{sum_up_to}
 use Rattle.sched_model.specs.Schedule.{schedule}
 
--- what the job of task i released last before the present tick lacks of its worst case; 0 where none was
+-- what the job of task i released last before the present tick lacks of its worst case; 0 if none was
 abbrev pub lacking : Plan → List Tick → ℕ → ℕ
 lacking p past i = let k = latest p i (length past - 1) in worst_demand p i k - exec p past i k
 

@@ -43,7 +43,7 @@ units_at_mark p v = (v.first - v.mark) * static_speed p
 abbrev pub allotted_of : Plan → SinceRelease → ℕ → ℕ
 allotted_of p v i = allotment (count p) (period p) (units_at_mark p v) v.base i
 
--- di, what is left of the allotment of task i; 0 where its job is complete
+-- di, what is left of the allotment of task i; 0 if its job is complete
 abbrev pub allotment_left_of : Plan → SinceRelease → ℕ → ℕ
 allotment_left_of p v i = if v.done i then 0 else allotted_of p v i - v.had i
 

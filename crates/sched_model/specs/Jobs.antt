@@ -31,7 +31,7 @@ release p i k = offset p i + (k - 1) * period p i
 unfoldable pub due : Plan → ℕ → ℕ → ℕ
 due p i k = offset p i + k * period p i
 
--- the job of task i that was released last, up to and including tick t; job 0 where none was
+-- the job of task i that was released last, up to and including tick t; job 0 if none was
 unfoldable pub latest : Plan → ℕ → ℕ → ℕ
 latest p i t = if nat_le (offset p i) t then (t - offset p i) / period p i + 1 else 0
 
@@ -56,7 +56,7 @@ is_release p t = any_below (count p) (λ i. releases_at p i t)
 abbrev pub earliest : Plan → ℕ → ℕ
 earliest p t = least_below (count p) (λ i. deadline p i t)
 
--- r, the last tick with a release, up to and including tick t; 0 where there is none
+-- r, the last tick with a release, up to and including tick t; 0 if there is none
 abbrev pub last_release : Plan → ℕ → ℕ
 last_release p t = last_up_to t (is_release p)
 

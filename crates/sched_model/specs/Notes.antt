@@ -13,7 +13,7 @@ use Rattle.sched_model.specs.Ticks.{PublishedDemand, Tick, exec, share}
 use Rattle.sched_model.specs.Priority.{key_of, in_order}
 use Rattle.sched_model.specs.Decision.{is_decision}
 
--- the release of task i at tick t, with the completion of its job where its demand is 0; none where it has no release
+-- the release of task i at tick t, with the completion of its job if its demand is 0; none if it has no release
 abbrev pub release_notes : Plan → JobDemands → ℕ → ℕ → List Note
 release_notes p dem t i =
     let k = latest p i t in
@@ -59,7 +59,7 @@ idle_energy p e units = let mv = (point p e).millivolts in units * mv * mv * p.m
 abbrev pub most_unit_energy : ℕ
 most_unit_energy = MOST_MILLIVOLTS * MOST_MILLIVOLTS * 1000
 
--- a segment from unit number q of a span on, with the completion of its job where the job then has its demand
+-- a segment from unit number q of a span on, with the completion of its job if the job then has its demand
 abbrev pub segment_notes : Plan → JobDemands → Span → ℕ → ℕ → Holder → List Note
 segment_notes p dem s q units Nobody =
     let at_unit = position_of (length s.past) ((point p s.entry).speed) in

@@ -11,7 +11,7 @@ use Rattle.sched_model.specs.Ticks.{Tick, share, units_left}
 abbrev pub stands_before : (ℕ → ℕ) → ℕ → ℕ → Bool
 stands_before key j i = nat_lt (key j) (key i) || (nat_eq (key j) (key i) && nat_lt j i)
 
--- the earlier by the key of task i and another; task i where there is no other
+-- the earlier by the key of task i and another; task i if there is no other
 abbrev pub earlier_of : (ℕ → ℕ) → Option ℕ → ℕ → ℕ
 earlier_of key None i = i
 earlier_of key (Some k) i = if stands_before key i k then i else k
@@ -26,7 +26,7 @@ unfoldable pub in_order : (ℕ → ℕ) → ℕ → List ℕ
 in_order key zero = []
 in_order key (suc n) = insert_by key n (in_order key n)
 
--- where the pairs are a key and its number for each number below n, the list has these numbers in the order of the key
+-- if the pairs are a key and its number for each number below n, the list has these numbers in the order of the key
 abbrev pub AreInOrder : List (ℕ × ℕ) → List ℕ → Type 0
 AreInOrder pairs numbers = (key : ℕ → ℕ) (n : ℕ) → pairs ≡ list_below n (λ i. (key i, i)) → numbers ≡ in_order key n
 

@@ -34,7 +34,7 @@ abbrev pub key_in : Scheduler → Plan → StateView → ℕ → ℕ
 key_in Edf p s i = (row_at s i).deadline
 key_in Rm p s i = period p i
 
--- the units that the job of a row may still need by its worst case; 0 where it is complete
+-- the units that the job of a row may still need by its worst case; 0 if it is complete
 abbrev pub row_wleft : Row → ℕ
 row_wleft row = if row.done then 0 else row.worst - row.used
 

@@ -20,7 +20,7 @@ pub fn stands_before(tasks: &TaskSet, j: u32, i: u32) -> bool
     first < second || (first == second && j < i)
 }
 
-/// The earlier in RM order of task `i` and another; task `i` where there is no other.
+/// The earlier in RM order of task `i` and another; task `i` if there is no other.
 pub fn earlier_of(tasks: &TaskSet, other: Option<u32>, i: u32) -> u32
     requires first { i < length tasks.now }
     requires second { ForSome other (λ k. k < length tasks.now) }
@@ -64,7 +64,7 @@ pub fn numbers_in_order(alloc: Global, keys: Vec<(u128, u32)>) -> Result<Vec<u32
     numbers_of(alloc, &sorted)
 }
 
-/// The tasks' numbers in RM order: by period, and tasks of equal periods in file order. `NoMemory` where memory ran out.
+/// The tasks' numbers in RM order: by period, and tasks of equal periods in file order. `NoMemory` if memory ran out.
 pub fn rm_order(alloc: Global, tasks: &TaskSet) -> Result<Vec<u32>, NoMemory>
     ensures { IfOk result (λ v. v.items ≡ in_order (λ i. (task_at tasks.now i).period) (length tasks.now)) }
 {

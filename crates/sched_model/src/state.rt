@@ -51,7 +51,7 @@ fn opening_row(offset: u64, worst: u64) -> Row
     }
 }
 
-// The work units that the job of a row may still need at most; 0 where it is complete.
+// The work units that the job of a row may still need at most; 0 if it is complete.
 fn worst_left(row: Row) -> u64
     requires { row.used ≤ row.worst }
     ensures { result ≡ row_wleft row }
@@ -80,7 +80,7 @@ impl State {
         })
     }
 
-    /// The work units that a task's job may still need at most; 0 where it is complete.
+    /// The work units that a task's job may still need at most; 0 if it is complete.
     pub fn worst_left(&self, task: u32) -> u64
         requires { task < length self.now.rows }
         ensures { result ≡ row_wleft (row_at self.entry.now task) }

@@ -39,7 +39,7 @@ abbrev pub CountsLoads : ℕ → ℕ → Status → Type 0
 CountsLoads before now (status.Load kind) = ⊤
 CountsLoads before now s = now ≡ before
 
--- a sink's count of failed puts never falls, rises where the status is `Write`, and else stays
+-- a sink's count of failed puts never falls, rises if the status is `Write`, and otherwise stays
 abbrev pub CountsPuts : ℕ → ℕ → Status → Type 0
 CountsPuts before now status.Write = Rose before now × (before ≤ now)
 CountsPuts before now s = now ≡ before
@@ -91,7 +91,7 @@ Leaves status.Done old new = ⊤
 Leaves status.Write old new = ⊤
 Leaves s old new = new ≡ old
 
--- where no probes are asked for their list is as before; else every status but `Done` and `Write` leaves it as it was
+-- if no probes are asked for their list is as before; otherwise every status but `Done` and `Write` leaves it as it was
 abbrev pub LeavesProbes : {V : Type 0} → Bool → Status → V → V → Type 0
 LeavesProbes true s old new = Leaves s old new
 LeavesProbes false s old new = new ≡ old

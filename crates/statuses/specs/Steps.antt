@@ -14,19 +14,19 @@ EndsWith step status.NoMemory = ⊤
 EndsWith step (status.Load kind) = ⊤
 EndsWith step s = step ≡ Err s
 
--- the status of a step that gave no value, where the files are not known
+-- the status of a step that gave no value, if the files are not known
 abbrev pub IsRefusal : Status → Type 0
 IsRefusal status.Done = ⊥
 IsRefusal (status.Words why) = ⊥
 IsRefusal status.Write = ⊥
 IsRefusal s = ⊤
 
--- where the files are known, the step gives this value
+-- if the files are known, the step gives this value
 abbrev pub Gives : {A : Type 0} → Option Files → (Files → Result A Status) → A → Type 0
 Gives None step a = ⊤
 Gives (Some files) step a = step files ≡ Ok a
 
--- where the files are known, the step ends with this status; else it is a status that a step can refuse with
+-- if the files are known, the step ends with this status; otherwise it is a status that a step can refuse with
 abbrev pub Refuses : {A : Type 0} → Option Files → (Files → Result A Status) → Status → Type 0
 Refuses None step s = IsRefusal s
 Refuses (Some files) step s = EndsWith (step files) s

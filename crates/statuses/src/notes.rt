@@ -13,7 +13,7 @@ use dvs_base::{Sink, put_line};
 use probes::Probe;
 use task_model::TaskSet;
 
-/// Puts the lines of a status to `notes`, with the names of the tasks where they were read. After the first put that
+/// Puts the lines of a status to `notes`, with the names of the tasks if they were read. After the first put that
 /// fails no more is put.
 pub fn note_status<E: Sink>(status: &Status, tasks: Option<&TaskSet>, notes: &mut E)
     ensures { NotedAs (E.shows notes.old) (E.shows notes.new)

@@ -63,7 +63,7 @@ fn counted_line(probe: Counted, task: Part<'_>) -> Line
     ])
 }
 
-// The line of a probe: a task is shown by its name, where there is such a task.
+// The line of a probe: a task is shown by its name, if there is such a task.
 fn probe_line(probe: Counted, tasks: Option<&TaskSet>) -> Line
     ensures text { result ≡ probe_text (names_of (option_copied tasks.entry)) probe.place (probe_of probe) }
     ensures some { 0 < length result }
@@ -77,7 +77,7 @@ fn probe_line(probe: Counted, tasks: Option<&TaskSet>) -> Line
     }
 }
 
-/// Puts the lines of the probes, with the names of the tasks where they were read. After the first put that fails no
+/// Puts the lines of the probes, with the names of the tasks if they were read. After the first put that fails no
 /// more is put.
 pub(crate) fn put_probes<E: Sink, P: Probe>(probes: &[P], tasks: Option<&TaskSet>, notes: &mut E)
     ensures { NotedAs (E.shows notes.old) (E.shows notes.new)

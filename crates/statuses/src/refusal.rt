@@ -121,7 +121,7 @@ fn denied_line(why: &Denied, tasks: Option<&TaskSet>) -> Line
     }
 }
 
-/// The line of a status that has at most one, with the names of the tasks where they were read. It takes no memory.
+/// The line of a status that has at most one, with the names of the tasks if they were read. It takes no memory.
 pub fn status_line(status: &Status, tasks: Option<&TaskSet>) -> Line
     requires { HasOneLine status.now }
     ensures { result ≡ status_text (names_of (option_copied tasks.entry)) status.now }

@@ -20,7 +20,7 @@ enum State {
     Digit(u8),
 }
 
-/// The bytes that a text means. `Script` where an escape has no form.
+/// The bytes that a text means. `Script` if an escape has no form.
 pub(crate) fn unescaped(alloc: Global, text: &str) -> Result<Vec<u8>, Trouble> {
     let mut bytes = Vec::new(alloc);
     let mut state = State::Unescaped;

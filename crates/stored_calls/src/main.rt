@@ -3,7 +3,7 @@
 //! It prints the words of each call, what the call writes to both sinks, and its exit status. The gate compares that with
 //! the stored output, which doesn't come from the program: `#` lines of the list say how each part was obtained.
 //! The form of the list is in `script.rt`.
-//! It ends with 3 where the list can't be read, with 8 where a write fails and with 9 where memory runs out.
+//! It ends with 3 if the list can't be read, with 8 if a write fails and with 9 if memory runs out.
 #![tactic(auto)]
 
 mod escape;

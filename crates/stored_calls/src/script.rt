@@ -62,7 +62,7 @@ fn words_of(alloc: Global, line: &str) -> Result<Vec<String>, Trouble> {
     Ok(words)
 }
 
-// A call with the files of its case; `Script`, with a line that says so, where the case lacks one.
+// A call with the files of its case; `Script`, with a line that says so, if the case lacks one.
 fn run_call(rt: &HostRuntime, line: &str, stage: &mut Stage) -> Result<(), Trouble> {
     let words = words_of(rt.alloc(), line)?;
     for word in &words {

@@ -19,7 +19,7 @@ fn show_text(rt: &HostRuntime, mark: char, text: &[u8]) -> Result<(), Trouble> {
 }
 
 /// The words of a call, the lines of the answer after `|`, those of the notes after `!`, the exit status, and how many
-/// loads, puts of the answer and puts of the notes failed, where some did.
+/// loads, puts of the answer and puts of the notes failed, if some did.
 pub(crate) fn show_call(rt: &HostRuntime, words: &str, ending: &Ending) -> Result<(), Trouble> {
     let blank = if words.is_empty() { "" } else { " " };
     println!(rt; "rtdvs{blank}{words}").map_err(|_| Trouble::Write)?;

@@ -107,7 +107,7 @@ impl Stage {
         }
     }
 
-    /// Begins the file of this name anew; `Script` where there is none of the name.
+    /// Begins the file of this name anew; `Script` if there is none of the name.
     pub(crate) fn begin(&mut self, alloc: Global, name: &str) -> Result<(), Trouble> {
         let place = Place::named(name).ok_or(Trouble::Script)?;
         *self.file_mut(place) = Some(Vec::new(alloc));
@@ -115,7 +115,7 @@ impl Stage {
         Ok(())
     }
 
-    /// Adds bytes to the file that was begun last; `Script` where the case has none.
+    /// Adds bytes to the file that was begun last; `Script` if the case has none.
     pub(crate) fn add(&mut self, bytes: &[u8]) -> Result<(), Trouble> {
         let place = self.last.ok_or(Trouble::Script)?;
         match self.file_mut(place) {

@@ -58,7 +58,7 @@ task_at-before tasks t i lt = get_or_append_left tasks (t ∷ []) no_task i lt
 task_at-last : (tasks : List Task) (t : Task) → task_at (tasks ++ t ∷ []) (length tasks) ≡ t
 task_at-last tasks t = get_or-append_seam tasks t [] no_task
 
--- no two tasks have one name, where the last one's name is not among those before
+-- no two tasks have one name, if the last one's name is not among those before
 distinct-push : (tasks : List Task) (t : Task) → AreTasks tasks → place_of tasks t.name ≡ None
     → (i j : ℕ) → i < j → j < length tasks + 1 → (task_at (tasks ++ t ∷ []) i).name ≡ (task_at (tasks ++ t ∷ []) j).name → ⊥
 distinct-push tasks t known alone i j lt high =
@@ -102,7 +102,7 @@ pub IsUtf8-name : (bytes : List ℕ) → is_name bytes ≡ true → IsUtf8 bytes
 IsUtf8-name bytes h =
     IsUtf8-from_ascii bytes (name_bytes bytes (and_parts (nat_le 1 (length bytes) && nat_le (length bytes) NAME_BYTES) (list_all is_name_byte bytes) h).1)
 
--- where two tests are true, both together are
+-- if two tests are true, both together are
 test_both : (a b : Bool) → a ≡ true → b ≡ true → (a && b) ≡ true
 test_both true b h k = k
 test_both false b h k = h

@@ -34,7 +34,7 @@ task_fault_at place field member_fault.Missing = fault.Missing place field
 task_fault_at place field member_fault.Kind = fault.Kind place field
 task_fault_at place field member_fault.Range = fault.Range place field
 
--- the text as the name of the task at this place, or the refusal where it is not a name
+-- the text as the name of the task at this place, or the refusal if it is not a name
 abbrev pub checked_name : ℕ → List ℕ → Result (List ℕ) TaskFault
 checked_name place text = if is_name text then Ok text else Err (fault.BadName place)
 

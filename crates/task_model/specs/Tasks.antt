@@ -18,7 +18,7 @@ pub record IsFirstOffset (offset : ℕ → ℕ) (n i : ℕ) : Type 0 where
   pub later : offset i ≢ 0
   pub first : (k : ℕ) → k < i → offset k ≡ 0
 
--- the answer is the first task below n with an offset above 0, or None where no task has one
+-- the answer is the first task below n with an offset above 0, or None if no task has one
 abbrev pub FindsOffset : (ℕ → ℕ) → ℕ → Option ℕ → Type 0
 FindsOffset offset n found = MatchOption found (NoneOffset offset n) (IsFirstOffset offset n)
 
@@ -42,7 +42,7 @@ no_task = record { name = []; period = 1; worst = 0; offset = 0 }
 abbrev pub task_at : List Task → ℕ → Task
 task_at tasks i = slice_index_or tasks i no_task
 
--- the names of the tasks, where there is a set of them
+-- the names of the tasks, if there is a set of them
 abbrev pub names_of : Option (List Task) → List (List ℕ)
 names_of None = []
 names_of (Some tasks) = map (λ t. t.name) tasks

@@ -12,7 +12,7 @@ put_member key value no_members = member key value no_members
 put_member key value (member k v ms) = match_ordering (slice_cmp nat_cmp key k) (member key value (member k v ms)) (member k value ms)
     (member k v (put_member key value ms))
 
--- the members with the key of an offset in front where it isn't 0
+-- the members with the key of an offset in front if it isn't 0
 abbrev pub offset_before : ℕ → Members → Members
 offset_before n rest = if nat_lt 0 n then member (codes "offset") (integer (pos n)) rest else rest
 

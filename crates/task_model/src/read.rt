@@ -103,7 +103,7 @@ fn read_entries(alloc: Global, entries: &[Value]) -> Result<Vec<Task>, TaskFault
     Ok(tasks)
 }
 
-// The set of these tasks, where the least common multiple of their periods is within the limit.
+// The set of these tasks, if the least common multiple of their periods is within the limit.
 fn set_of(alloc: Global, tasks: Vec<Task>) -> Result<TaskSet, TaskFault>
     requires limits { AreTasks tasks.items }
     requires some { 1 ≤ vec_len tasks }
@@ -145,7 +145,7 @@ fn read_table(alloc: Global, table: &Table) -> Result<TaskSet, TaskFault>
 
 impl TaskSet {
     /// The tasks of the file: an array of tables under the key `task`, each with a `name`, a `period` in ticks, a
-    /// `worst` case in work units and an `offset` in ticks, which is 0 where it is absent. For any other file, its
+    /// `worst` case in work units and an `offset` in ticks, which is 0 if it is absent. For any other file, its
     /// first refusal, unless memory runs out.
     pub fn read(alloc: Global, bytes: &[u8]) -> Result<TaskSet, TaskFault>
         ensures { IsUnlessMemory TaskFault.NoMemory (λ s. s) result (task_file bytes.now) }

@@ -51,7 +51,7 @@ pub(crate) fn place_of(tasks: &[Task], name: &[u8]) -> Option<usize>
     tasks.iter().position(|t| t.name.as_bytes() == name)
 }
 
-// The least common multiple of the tasks' periods, where it is within the limit.
+// The least common multiple of the tasks' periods, if it is within the limit.
 fn hyper_within(alloc: Global, tasks: &[Task]) -> Result<Option<u64>, NoMemory>
     requires { AreTasks tasks.now }
     ensures { IfOk result (λ h. h ≡ where_within LONGEST_HYPERPERIOD (hyper_of tasks.now) (hyper_of tasks.now)) }
@@ -63,7 +63,7 @@ fn hyper_within(alloc: Global, tasks: &[Task]) -> Result<Option<u64>, NoMemory>
 }
 
 impl TaskSet {
-    // The set of these tasks, where the least common multiple of their periods is within the limit.
+    // The set of these tasks, if the least common multiple of their periods is within the limit.
     pub(crate) fn within(alloc: Global, tasks: Vec<Task>) -> Result<Option<TaskSet>, NoMemory>
         requires limits { AreTasks tasks.items }
         requires some { 1 ≤ vec_len tasks }
@@ -76,7 +76,7 @@ impl TaskSet {
         Ok(Some(TaskSet { tasks, hyper }))
     }
 
-    /// The set of these tasks, in this order. It fails only where memory runs out.
+    /// The set of these tasks, in this order. It fails only if memory runs out.
     pub fn of(alloc: Global, tasks: &[Task]) -> Result<TaskSet, NoMemory>
         requires { IsTaskSet tasks.now }
         ensures { IfOk result (λ s. s ≡ tasks.now) }
@@ -112,14 +112,14 @@ impl TaskSet {
         self.hyper
     }
 
-    /// The number of the one task with this name, and None exactly where no task has it.
+    /// The number of the one task with this name, and None exactly if no task has it.
     pub fn find(&self, name: &[u8]) -> Option<u32>
         ensures { result ≡ place_of self.now name.now }
     {
         Some(place_of(&self.tasks, name)? as u32)
     }
 
-    /// The first task in file order with an offset other than 0, and None exactly where no task has one. Tasks count
+    /// The first task in file order with an offset other than 0, and None exactly if no task has one. Tasks count
     /// from 0.
     pub fn first_offset(&self) -> Option<u32>
         ensures finds { FindsOffset (λ k. (task_at self.now k).offset) (length self.now) result }
@@ -142,7 +142,7 @@ impl TaskSet {
     }
 }
 
-/// The name of a task of the set, by its number from 0 on, where there is a set and it has this task. It takes no
+/// The name of a task of the set, by its number from 0 on, if there is a set and it has this task. It takes no
 /// memory.
 pub fn task_name(tasks: Option<&TaskSet>, task: u32) -> Option<Name>
     ensures { name_text result ≡ name_of (names_of (option_copied tasks.entry)) task }

@@ -74,7 +74,7 @@ fn document_of(alloc: Global, tasks: &[Task]) -> Result<Table, NoMemory>
 }
 
 impl TaskSet {
-    /// A document whose meaning is this set, so that reading it gives the set again. It fails only where memory runs
+    /// A document whose meaning is this set, so that reading it gives the set again. It fails only if memory runs
     /// out.
     pub fn write(&self, alloc: Global) -> Result<String, NoMemory>
         ensures { IfOk result (λ text. task_file (string_bytes text) ≡ Ok self.now) }

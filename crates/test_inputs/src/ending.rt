@@ -22,7 +22,7 @@ pub struct Outcome {
     pub faults: [u64; 3],
 }
 
-/// The bytes as text, or `?` where they aren't UTF-8. No clause says so.
+/// The bytes as text, or `?` if they aren't UTF-8. No clause says so.
 pub fn shown(bytes: &[u8]) -> &str {
     std::str::from_utf8(bytes).unwrap_or("?")
 }
@@ -63,7 +63,7 @@ impl Outcome {
     }
 }
 
-/// The part of `text` that a sink has where the put of `line`, which begins after `before` bytes, takes `taken` bytes
+/// The part of `text` that a sink has if the put of `line`, which begins after `before` bytes, takes `taken` bytes
 /// and fails. No clause says so.
 pub fn first_part<'a>(text: &'a str, before: usize, line: &str, taken: u64) -> &'a str {
     let end = before.saturating_add(line.len().min(taken as usize));

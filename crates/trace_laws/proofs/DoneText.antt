@@ -77,7 +77,7 @@ IsOther name k l = (at_end : Pos) → IsDoneLine name k at_end l → ⊥
 other-line : (name : List ℕ) (k : ℕ) (l : List ℕ) → IsQuiet l → IsOther name k l
 other-line name k l other at_end d = true≢false (sym (ap (λ (m : List ℕ). nat_eq (get_or m 0 0) 100) d.1) ∙ other)
 
--- where no line is the completion's, none of their texts is
+-- if no line is the completion's, none of their texts is
 none-done : (name : List ℕ) (k : ℕ) (ls : List NotedLine) → AllByRecursion (λ l. IsOther name k l.text) ls → NoDoneLine name k (map (λ l. l.text) ls)
 none-done name k ls h = All-map (IsOther name k) (λ (l : NotedLine). l.text) ls (All-from_recursion (λ (l : NotedLine). IsOther name k l.text) ls h)
 
@@ -102,7 +102,7 @@ silent ns named i k apart low n off small at_end d = go n off small (d.0, sym (n
         true≢false (sym found ∙ off)
     go n off small d = other-line (name_of ns i) k (line (fields_of ns n)) refl at_end d
 
--- where no note of some is the job's completion, no line of theirs is
+-- if no note of some is the job's completion, no line of theirs is
 silent-lines : (v : Version) (ns : List (List ℕ)) → ((i : ℕ) → AreUnspaced (name_of ns i)) → (i k : ℕ)
     → ((j : ℕ) → name_of ns j ≡ name_of ns i → j ≡ i) → k < 2 ^ 64
     → (all notes : List Note) → AllByRecursion (λ n. tells_done i k n ≡ false) notes
@@ -126,7 +126,7 @@ each-after : {A : Type 0} (P : A → Type 0) (xs ys : List A) → AllByRecursion
 each-after P [] ys e = e
 each-after P (x ∷ xs) ys e = each-after P xs ys e.1
 
--- where each test that counts anything has a number below 2^64, so has each test that an element passes
+-- if each test that counts anything has a number below 2^64, so has each test that an element passes
 each-counted : {A : Type 0} (tests : ℕ → A → Bool) (xs : List A) → ((l : ℕ) → 0 < count_by (tests l) xs → l < 2 ^ 64)
     → AllByRecursion (λ x. (l : ℕ) → tests l x ≡ true → l < 2 ^ 64) xs
 each-counted tests [] h = tt
@@ -195,7 +195,7 @@ module _ (p : Plan) (dem : JobDemands) (ask : PublishedDemand) (lim : IsWithinLi
     low-job : k < 2 ^ 64
     low-job = omega (arith, le-due p i k (every_period p lim i), within, low)
 
-    -- where the notes have exactly one completion of the job, so does the text
+    -- if the notes have exactly one completion of the job, so does the text
     told-by : IsAlone (tells_done i k) notes → IsToldBy name k (due p i k) (text v g t)
     told-by r = go r.one refl
       where

@@ -11,7 +11,7 @@ use Rattle.sched_model.proofs.Walk.{before-end-each}
 use Rattle.trace_reader.specs.Traces.{IsEnded}
 use Rattle.trace_reader.proofs.TraceTexts.{is-ended}
 
--- where notes are ended, and are so with more after them, there are no more
+-- if notes are ended, and are so with more after them, there are no more
 pub whole-prefix : (notes more : List Note) → IsEnded notes → IsEnded (notes ++ more) → more ≡ []
 whole-prefix [] more once all = absurd once
 whole-prefix (n ∷ []) [] once all = refl

@@ -19,7 +19,7 @@ with-narrow s e = by (nat_lt s (2 ^ 128)) refl
     by true below = refl
     by false above = let far : nat_lt (s + e) (2 ^ 128) ≡ false = grind (arith, nat_tests) in rw far refl
 
--- the energy of a task with one note more is the sum, with the note's energy where it is the task's run
+-- the energy of a task with one note more is the sum, with the note's energy if it is the task's run
 pub energy-more : (notes : List Note) (n : Note) (i : ℕ) → task_energy (notes ++ n ∷ []) i ≡ task_energy notes i + energy_of_task i n
 energy-more notes n i = omega (arith, sum_by-append (energy_of_task i) notes (n ∷ []))
 

@@ -86,7 +86,7 @@ version_2 :
 unfolding read
 version_2 = refl
 
--- its first line is refused where version 1 is the newest that is read
+-- its first line is refused if version 1 is the newest that is read
 too_new :
     read One (head ++ codes "energy a 18" ∷ codes "energy b 0" ∷ codes "end 1 18 0" ∷ [])
     ≡ Err (Refused 1 kind.Version)
@@ -135,7 +135,7 @@ from_the_left = refl
 abbrev bare : ℕ → List ℕ
 bare bytes = replicate bytes 97
 
--- a line after the most lines is one too many, even where it is too long, with 256 bytes; a missing line feed comes before both
+-- a line after the most lines is one too many, even if it is too long, with 256 bytes; a missing line feed comes before both
 limits_of_lines :
     (line_at (MOST_LINES + 1) (bare 256 ∷ [] ∷ []) ∷ line_at MOST_LINES (bare 256 ∷ [] ∷ []) ∷ line_at MOST_LINES (bare 255 ∷ [] ∷ [])
     ∷ line_at (MOST_LINES + 1) (bare 256 ∷ []) ∷ [])

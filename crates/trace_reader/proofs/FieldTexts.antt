@@ -22,16 +22,16 @@ use Rattle.trace_reader.specs.Fields.{parts, whole_in, wide_in, position_in, fra
 use Rattle.trace_reader.specs.Traces.{IsPlace}
 use Rattle.trace_reader.proofs.UnspacedFields.{lacks-decimal, parts-first, parts-alone}
 
--- where a choice between a result and an error gives a value, the result did
+-- if a choice between a result and an error gives a value, the result did
 pub if-ok : {A F : Type 0} (b : Bool) (r : Result A F) (k : F) (x : A) → (if b then r else Err k) ≡ Ok x → (b ≡ true) × (r ≡ Ok x)
 if-ok true r k x e = (refl, e)
 if-ok false r k x e = absurd cc
 
--- the same where the result is a value
+-- the same if the result is a value
 pub if-made : {A F : Type 0} (b : Bool) (x y : A) (k : F) → (if b then Ok x else Err k) ≡ Ok y → (b ≡ true) × (x ≡ y)
 if-made {F = F} b x y k e = let r = if-ok b (Ok x) k y e in (r.0, ok-is {F = F} x y r.1)
 
--- where a sequence of two steps gives a value, and the first of them gives only values with a property, it gave one
+-- if a sequence of two steps gives a value, and the first of them gives only values with a property, it gave one
 pub read-step : {A B F : Type 0} {P : A → Type 0} {r : Result A F} {f : A → Result B F} {y : B} → ((x : A) → r ≡ Ok x → P x) → (r >>= f) ≡ Ok y
     → (x : A) × P x × (f x ≡ Ok y)
 read-step {r = r} {f = f} {y = y} found e = let s = step-ok r f y e in (s.0, found s.0 s.1, s.2)

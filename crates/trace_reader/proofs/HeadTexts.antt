@@ -53,7 +53,7 @@ abbrev pub version_body : Version → List ℕ
 version_body One = codes "trace 1"
 version_body Two = codes "trace 2"
 
--- where a word is read as a value by its text, or else by what follows, it is the value's text if that is so of what follows
+-- if a word is read as a value by its text, or else by what follows, it is the value's text if that is so of what follows
 word-else : {A R : Type 0} (given : A → R) → ((x y : A) → given x ≡ given y → x ≡ y) → (text : A → List ℕ) (word : List ℕ) (x y : A) (rest : R)
     → (rest ≡ given y → word ≡ text y) → (if bytes_eq word (text x) then given x else rest) ≡ given y → word ≡ text y
 word-else given same text word x y rest later e = by (bytes_eq word (text x)) refl e

@@ -25,7 +25,7 @@ abbrev pub item_fields : List (List ℕ) → Item → List (List ℕ)
 item_fields names (Told n) = fields_of names n
 item_fields names (Share i energy) = codes "energy" ∷ name_of names i ∷ decimal energy ∷ []
 
--- the item's numbers fit in their types, its task is below c, and the version has lines for tasks where it is an energy
+-- the item's numbers fit in their types, its task is below c, and the version has lines for tasks if it is an energy
 abbrev pub IsItemOf : Version → ℕ → Item → Type 0
 IsItemOf v c (Told n) = IsNoteOf c n
 IsItemOf v c (Share i energy) = (has_task_lines v ≡ true) × (i < c) × (energy < 2 ^ 128)

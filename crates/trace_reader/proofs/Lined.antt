@@ -16,7 +16,7 @@ line-spaced (field ∷ []) = refl
 line-spaced (field ∷ other ∷ fields) =
     ap (λ l. field ++ (32 ∷ l)) (line-spaced (other ∷ fields)) ∙ sym (append_assoc field (32 ∷ spaced (other ∷ fields)) (10 ∷ []))
 
--- two texts are equal exactly where they are with a line feed after each
+-- two texts are equal exactly if they are with a line feed after each
 same-fed : (a b : List ℕ) → bytes_eq a b ≡ bytes_eq (a ++ (10 ∷ [])) (b ++ (10 ∷ []))
 same-fed [] [] = refl
 same-fed [] (y ∷ []) = sym (and-false (nat_eq 10 y))
@@ -25,7 +25,7 @@ same-fed (x ∷ []) [] = sym (and-false (nat_eq x 10))
 same-fed (x ∷ w ∷ a) [] = sym (and-false (nat_eq x 10))
 same-fed (x ∷ a) (y ∷ b) = ap (λ r. nat_eq x y && r) (same-fed a b)
 
--- a text is a line without its line feed exactly where, with one, it is the line
+-- a text is a line without its line feed exactly if, with one, it is the line
 pub same-line : (l text : List ℕ) (fields : List (List ℕ)) → text ≡ line fields
     → bytes_eq l (take (length text - 1) text) ≡ bytes_eq (l ++ (10 ∷ [])) (line fields)
 same-line l text fields e =

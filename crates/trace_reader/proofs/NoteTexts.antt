@@ -67,7 +67,7 @@ nothing-is : (ps : List (List ℕ)) → is_nothing ps ≡ true → ps ≡ [] ∷
 nothing-is ([] ∷ []) e = refl
 nothing-is _ e = absurd cc
 
--- the item of a note ends the run where the note does
+-- the item of a note ends the run if the note does
 ends-told : (n : Note) → ends (Told n) ≡ is_end n
 ends-told (End t run idle) = refl
 ends-told _ = refl
@@ -133,7 +133,7 @@ read-note v names n s text rest note all other read item more =
       lines = omega (arith, more.lines);
     }
 
--- where a choice between a number and 0 is above another number, the number was chosen
+-- if a choice between a number and 0 is above another number, the number was chosen
 pub wanted-some : (b : Bool) (energies_read n : ℕ) → energies_read < (if b then n else 0) → (b ≡ true) × (energies_read < n)
 wanted-some true energies_read n lt = (refl, lt)
 wanted-some false energies_read n lt = absurd (omega arith)
@@ -143,7 +143,7 @@ share-facts : (v : Version) (names : List (List ℕ)) (notes : List Note) (energ
     ≡ share_text (name_of names energies_read) (task_energy notes energies_read) ∷ drop (energies_read + 1) (shares v names notes))
 share-facts v names notes energies_read e lt = rw e (refl, shares-next names notes energies_read lt)
 
--- the energy of task j is below 2^128, where that of task `energies_read` is and those after it are
+-- the energy of task j is below 2^128, if that of task `energies_read` is and those after it are
 share-widths : (notes body : List Note) (energies_read j energy : ℕ) → body ≡ []
     → energy ≡ task_energy notes energies_read → energy < 2 ^ 128 → energies_read ≤ j
     → (energies_read + 1 ≤ j → task_energy (notes ++ body) j < 2 ^ 128) → task_energy (notes ++ []) j < 2 ^ 128

@@ -23,7 +23,7 @@ checked_line n line rest =
 pub line_at-more : (n : ℕ) (line text : List ℕ) → line_at n (line ∷ parts 10 text) ≡ checked_line n line (parts 10 text)
 line_at-more n line text = let p = some-part 10 text in rw p.all refl
 
--- where there is a task i, the first line of the tasks from i on
+-- if there is a task i, the first line of the tasks from i on
 pub record HasTaskLine (names : List (List ℕ)) (tasks : List TaskLine) (i : ℕ) : Type 0 where
   pub first : List ℕ
   pub all : task_lines (drop i names) (drop i tasks) ≡ first ∷ task_lines (drop (suc i) names) (drop (suc i) tasks)
@@ -35,7 +35,7 @@ some-task_line (name ∷ names) (t ∷ tasks) zero lt e = record { first = task_
 some-task_line (name ∷ names) (t ∷ tasks) (suc i) lt e =
     let more = some-task_line names tasks i (omega arith) (omega arith) in record { first = more.first; all = more.all }
 
--- where the line of a task is refused, so are the lines of the tasks
+-- if the line of a task is refused, so are the lines of the tasks
 pub tasks-refused : (n : ℕ) (names : List (List ℕ)) (tasks : List TaskLine) (i : ℕ) (rest : List (List ℕ)) (e : TraceFault)
     → i < length names → length tasks ≡ length names
     → line_at n rest ≡ Err e → parts_after_tasks n (task_lines (drop i names) (drop i tasks)) rest ≡ Err e

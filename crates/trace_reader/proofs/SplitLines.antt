@@ -50,7 +50,7 @@ module _ (names : List (List ℕ)) (named : (i : ℕ) → AreUnspaced (name_of n
   notes-fields [] = tt
   notes-fields (n ∷ notes) = ((fields_of names n, note-fields names n, unspaced-fields names named n), notes-fields notes)
 
-  -- each line of a trace has unspaced fields where the tasks' lines and names do
+  -- each line of a trace has unspaced fields if the tasks' lines and names do
   pub each-line : (v : Version) (s : Scheduler) (g : GovernorKind) (ticks : ℕ) (tasks : List (List ℕ)) (notes : List Note) → AllByRecursion IsLine tasks
       → AllByRecursion (λ l. IsLine l.text) (trace_lines v s g ticks names tasks notes)
   each-line v s g ticks tasks notes lined = (

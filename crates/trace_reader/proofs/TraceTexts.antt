@@ -49,7 +49,7 @@ is-ended [] last h end = end
 is-ended (n ∷ []) last h end = (h.0, end)
 is-ended (n ∷ m ∷ body) last h end = (h.0, is-ended (m ∷ body) last h.1 end)
 
--- where the energies of the tasks are below 2^128 before the last note, they are with it
+-- if the energies of the tasks are below 2^128 before the last note, they are with it
 shares-found : (v : Version) (names : List (List ℕ)) (body : List Note) (last : Note) → is_end last ≡ true
     → ((i : ℕ) → i < energy_line_count v names → task_energy body i < 2 ^ 128) → HasShares v (length names) (body ++ last ∷ [])
 shares-found v names body last end h has i lt =

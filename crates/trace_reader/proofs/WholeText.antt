@@ -18,7 +18,7 @@ use Rattle.trace_reader.specs.Heads.{version_task_lines}
 use Rattle.trace_reader.specs.TraceFile.{energy_line_count}
 use Rattle.trace_reader.specs.Traces.{is_end, IsEnded, lines_for_tasks}
 
--- the lines of a note are its own, and before it those of the tasks' energies where it ends the run
+-- the lines of a note are its own, and before it those of the tasks' energies if it ends the run
 pub lines-by : (v : Version) (names : List (List ℕ)) (all : List Note) (n : Note) (b : Bool) → is_end n ≡ b
     → lines_of_note v names all n ≡ (if b then for_tasks v (shares_from all 0 names) else []) ++ line_of_note names n ∷ []
 lines-by v names all n b e = own n ∙ ap (λ (c : Bool). (if c then for_tasks v (shares_from all 0 names) else []) ++ line_of_note names n ∷ []) e

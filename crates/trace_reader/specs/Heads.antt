@@ -23,7 +23,7 @@ line_at n (line ∷ next ∷ rest) =
     else Ok (line, next ∷ rest))
 line_at n _ = Err (Refused n kind.NoEnd)
 
--- a number that the next line may have, where the lines before it were read
+-- a number that the next line may have, if the lines before it were read
 abbrev pub MayBeNext : ℕ → Type 0
 MayBeNext n = n ≤ MOST_LINES + 1
 
@@ -50,7 +50,7 @@ abbrev pub at_line : {A : Type 0} → ℕ → Result A TraceKind → Result A Tr
 at_line n (Ok x) = Ok x
 at_line n (Err k) = Err (Refused n k)
 
--- the number of the next line and the parts after, where the lines from line n on are those of the tasks
+-- the number of the next line and the parts after, if the lines from line n on are those of the tasks
 unfoldable pub parts_after_tasks : ℕ → List (List ℕ) → List (List ℕ) → Result (ℕ × List (List ℕ)) TraceFault
 parts_after_tasks n [] rest = Ok (n, rest)
 parts_after_tasks n (task ∷ tasks) rest = do

@@ -95,7 +95,7 @@ item_of v names (word ∷ fields) =
     else (if bytes_eq word (codes "energy") then energy_in v names fields
     else Err kind.Word))))))
 
--- the task of an item, where it has one, is below c
+-- the task of an item, if it has one, is below c
 abbrev pub HasTaskBelow : ℕ → Item → Type 0
 HasTaskBelow c (Told (Release t i k)) = i < c
 HasTaskBelow c (Told (Run from to i k units energy)) = i < c

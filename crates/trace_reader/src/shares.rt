@@ -32,7 +32,7 @@ impl Shares {
         }
     }
 
-    // Adds the energy of the note where it is a run.
+    // Adds the energy of the note if it is a run.
     pub(crate) fn add(&mut self, note: &Note)
         requires { HasTaskBelow MOST_TASKS (Item.Told note.now) }
         ensures { (notes : List Note) → HasSums notes self.old.sums → HasSums (notes ++ note.now ∷ []) self.new.sums }
@@ -64,7 +64,7 @@ impl Shares {
     }
 }
 
-/// The energy of each task, the sum over its runs, where that is below 2^128.
+/// The energy of each task, the sum over its runs, if that is below 2^128.
 pub fn task_energies(notes: &[Note]) -> [u128; MOST_TASKS]
     requires { AllByRecursion (λ n. HasTaskBelow MOST_TASKS (Item.Told n)) notes.now }
     ensures { (i : ℕ) → i < MOST_TASKS → task_energy notes.now i < 2 ^ 128

@@ -80,7 +80,7 @@ fn push_at(to: &mut Line, pos: Pos)
     push_word(to, b":0");
 }
 
-// Appends a name, or nothing where there is none.
+// Appends a name, or nothing if there is none.
 #[inline]
 fn push_task(to: &mut Line, name: Option<&Name>)
     requires { length to.old + NAME_BYTES ≤ LINE_BYTES }

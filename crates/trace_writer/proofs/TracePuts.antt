@@ -141,7 +141,7 @@ module _ (v : Version) (p : Plan) (t : TraceView) where
   abbrev whole : List ℕ
   whole = text_of (names p) (task_texts p) (record t { version = v })
 
-  -- numbers that are the energies of the tasks where these are below 2^128 are them, for a trace whose energies are
+  -- numbers that are the energies of the tasks if these are below 2^128 are them, for a trace whose energies are
   pub energies-are : (notes : List Note) (energies : List ℕ) → notes ≡ t.notes → count p ≤ MOST_TASKS
       → HasShares v (length (names p)) t.notes
       → ((i : ℕ) → i < MOST_TASKS → task_energy notes i < 2 ^ 128 → slice_index energies i ≡ task_energy notes i)

@@ -27,7 +27,7 @@ text-append xs ys = flat_map-append (λ (l : NotedLine). l.text) xs ys
 pub notes-append : (xs ys : List NotedLine) → notes_of_lines (xs ++ ys) ≡ notes_of_lines xs ++ notes_of_lines ys
 notes-append xs ys = flat_map-append (λ (l : NotedLine). l.notes) xs ys
 
--- where the writing stopped in a line, a first part of the lines' text was written
+-- if the writing stopped in a line, a first part of the lines' text was written
 pub stopped-some : (a b : SinkView) (ps qs : List ProbeView) (lines : List NotedLine) → StoppedIn a b ps qs lines → WroteSome a b (text_of_lines lines)
 stopped-some a b ps qs lines s =
     subst (λ (t : List ℕ). WroteSome a b t) (sym (ap text_of_lines s.whole ∙ text-append s.done (s.line ∷ s.rest)))

@@ -12,7 +12,7 @@ use dvs_base::{Failed, Line, Note, Sink, Version};
 use sched_model::Admitted;
 use trace_reader::{Trace, task_energies};
 
-// Puts the lines before that of a note: those of the energies of the tasks before the end of the run, and else nothing.
+// Puts the lines before that of a note: those of the energies of the tasks before the end of the run, otherwise nothing.
 fn put_sums_before<W: Sink>(
     head: Head<'_>,
     energies: &[u128],
@@ -64,7 +64,7 @@ fn put_notes<W: Sink>(
 }
 
 /// Writes the text of a trace of an admitted plan in this version, one `put` a line. It takes no memory. `Failed` comes
-/// only where the sink's count of faults rose, with a first part of the text put.
+/// only if the sink's count of faults rose, with a first part of the text put.
 pub fn put_trace<W: Sink>(
     plan: &Admitted,
     trace: &Trace,

@@ -99,7 +99,7 @@ fn put_tasks<W: Sink>(version: Version, plan: &Admitted, out: &mut W) -> Result<
     Ok(())
 }
 
-/// Puts the lines before the notes: the version, the plan, and those of the tasks. `Failed` comes only where the sink
+/// Puts the lines before the notes: the version, the plan, and those of the tasks. `Failed` comes only if the sink
 /// failed at one of them.
 pub fn put_head<W: Sink>(head: Head<'_>, out: &mut W) -> Result<(), Failed>
     ensures { WritesUnnoted (W.shows out.old) (W.shows out.new)
@@ -112,7 +112,7 @@ pub fn put_head<W: Sink>(head: Head<'_>, out: &mut W) -> Result<(), Failed>
 }
 
 /// Puts a line with each task's energy in a version that has such lines, and nothing in another. `energies` has one for
-/// each task, in the unit of a note's energy. `Failed` comes only where the sink failed at one of the lines.
+/// each task, in the unit of a note's energy. `Failed` comes only if the sink failed at one of the lines.
 pub fn put_sums<W: Sink>(head: Head<'_>, energies: &[u128], out: &mut W) -> Result<(), Failed>
     requires { count head.plan.now ≤ length energies.now }
     ensures { WritesUnnoted (W.shows out.old) (W.shows out.new)
@@ -124,7 +124,7 @@ pub fn put_sums<W: Sink>(head: Head<'_>, energies: &[u128], out: &mut W) -> Resu
     Ok(())
 }
 
-/// Puts the line of a note, which is written into `line`. `Failed` comes only where the sink failed at it.
+/// Puts the line of a note, which is written into `line`. `Failed` comes only if the sink failed at it.
 #[inline]
 pub fn put_note<W: Sink>(
     note: &Note,

@@ -42,7 +42,7 @@ bad_value = refl
 empty_name : command_of (codes "poll" ∷ codes "--server" ∷ [] ∷ []) ≡ Err (fault.BadValue 3 [])
 empty_name = refl
 
--- an option that is given twice is repeated, even where it is the last word and has no value
+-- an option that is given twice is repeated, even if it is the last word and has no value
 repeated :
     command_of (codes "admit" ∷ codes "--tasks" ∷ codes "t" ∷ codes "--tasks" ∷ [])
     ≡ Err (fault.Repeated 4 (codes "--tasks"))

@@ -119,7 +119,7 @@ tasks_name (constrain r) = Some r.tasks
 tasks_name (poll q) = Some q.tasks
 tasks_name (least l) = None
 
--- the value of a required option; `Missing` where none was given
+-- the value of a required option; `Missing` if none was given
 abbrev pub need : {A : Type 0} → Opt → Option A → Result A WordFault
 need option value = ok_or value (fault.Missing option)
 

@@ -18,7 +18,7 @@ pub record ReadingView : Type 0 where
 abbrev pub nothing_read : ReadingView
 nothing_read = record { given = nothing_given; waits = None }
 
--- the reading with one more value; `BadValue` where the word at this place is outside its option's rule
+-- the reading with one more value; `BadValue` if the word at this place is outside its option's rule
 abbrev pub with_given : ℕ → List ℕ → Option GivenView → Result ReadingView WordFault
 with_given place word None = Err (fault.BadValue place (short_of word))
 with_given place word (Some g) = Ok (record { given = g; waits = None })

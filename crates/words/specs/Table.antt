@@ -15,7 +15,7 @@ use Rattle.dvs_base.specs.declared.kind.GovernorKind.{GovernorKind}
 use Rattle.dvs_base.specs.declared.kind.Version.{Version}
 use Rattle.dvs_base.specs.declared.kind.Version.TheVariants.{One, Two}
 
--- what the first row whose name is this word gives; none where no row has the word
+-- what the first row whose name is this word gives; none if no row has the word
 abbrev pub value_named : {A : Type 0} → List (List ℕ × A) → List ℕ → Option A
 value_named [] word = None
 value_named (row ∷ rows) word = if bytes_eq word row.0 then Some row.1 else value_named rows word
@@ -165,7 +165,7 @@ has g key.Units = is_some g.units
 has g key.Probes = is_some g.probes
 has g key.Format = is_some g.format
 
--- the given values, with the one that the word gives this option; none where the word is outside the option's rule
+-- the given values, with the one that the word gives this option; none if the word is outside the option's rule
 abbrev pub with_value : GivenView → Key → List ℕ → Option GivenView
 with_value g key.Tasks word = option_map (λ v. record g { tasks = Some v }) (some_text word)
 with_value g key.Machine word = option_map (λ v. record g { machine = Some v }) (some_text word)

@@ -9,7 +9,7 @@ use crate::given::{Given, Timed};
 use crate::table::Verb;
 use dvs_base::{Version, is_pair};
 
-// The value of a required option; `Missing` where none was given.
+// The value of a required option; `Missing` if none was given.
 fn need<T>(value: Option<T>, option: Opt) -> Result<T, WordFault>
     ensures { result ≡ need option value }
 {

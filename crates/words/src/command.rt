@@ -214,7 +214,7 @@ impl<'a> Command<'a> {
         )
     }
 
-    /// The name of the file of tasks, where this command has one.
+    /// The name of the file of tasks, if this command has one.
     pub fn tasks(&self) -> Option<&'a str>
         ensures { option_map (λ s. s.now) result ≡ tasks_name (shown_command self.now) }
     {

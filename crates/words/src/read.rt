@@ -18,7 +18,7 @@ pub struct Reading<'a> {
     pub waits: Option<Key>,
 }
 
-// The reading with one more value; `BadValue` where the word at `place` is outside its option's rule.
+// The reading with one more value; `BadValue` if the word at `place` is outside its option's rule.
 fn with_given<'a>(
     place: u64,
     word: &str,

@@ -56,7 +56,7 @@ impl<'a> Given<'a> {
     }
 }
 
-/// The given values, with the one that the word gives this option. `None` exactly where the word is outside its rule.
+/// The given values, with the one that the word gives this option. `None` exactly if the word is outside its rule.
 pub fn with_value<'a>(mut given: Given<'a>, key: Key, word: &'a str) -> Option<Given<'a>>
     ensures { option_map shown_given result ≡ with_value (shown_given given.entry) key word.now }
 {

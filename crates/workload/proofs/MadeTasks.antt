@@ -114,7 +114,7 @@ is_period k = All-from_recursion IsPeriod periods all (k % 8) 0 (mod-lt k (omega
     all : AllByRecursion IsPeriod periods
     all = search rules
 
--- where n times each of m terms is at most a bound, n times their sum is at most m times the bound
+-- if n times each of m terms is at most a bound, n times their sum is at most m times the bound
 share-sum : (n m bound : ℕ) (f : ℕ → ℕ) → ((i : ℕ) → i < m → n * f i ≤ bound) → n * sum_below m f ≤ m * bound
 share-sum n zero bound f each = omega arith
 share-sum n (suc m) bound f each =
@@ -133,7 +133,7 @@ within-share n period second some few low =
     let part : n * (1 + second % share_of n period) ≤ n * share_of n period = mul-le-mul_left n (omega (arith, rest)) in
     omega (arith, whole, part)
 
--- where n * worst is at most 1000 * period, n times the work of `all` ticks is at most 1000 * all
+-- if n * worst is at most 1000 * period, n times the work of `all` ticks is at most 1000 * all
 within-rate : (n worst period all : ℕ) → n * worst ≤ 1000 * period → n * (worst * (all / period)) ≤ 1000 * all
 within-rate n worst period all fits =
     let q : ℕ = all / period in

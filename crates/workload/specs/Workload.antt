@@ -14,7 +14,7 @@ use Rattle.workload.specs.Draws.{first_state, state_after, draw}
 abbrev pub periods : List ℕ
 periods = 20 ∷ 25 ∷ 40 ∷ 50 ∷ 100 ∷ 125 ∷ 200 ∷ 250 ∷ []
 
--- a task's share where there are n tasks: the n-th part of what the highest speed does in its period
+-- a task's share if there are n tasks: the n-th part of what the highest speed does in its period
 abbrev pub share_of : ℕ → ℕ → ℕ
 share_of n period = 1000 * period / n
 

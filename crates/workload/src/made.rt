@@ -135,7 +135,7 @@ fn make_machine(alloc: Global) -> Result<Machine, NoMemory>
 }
 
 /// A workload of `tasks` tasks, 1 to [`MOST_TASKS`](dvs_base::MOST_TASKS), with a machine and demands, from a seed:
-/// periods in ticks, worst cases and demands in work units. It fails only where memory runs out.
+/// periods in ticks, worst cases and demands in work units. It fails only if memory runs out.
 pub fn make(alloc: Global, seed: u64, tasks: u32) -> Result<(TaskSet, Machine, Demands), NoMemory>
     requires some { 1 ≤ tasks }
     requires few { tasks ≤ MOST_TASKS }

@@ -74,7 +74,7 @@ fn long_after(alloc: Global, count: u64) -> Result<Vec<u8>, AllocError> {
     Ok(trace)
 }
 
-// A line of one byte more than the most bytes is refused as too long where it is the last line that may be there. One
+// A line of one byte more than the most bytes is refused as too long if it is the last line that may be there. One
 // line later it is refused as one too many, since the lines are counted first.
 #[test]
 fn one_line_too_many_that_is_too_long(rt: HostRuntime) -> Result<(), Fail> {

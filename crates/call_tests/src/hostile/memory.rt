@@ -23,7 +23,7 @@ impl Shelf for FullShelf {
     }
 }
 
-// Memory runs out at the first load of the call. Where this put of the notes is to fail, the text is on `notes`, and
+// Memory runs out at the first load of the call. If this put of the notes is to fail, the text is on `notes`, and
 // `failed` puts failed.
 fn is_out_of_memory(
     alloc: Global,

@@ -1,4 +1,4 @@
-// Runs with probes, where puts fail and probes leave.
+// Runs with probes, if puts fail and probes leave.
 use crate::call::{Call, Faults, NO_FAULTS};
 use crate::hostile::example::{DENIED, EACH_THAT_LOADS, OVER_WORST};
 use crate::hostile::lines::{Line, fail_at, lines_of};
@@ -67,7 +67,7 @@ fn probed(
     Ok(Told { left, tallies })
 }
 
-// The run with these probes, where this put of the answer fails.
+// The run with these probes, if this put of the answer fails.
 fn failed_at(alloc: Global, put: FailAt, asked: &[Asked]) -> Result<Told, Fail> {
     let faults = Faults {
         loads: &[],
@@ -97,7 +97,7 @@ fn done(notes: &str, failed: u64) -> Ending<'_> {
     }
 }
 
-// Where the put of this line fails, the text up to its end is on `out`, and a probe of decisions has counted `told`.
+// If the put of this line fails, the text up to its end is on `out`, and a probe of decisions has counted `told`.
 fn hears_before(alloc: Global, line: Line<'_>, told: u64) -> Result<(), Fail> {
     let run = failed_at(alloc, line.failing(255), &[count(What::Speeds)])?;
     run.left.is(PROBED.words, failed(line.first(255)))?;
@@ -203,7 +203,7 @@ fn each_kind_of_probe_has_its_line(rt: HostRuntime) -> Result<(), Fail> {
     each_kind_counts(rt.alloc(), Some(2), of_third)
 }
 
-// Where this put fails, a probe that leaves at the first completion, and one of running segments, have these tallies.
+// If this put fails, a probe that leaves at the first completion, and one of running segments, have these tallies.
 fn stay_at_put(alloc: Global, number: u64, tallies: &[u64]) -> Result<(), Fail> {
     let run = failed_at(
         alloc,
@@ -266,7 +266,7 @@ fn three_probes() -> [Asked; 3] {
     [leaves_at(3), count(What::Speeds), UNITS]
 }
 
-// Where the eighth put fails, the first completion wasn't told.
+// If the eighth put fails, the first completion wasn't told.
 fn three_count_before_a_put(alloc: Global) -> Result<(), Fail> {
     let part = failed_at(alloc, fail_at(8, 0), &three_probes())?;
     part.is(PROBED.words, 8, &[0, 1, 0])?;
@@ -281,7 +281,7 @@ fn has_notes(left: &Outcome, notes: &str) -> Result<(), Fail> {
     Ok(())
 }
 
-// The lines that the run prints for three probes, and what they have counted where the eighth put fails.
+// The lines that the run prints for three probes, and what they have counted if the eighth put fails.
 #[test]
 fn probes_that_leave_and_a_put_that_fails(rt: HostRuntime) -> Result<(), Fail> {
     let whole = probed(rt.alloc(), PROBED, NO_FAULTS, &three_probes())?;

@@ -6,7 +6,7 @@ use Rattle.sched_model.specs.Plan.{period, offset}
 use Rattle.sched_model.proofs.Limits.{every_period}
 use Rattle.event_kernel.proofs.jobs.jobs_below.Goals as goal
 
--- a quotient rounded up is the floor, and one more where there is a remainder
+-- a quotient rounded up is the floor, and one more if there is a remainder
 ceil-is : (n d : ℕ) → 0 < d → n / d + min 1 (n % d) ≡ ceil_div n d
 ceil-is n d pos =
     let times = div_ceil_times n d pos in

@@ -45,7 +45,7 @@ module _ {demand : OwnDemand} {set : Setting} (ok : IsSetting set) {s0 : StateVi
         can-release (every_period p ok.admitted.limits) at.0 d.below d.due (bounds p ok.admitted) (omega (arith, course-len demand p dem s0.now, here.early))
         (prior-done here i d.below)
 
-  -- the end, where no task is due
+  -- the end, if no task is due
   module _ (le : m ≤ count p) (none : (k : ℕ) → k < count p → (row_at st k).deadline ≢ st.now) where
     end : HasReleased p dem past (count p) any st × (notes_upto p dem past m ≡ notes_upto p dem past (count p))
     end = at-end (every_period p ok.admitted.limits) r ok.within.none le none
