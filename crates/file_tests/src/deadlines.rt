@@ -10,7 +10,7 @@ const TASKS: &str =
 #[test]
 fn the_first_refusal_is_the_answer(rt: HostRuntime) -> Result<(), Fail> {
     let alloc = rt.alloc();
-    let tasks = TaskSet::read(alloc, TASKS.as_bytes()).map_err(|_| "tasks")?;
+    let tasks = TaskSet::read(alloc, TASKS.as_bytes()).ok().ok_or("tasks")?;
     for (text, want) in [
         (b"".as_slice(), DeadlineFault::Header),
         (b"task,job\na,0\n", DeadlineFault::Header),
@@ -49,10 +49,10 @@ fn the_first_refusal_is_the_answer(rt: HostRuntime) -> Result<(), Fail> {
 #[test]
 fn a_task_without_a_row_has_its_period(rt: HostRuntime) -> Result<(), Fail> {
     let alloc = rt.alloc();
-    let tasks = TaskSet::read(alloc, TASKS.as_bytes()).map_err(|_| "tasks")?;
-    let deadlines = Deadlines::read(alloc, b"task,deadline\nb,5\n", &tasks).map_err(
-        |_| "deadlines",
-    )?;
+    let tasks = TaskSet::read(alloc, TASKS.as_bytes()).ok().ok_or("tasks")?;
+    let deadlines = Deadlines::read(alloc, b"task,deadline\nb,5\n", &tasks)
+        .ok()
+        .ok_or("deadlines")?;
     if tasks.count() != 2 {
         return Err("tasks".into());
     }

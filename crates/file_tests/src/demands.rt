@@ -21,7 +21,7 @@ fn three_tasks(alloc: Global) -> Result<TaskSet, Fail>
 
 #[test]
 fn a_row_once_set_stays(rt: HostRuntime) -> Result<(), Fail> {
-    let mut demands = Demands::worst_only(rt.alloc(), &[12, 12, 4]).map_err(|_| "memory")?;
+    let mut demands = Demands::worst_only(rt.alloc(), &[12, 12, 4])?;
     assert!(rt; matches!(demands.set(0, 1, 8), Ok(true)));
     assert!(rt; matches!(demands.set(0, 1, 7), Ok(false)));
     assert_eq!(rt; demands.units(0, 1), 8);
@@ -32,7 +32,7 @@ fn a_row_once_set_stays(rt: HostRuntime) -> Result<(), Fail> {
 
 #[test]
 fn rows_are_found_that_came_before_and_after_one_out_of_order(rt: HostRuntime) -> Result<(), Fail> {
-    let mut demands = Demands::worst_only(rt.alloc(), &[12, 12, 4]).map_err(|_| "memory")?;
+    let mut demands = Demands::worst_only(rt.alloc(), &[12, 12, 4])?;
     assert!(rt; matches!(demands.set(1, 3, 8), Ok(true)));
     assert_eq!(rt; demands.units(1, 3), 8);
     assert!(rt; matches!(demands.set(0, 5, 7), Ok(true)));
@@ -58,7 +58,7 @@ fn rows_of_a_file_are_read(rt: HostRuntime) -> Result<(), Fail> {
         ),
         (b"task,job,units\rt1,99,5\r\"t\"1,1,8", 8, 5),
     ] {
-        let demands = Demands::read(alloc, text, &tasks).map_err(|_| "file")?;
+        let demands = Demands::read(alloc, text, &tasks).ok().ok_or("file")?;
         assert_eq!(rt; demands.units(0, 1), first, "{first} {last}");
         assert_eq!(rt; demands.units(0, 99), last, "{first} {last}");
     }

@@ -105,9 +105,9 @@ fn a_machine_has_at_most_32_points(rt: HostRuntime) -> Result<(), Fail> {
 
 #[test]
 fn the_first_entry_that_meets_is_picked(rt: HostRuntime) -> Result<(), Fail> {
-    let machine = Machine::read(rt.alloc(), PAPER_MACHINE.as_bytes()).map_err(
-        |_| "the paper's machine",
-    )?;
+    let machine = Machine::read(rt.alloc(), PAPER_MACHINE.as_bytes())
+        .ok()
+        .ok_or("the paper's machine")?;
     for (num, den, index, met) in [
         (836, 280, 1, true),
         (0, 1, 0, true),
@@ -130,8 +130,7 @@ fn the_first_entry_that_meets_is_picked(rt: HostRuntime) -> Result<(), Fail> {
                 millivolts: 5000,
             },
         ],
-    )
-    .map_err(|_| "memory")?;
+    )?;
     assert_eq!(rt;
         two.lowest(Frac { num: 15, den: 1 }),
         Pick {
@@ -148,8 +147,8 @@ fn a_copy_is_equal(rt: HostRuntime) -> Result<(), Fail> {
     let alloc = rt.alloc();
     let text =
         b"idle = 100\ncharge = 0x2\npoint = [{speed = 40, millivolts = 1_100}, {millivolts = 1100, speed = 60}]";
-    let machine = Machine::read(alloc, text).map_err(|_| "machine")?;
-    let copy = machine.copy(alloc).map_err(|_| "memory")?;
+    let machine = Machine::read(alloc, text).ok().ok_or("machine")?;
+    let copy = machine.copy(alloc)?;
     assert_eq!(rt; (copy.idle(), copy.charge(), copy.count()), (100, 2, 2));
     if copy.count() == 2 {
         assert_eq!(rt;
@@ -187,10 +186,12 @@ fn is_example(rt: &impl Abort, machine: &Machine) -> Result<(), Fail> {
 #[test]
 fn the_example_is_read_copied_and_made(rt: HostRuntime) -> Result<(), Fail> {
     let alloc = rt.alloc();
-    let read = Machine::read(alloc, PAPER_MACHINE.as_bytes()).map_err(|_| "machine")?;
+    let read = Machine::read(alloc, PAPER_MACHINE.as_bytes())
+        .ok()
+        .ok_or("machine")?;
     is_example(&rt, &read)?;
-    let copy = read.copy(alloc).map_err(|_| "memory")?;
+    let copy = read.copy(alloc)?;
     is_example(&rt, &copy)?;
-    let made = Machine::of(alloc, 0, 0, read.as_slice()).map_err(|_| "memory")?;
+    let made = Machine::of(alloc, 0, 0, read.as_slice())?;
     is_example(&rt, &made)
 }

@@ -5,7 +5,7 @@ use std::test::Fail;
 
 // The file has exactly these requests, each an arrival and its units.
 fn reads(rt: &(impl Abort + AllocGlobal), text: &[u8], wanted: &[(u64, u64)]) -> Result<(), Fail> {
-    let requests = Requests::read(rt.alloc(), text).map_err(|_| "file")?;
+    let requests = Requests::read(rt.alloc(), text).ok().ok_or("file")?;
     let mut found = Vec::new(rt.alloc());
     for i in 0..requests.count() {
         found.push((requests.arrival(i), requests.units(i)))?;
@@ -132,9 +132,9 @@ fn the_first_refusal_is_the_answer(rt: HostRuntime) {
 
 // A file of `rows` rows, none of which is a request.
 fn rows_text(rt: &impl AllocGlobal, rows: u64) -> Result<Vec<u8>, Fail> {
-    let mut text = Vec::from_slice(rt.alloc(), b"arrival,units\n").map_err(|_| "memory")?;
+    let mut text = Vec::from_slice(rt.alloc(), b"arrival,units\n")?;
     for _row in 0..rows {
-        text.extend_from_slice(b"0,0\n").map_err(|_| "memory")?;
+        text.extend_from_slice(b"0,0\n")?;
     }
     Ok(text)
 }

@@ -126,7 +126,9 @@ fn the_same_tree_is_the_same_set(rt: HostRuntime) -> Result<(), Fail> {
         "\u{feff}task = [{name = \"t1\", period = 0x8, worst = 1_2}, {name = 't2', period = 10, worst = 0b1100}, {name = \"t3\", period = 14, worst = 4}]",
         "[[task]]\n\"name\" = \"t1\"\nperiod = +8\nworst = 12\n[[task]]\nworst = 12\nperiod = 0o12\nname = \"t\\u0032\"\n[[task]]\nname = \"t3\"\nperiod = 14\nworst = 4",
     ] {
-        let set = TaskSet::read(rt.alloc(), text.as_bytes()).map_err(|_| "the paper's set")?;
+        let set = TaskSet::read(rt.alloc(), text.as_bytes())
+            .ok()
+            .ok_or("the paper's set")?;
         assert_eq!(rt; set.count(), 3);
         assert_eq!(rt; set.hyper(), 280);
         assert_eq!(rt;
@@ -142,9 +144,11 @@ fn an_offset_is_read_and_written(rt: HostRuntime) -> Result<(), Fail> {
     let alloc = rt.alloc();
     let text =
         "task = [{name = \"x\", period = 4, worst = 4}, {offset = 1099511627776, name = \"y\", period = 6, worst = 6}]";
-    let set = TaskSet::read(alloc, text.as_bytes()).map_err(|_| "set")?;
-    let written = set.write(alloc).map_err(|_| "memory")?;
-    let again = TaskSet::read(alloc, written.as_bytes()).map_err(|_| "written")?;
+    let set = TaskSet::read(alloc, text.as_bytes()).ok().ok_or("set")?;
+    let written = set.write(alloc)?;
+    let again = TaskSet::read(alloc, written.as_bytes())
+        .ok()
+        .ok_or("written")?;
     for set in [set, again] {
         if set.count() == 2 {
             assert_eq!(rt;
@@ -160,8 +164,10 @@ fn an_offset_is_read_and_written(rt: HostRuntime) -> Result<(), Fail> {
 #[test]
 fn a_set_is_made_of_its_tasks(rt: HostRuntime) -> Result<(), Fail> {
     let alloc = rt.alloc();
-    let read = TaskSet::read(alloc, PAPER_SET.as_bytes()).map_err(|_| "the paper's set")?;
-    let set = TaskSet::of(alloc, read.as_slice()).map_err(|_| "memory")?;
+    let read = TaskSet::read(alloc, PAPER_SET.as_bytes())
+        .ok()
+        .ok_or("the paper's set")?;
+    let set = TaskSet::of(alloc, read.as_slice())?;
     assert_eq!(rt; (set.count(), set.hyper()), (3, 280));
     for (i, name, period, worst) in [
         (0, b"t1".as_slice(), 8, 12),
@@ -190,7 +196,9 @@ fn file_of(alloc: Global, count: usize) -> Result<String, AllocError> {
 #[test]
 fn sixty_four_tasks_are_the_most(rt: HostRuntime) -> Result<(), Fail> {
     let alloc = rt.alloc();
-    let most = TaskSet::read(alloc, file_of(alloc, MOST_TASKS)?.as_bytes()).map_err(|_| "most")?;
+    let most = TaskSet::read(alloc, file_of(alloc, MOST_TASKS)?.as_bytes())
+        .ok()
+        .ok_or("most")?;
     assert_eq!(rt; (most.count(), most.hyper()), (64, 64));
     let more = TaskSet::read(alloc, file_of(alloc, MOST_TASKS + 1)?.as_bytes());
     assert!(rt; matches!(more, Err(TaskFault::TooMany { count: 65 })));
@@ -210,9 +218,11 @@ fn found_task(set: &TaskSet, name: &str) -> Option<(u32, u64, u64)> {
 #[test]
 fn a_written_set_is_read_again(rt: HostRuntime) -> Result<(), Fail> {
     let alloc = rt.alloc();
-    let read = TaskSet::read(alloc, PAPER_SET.as_bytes()).map_err(|_| "the paper's set")?;
-    let text = read.write(alloc).map_err(|_| "memory")?;
-    let back = TaskSet::read(alloc, text.as_bytes()).map_err(|_| "written")?;
+    let read = TaskSet::read(alloc, PAPER_SET.as_bytes())
+        .ok()
+        .ok_or("the paper's set")?;
+    let text = read.write(alloc)?;
+    let back = TaskSet::read(alloc, text.as_bytes()).ok().ok_or("written")?;
     assert_eq!(rt; (back.count(), back.hyper()), (3, 280));
     for (name, found) in [("t1", (0, 8, 12)), ("t2", (1, 10, 12)), ("t3", (2, 14, 4))] {
         assert_eq!(rt; found_task(&back, name), Some(found), "{name}");

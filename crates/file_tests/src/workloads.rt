@@ -110,7 +110,7 @@ fn has_points(machine: &Machine, points: &[Point; 4]) -> bool {
 
 #[test]
 fn the_machine_has_four_speeds(rt: HostRuntime) -> Result<(), Fail> {
-    let (_, machine, _) = make(rt.alloc(), 1, 1).map_err(|_| "memory")?;
+    let (_, machine, _) = make(rt.alloc(), 1, 1)?;
     let points = [(250, 2000), (500, 3000), (750, 4000), (1000, 5000)].map(|(
         speed,
         millivolts,

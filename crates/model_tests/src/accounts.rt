@@ -10,7 +10,7 @@ use std::test::Fail;
 use test_inputs::example::{CONTROLLER_MACHINE, PAPER_MACHINE};
 
 fn machine_of(alloc: Global, text: &[u8]) -> Result<Machine, Fail> {
-    Ok(Machine::read(alloc, text).map_err(|_| "machine")?)
+    Ok(Machine::read(alloc, text).ok().ok_or("machine")?)
 }
 
 fn position((tick, offset): (u64, u64)) -> Pos {
@@ -155,7 +155,7 @@ fn paper_example_is_booked(rt: HostRuntime) -> Result<(), Fail> {
     if machine.count() != 3 {
         return Err(Fail::from("machine"));
     }
-    let mut account = Account::new(rt.alloc(), 3, &machine).map_err(|_| "memory")?;
+    let mut account = Account::new(rt.alloc(), 3, &machine)?;
     assert_eq!(rt; book_all(&mut account, PAPER_NOTES, 3, 3), 31);
     let totals = Totals {
         run: 364000000000,
@@ -222,7 +222,7 @@ fn controller_is_booked(rt: HostRuntime) -> Result<(), Fail> {
     if machine.count() != 4 {
         return Err(Fail::from("machine"));
     }
-    let mut account = Account::new(rt.alloc(), 6, &machine).map_err(|_| "memory")?;
+    let mut account = Account::new(rt.alloc(), 6, &machine)?;
     assert_eq!(rt; book_all(&mut account, CONTROLLER_NOTES, 6, 4), 37);
     let totals = Totals {
         run: 8306150000000,

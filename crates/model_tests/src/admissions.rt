@@ -8,8 +8,10 @@ use task_model::TaskSet;
 
 // The task set and the machine of two files.
 fn read(alloc: Global, tasks: &str, machine: &str) -> Result<(TaskSet, Machine), Fail> {
-    let tasks = TaskSet::read(alloc, tasks.as_bytes()).map_err(|_| "tasks")?;
-    let machine = Machine::read(alloc, machine.as_bytes()).map_err(|_| "machine")?;
+    let tasks = TaskSet::read(alloc, tasks.as_bytes()).ok().ok_or("tasks")?;
+    let machine = Machine::read(alloc, machine.as_bytes())
+        .ok()
+        .ok_or("machine")?;
     Ok((tasks, machine))
 }
 

@@ -22,9 +22,13 @@ fn answers(
 ) -> Result<(), Fail> {
     let alloc = rt.alloc();
     let [tasks, machine, deadlines] = files;
-    let tasks = TaskSet::read(alloc, tasks.as_bytes()).map_err(|_| "tasks")?;
-    let machine = Machine::read(alloc, machine.as_bytes()).map_err(|_| "machine")?;
-    let deadlines = Deadlines::read(alloc, deadlines.as_bytes(), &tasks).map_err(|_| "deadlines")?;
+    let tasks = TaskSet::read(alloc, tasks.as_bytes()).ok().ok_or("tasks")?;
+    let machine = Machine::read(alloc, machine.as_bytes())
+        .ok()
+        .ok_or("machine")?;
+    let deadlines = Deadlines::read(alloc, deadlines.as_bytes(), &tasks)
+        .ok()
+        .ok_or("deadlines")?;
     assert_eq!(rt; constrain(alloc, &tasks, &deadlines, &machine), want);
     Ok(())
 }

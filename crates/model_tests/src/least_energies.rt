@@ -26,7 +26,7 @@ const AT_THE_LIMITS: &str =
     "idle = 1000\npoint = [{speed = 1, millivolts = 1}, {speed = 1000000, millivolts = 20000}]";
 
 fn machine_of(alloc: Global, text: &str) -> Result<Machine, Fail> {
-    Ok(Machine::read(alloc, text.as_bytes()).map_err(|_| "machine")?)
+    Ok(Machine::read(alloc, text.as_bytes()).ok().ok_or("machine")?)
 }
 
 const ROW: Least = Least {

@@ -24,16 +24,16 @@ const CHARGED: &[u8] =
 
 // The plan of two files under EDF.
 fn edf_plan(alloc: Global, tasks: &[u8], machine: &[u8]) -> Result<Admitted, Fail> {
-    let tasks = TaskSet::read(alloc, tasks).map_err(|_| "tasks")?;
-    let machine = Machine::read(alloc, machine).map_err(|_| "machine")?;
-    Ok(edf_admit(alloc, &tasks, &machine).map_err(|_| "plan")?)
+    let tasks = TaskSet::read(alloc, tasks).ok().ok_or("tasks")?;
+    let machine = Machine::read(alloc, machine).ok().ok_or("machine")?;
+    Ok(edf_admit(alloc, &tasks, &machine).ok().ok_or("plan")?)
 }
 
 // The plan of two files under RM.
 fn rm_plan(alloc: Global, tasks: &[u8], machine: &[u8]) -> Result<Admitted, Fail> {
-    let tasks = TaskSet::read(alloc, tasks).map_err(|_| "tasks")?;
-    let machine = Machine::read(alloc, machine).map_err(|_| "machine")?;
-    Ok(rm_admit(alloc, &tasks, &machine).map_err(|_| "plan")?)
+    let tasks = TaskSet::read(alloc, tasks).ok().ok_or("tasks")?;
+    let machine = Machine::read(alloc, machine).ok().ok_or("machine")?;
+    Ok(rm_admit(alloc, &tasks, &machine).ok().ok_or("plan")?)
 }
 
 // The period, the offset, the declared worst case and the worst case with the charge of a task.

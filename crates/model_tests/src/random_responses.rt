@@ -56,8 +56,8 @@ fn file_of(alloc: Global, rows: &[Row]) -> Result<String, Fail> {
         let (period, worst) = (row.period, row.worst);
         let task = format!(in alloc;
             "[[task]]\nname = \"t{i}\"\nperiod = {period}\nworst = {worst}\n"
-        ).map_err(|_| "memory")?;
-        text.push_str(&task).map_err(|_| "memory")?;
+        )?;
+        text.push_str(&task)?;
     }
     Ok(text)
 }
@@ -95,7 +95,7 @@ fn defined(alloc: Global, rows: &[Row; 4]) -> Result<Result<Vec<u64>, ResponseFa
                 cap: u128::from(SPEED.saturating_mul(period)),
             }));
         };
-        list.push(ticks).map_err(|_| "memory")?;
+        list.push(ticks)?;
     }
     Ok(Ok(list))
 }
@@ -110,7 +110,7 @@ fn long_responses_are_those_of_the_definition(rt: HostRuntime) -> Result<(), Fai
         let found = answer(alloc, &file, MACHINE)?;
         match defined(alloc, &rows)? {
             Ok(list) => {
-                let found = found.map_err(|_| "responses")?;
+                let found = found.ok().ok_or("responses")?;
                 assert_eq!(rt; found.as_slice(), list.as_slice(), "{file}");
             }
             Err(fault) => assert_eq!(rt; found.err(), Some(fault), "{file}"),

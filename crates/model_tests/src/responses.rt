@@ -114,15 +114,17 @@ pub(crate) fn answer(
     tasks: &str,
     machine: &str,
 ) -> Result<Result<Vec<u64>, ResponseFault>, Fail> {
-    let tasks = TaskSet::read(alloc, tasks.as_bytes()).map_err(|_| "tasks")?;
-    let machine = Machine::read(alloc, machine.as_bytes()).map_err(|_| "machine")?;
+    let tasks = TaskSet::read(alloc, tasks.as_bytes()).ok().ok_or("tasks")?;
+    let machine = Machine::read(alloc, machine.as_bytes())
+        .ok()
+        .ok_or("machine")?;
     let response = match rm_response(alloc, &tasks, &machine) {
         Ok(response) => response,
         Err(fault) => return Ok(Err(fault)),
     };
     let mut list = Vec::new(alloc);
     for i in 0..tasks.count() {
-        list.push(response.of(i)).map_err(|_| "memory")?;
+        list.push(response.of(i))?;
     }
     Ok(Ok(list))
 }
@@ -130,7 +132,9 @@ pub(crate) fn answer(
 #[test]
 fn responses_are_in_file_order(rt: HostRuntime) -> Result<(), Fail> {
     for case in RESPONSES {
-        let found = answer(rt.alloc(), case.tasks, case.machine)?.map_err(|_| "responses")?;
+        let found = answer(rt.alloc(), case.tasks, case.machine)?
+            .ok()
+            .ok_or("responses")?;
         assert_eq!(rt; found.as_slice(), case.responses, "{}", case.tasks);
     }
     Ok(())

@@ -16,12 +16,12 @@ const AT_ONCE: &[u8] =
 const MACHINE: &[u8] = b"point = [{speed = 1, millivolts = 1000}]";
 
 fn edf_plan(alloc: Global, tasks: &[u8]) -> Result<Admitted, Fail> {
-    let tasks = TaskSet::read(alloc, tasks).map_err(|_| "tasks")?;
-    let machine = Machine::read(alloc, MACHINE).map_err(|_| "machine")?;
+    let tasks = TaskSet::read(alloc, tasks).ok().ok_or("tasks")?;
+    let machine = Machine::read(alloc, MACHINE).ok().ok_or("machine")?;
     if total_rate(&tasks, &machine) > u128::from(machine.top()) * u128::from(tasks.hyper()) {
         return Err("denied")?;
     }
-    Ok(Admitted::with(alloc, &tasks, &machine, Scheduler::Edf).map_err(|_| "memory")?)
+    Ok(Admitted::with(alloc, &tasks, &machine, Scheduler::Edf)?)
 }
 
 // The first task with an incomplete job, the next release and the first task that is released now.

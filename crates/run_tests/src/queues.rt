@@ -12,7 +12,7 @@ fn entry(task: u32, due: u64, period: u64) -> Entry
 
 #[test]
 fn equal_deadlines_go_by_the_task(rt: HostRuntime) -> Result<(), Fail> {
-    let mut queue = Queue::new(rt.alloc(), 4, ByDue).map_err(|_| "memory")?;
+    let mut queue = Queue::new(rt.alloc(), 4, ByDue)?;
     queue.insert(entry(1, 10, 10));
     queue.insert(entry(0, 10, 10));
     queue.insert(entry(3, 10, 10));
@@ -35,7 +35,7 @@ fn equal_deadlines_go_by_the_task(rt: HostRuntime) -> Result<(), Fail> {
 
 #[test]
 fn a_replaced_first_entry_goes_by_its_deadline(rt: HostRuntime) -> Result<(), Fail> {
-    let mut queue = Queue::new(rt.alloc(), 3, ByDue).map_err(|_| "memory")?;
+    let mut queue = Queue::new(rt.alloc(), 3, ByDue)?;
     queue.insert(entry(1, 10, 10));
     queue.insert(entry(0, 8, 8));
     queue.insert(entry(2, 20, 20));
@@ -49,7 +49,7 @@ fn a_replaced_first_entry_goes_by_its_deadline(rt: HostRuntime) -> Result<(), Fa
 
 #[test]
 fn shorter_periods_go_first(rt: HostRuntime) -> Result<(), Fail> {
-    let mut queue = Queue::new(rt.alloc(), 6, ByPeriod).map_err(|_| "memory")?;
+    let mut queue = Queue::new(rt.alloc(), 6, ByPeriod)?;
     queue.insert(entry(5, 30, 9));
     queue.insert(entry(4, 20, 9));
     queue.insert(entry(0, 90, 14));

@@ -39,22 +39,16 @@ const MANY: Case<'static> = Case {
 
 // The plan of tasks on a machine under EDF.
 fn edf_plan(alloc: Global, tasks: &[u8], machine: &[u8]) -> Result<Admitted, Fail> {
-    let tasks = TaskSet::read(alloc, tasks).map_err(|_| "tasks")?;
-    let machine = Machine::read(alloc, machine).map_err(|_| "machine")?;
-    match edf_admit(alloc, &tasks, &machine) {
-        Ok(plan) => Ok(plan),
-        Err(_) => Err("plan".into()),
-    }
+    let tasks = TaskSet::read(alloc, tasks).ok().ok_or("tasks")?;
+    let machine = Machine::read(alloc, machine).ok().ok_or("machine")?;
+    Ok(edf_admit(alloc, &tasks, &machine).ok().ok_or("plan")?)
 }
 
 // The plan of tasks on a machine under RM.
 fn rm_plan(alloc: Global, tasks: &[u8], machine: &[u8]) -> Result<Admitted, Fail> {
-    let tasks = TaskSet::read(alloc, tasks).map_err(|_| "tasks")?;
-    let machine = Machine::read(alloc, machine).map_err(|_| "machine")?;
-    match rm_admit(alloc, &tasks, &machine) {
-        Ok(plan) => Ok(plan),
-        Err(_) => Err("plan".into()),
-    }
+    let tasks = TaskSet::read(alloc, tasks).ok().ok_or("tasks")?;
+    let machine = Machine::read(alloc, machine).ok().ok_or("machine")?;
+    Ok(rm_admit(alloc, &tasks, &machine).ok().ok_or("plan")?)
 }
 
 // Requests of a file for a server, and the ticks of a run.
@@ -87,14 +81,12 @@ fn polled<G: Governor>(
     requires some_ticks { 1 ≤ case.ticks }
     requires low_ticks { case.ticks ≤ MOST_TICKS }
 {
-    let requests = Requests::read(alloc, case.requests).map_err(|_| "requests")?;
+    let requests = Requests::read(alloc, case.requests).ok().ok_or("requests")?;
     match poll(alloc, plan, case.server, &requests, governor, case.ticks) {
         Ok(served) => {
             let mut outcomes = Vec::new(alloc);
             for m in 0..requests.count() {
-                outcomes
-                    .push(done(served.outcome(m)))
-                    .map_err(|_| "memory")?;
+                outcomes.push(done(served.outcome(m)))?;
             }
             Ok((outcomes, served.totals()))
         }
@@ -110,7 +102,7 @@ fn serves(
     expected: &[Done],
     energy: u128,
 ) -> Result<(), Fail> {
-    let governor = Full::new(rt.alloc(), plan).map_err(|_| "governor")?;
+    let governor = Full::new(rt.alloc(), plan)?;
     if case.server >= plan.count() || case.ticks < 1 || case.ticks > MOST_TICKS {
         return Err("case".into());
     }
@@ -226,7 +218,7 @@ const AT_A_LOWER_SPEED: &[Done] = &[
 #[test]
 fn a_lower_speed_serves_later(rt: HostRuntime) -> Result<(), Fail> {
     let plan = edf_plan(rt.alloc(), TASKS, PAPER_MACHINE)?;
-    let governor = Static::new(rt.alloc(), &plan).map_err(|_| "governor")?;
+    let governor = Static::new(rt.alloc(), &plan)?;
     if plan.count() == 0 {
         return Err("plan".into());
     }
@@ -239,8 +231,10 @@ fn a_lower_speed_serves_later(rt: HostRuntime) -> Result<(), Fail> {
 #[test]
 fn a_run_has_at_most_100000_jobs(rt: HostRuntime) -> Result<(), Fail> {
     let plan = edf_plan(rt.alloc(), TASKS, PAPER_MACHINE)?;
-    let governor = Full::new(rt.alloc(), &plan).map_err(|_| "governor")?;
-    let requests = Requests::read(rt.alloc(), b"arrival,units\n").map_err(|_| "requests")?;
+    let governor = Full::new(rt.alloc(), &plan)?;
+    let requests = Requests::read(rt.alloc(), b"arrival,units\n")
+        .ok()
+        .ok_or("requests")?;
     if plan.count() == 0 {
         return Err("plan".into());
     }

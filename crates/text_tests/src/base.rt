@@ -57,7 +57,7 @@ fn names_differ_from_other_texts(rt: HostRuntime) {
 #[test]
 fn a_listed_put_fails(rt: HostRuntime) -> Result<(), Fail> {
     let listed = [FailAt { call: 2, taken: 3 }];
-    let mut sink = MemSink::new(rt.alloc(), 100, &listed).map_err(|_| "memory")?;
+    let mut sink = MemSink::new(rt.alloc(), 100, &listed)?;
     assert!(rt; sink.put(b"trace 1\n").is_ok());
     assert!(rt; sink.put(b"plan edf none 16\n").is_err());
     assert_eq!(rt; sink.bytes(), b"trace 1\npla".as_slice());
@@ -67,7 +67,7 @@ fn a_listed_put_fails(rt: HostRuntime) -> Result<(), Fail> {
 
 #[test]
 fn a_put_without_room_adds_nothing(rt: HostRuntime) -> Result<(), Fail> {
-    let mut sink = MemSink::new(rt.alloc(), 4, &[]).map_err(|_| "memory")?;
+    let mut sink = MemSink::new(rt.alloc(), 4, &[])?;
     assert!(rt; sink.put(b"12345").is_err());
     assert!(rt; sink.put(b"1234").is_ok());
     assert_eq!(rt; sink.bytes(), b"1234".as_slice());
@@ -78,9 +78,9 @@ fn a_put_without_room_adds_nothing(rt: HostRuntime) -> Result<(), Fail> {
 #[test]
 fn a_load_gives_one_byte_more_than_the_room(rt: HostRuntime) -> Result<(), Fail> {
     let alloc = rt.alloc();
-    let mut shelf = MemShelf::new(alloc, &[2]).map_err(|_| "memory")?;
-    shelf.add("a", b"12345").map_err(|_| "memory")?;
-    let first = shelf.load(alloc, "a", 3).map_err(|_| "first")?;
+    let mut shelf = MemShelf::new(alloc, &[2])?;
+    shelf.add("a", b"12345")?;
+    let first = shelf.load(alloc, "a", 3).ok().ok_or("first")?;
     assert_eq!(rt; first.as_slice(), b"1234".as_slice());
     assert_eq!(rt; shelf.load(alloc, "a", 3).err(), Some(LoadFault::Failed));
     assert_eq!(rt; shelf.load(alloc, "b", 3).err(), Some(LoadFault::Absent));
@@ -108,7 +108,7 @@ fn a_host_shelf_reads_files(rt: HostRuntime) -> Result<(), Fail> {
     fs::write(&rt, "present", "12345")?;
     let alloc = rt.alloc();
     let mut shelf = HostShelf::new(&rt);
-    let bytes = shelf.load(alloc, "present", 3).map_err(|_| "present")?;
+    let bytes = shelf.load(alloc, "present", 3).ok().ok_or("present")?;
     assert_eq!(rt; bytes.as_slice(), b"1234".as_slice());
     assert_eq!(rt;
         shelf.load(alloc, "missing", 3).err(),
@@ -121,7 +121,7 @@ fn a_host_shelf_reads_files(rt: HostRuntime) -> Result<(), Fail> {
 fn long_file(alloc: Global, length: u32) -> Result<Vec<u8>, Fail> {
     let mut bytes = Vec::new(alloc);
     for place in 0..length {
-        bytes.push((place % 251) as u8).map_err(|_| "memory")?;
+        bytes.push((place % 251) as u8)?;
     }
     Ok(bytes)
 }
@@ -138,7 +138,8 @@ fn loads_first_bytes(
     let mut shelf = HostShelf::new(rt);
     let loaded = shelf
         .load(rt.alloc(), "long", u64::from(room))
-        .map_err(|_| "long")?;
+        .ok()
+        .ok_or("long")?;
     assert_eq!(rt; loaded.len(), given, "{length} bytes, room for {room}");
     assert!(rt;
         bytes.starts_with(&loaded),
@@ -180,7 +181,7 @@ fn a_reader_that_gives_less_is_asked_again(rt: HostRuntime) -> Result<(), Fail> 
     };
     for (room, want) in [(3, b"1234".as_slice()), (4, b"12345"), (5, b"12345")] {
         let mut shelf = HostShelf::new(&files);
-        let read = shelf.load(rt.alloc(), "a", room).map_err(|_| "read")?;
+        let read = shelf.load(rt.alloc(), "a", room).ok().ok_or("read")?;
         assert_eq!(rt; read.as_slice(), want, "room for {room}");
     }
     Ok(())
@@ -197,7 +198,7 @@ fn a_read_that_fails_in_mid_stream_fails_the_load(rt: HostRuntime) -> Result<(),
         let failed = shelf.load(rt.alloc(), "a", room);
         assert_eq!(rt; failed.err(), Some(LoadFault::Failed), "room for {room}");
     }
-    let read = shelf.load(rt.alloc(), "a", 2).map_err(|_| "read")?;
+    let read = shelf.load(rt.alloc(), "a", 2).ok().ok_or("read")?;
     assert_eq!(rt; read.as_slice(), b"123".as_slice());
     Ok(())
 }
@@ -252,7 +253,7 @@ fn a_put_fails_with_its_flush(rt: HostRuntime) -> Result<(), Fail> {
 #[test]
 fn the_keys_of_a_document_are_read(rt: HostRuntime) -> Result<(), Fail> {
     let text = b"\xef\xbb\xbfspeed = 0x1_0\nname = 't1'\n\"\xc3\xa9\" = 1.5\n";
-    let table = read_document(rt.alloc(), text).map_err(|_| "document")?;
+    let table = read_document(rt.alloc(), text).ok().ok_or("document")?;
     assert_eq!(rt; number_at(&table, "speed", 1, 16), Ok(16));
     assert_eq!(rt; number_at(&table, "speed", 1, 15), Err(MemberFault::Range));
     assert_eq!(rt; number_at(&table, "name", 1, 15), Err(MemberFault::Kind));

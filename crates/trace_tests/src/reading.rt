@@ -28,7 +28,7 @@ const NOTES: &[u8] =
 fn joined(alloc: Global, pieces: &[&[u8]]) -> Result<Vec<u8>, Fail> {
     let mut text = Vec::new(alloc);
     for piece in pieces {
-        text.extend_from_slice(piece).map_err(|_| "memory")?;
+        text.extend_from_slice(piece)?;
     }
     Ok(text)
 }
@@ -83,7 +83,7 @@ fn refused(line: u64, kind: TraceKind) -> Option<TraceFault> {
 #[test]
 fn the_paper_example_is_read(rt: HostRuntime) -> Result<(), Fail> {
     let text = joined(rt.alloc(), &[HEAD, THIRD, OTHERS])?;
-    let trace = read_paper(rt.alloc(), &text)?.map_err(|_| "refused")?;
+    let trace = read_paper(rt.alloc(), &text)?.ok().ok_or("refused")?;
     assert_eq!(rt; trace.version, Version::One);
     assert_eq!(rt; trace.plan.ticks, 16);
     assert_eq!(rt; trace.notes.len(), 31);
@@ -253,7 +253,7 @@ fn nothing_stands_after_the_end(rt: HostRuntime) -> Result<(), Fail> {
 fn a_line_has_at_most_255_bytes(rt: HostRuntime) -> Result<(), Fail> {
     let mut line = Vec::new(rt.alloc());
     for _ in 0..LONGEST_LINE {
-        line.push(b'x').map_err(|_| "memory")?;
+        line.push(b'x')?;
     }
     let kept = joined(rt.alloc(), &[&line, b"\n"])?;
     assert_eq!(rt;
@@ -272,18 +272,16 @@ fn a_line_has_at_most_255_bytes(rt: HostRuntime) -> Result<(), Fail> {
 fn long_trace(alloc: Global, lines: u64) -> Result<Vec<u8>, Fail> {
     let mut text = joined(alloc, &[HEAD])?;
     for _ in 3..lines {
-        text.extend_from_slice(b"idle 0:0 0:0 0 0\n")
-            .map_err(|_| "memory")?;
+        text.extend_from_slice(b"idle 0:0 0:0 0 0\n")?;
     }
-    text.extend_from_slice(b"end 0 0 0\n")
-        .map_err(|_| "memory")?;
+    text.extend_from_slice(b"end 0 0 0\n")?;
     Ok(text)
 }
 
 #[test]
 fn a_trace_has_at_most_800000_lines(rt: HostRuntime) -> Result<(), Fail> {
     let text = long_trace(rt.alloc(), MOST_LINES)?;
-    let trace = read_paper(rt.alloc(), &text)?.map_err(|_| "refused")?;
+    let trace = read_paper(rt.alloc(), &text)?.ok().ok_or("refused")?;
     assert_eq!(rt; trace.notes.len() as u64, MOST_LINES - 2);
     let text = long_trace(rt.alloc(), MOST_LINES + 1)?;
     assert_eq!(rt;
@@ -296,7 +294,7 @@ fn a_trace_has_at_most_800000_lines(rt: HostRuntime) -> Result<(), Fail> {
 #[test]
 fn nothing_stands_after_an_end_on_line_800000(rt: HostRuntime) -> Result<(), Fail> {
     let mut text = long_trace(rt.alloc(), MOST_LINES)?;
-    text.push(b'\n').map_err(|_| "memory")?;
+    text.push(b'\n')?;
     assert_eq!(rt;
         read_paper(rt.alloc(), &text)?.err(),
         refused(MOST_LINES + 1, TraceKind::AfterEnd)
@@ -322,7 +320,7 @@ fn numbers_reach_their_last_value(rt: HostRuntime) -> Result<(), Fail> {
     assert_eq!(rt; paper_refused(rt.alloc(), HEAD, third, b"")?, None);
     let last =
         b"trace 1\nplan rm cc 1099511627776\nend 18446744073709551615 340282366920938463463374607431768211455 0\n";
-    let trace = read_paper(rt.alloc(), last)?.map_err(|_| "refused")?;
+    let trace = read_paper(rt.alloc(), last)?.ok().ok_or("refused")?;
     assert_eq!(rt; trace.plan.ticks, MOST_TICKS);
     assert_eq!(rt; trace.notes.len(), 1);
     assert_eq!(rt;
@@ -357,11 +355,11 @@ fn both_versions_are_read(rt: HostRuntime) -> Result<(), Fail> {
             b"energy x 72000000000\nenergy y 54000000000\nend 8 126000000000 0\n",
         ],
     )?;
-    let trace = read_pair(rt.alloc(), &text)?.map_err(|_| "refused")?;
+    let trace = read_pair(rt.alloc(), &text)?.ok().ok_or("refused")?;
     assert_eq!(rt; trace.version, Version::Two);
     assert_eq!(rt; trace.notes.len(), 17);
     let text = b"trace 1\nplan edf cc 3\nspeed 0 2 0/4\nidle 0:0 3:0 6 0\nend 3 0 0\n";
-    let trace = read_pair(rt.alloc(), text)?.map_err(|_| "refused")?;
+    let trace = read_pair(rt.alloc(), text)?.ok().ok_or("refused")?;
     assert_eq!(rt; trace.version, Version::One);
     Ok(())
 }
@@ -372,8 +370,8 @@ type Refusal = (&'static [u8], u64, TraceKind);
 // Some lines, and then others.
 fn followed(alloc: Global, before: &[u8], last: &[u8]) -> Result<Vec<u8>, Fail> {
     let mut text = Vec::new(alloc);
-    text.extend_from_slice(before).map_err(|_| "memory")?;
-    text.extend_from_slice(last).map_err(|_| "memory")?;
+    text.extend_from_slice(before)?;
+    text.extend_from_slice(last)?;
     Ok(text)
 }
 

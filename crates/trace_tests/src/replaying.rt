@@ -24,12 +24,9 @@ const OTHERS: &[u8] =
 
 // The plan of tasks on a machine under EDF.
 fn edf_plan(alloc: Global, tasks: &[u8], machine: &[u8]) -> Result<Admitted, Fail> {
-    let tasks = TaskSet::read(alloc, tasks).map_err(|_| "tasks")?;
-    let machine = Machine::read(alloc, machine).map_err(|_| "machine")?;
-    match edf_admit(alloc, &tasks, &machine) {
-        Ok(plan) => Ok(plan),
-        Err(_) => Err("plan".into()),
-    }
+    let tasks = TaskSet::read(alloc, tasks).ok().ok_or("tasks")?;
+    let machine = Machine::read(alloc, machine).ok().ok_or("machine")?;
+    Ok(edf_admit(alloc, &tasks, &machine).ok().ok_or("plan")?)
 }
 
 // The answer to a replay of `text`, a trace of the plan at the highest speed.
@@ -44,7 +41,7 @@ fn replayed(
     if trace.plan.scheduler != scheduler || trace.plan.governor != GovernorKind::Plain {
         return Err("plan of the trace".into());
     }
-    let governor = Full::new(alloc, plan).map_err(|_| "governor")?;
+    let governor = Full::new(alloc, plan)?;
     Ok(replay(alloc, plan, &trace, governor))
 }
 
