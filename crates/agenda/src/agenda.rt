@@ -35,7 +35,7 @@ impl Agenda {
                 period: plan.period(task),
             });
         }
-        let left = vec![in alloc; 0; plan.count() as usize].map_err(|_| NoMemory)?;
+        let left = vec![in alloc; 0; plan.count() as usize]?;
         Ok(Agenda {
             ready,
             calendar,

@@ -39,7 +39,7 @@ impl CcEdf {
         requires { ServesEdf plan.now.scheduler }
         ensures stands { IfOk result (λ g. ⟦<CcEdf as Governor>⟧.stands g plan.now (opening plan.now)) }
     {
-        let rates = vec![in alloc; 0; plan.count() as usize].map_err(|_| NoMemory)?;
+        let rates = vec![in alloc; 0; plan.count() as usize]?;
         Ok(CcEdf { rates, sum: 0 })
     }
 

@@ -43,7 +43,7 @@ impl CcRm {
         ensures worst { MeetsAtWorst plan.now }
     {
         let _admitted = plan.scheduler();
-        let rests = vec![in alloc; 0; plan.count() as usize].map_err(|_| NoMemory)?;
+        let rests = vec![in alloc; 0; plan.count() as usize]?;
         Ok(CcRm {
             static_speed: static_speed(plan),
             rests,

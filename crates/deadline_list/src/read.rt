@@ -62,7 +62,7 @@ fn none_given(alloc: Global, tasks: &TaskSet) -> Result<Vec<Option<u64>>, NoMemo
     ensures none { IfOk result (λ v. v.items ≡ none_given tasks.now) }
     ensures given { IfOk result (λ v. AreGiven tasks.now v.items) }
 {
-    let given = vec![in alloc; None; tasks.count() as usize].map_err(|_| NoMemory)?;
+    let given = vec![in alloc; None; tasks.count() as usize]?;
     Ok(given)
 }
 
@@ -118,7 +118,7 @@ fn all_deadlines(
     let mut deadlines = Vec::new(alloc);
     for i in 0..tasks.count() {
         let deadline = given[i as usize].unwrap_or(tasks.task(i).period);
-        deadlines.push(deadline).map_err(|_| NoMemory)?;
+        deadlines.push(deadline)?;
     }
     Ok(deadlines)
 }

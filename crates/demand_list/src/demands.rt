@@ -33,7 +33,7 @@ impl Demands {
         requires { length worsts.now < 2 ^ 32 }
         ensures { IfOk result (λ demands. demands ≡ record { worsts = worsts.now; rows = [] }) }
     {
-        let worsts = Vec::from_slice(alloc, worsts).map_err(|_| NoMemory)?;
+        let worsts = Vec::from_slice(alloc, worsts)?;
         let rows = KeptRows::InOrder(Vec::new(alloc));
         Ok(Demands { worsts, rows })
     }

@@ -51,7 +51,7 @@ fn map_of(alloc: Global, rows: &[((u32, u64), u64)]) -> Result<BTreeMap<(u32, u6
 {
     let mut map = BTreeMap::new(alloc);
     for &(key, units) in rows {
-        map.insert(key, units).map_err(|_| NoMemory)?;
+        map.insert(key, units)?;
     }
     Ok(map)
 }
@@ -69,12 +69,12 @@ fn add_row(
     ensures stays { result ≡ Ok false → rows.new.entries ≡ rows.old.entries }
     ensures err { OnErr result (rows.new.entries ≡ rows.old.entries) }
 {
-    let earlier = rows.insert((task, job), units).map_err(|_| NoMemory)?;
+    let earlier = rows.insert((task, job), units)?;
     let Some(kept) = earlier else {
         return Ok(true);
     };
     // The earlier row goes back. Its key is in the map, so this needs no memory.
-    rows.insert((task, job), kept).map_err(|_| NoMemory)?;
+    rows.insert((task, job), kept)?;
     Ok(false)
 }
 
@@ -106,7 +106,7 @@ impl KeptRows {
             KeptRows::AnyOrder(rows) => add_row(rows, task, job, units),
             KeptRows::InOrder(rows) => {
                 if is_next(rows, task, job) {
-                    rows.push(((task, job), units)).map_err(|_| NoMemory)?;
+                    rows.push(((task, job), units))?;
                     return Ok(true);
                 }
                 let mut map = map_of(*rows.allocator(), rows)?;

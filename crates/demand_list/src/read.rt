@@ -97,7 +97,7 @@ fn worst_cases(alloc: Global, tasks: &TaskSet) -> Result<Vec<u64>, NoMemory>
 {
     let mut worsts = Vec::new(alloc);
     for i in 0..tasks.count() {
-        worsts.push(tasks.task(i).worst).map_err(|_| NoMemory)?;
+        worsts.push(tasks.task(i).worst)?;
     }
     Ok(worsts)
 }

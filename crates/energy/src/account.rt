@@ -28,7 +28,7 @@ impl Model for Account {
 fn zeros(alloc: Global, count: u32) -> Result<Vec<u128>, NoMemory>
     ensures { IfOk result (λ v. v.items ≡ replicate count 0) }
 {
-    vec![in alloc; 0u128; count as usize].map_err(|_| NoMemory)
+    Ok(vec![in alloc; 0u128; count as usize]?)
 }
 
 impl Account {

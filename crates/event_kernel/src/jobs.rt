@@ -46,7 +46,7 @@ pub fn worst_demands(alloc: Global, plan: &Admitted) -> Result<Demands, NoMemory
 {
     let mut worsts = Vec::new(alloc);
     for task in 0..plan.count() {
-        worsts.push(plan.declared(task)).map_err(|_| NoMemory)?;
+        worsts.push(plan.declared(task))?;
     }
     Demands::worst_only(alloc, &worsts)
 }

@@ -36,7 +36,7 @@ impl SpanNotes {
     pub(crate) fn new(alloc: Global) -> Result<SpanNotes, NoMemory>
         ensures { IfOk result (λ s. s ≡ []) }
     {
-        let notes = Vec::with_capacity(alloc, MOST_NOTES).map_err(|_| NoMemory)?;
+        let notes = Vec::with_capacity(alloc, MOST_NOTES)?;
         Ok(SpanNotes { notes })
     }
 

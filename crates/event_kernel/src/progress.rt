@@ -41,7 +41,7 @@ impl<G: Governor> Progress<G> {
     {
         let state = State::new(alloc, set.plan)?;
         let agenda = Agenda::new(alloc, set.plan)?;
-        let needs = vec![in alloc; 0; set.plan.count() as usize].map_err(|_| NoMemory)?;
+        let needs = vec![in alloc; 0; set.plan.count() as usize]?;
         let trace = SpanTrace::new(SpanNotes::new(alloc)?);
         Ok(Progress {
             governor,

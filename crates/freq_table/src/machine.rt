@@ -63,7 +63,7 @@ impl Machine {
         requires { IsTable (record { points = points.now; idle = idle; charge = charge }) }
         ensures { IfOk result (λ m. m ≡ (record { points = points.now; idle = idle; charge = charge })) }
     {
-        let points = Vec::from_slice(alloc, points).map_err(|_| NoMemory)?;
+        let points = Vec::from_slice(alloc, points)?;
         Ok(Machine::from_points(points, idle, charge))
     }
 

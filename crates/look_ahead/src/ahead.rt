@@ -35,7 +35,7 @@ impl LookAhead {
     {
         let order = opening_order(alloc, plan)?;
         let rates = rates_of(alloc, plan)?;
-        let left = vec![in alloc; 0; plan.count() as usize].map_err(|_| NoMemory)?;
+        let left = vec![in alloc; 0; plan.count() as usize]?;
         Ok(LookAhead { left, order, rates })
     }
 }

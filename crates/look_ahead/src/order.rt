@@ -16,9 +16,7 @@ fn offsets_of(alloc: Global, plan: &Admitted) -> Result<Vec<(u64, u32)>, NoMemor
 {
     let mut offsets = Vec::new(alloc);
     for task in 0..plan.count() {
-        offsets
-            .push((plan.offset(task), task))
-            .map_err(|_| NoMemory)?;
+        offsets.push((plan.offset(task), task))?;
     }
     Ok(offsets)
 }
@@ -27,11 +25,8 @@ fn offsets_of(alloc: Global, plan: &Admitted) -> Result<Vec<(u64, u32)>, NoMemor
 fn tasks_of(alloc: Global, offsets: &[(u64, u32)]) -> Result<Vec<u32>, NoMemory>
     ensures { IfOk result (λ v. v.items ≡ map (λ k. k.1) offsets.now) }
 {
-    offsets
-        .iter()
-        .map(|first| first.1)
-        .collect(alloc)
-        .map_err(|_| NoMemory)
+    let numbers: Vec<u32> = offsets.iter().map(|first| first.1).collect(alloc)?;
+    Ok(numbers)
 }
 
 // The tasks in EDF order before the first release.

@@ -21,7 +21,7 @@ pub(crate) fn rates_of(alloc: Global, plan: &Admitted) -> Result<Vec<u128>, NoMe
 {
     let mut rates = Vec::new(alloc);
     for task in 0..plan.count() {
-        rates.push(rate(plan, task)).map_err(|_| NoMemory)?;
+        rates.push(rate(plan, task))?;
     }
     Ok(rates)
 }

@@ -23,7 +23,7 @@ impl Ends {
         ensures ends { IfOk result (λ e. e.ends.items ≡ replicate jobs None) }
     {
         let mut ends = Vec::new(alloc);
-        ends.resize(jobs as usize, None).map_err(|_| NoMemory)?;
+        ends.resize(jobs as usize, None)?;
         Ok(Ends { task, ends })
     }
 

@@ -88,7 +88,7 @@ pub(crate) fn outcomes(alloc: Global, jobs: &Jobs<'_>) -> Result<Vec<Outcome>, N
     let mut list = Vec::new(alloc);
     let server = jobs.server;
     for m in 0..server.requests.len() {
-        list.push(reached.serve(jobs, m)).map_err(|_| NoMemory)?;
+        list.push(reached.serve(jobs, m))?;
     }
     Ok(list)
 }

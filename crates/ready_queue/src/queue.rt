@@ -32,7 +32,7 @@ impl<O: Order> Queue<O> {
     pub fn new(alloc: Global, n: u32, order: O) -> Result<Queue<O>, NoMemory>
         ensures { IfOk result (λ q. q ≡ record { limit = n; entries = [] }) }
     {
-        let heap = Vec::with_capacity(alloc, n as usize).map_err(|_| NoMemory)?;
+        let heap = Vec::with_capacity(alloc, n as usize)?;
         Ok(Queue { heap, order })
     }
 

@@ -30,7 +30,7 @@ fn task_names(alloc: Global, tasks: &TaskSet) -> Result<Vec<Name>, NoMemory>
 {
     let mut names = Vec::new(alloc);
     for i in 0..tasks.count() {
-        names.push(tasks.task(i).name).map_err(|_| NoMemory)?;
+        names.push(tasks.task(i).name)?;
     }
     Ok(names)
 }
@@ -47,7 +47,7 @@ pub(crate) fn task_lines(alloc: Global, tasks: &TaskSet) -> Result<Vec<TaskLine>
             offset: task.offset,
             worst: task.worst,
         };
-        lines.push(line).map_err(|_| NoMemory)?;
+        lines.push(line)?;
     }
     Ok(lines)
 }
@@ -58,8 +58,8 @@ fn read_trace(alloc: Global, bytes: &[u8], tasks: &TaskSet) -> Result<Trace, Tra
     ensures trace { IfOk result (IsTrace (task_names tasks.now) (lines_of_tasks tasks.now)) }
 {
     let _limits = tasks.as_slice();
-    let names = task_names(alloc, tasks).map_err(|_| TraceFault::NoMemory)?;
-    let lines = task_lines(alloc, tasks).map_err(|_| TraceFault::NoMemory)?;
+    let names = task_names(alloc, tasks)?;
+    let lines = task_lines(alloc, tasks)?;
     read_any(alloc, bytes, &names, &lines)
 }
 

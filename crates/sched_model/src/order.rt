@@ -38,8 +38,7 @@ fn keys_of(alloc: Global, tasks: &TaskSet) -> Result<Vec<(u128, u32)>, NoMemory>
 {
     let mut keys = Vec::new(alloc);
     for i in 0..tasks.count() {
-        keys.push((u128::from(tasks.task(i).period), i))
-            .map_err(|_| NoMemory)?;
+        keys.push((u128::from(tasks.task(i).period), i))?;
     }
     Ok(keys)
 }
@@ -48,10 +47,7 @@ fn keys_of(alloc: Global, tasks: &TaskSet) -> Result<Vec<(u128, u32)>, NoMemory>
 fn numbers_of(alloc: Global, keys: &[(u128, u32)]) -> Result<Vec<u32>, NoMemory>
     ensures { IfOk result (λ v. v.items ≡ map (λ k. k.1) keys.now) }
 {
-    keys.iter()
-        .map(|key| key.1)
-        .collect(alloc)
-        .map_err(|_| NoMemory)
+    Ok(keys.iter().map(|key| key.1).collect::<Vec<u32>>(alloc)?)
 }
 
 /// The numbers that the keys are of, in the order of the keys, and among equal keys by number.

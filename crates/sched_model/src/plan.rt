@@ -47,7 +47,7 @@ fn tasks_of(alloc: Global, tasks: &TaskSet) -> Result<Vec<Task>, NoMemory>
     ensures list { IfOk result (λ v. v.items ≡ tasks.now) }
     ensures limits { IfOk result (λ v. IsTaskSet v.items) }
 {
-    Vec::from_slice(alloc, tasks.as_slice()).map_err(|_| NoMemory)
+    Ok(Vec::from_slice(alloc, tasks.as_slice())?)
 }
 
 // The names of tasks, in their order.
@@ -56,7 +56,7 @@ fn names_of(alloc: Global, tasks: &[Task]) -> Result<Vec<Name>, NoMemory>
 {
     let mut list = Vec::new(alloc);
     for task in tasks {
-        list.push(task.name).map_err(|_| NoMemory)?;
+        list.push(task.name)?;
     }
     Ok(list)
 }

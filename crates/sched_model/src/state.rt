@@ -69,8 +69,8 @@ impl State {
         let mut base = Vec::new(alloc);
         for i in 0..plan.count() {
             let row = opening_row(plan.offset(i), plan.worst(i));
-            rows.push(row).map_err(|_| NoMemory)?;
-            base.push(0).map_err(|_| NoMemory)?;
+            rows.push(row)?;
+            base.push(0)?;
         }
         Ok(State {
             now: 0,

@@ -56,10 +56,8 @@ fn hyper_within(alloc: Global, tasks: &[Task]) -> Result<Option<u64>, NoMemory>
     requires { AreTasks tasks.now }
     ensures { IfOk result (λ h. h ≡ where_within LONGEST_HYPERPERIOD (hyper_of tasks.now) (hyper_of tasks.now)) }
 {
-    match tasks.iter().map(|t| t.period).collect::<Vec<u64>>(alloc) {
-        Ok(periods) => Ok(lcm_within(&periods, LONGEST_HYPERPERIOD)),
-        Err(_) => Err(NoMemory),
-    }
+    let periods = tasks.iter().map(|t| t.period).collect::<Vec<u64>>(alloc)?;
+    Ok(lcm_within(&periods, LONGEST_HYPERPERIOD))
 }
 
 impl TaskSet {
@@ -81,7 +79,7 @@ impl TaskSet {
         requires { IsTaskSet tasks.now }
         ensures { IfOk result (λ s. s ≡ tasks.now) }
     {
-        let kept = Vec::from_slice(alloc, tasks).map_err(|_| NoMemory)?;
+        let kept = Vec::from_slice(alloc, tasks)?;
         let set = TaskSet::within(alloc, kept)?;
         Ok(set.unwrap())
     }

@@ -18,7 +18,7 @@ fn name_value(alloc: Global, name: &Name) -> Result<Value, NoMemory>
     ensures { IfOk result (λ v. view v ≡ string name.now) }
 {
     let text = std::str::from_utf8(name.as_bytes()).unwrap();
-    Value::string(alloc, text).map_err(|_| NoMemory)
+    Ok(Value::string(alloc, text)?)
 }
 
 fn number_value(n: u64) -> Value
@@ -32,8 +32,8 @@ fn number_value(n: u64) -> Value
 fn put(alloc: Global, table: &mut Table, key: &str, value: Value) -> Result<(), NoMemory>
     ensures { OnOk result (table_view table.new ≡ put_member key.now (view value) (table_view table.old)) }
 {
-    let kept = String::from_str(alloc, key).map_err(|_| NoMemory)?;
-    table.insert(kept, value).map_err(|_| NoMemory)?;
+    let kept = String::from_str(alloc, key)?;
+    table.insert(kept, value)?;
     Ok(())
 }
 
@@ -58,7 +58,7 @@ fn task_values(alloc: Global, tasks: &[Task]) -> Result<Vec<Value>, NoMemory>
     let mut values: Vec<Value> = Vec::new(alloc);
     for task in tasks {
         let value = task_value(alloc, task)?;
-        values.push(value).map_err(|_| NoMemory)?;
+        values.push(value)?;
     }
     Ok(values)
 }

@@ -1,6 +1,8 @@
 // Traces, and why a text is not one.
+ghost use Rattle.std.specs.Prelude.{◌≡◌};
+ghost use Rattle.trace_reader.specs.declared.trace.TraceFault.TheVariants as fault;
 
-use dvs_base::{Note, Version};
+use dvs_base::{NoMemory, Note, Version};
 use std::marker::Model;
 use trace_text::PlanLine;
 
@@ -55,4 +57,12 @@ pub enum TraceFault {
     Refused { line: u64, kind: TraceKind },
     /// Memory ran out.
     NoMemory,
+}
+
+impl From<NoMemory> for TraceFault {
+    ghost from_gives = { λ _ e. e ≡ fault.NoMemory };
+
+    fn from(_e: NoMemory) -> TraceFault {
+        TraceFault::NoMemory
+    }
 }

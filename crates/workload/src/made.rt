@@ -62,9 +62,7 @@ fn make_tasks(alloc: Global, draws: &mut Draws, count: u32) -> Result<Vec<Task>,
 {
     let mut tasks = Vec::new(alloc);
     for task in 0..count {
-        tasks
-            .push(make_task(draws, count, task))
-            .map_err(|_| NoMemory)?;
+        tasks.push(make_task(draws, count, task))?;
     }
     Ok(tasks)
 }
@@ -87,11 +85,8 @@ fn add_row(demands: &mut Demands, task: u32, job: u64, units: u64) -> Result<(),
 fn worsts_of(alloc: Global, tasks: &[Task]) -> Result<Vec<u64>, NoMemory>
     ensures { IfOk result (λ worsts. worsts.items ≡ map (λ t. t.worst) tasks.now) }
 {
-    tasks
-        .iter()
-        .map(|task| task.worst)
-        .collect::<Vec<u64>>(alloc)
-        .map_err(|_| NoMemory)
+    let worsts: Vec<u64> = tasks.iter().map(|task| task.worst).collect(alloc)?;
+    Ok(worsts)
 }
 
 // The demand list with drawn units for the first jobs of each task.

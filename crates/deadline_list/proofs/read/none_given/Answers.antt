@@ -1,7 +1,6 @@
 use Rattle.std.proofs.Common.{◌≡◌, None, rules, sym, ap, subst, ◌∙◌}
 use Rattle.std.proofs.Math.ListN.{replicate}
 use Rattle.std.proofs.lemmas.Result.{IfOk-at_ok}
-use Rattle.dvs_base.proofs.MappedErrors.{map_err-Ok}
 use Rattle.sched_model.proofs.Tables.{same-table}
 use Rattle.deadline_list.specs.DeadlineFile.{none_given, AreGiven}
 use Rattle.deadline_list.proofs.GivenDeadlines.{none-are}
@@ -10,8 +9,7 @@ use Rattle.deadline_list.proofs.read.none_given.Goals as goal
 -- one None for each task
 all : (c : goal.In_ok-given) → c.in_ok-given.given.items ≡ none_given c.args.tasks.now
 all c =
-    let made = map_err-Ok c.vec.result c.map_err.result _ _ c.map_err.ensures.cases c.map_err.ensures.variant c.in_ok-given.was in
-    IfOk-at_ok _ made c.vec.ensures.items_if_clones_equal (λ y e. search rules)
+    IfOk-at_ok _ c.in_ok-given.was c.vec.ensures.items_if_clones_equal (λ y e. search rules)
     ∙ ap (λ n. replicate n None) c.count.ensures.count
     ∙ sym (same-table _ None)
 

@@ -5,41 +5,36 @@ use Rattle.task_model.specs.DemandRows.{named_units}
 use Rattle.demand_list.specs.Demands.{rows_of}
 use Rattle.dvs_base.proofs.PairOrders.{pair_cmp}
 use Rattle.std.proofs.lemmas.Result.{IfOk-at_ok}
-use Rattle.dvs_base.proofs.MappedErrors.{map_err-Ok}
 use Rattle.demand_list.proofs.Rows.{named-rows_of, rows_of-insert_entry, insert_entry-back}
 use Rattle.demand_list.proofs.kept.add_row.Goals as goal
 
 pub returns-in_default-clause-answer : goal.returns-in_default-clause-answer
 returns-in_default-clause-answer c =
-    let made = map_err-Ok c.insert.result c.map_err.result _ _ c.map_err.ensures.cases c.map_err.ensures.variant c.in_ok-earlier.was in
     let found : named_units (rows_of c.args.rows.now.entries) c.args.task c.args.job ≡ None =
-    named-rows_of c.args.rows.now.entries c.args.task c.args.job ∙ sym (IfOk-at_ok _ made c.insert.ensures.old) ∙ c.in_default.is in
+    named-rows_of c.args.rows.now.entries c.args.task c.args.job ∙ sym (IfOk-at_ok _ c.in_ok-earlier.was c.insert.ensures.old) ∙ c.in_default.is in
     sym (ap (λ (o : Option ℕ). not (is_some o)) found)
 
 pub returns-in_default-clause-added : goal.returns-in_default-clause-added
 returns-in_default-clause-added c _ =
-    let made = map_err-Ok c.insert.result c.map_err.result _ _ c.map_err.ensures.cases c.map_err.ensures.variant c.in_ok-earlier.was in
     let found : named_units (rows_of c.args.rows.now.entries) c.args.task c.args.job ≡ None =
-    named-rows_of c.args.rows.now.entries c.args.task c.args.job ∙ sym (IfOk-at_ok _ made c.insert.ensures.old) ∙ c.in_default.is in
-    ap rows_of (IfOk-at_ok _ made c.insert.ensures.entries) ∙ rows_of-insert_entry c.args.rows.now.entries c.args.task c.args.job c.args.units found
+    named-rows_of c.args.rows.now.entries c.args.task c.args.job ∙ sym (IfOk-at_ok _ c.in_ok-earlier.was c.insert.ensures.old) ∙ c.in_default.is in
+    ap rows_of (IfOk-at_ok _ c.in_ok-earlier.was c.insert.ensures.entries)
+    ∙ rows_of-insert_entry c.args.rows.now.entries c.args.task c.args.job c.args.units found
 
 pub returns-clause-answer : goal.returns-clause-answer
 returns-clause-answer c =
-    let made = map_err-Ok c.insert.result c.map_err.result _ _ c.map_err.ensures.cases c.map_err.ensures.variant c.in_ok-earlier.was in
     let found : named_units (rows_of c.args.rows.now.entries) c.args.task c.args.job ≡ Some c.in-Some.kept =
-    named-rows_of c.args.rows.now.entries c.args.task c.args.job ∙ sym (IfOk-at_ok _ made c.insert.ensures.old) ∙ c.in-Some.is in
+    named-rows_of c.args.rows.now.entries c.args.task c.args.job ∙ sym (IfOk-at_ok _ c.in_ok-earlier.was c.insert.ensures.old) ∙ c.in-Some.is in
     sym (ap (λ (o : Option ℕ). not (is_some o)) found)
 
 pub returns-clause-stays : goal.returns-clause-stays
 returns-clause-stays c _ =
-    let made = map_err-Ok c.insert.result c.map_err.result _ _ c.map_err.ensures.cases c.map_err.ensures.variant c.in_ok-earlier.was in
-    let again = map_err-Ok c.insert-2.result c.map_err-2.result _ _ c.map_err-2.ensures.cases c.map_err-2.ensures.variant c.in_ok-map_err.was in
     let key : ℕ × ℕ = (c.args.task, c.args.job) in
     let es : List ((ℕ × ℕ) × ℕ) = c.args.rows.now.entries in
-    let first : c.insert.new.self.entries ≡ insert_entry pair_cmp es key c.args.units = IfOk-at_ok _ made c.insert.ensures.entries in
+    let first : c.insert.new.self.entries ≡ insert_entry pair_cmp es key c.args.units = IfOk-at_ok _ c.in_ok-earlier.was c.insert.ensures.entries in
     let second : c.insert-2.new.self.entries ≡ insert_entry pair_cmp c.insert.new.self.entries key c.in-Some.kept =
-    IfOk-at_ok _ again c.insert-2.ensures.entries in
-    let same : keys_of c.insert.new.self.entries ≡ keys_of es = (rw c.in-Some.is at (IfOk-at_ok _ made c.insert.ensures.keys_stay)) refl in
-    let found : lookup (is_at (pair_cmp key)) es ≡ Some c.in-Some.kept = sym (IfOk-at_ok _ made c.insert.ensures.old) ∙ c.in-Some.is in
+    IfOk-at_ok _ c.in_ok-insert.was c.insert-2.ensures.entries in
+    let same : keys_of c.insert.new.self.entries ≡ keys_of es = (rw c.in-Some.is at (IfOk-at_ok _ c.in_ok-earlier.was c.insert.ensures.keys_stay)) refl in
+    let found : lookup (is_at (pair_cmp key)) es ≡ Some c.in-Some.kept = sym (IfOk-at_ok _ c.in_ok-earlier.was c.insert.ensures.old) ∙ c.in-Some.is in
     second ∙ ap (λ (e : List ((ℕ × ℕ) × ℕ)). insert_entry pair_cmp e key c.in-Some.kept) first
     ∙ insert_entry-back pair_cmp key c.args.units c.in-Some.kept es (ap keys_of (sym first) ∙ same) found

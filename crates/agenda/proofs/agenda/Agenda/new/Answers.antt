@@ -1,7 +1,6 @@
 use Rattle.std.proofs.Common.{◌<◌, ◌∙◌, ap, arith}
 use Rattle.std.proofs.Math.ListN.{replicate}
 use Rattle.std.proofs.lemmas.Result.{IfOk-at_ok}
-use Rattle.dvs_base.proofs.MappedErrors.{map_err-Ok}
 use Rattle.sched_model.specs.Plan.{count}
 use Rattle.sched_model.specs.States.{opening}
 use Rattle.sched_model.proofs.States.{left-opening}
@@ -30,7 +29,7 @@ returns c = record {
     releases = all-held c.args.plan.now (opening c.args.plan.now) c.loop-task.task c.loop-task.calendar.entries
         (omega (arith, c.loop-task-test.false, c.count-task-end.ensures.count)) c.loop-task.invariant.held;
   };
-  left = IfOk-at_ok _ (map_err-Ok c.vec.result c.map_err.result _ _ c.map_err.ensures.cases c.map_err.ensures.variant c.in_ok-left.was)
+  left = IfOk-at_ok _ c.in_ok-left.was
       c.vec.ensures.items_if_clones_equal (λ y e. e)
       ∙ (ap (λ n. replicate n 0) c.count-3.ensures.count ∙ left-opening c.args.plan.now);
 }

@@ -3,18 +3,16 @@ use Rattle.task_model.specs.DemandRows.{demand_row, named_units}
 use Rattle.demand_list.specs.Demands.{rows_of, with_row}
 use Rattle.demand_list.specs.Kept.{AllPrecede, AreAscending, kept_rows}
 use Rattle.demand_list.proofs.Ascending.{AreAscending-pushed, rows_of-pushed, named-last}
-use Rattle.dvs_base.proofs.MappedErrors.{map_err-Ok}
 use Rattle.demand_list.proofs.kept.KeptRows.add.Goals as goal
 
-before : (c : goal.In_ok-map_err-in-InOrder) → AllPrecede (demand_row c.args.task c.args.job c.args.units) (rows_of c.in-InOrder.rows.items)
+before : (c : goal.In_ok-push-in-InOrder) → AllPrecede (demand_row c.args.task c.args.job c.args.units) (rows_of c.in-InOrder.rows.items)
 before c = rw c.deref.ensures.value at (c.if-is_next.ensures refl)
 
 -- the row is pushed after the others
-pushed : (c : goal.In_ok-map_err-in-InOrder)
+pushed : (c : goal.In_ok-push-in-InOrder)
     → c.push.new.self.items ≡ c.in-InOrder.rows.items ++ ((c.args.task, c.args.job), c.args.units) ∷ []
 pushed c =
-    let made = map_err-Ok c.push.result c.map_err.result _ _ c.map_err.ensures.cases c.map_err.ensures.variant c.in_ok-map_err-in-InOrder.was in
-    rw made at c.push.ensures.items
+    rw c.in_ok-push-in-InOrder.was at c.push.ensures.items
 
 pub returns-then-is_next-clause-in_order : goal.returns-then-is_next-clause-in_order
 returns-then-is_next-clause-in_order c =

@@ -1,7 +1,6 @@
 use Rattle.std.proofs.Common.{◌∙◌, ap, sym, subst}
 use Rattle.std.proofs.Math.ListN.{replicate}
 use Rattle.std.proofs.lemmas.Result.{IfOk-at_ok}
-use Rattle.dvs_base.proofs.MappedErrors.{map_err-Ok}
 use Rattle.sched_model.specs.States.{StateView}
 use Rattle.event_kernel.specs.Current.{Follow}
 use Rattle.event_kernel.proofs.LatestDemands.{demands-opening}
@@ -10,12 +9,11 @@ use Rattle.event_kernel.proofs.progress.Progress.new.Goals as goal
 pub returns-clause-current : goal.returns-clause-current
 returns-clause-current g c =
     let set = c.args.set.now in
-    let made = map_err-Ok c.vec.result c.map_err.result _ _ c.map_err.ensures.cases c.map_err.ensures.variant c.in_ok-needs.was in
     subst (λ (s : StateView). Follow g.G.Governor.stands set c.args.governor s c.in_ok-agenda.agenda c.in_ok-needs.needs.items)
     (sym c.in_ok-state.ensures)
     (record {
       counters = c.requires;
       agenda = c.in_ok-agenda.ensures;
-      demands = IfOk-at_ok _ made c.vec.ensures.items_if_clones_equal (λ y e. e)
+      demands = IfOk-at_ok _ c.in_ok-needs.was c.vec.ensures.items_if_clones_equal (λ y e. e)
           ∙ (ap (λ n. replicate n 0) c.count.ensures.count ∙ demands-opening set);
     })
