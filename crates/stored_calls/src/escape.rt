@@ -41,7 +41,7 @@ pub(crate) fn unescaped(alloc: Global, text: &str) -> Result<Vec<u8>, Trouble> {
             }
         };
         if let Some(value) = found {
-            bytes.push(value).map_err(|_| Trouble::NoMemory)?;
+            bytes.push(value)?;
         }
         state = next;
     }

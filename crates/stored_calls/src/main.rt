@@ -14,8 +14,10 @@ mod stage;
 use crate::script::run_line;
 use crate::stage::Stage;
 use dvs_base::{HostShelf, LoadFault, NoMemory, Shelf};
-use std::alloc::AllocError;
+use std::alloc::{AllocError, AllocFailed};
+use std::io;
 use std::process::ExitCode;
+use std::str::Utf8Error;
 
 // The most bytes of the list.
 const MOST: u64 = 1048576;
@@ -40,6 +42,24 @@ impl From<NoMemory> for Trouble {
 impl From<AllocError> for Trouble {
     fn from(_: AllocError) -> Trouble {
         Trouble::NoMemory
+    }
+}
+
+impl<T: Drop> From<AllocFailed<T>> for Trouble {
+    fn from(_: AllocFailed<T>) -> Trouble {
+        Trouble::NoMemory
+    }
+}
+
+impl From<io::Error> for Trouble {
+    fn from(_: io::Error) -> Trouble {
+        Trouble::Write
+    }
+}
+
+impl From<Utf8Error> for Trouble {
+    fn from(_: Utf8Error) -> Trouble {
+        Trouble::Script
     }
 }
 
@@ -71,7 +91,7 @@ fn run_all(rt: &HostRuntime) -> Result<(), Trouble> {
         Err(LoadFault::NoMemory) => return Err(Trouble::NoMemory),
         Err(_) => return Err(Trouble::Script),
     };
-    let script = std::str::from_utf8(&list).map_err(|_| Trouble::Script)?;
+    let script = std::str::from_utf8(&list)?;
     run_script(rt, script)
 }
 

@@ -55,9 +55,9 @@ fn words_of(alloc: Global, line: &str) -> Result<Vec<String>, Trouble> {
     }
     for piece in line.split(' ') {
         let bytes = unescaped(alloc, piece)?;
-        let text = std::str::from_utf8(&bytes).map_err(|_| Trouble::Script)?;
-        let word = String::from_str(alloc, text).map_err(|_| Trouble::NoMemory)?;
-        words.push(word).map_err(|_| Trouble::NoMemory)?;
+        let text = std::str::from_utf8(&bytes)?;
+        let word = String::from_str(alloc, text)?;
+        words.push(word)?;
     }
     Ok(words)
 }
@@ -67,7 +67,7 @@ fn run_call(rt: &HostRuntime, line: &str, stage: &mut Stage) -> Result<(), Troub
     let words = words_of(rt.alloc(), line)?;
     for word in &words {
         if stage.lacks(word) {
-            println!(rt; "rtdvs {line}: no file {word} in this case").map_err(|_| Trouble::Write)?;
+            println!(rt; "rtdvs {line}: no file {word} in this case")?;
             return Err(Trouble::Script);
         }
     }
@@ -78,7 +78,7 @@ fn run_call(rt: &HostRuntime, line: &str, stage: &mut Stage) -> Result<(), Troub
 // A line that begins with a word and a blank.
 fn run_order(rt: &HostRuntime, order: &str, rest: &str, stage: &mut Stage) -> Result<(), Trouble> {
     match (order, rest.split_once(' ')) {
-        ("#", _) => println!(rt; "# {rest}").map_err(|_| Trouble::Write),
+        ("#", _) => Ok(println!(rt; "# {rest}")?),
         ("file", _) => stage.begin(rt.alloc(), rest),
         ("fail", Some(("load", number))) => stage.fail_load(number_of(number)?),
         ("fail", Some(("put", at))) => stage.fail_put(fail_at(at)?),
@@ -94,7 +94,8 @@ fn run_order(rt: &HostRuntime, order: &str, rest: &str, stage: &mut Stage) -> Re
 pub(crate) fn run_line(rt: &HostRuntime, line: &str, stage: &mut Stage) -> Result<(), Trouble> {
     if line.is_empty() {
         stage.begin_case();
-        return println!(rt; "").map_err(|_| Trouble::Write);
+        println!(rt; "")?;
+        return Ok(());
     }
     if let Some(text) = line.strip_prefix('|') {
         stage.add(&unescaped(rt.alloc(), text)?)?;

@@ -119,7 +119,7 @@ impl Stage {
     pub(crate) fn add(&mut self, bytes: &[u8]) -> Result<(), Trouble> {
         let place = self.last.ok_or(Trouble::Script)?;
         match self.file_mut(place) {
-            Some(file) => file.extend_from_slice(bytes).map_err(|_| Trouble::NoMemory),
+            Some(file) => Ok(file.extend_from_slice(bytes)?),
             None => Err(Trouble::Script),
         }
     }
@@ -134,17 +134,20 @@ impl Stage {
 
     /// In the next call this load fails.
     pub(crate) fn fail_load(&mut self, load: u64) -> Result<(), Trouble> {
-        self.loads.push(load).map_err(|_| Trouble::NoMemory)
+        self.loads.push(load)?;
+        Ok(())
     }
 
     /// In the next call this put of the answer fails.
     pub(crate) fn fail_put(&mut self, put: FailAt) -> Result<(), Trouble> {
-        self.puts.push(put).map_err(|_| Trouble::NoMemory)
+        self.puts.push(put)?;
+        Ok(())
     }
 
     /// In the next call this put of the notes fails.
     pub(crate) fn fail_note(&mut self, put: FailAt) -> Result<(), Trouble> {
-        self.notes.push(put).map_err(|_| Trouble::NoMemory)
+        self.notes.push(put)?;
+        Ok(())
     }
 
     /// The next call has one more probe, of all tasks: units are counted by a table, all else by a count.
@@ -154,7 +157,8 @@ impl Stage {
             What::Units => Asked::Table(rule),
             _ => Asked::Count(rule),
         };
-        self.probes.push(probe).map_err(|_| Trouble::NoMemory)
+        self.probes.push(probe)?;
+        Ok(())
     }
 
     // Nothing fails any more, and there are no probes.
