@@ -7,7 +7,7 @@ ghost use Rattle.dvs_base.specs.declared.limits.TheConstants.{MOST_JOBS};
 ghost use Rattle.event_kernel.specs.Runs.{IsListOf, notes_of_run};
 ghost use Rattle.rtdvs_top.specs.Prepared.{run_for, IsSmall, IsPrepared};
 ghost use Rattle.command_files.specs.PlannedRuns.{IsRunnable};
-ghost use Rattle.rtdvs_top.specs.Generated.{workload_plan, workload_demands, run_totals, workload_totals, head_text, totals_text, workload_text};
+ghost use Rattle.rtdvs_top.specs.Generated.{workload_plan, workload_demands, run_totals, edf_totals, workload_totals, head_text, totals_text, workload_text};
 ghost use Rattle.words.specs.Commands.{workload as workload_of};
 ghost use Rattle.dvs_base.specs.WritesText.{WritesText};
 
@@ -118,22 +118,33 @@ fn governed_totals<G: Publishing>(
     totals_from_opening(alloc, plan, demands, governor, ticks)
 }
 
+// The totals of the runs of a plan of EDF under each governor that serves it. It fails only if memory runs out.
+fn edf_totals(
+    alloc: Global,
+    plan: &Admitted,
+    demands: &Demands,
+    ticks: u64,
+) -> Result<EdfTotals, NoMemory>
+    requires run { IsRunnable (run_for plan.now demands.now ticks) }
+    requires edf { plan.now.scheduler ≡ Scheduler.Edf }
+    requires few { released_jobs plan.now ticks ≤ MOST_JOBS }
+    ensures { IfOk result (λ t. t ≡ edf_totals plan.now demands.now ticks) }
+{
+    Ok(EdfTotals {
+        full: governed_totals::<Full>(alloc, plan, demands, ticks)?,
+        fixed: governed_totals::<Static>(alloc, plan, demands, ticks)?,
+        cycle: governed_totals::<CcEdf>(alloc, plan, demands, ticks)?,
+        ahead: governed_totals::<LookAhead>(alloc, plan, demands, ticks)?,
+    })
+}
+
 /// The totals of the runs of a workload under each governor that serves EDF. It fails only if memory runs out.
 pub(crate) fn made_totals(alloc: Global, made: Workload) -> Result<EdfTotals, NoMemory>
     requires { IsSmall made }
     ensures { IfOk result (λ t. t ≡ workload_totals made.seed made.tasks made.ticks) }
 {
     let (plan, demands) = made_plan(alloc, made)?;
-    let full = governed_totals::<Full>(alloc, &plan, &demands, made.ticks)?;
-    let fixed = governed_totals::<Static>(alloc, &plan, &demands, made.ticks)?;
-    let cycle = governed_totals::<CcEdf>(alloc, &plan, &demands, made.ticks)?;
-    let ahead = governed_totals::<LookAhead>(alloc, &plan, &demands, made.ticks)?;
-    Ok(EdfTotals {
-        full,
-        fixed,
-        cycle,
-        ahead,
-    })
+    edf_totals(alloc, &plan, &demands, made.ticks)
 }
 
 // The number of tasks of a generated workload.

@@ -1,6 +1,6 @@
 // The put of what a command prepared.
-ghost use Rattle.std.specs.Prelude.{map};
-ghost use Rattle.rtdvs_top.specs.Prepared.{IsPutStep, IsPuttable, status_of_put};
+ghost use Rattle.std.specs.Prelude.{◌≡◌, map};
+ghost use Rattle.rtdvs_top.specs.Prepared.{IsPutStep, IsPuttable, status_of_put, status_of_writing};
 
 use crate::Status;
 use crate::generated::put_made;
@@ -9,10 +9,17 @@ use crate::poll::put_polled;
 use crate::prepared::Prepared;
 use crate::response::put_responses;
 use crate::run::put_run;
-use dvs_base::{Sink, Version, put_line};
+use dvs_base::{Failed, Sink, Version, put_line};
 use probes::Probe;
 use std::alloc::Global;
 use trace_writer::put_trace;
+
+// The result of a put: `Write` if it failed.
+fn put_result(wrote: Result<(), Failed>) -> Result<(), Status>
+    ensures { status_of_put result ≡ status_of_writing wrote }
+{
+    Ok(wrote?)
+}
 
 /// Puts what a command prepared. It reads no file, and takes memory only before the first put. `Write` if a put
 /// failed; a run may end with `Limit` or `NoMemory` before it puts anything.
@@ -28,11 +35,11 @@ pub(crate) fn put<W: Sink, P: Probe>(
 {
     match prepared {
         Prepared::Trace(run) => put_run(alloc, &run, out, probes),
-        Prepared::Migrated(plan, trace) => Ok(put_trace(&plan, &trace, Version::Two, out)?),
-        Prepared::Line(line) => Ok(put_line(&line, out)?),
-        Prepared::Responses(tasks, response) => Ok(put_responses(tasks, &response, out)?),
-        Prepared::Polled(polling, served) => Ok(put_polled(&polling, &served, out)?),
-        Prepared::Least(least) => Ok(put_least(&least, out)?),
-        Prepared::Made(made, totals) => Ok(put_made(made, &totals, out)?),
+        Prepared::Migrated(plan, trace) => put_result(put_trace(&plan, &trace, Version::Two, out)),
+        Prepared::Line(line) => put_result(put_line(&line, out)),
+        Prepared::Responses(tasks, response) => put_result(put_responses(tasks, &response, out)),
+        Prepared::Polled(polling, served) => put_result(put_polled(&polling, &served, out)),
+        Prepared::Least(least) => put_result(put_least(&least, out)),
+        Prepared::Made(made, totals) => put_result(put_made(made, &totals, out)),
     }
 }
