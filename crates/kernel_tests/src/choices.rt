@@ -14,7 +14,8 @@ use grid_fraction::Frac;
 use look_ahead::LookAhead;
 use sched_model::{Admitted, State};
 use static_gov::{Full, Static};
-use std::alloc::Global;
+use std::alloc::{AllocGlobal, Global};
+use std::process::Abort;
 use std::test::Fail;
 
 // Releases the first job of each task without an offset, and marks the tick if there is one.
@@ -86,31 +87,43 @@ fn rm_choice(alloc: Global, plan: &Admitted, kind: GovernorKind) -> Result<Choic
     }
 }
 
-#[test]
-fn first_choices_under_edf(rt: HostRuntime) -> Result<(), Fail> {
-    let alloc = rt.alloc();
-    let plan = edf_plan(alloc, &paper_tasks(alloc)?)?;
+// The first choice of each governor that serves EDF is the expected one.
+fn expect_edf_choices(rt: &(impl Abort + AllocGlobal), plan: &Admitted) -> Result<(), Fail>
+    requires { ServesEdf plan.now.scheduler }
+{
     for (kind, want) in [
         (GovernorKind::Plain, choice(2, 4, 1)),
         (GovernorKind::Fixed, choice(1, 836, 280)),
         (GovernorKind::Cycle, choice(1, 836, 280)),
         (GovernorKind::Ahead, choice(1, 21, 8)),
     ] {
-        assert_eq!(rt; edf_choice(alloc, &plan, kind)?, want, "{kind:?}");
+        assert_eq!(rt; edf_choice(rt.alloc(), plan, kind)?, want, "{kind:?}");
+    }
+    Ok(())
+}
+
+#[test]
+fn first_choices_under_edf(rt: HostRuntime) -> Result<(), Fail> {
+    let plan = edf_plan(rt.alloc(), &paper_tasks(rt.alloc())?)?;
+    expect_edf_choices(&rt, &plan)
+}
+
+// The first choice of each governor that serves RM is the expected one.
+fn expect_rm_choices(rt: &(impl Abort + AllocGlobal), plan: &Admitted) -> Result<(), Fail>
+    requires { ServesRm plan.now.scheduler }
+{
+    for (kind, want) in [
+        (GovernorKind::Plain, choice(2, 4, 1)),
+        (GovernorKind::Fixed, choice(2, 52, 14)),
+        (GovernorKind::Cycle, choice(2, 28, 8)),
+    ] {
+        assert_eq!(rt; rm_choice(rt.alloc(), plan, kind)?, want, "{kind:?}");
     }
     Ok(())
 }
 
 #[test]
 fn first_choices_under_rm(rt: HostRuntime) -> Result<(), Fail> {
-    let alloc = rt.alloc();
-    let plan = rm_plan(alloc, &paper_tasks(alloc)?)?;
-    for (kind, want) in [
-        (GovernorKind::Plain, choice(2, 4, 1)),
-        (GovernorKind::Fixed, choice(2, 52, 14)),
-        (GovernorKind::Cycle, choice(2, 28, 8)),
-    ] {
-        assert_eq!(rt; rm_choice(alloc, &plan, kind)?, want, "{kind:?}");
-    }
-    Ok(())
+    let plan = rm_plan(rt.alloc(), &paper_tasks(rt.alloc())?)?;
+    expect_rm_choices(&rt, &plan)
 }

@@ -1,16 +1,19 @@
 // Traces that a kernel writes to a sink in memory and shows to probes, each worked out by hand; and the jobs that a
 // kernel takes.
 ghost use Rattle.std.specs.Prelude.{◌≤◌};
+ghost use Rattle.sched_model.specs.States.{opening};
+ghost use Rattle.event_kernel.specs.Runs.{IsListOf};
 ghost use Rattle.dvs_base.specs.declared.limits.TheConstants.{MOST_TICKS};
 
 use crate::case::Case;
 use crate::plans::{edf_plan, edf_planned, paper_tasks};
+use crate::runs::Setup;
 use cc_edf::CcEdf;
 use demand_list::Demands;
 use dvs_base::{FailAt, MemSink, Totals, Version};
 use event_kernel::{Kernel, KernelFault, WriteFault};
 use governor::Governor;
-use probes::{Probe, Rule, What};
+use probes::{Rule, What};
 use static_gov::Full;
 use std::alloc::Global;
 use std::test::Fail;
@@ -54,17 +57,24 @@ struct WrittenRun {
     tallies: Vec<u64>,
 }
 
-// The run of a kernel with these probes, if these puts fail.
+// The run of a plan under a governor with two probes, if these puts fail.
 fn written<G: Governor>(
     alloc: Global,
-    kernel: Kernel<'_, G>,
-    probes: &mut Vec<Box<dyn Probe>>,
+    setup: &Setup<'_>,
+    governor: G,
     failing: &[FailAt],
     version: Version,
-) -> Result<WrittenRun, Fail> {
+) -> Result<WrittenRun, Fail>
+    requires list { IsListOf setup.now.plan.now setup.now.demands.now }
+    requires some_ticks { 1 ≤ setup.now.ticks }
+    requires low_ticks { setup.now.ticks ≤ MOST_TICKS }
+    requires stands { G.stands governor setup.now.plan.now (opening setup.now.plan.now) }
+{
+    let mut probes = probes_of!(alloc, &two_probes());
     let mut out = MemSink::new(alloc, 4096, failing)?;
-    let ended = kernel.run(&mut out, probes, version);
-    let tallies = tallies_of(alloc, probes)?;
+    let kernel = Kernel::new(alloc, setup.plan, setup.demands, governor, setup.ticks)?;
+    let ended = kernel.run(&mut out, &mut probes, version);
+    let tallies = tallies_of(alloc, &mut probes)?;
     Ok(WrittenRun {
         ended,
         out,
@@ -74,24 +84,18 @@ fn written<G: Governor>(
 
 // The run of the example at the highest speed, if these puts fail.
 fn paper_run(alloc: Global, failing: &[FailAt]) -> Result<WrittenRun, Fail> {
-    let mut probes = probes_of!(alloc, &two_probes());
-    let Some(planned) = edf_planned(alloc, PAPER_AT_WORST)? else {
-        return Err("plan")?;
-    };
+    let planned = edf_planned(alloc, PAPER_AT_WORST)?.ok_or("plan")?;
+    let setup = Setup::of(&planned, PAPER_AT_WORST, 16);
     let governor = Full::new(alloc, &planned.plan)?;
-    let kernel = Kernel::new(alloc, &planned.plan, &planned.demands, governor, 16)?;
-    written(alloc, kernel, &mut probes, failing, Version::One)
+    written(alloc, &setup, governor, failing, Version::One)
 }
 
 // The run of two tasks, one of which is late, under cycle-conserving EDF.
 fn two_tasks_run(alloc: Global) -> Result<WrittenRun, Fail> {
-    let mut probes = probes_of!(alloc, &two_probes());
-    let Some(planned) = edf_planned(alloc, TWO_AT_WORST)? else {
-        return Err("plan")?;
-    };
+    let planned = edf_planned(alloc, TWO_AT_WORST)?.ok_or("plan")?;
+    let setup = Setup::of(&planned, TWO_AT_WORST, 8);
     let governor = CcEdf::new(alloc, &planned.plan)?;
-    let kernel = Kernel::new(alloc, &planned.plan, &planned.demands, governor, 8)?;
-    written(alloc, kernel, &mut probes, &[], Version::Two)
+    written(alloc, &setup, governor, &[], Version::Two)
 }
 
 #[test]

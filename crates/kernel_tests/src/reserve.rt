@@ -88,32 +88,36 @@ fn trace_of(alloc: Global, planned: &Planned, ticks: u64) -> Result<Vec<u8>, Fai
     ensures { OnOk result (MeetsDeadlines (unchanging reserved_demand)
         (record { plan = planned.now.plan; demands = planned.now.demands; ticks = ticks })) }
 {
-    let governor = Reserve::new(&planned.plan);
-    let kernel = Kernel::new(alloc, &planned.plan, &planned.demands, governor, ticks)?;
     let mut out = MemSink::new(alloc, 4096, &[])?;
     let mut probes: Vec<CountProbe> = Vec::new(alloc);
+    let governor = Reserve::new(&planned.plan);
+    let kernel = Kernel::new(alloc, &planned.plan, &planned.demands, governor, ticks)?;
     kernel.run(&mut out, &mut probes, Version::One)?;
     Ok(Vec::from_slice(alloc, out.bytes())?)
 }
 
+// The trace of the example under EDF.
+fn edf_trace(alloc: Global) -> Result<Vec<u8>, Fail> {
+    let planned = edf_planned(alloc, EXAMPLE)?.ok_or("plan")?;
+    trace_of(alloc, &planned, 16)
+}
+
 #[test]
 fn example_under_edf(rt: HostRuntime) -> Result<(), Fail> {
-    let alloc = rt.alloc();
-    let Some(planned) = edf_planned(alloc, EXAMPLE)? else {
-        return Err("plan")?;
-    };
-    let trace = trace_of(alloc, &planned, 16)?;
+    let trace = edf_trace(rt.alloc())?;
     assert_eq!(rt; std::str::from_utf8(&trace), Ok(EDF_TRACE));
     Ok(())
 }
 
+// The trace of the example under RM.
+fn rm_trace(alloc: Global) -> Result<Vec<u8>, Fail> {
+    let planned = rm_planned(alloc, EXAMPLE)?.ok_or("plan")?;
+    trace_of(alloc, &planned, 8)
+}
+
 #[test]
 fn example_under_rm(rt: HostRuntime) -> Result<(), Fail> {
-    let alloc = rt.alloc();
-    let Some(planned) = rm_planned(alloc, EXAMPLE)? else {
-        return Err("plan")?;
-    };
-    let trace = trace_of(alloc, &planned, 8)?;
+    let trace = rm_trace(rt.alloc())?;
     assert_eq!(rt; std::str::from_utf8(&trace), Ok(RM_TRACE));
     Ok(())
 }

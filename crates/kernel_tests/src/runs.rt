@@ -36,6 +36,7 @@ impl<'a> Setup<'a> {
     pub(crate) fn of(planned: &'a Planned, case: Case<'a>, ticks: u64) -> Setup<'a>
         ensures plan { result.plan.now ≡ planned.now.plan }
         ensures demands { result.demands.now ≡ planned.now.demands }
+        ensures ticks { result.ticks ≡ ticks }
     {
         Setup {
             name: case.words,

@@ -4,6 +4,7 @@ use crate::case::EXAMPLE;
 use crate::plans::{edf_planned, rm_planned};
 use crate::runs::{HeardRun, Setup, Walk, edf_run, rm_run};
 use dvs_base::{GovernorKind, Note, Pos};
+use std::alloc::Global;
 use std::test::Fail;
 
 // How many ticks are compared.
@@ -107,12 +108,16 @@ const EDF_AHEAD: [(u64, [u64; 3]); TICKS] = [
     (2, [2, 0, 0]),
 ];
 
-#[test]
-fn ticks_under_edf_with_look_ahead(rt: HostRuntime) -> Result<(), Fail> {
-    let alloc = rt.alloc();
+// The run of the example under EDF with look-ahead.
+fn run_with_look_ahead(alloc: Global) -> Result<HeardRun, Fail> {
     let planned = edf_planned(alloc, EXAMPLE)?.ok_or("plan")?;
     let setup = Setup::of(&planned, EXAMPLE, TICKS as u64);
-    let run = edf_run(alloc, &setup, GovernorKind::Ahead, Walk::Events)?;
+    edf_run(alloc, &setup, GovernorKind::Ahead, Walk::Events)
+}
+
+#[test]
+fn ticks_under_edf_with_look_ahead(rt: HostRuntime) -> Result<(), Fail> {
+    let run = run_with_look_ahead(rt.alloc())?;
     assert_eq!(rt; ticks_of(&run)?, table(EDF_AHEAD));
     Ok(())
 }
@@ -132,12 +137,16 @@ const RM_CYCLE: [(u64, [u64; 3]); TICKS] = [
     (2, [0, 0, 0]),
 ];
 
-#[test]
-fn ticks_under_cycle_conserving_rm(rt: HostRuntime) -> Result<(), Fail> {
-    let alloc = rt.alloc();
+// The run of the example under cycle-conserving RM.
+fn run_conserving_cycles(alloc: Global) -> Result<HeardRun, Fail> {
     let planned = rm_planned(alloc, EXAMPLE)?.ok_or("plan")?;
     let setup = Setup::of(&planned, EXAMPLE, TICKS as u64);
-    let run = rm_run(alloc, &setup, GovernorKind::Cycle, Walk::Events)?;
+    rm_run(alloc, &setup, GovernorKind::Cycle, Walk::Events)
+}
+
+#[test]
+fn ticks_under_cycle_conserving_rm(rt: HostRuntime) -> Result<(), Fail> {
+    let run = run_conserving_cycles(rt.alloc())?;
     assert_eq!(rt; ticks_of(&run)?, table(RM_CYCLE));
     Ok(())
 }

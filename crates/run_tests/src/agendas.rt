@@ -25,26 +25,31 @@ fn edf_plan(alloc: Global, tasks: &[u8]) -> Result<Admitted, Fail> {
 }
 
 // The first task with an incomplete job, the next release and the first task that is released now.
-fn looked_up(alloc: Global, tasks: &[u8]) -> Result<(Option<u32>, u64, Option<u32>), Fail> {
-    let plan = edf_plan(alloc, tasks)?;
-    let Ok(state) = State::new(alloc, &plan) else {
+fn looked_up(alloc: Global, plan: &Admitted) -> Result<(Option<u32>, u64, Option<u32>), Fail> {
+    let _admitted = plan.scheduler();
+    let Ok(state) = State::new(alloc, plan) else {
         return Err("state")?;
     };
-    let Ok(agenda) = Agenda::new(alloc, &plan) else {
+    let Ok(agenda) = Agenda::new(alloc, plan) else {
         return Err("agenda")?;
     };
     Ok((
-        agenda.first_ready(&plan, &state),
-        agenda.next_release(&plan, &state),
-        agenda.first_due(&plan, &state),
+        agenda.first_ready(plan, &state),
+        agenda.next_release(plan, &state),
+        agenda.first_due(plan, &state),
     ))
+}
+
+// What the agenda says of the plan of these tasks, before the first release.
+fn looked_up_of(alloc: Global, tasks: &[u8]) -> Result<(Option<u32>, u64, Option<u32>), Fail> {
+    looked_up(alloc, &edf_plan(alloc, tasks)?)
 }
 
 #[test]
 fn the_next_release_is_the_least_offset(rt: HostRuntime) -> Result<(), Fail> {
-    let late = looked_up(rt.alloc(), LATE)?;
+    let late = looked_up_of(rt.alloc(), LATE)?;
     assert_eq!(rt; late, (None, 2, None));
-    let at_once = looked_up(rt.alloc(), AT_ONCE)?;
+    let at_once = looked_up_of(rt.alloc(), AT_ONCE)?;
     assert_eq!(rt; at_once, (None, 0, Some(1)));
     Ok(())
 }

@@ -215,34 +215,40 @@ const AT_A_LOWER_SPEED: &[Done] = &[
     None,
 ];
 
-#[test]
-fn a_lower_speed_serves_later(rt: HostRuntime) -> Result<(), Fail> {
-    let plan = edf_plan(rt.alloc(), TASKS, PAPER_MACHINE)?;
-    let governor = Static::new(rt.alloc(), &plan)?;
+// What becomes of many requests under static, and the totals.
+fn served_under_static(alloc: Global) -> Result<(Vec<Done>, Totals), Fail> {
+    let plan = edf_plan(alloc, TASKS, PAPER_MACHINE)?;
+    let governor = Static::new(alloc, &plan)?;
     if plan.count() == 0 {
         return Err("plan".into());
     }
-    let (outcomes, totals) = polled(rt.alloc(), &plan, MANY, governor)?;
+    polled(alloc, &plan, MANY, governor)
+}
+
+#[test]
+fn a_lower_speed_serves_later(rt: HostRuntime) -> Result<(), Fail> {
+    let (outcomes, totals) = served_under_static(rt.alloc())?;
     assert_eq!(rt; outcomes.as_slice(), AT_A_LOWER_SPEED);
     assert_eq!(rt; totals.run, 612000000000);
     Ok(())
 }
 
-#[test]
-fn a_run_has_at_most_100000_jobs(rt: HostRuntime) -> Result<(), Fail> {
-    let plan = edf_plan(rt.alloc(), TASKS, PAPER_MACHINE)?;
-    let governor = Full::new(rt.alloc(), &plan)?;
-    let requests = Requests::read(rt.alloc(), b"arrival,units\n")
+// The refusal of a run of 400000 ticks without requests at the highest speed, if any.
+fn refusal(alloc: Global, plan: &Admitted) -> Result<Option<PollFault>, Fail> {
+    let governor = Full::new(alloc, plan)?;
+    let requests = Requests::read(alloc, b"arrival,units\n")
         .ok()
         .ok_or("requests")?;
     if plan.count() == 0 {
         return Err("plan".into());
     }
-    match poll(rt.alloc(), &plan, 0, &requests, governor, 400000) {
-        Ok(_) => Err("polled".into()),
-        Err(why) => {
-            assert_eq!(rt; why, PollFault::TooManyJobs { count: 120000 });
-            Ok(())
-        }
-    }
+    Ok(poll(alloc, plan, 0, &requests, governor, 400000).err())
+}
+
+#[test]
+fn a_run_has_at_most_100000_jobs(rt: HostRuntime) -> Result<(), Fail> {
+    let plan = edf_plan(rt.alloc(), TASKS, PAPER_MACHINE)?;
+    let refused = refusal(rt.alloc(), &plan)?;
+    assert_eq!(rt; refused, Some(PollFault::TooManyJobs { count: 120000 }));
+    Ok(())
 }
