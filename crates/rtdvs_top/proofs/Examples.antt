@@ -33,7 +33,7 @@ use Rattle.statuses.specs.StatusLines.{status_text}
 use Rattle.statuses.specs.declared.status.FileKind.{FileKind}
 use Rattle.statuses.specs.declared.status.FileKind.TheVariants.{Machine, Demands}
 use Rattle.statuses.specs.declared.status.Status.{Status}
-use Rattle.statuses.specs.declared.status.Status.TheVariants.{Done, NotAdmitted, Load, Text, Limit, OverWorst, Differs, Write, NoMemory}
+use Rattle.statuses.specs.declared.status.Status.TheVariants.{Done, NotAdmitted, Load, Text, Limit, OverWorst, Differs, Write}
 use Rattle.statuses.specs.declared.status.Denied.TheVariants.{Offset, Response, Demand, Units}
 use Rattle.statuses.specs.declared.status.Denied.{Denied}
 use Rattle.statuses.specs.declared.status.Denied.TheVariants as denied

@@ -1,4 +1,4 @@
-use Rattle.std.proofs.Common.{Option, Some, Result, rules}
+use Rattle.std.proofs.Common.{Some, Result, rules}
 use Rattle.words.specs.Commands.{poll}
 use Rattle.words.specs.Shown.{shown_poll}
 use Rattle.statuses.specs.declared.status.Status.{Status}
