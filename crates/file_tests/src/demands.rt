@@ -24,9 +24,12 @@ fn a_row_once_set_stays(rt: HostRuntime) -> Result<(), Fail> {
     let mut demands = Demands::worst_only(rt.alloc(), &[12, 12, 4])?;
     assert!(rt; matches!(demands.set(0, 1, 8), Ok(true)));
     assert!(rt; matches!(demands.set(0, 1, 7), Ok(false)));
-    assert_eq!(rt; demands.units(0, 1), 8);
-    assert_eq!(rt; demands.units(0, 2), 12);
-    assert_eq!(rt; demands.units(2, 1), 4);
+    let units = [
+        demands.units(0, 1),
+        demands.units(0, 2),
+        demands.units(2, 1),
+    ];
+    assert_eq!(rt; units, [8, 12, 4]);
     Ok(())
 }
 
@@ -37,17 +40,25 @@ fn rows_are_found_that_came_before_and_after_one_out_of_order(rt: HostRuntime) -
     assert_eq!(rt; demands.units(1, 3), 8);
     assert!(rt; matches!(demands.set(0, 5, 7), Ok(true)));
     assert!(rt; matches!(demands.set(2, 1, 3), Ok(true)));
-    assert_eq!(rt; demands.units(0, 5), 7);
-    assert_eq!(rt; demands.units(1, 3), 8);
-    assert_eq!(rt; demands.units(2, 1), 3);
-    assert_eq!(rt; demands.units(1, 1), 12);
+    let units = [
+        demands.units(0, 5),
+        demands.units(1, 3),
+        demands.units(2, 1),
+        demands.units(1, 1),
+    ];
+    assert_eq!(rt; units, [7, 8, 3, 12]);
     Ok(())
+}
+
+// The units of the jobs 1 and 99 of t1 by a demand file.
+fn units_of(alloc: Global, text: &[u8]) -> Result<(u64, u64), Fail> {
+    let tasks = three_tasks(alloc)?;
+    let demands = Demands::read(alloc, text, &tasks).ok().ok_or("file")?;
+    Ok((demands.units(0, 1), demands.units(0, 99)))
 }
 
 #[test]
 fn rows_of_a_file_are_read(rt: HostRuntime) -> Result<(), Fail> {
-    let alloc = rt.alloc();
-    let tasks = three_tasks(alloc)?;
     for (text, first, last) in [
         (b"task,job,units\n".as_slice(), 12, 12),
         (b"task,job,units\nt1,1,8\nt1,99,5\n", 8, 5),
@@ -58,9 +69,7 @@ fn rows_of_a_file_are_read(rt: HostRuntime) -> Result<(), Fail> {
         ),
         (b"task,job,units\rt1,99,5\r\"t\"1,1,8", 8, 5),
     ] {
-        let demands = Demands::read(alloc, text, &tasks).ok().ok_or("file")?;
-        assert_eq!(rt; demands.units(0, 1), first, "{first} {last}");
-        assert_eq!(rt; demands.units(0, 99), last, "{first} {last}");
+        assert_eq!(rt; units_of(rt.alloc(), text)?, (first, last));
     }
     Ok(())
 }

@@ -142,6 +142,28 @@ fn the_first_entry_that_meets_is_picked(rt: HostRuntime) -> Result<(), Fail> {
     Ok(())
 }
 
+// Asserts that the machine has this idle, charge and count, and these points (place, speed, millivolts).
+fn has_parts(
+    rt: &impl Abort,
+    machine: &Machine,
+    numbers: (u64, u64, u32),
+    points: &[(u32, u64, u64)],
+) {
+    assert_eq!(rt;
+        (machine.idle(), machine.charge(), machine.count()),
+        numbers
+    );
+    for (i, speed, millivolts) in points {
+        if *i < machine.count() {
+            let point = Point {
+                speed: *speed,
+                millivolts: *millivolts,
+            };
+            assert_eq!(rt; machine.point(*i), point);
+        }
+    }
+}
+
 #[test]
 fn a_copy_is_equal(rt: HostRuntime) -> Result<(), Fail> {
     let alloc = rt.alloc();
@@ -149,38 +171,18 @@ fn a_copy_is_equal(rt: HostRuntime) -> Result<(), Fail> {
         b"idle = 100\ncharge = 0x2\npoint = [{speed = 40, millivolts = 1_100}, {millivolts = 1100, speed = 60}]";
     let machine = Machine::read(alloc, text).ok().ok_or("machine")?;
     let copy = machine.copy(alloc)?;
-    assert_eq!(rt; (copy.idle(), copy.charge(), copy.count()), (100, 2, 2));
-    if copy.count() == 2 {
-        assert_eq!(rt;
-            copy.point(0),
-            Point {
-                speed: 40,
-                millivolts: 1100
-            }
-        );
-        assert_eq!(rt;
-            copy.point(1),
-            Point {
-                speed: 60,
-                millivolts: 1100
-            }
-        );
-    }
+    has_parts(&rt, &copy, (100, 2, 2), &[(0, 40, 1100), (1, 60, 1100)]);
     Ok(())
 }
 
 // Asserts that the machine has the three points of the example, and idle and charge 0.
-fn is_example(rt: &impl Abort, machine: &Machine) -> Result<(), Fail> {
-    assert_eq!(rt;
-        (machine.idle(), machine.charge(), machine.count()),
-        (0, 0, 3)
+fn is_example(rt: &impl Abort, machine: &Machine) {
+    has_parts(
+        rt,
+        machine,
+        (0, 0, 3),
+        &[(0, 2, 3000), (1, 3, 4000), (2, 4, 5000)],
     );
-    for (i, speed, millivolts) in [(0, 2, 3000), (1, 3, 4000), (2, 4, 5000)] {
-        if i < machine.count() {
-            assert_eq!(rt; machine.point(i), Point { speed, millivolts });
-        }
-    }
-    Ok(())
 }
 
 #[test]
@@ -189,9 +191,10 @@ fn the_example_is_read_copied_and_made(rt: HostRuntime) -> Result<(), Fail> {
     let read = Machine::read(alloc, PAPER_MACHINE.as_bytes())
         .ok()
         .ok_or("machine")?;
-    is_example(&rt, &read)?;
+    is_example(&rt, &read);
     let copy = read.copy(alloc)?;
-    is_example(&rt, &copy)?;
+    is_example(&rt, &copy);
     let made = Machine::of(alloc, 0, 0, read.as_slice())?;
-    is_example(&rt, &made)
+    is_example(&rt, &made);
+    Ok(())
 }

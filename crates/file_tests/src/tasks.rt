@@ -1,6 +1,7 @@
 // Task files, and sets made from a list.
 use dvs_base::{MOST_TASKS, Short};
 use std::alloc::{AllocError, Global};
+use std::process::Abort;
 use std::test::Fail;
 use task_model::{Field, LATEST_OFFSET, TaskFault, TaskSet};
 
@@ -109,14 +110,58 @@ const REFUSALS: &[(&str, Why)] = &[
     ),
 ];
 
+// The error of a task file.
+fn refusal_of(alloc: Global, text: &[u8]) -> Option<TaskFault> {
+    TaskSet::read(alloc, text).err()
+}
+
 #[test]
 fn the_first_error_is_the_refusal(rt: HostRuntime) {
     for (text, want) in REFUSALS {
-        let found = TaskSet::read(rt.alloc(), text.as_bytes()).err();
+        let found = refusal_of(rt.alloc(), text.as_bytes());
         assert_eq!(rt; found, Some(fault(*want)), "{text}");
     }
-    let found = TaskSet::read(rt.alloc(), b"\xff").err();
+    let found = refusal_of(rt.alloc(), b"\xff");
     assert_eq!(rt; found, Some(TaskFault::NotToml));
+}
+
+// The set of a task file.
+fn read_set(alloc: Global, text: &str) -> Result<TaskSet, Fail> {
+    Ok(TaskSet::read(alloc, text.as_bytes()).ok().ok_or("set")?)
+}
+
+// The set of the file that is written of a set.
+fn written_set(alloc: Global, set: &TaskSet) -> Result<TaskSet, Fail> {
+    let text = set.write(alloc)?;
+    read_set(alloc, text.as_str())
+}
+
+// Whether the set finds this name at a place, and the task there has it.
+fn has_name(set: &TaskSet, place: u32, name: &[u8]) -> bool {
+    set.find(name) == Some(place) && place < set.count() && set.task(place).name.as_bytes() == name
+}
+
+// The period, the worst case and the offset of the task at a place.
+fn numbers_of(set: &TaskSet, place: u32) -> Option<(u64, u64, u64)> {
+    if place >= set.count() {
+        return None;
+    }
+    let task = set.task(place);
+    Some((task.period, task.worst, task.offset))
+}
+
+// The set has the tasks of the paper and no other.
+fn expect_paper_set(rt: &impl Abort, set: &TaskSet) {
+    assert_eq!(rt; (set.count(), set.hyper()), (3, 280));
+    assert_eq!(rt; set.find(b"t4"), None);
+    for (place, name, numbers) in [
+        (0, b"t1", (8, 12, 0)),
+        (1, b"t2", (10, 12, 0)),
+        (2, b"t3", (14, 4, 0)),
+    ] {
+        assert!(rt; has_name(set, place, name));
+        assert_eq!(rt; numbers_of(set, place), Some(numbers));
+    }
 }
 
 #[test]
@@ -126,60 +171,37 @@ fn the_same_tree_is_the_same_set(rt: HostRuntime) -> Result<(), Fail> {
         "\u{feff}task = [{name = \"t1\", period = 0x8, worst = 1_2}, {name = 't2', period = 10, worst = 0b1100}, {name = \"t3\", period = 14, worst = 4}]",
         "[[task]]\n\"name\" = \"t1\"\nperiod = +8\nworst = 12\n[[task]]\nworst = 12\nperiod = 0o12\nname = \"t\\u0032\"\n[[task]]\nname = \"t3\"\nperiod = 14\nworst = 4",
     ] {
-        let set = TaskSet::read(rt.alloc(), text.as_bytes())
-            .ok()
-            .ok_or("the paper's set")?;
-        assert_eq!(rt; set.count(), 3);
-        assert_eq!(rt; set.hyper(), 280);
-        assert_eq!(rt;
-            (set.find(b"t1"), set.find(b"t3"), set.find(b"t4")),
-            (Some(0), Some(2), None)
-        );
+        let set = read_set(rt.alloc(), text)?;
+        expect_paper_set(&rt, &set);
     }
     Ok(())
 }
 
+// The set has two tasks, of which the second has the latest offset.
+fn expect_latest_offset(rt: &impl Abort, set: &TaskSet) {
+    assert_eq!(rt; set.count(), 2);
+    assert_eq!(rt;
+        (set.task(0).offset, set.task(1).offset),
+        (0, LATEST_OFFSET)
+    );
+}
+
 #[test]
 fn an_offset_is_read_and_written(rt: HostRuntime) -> Result<(), Fail> {
-    let alloc = rt.alloc();
     let text =
         "task = [{name = \"x\", period = 4, worst = 4}, {offset = 1099511627776, name = \"y\", period = 6, worst = 6}]";
-    let set = TaskSet::read(alloc, text.as_bytes()).ok().ok_or("set")?;
-    let written = set.write(alloc)?;
-    let again = TaskSet::read(alloc, written.as_bytes())
-        .ok()
-        .ok_or("written")?;
-    for set in [set, again] {
-        if set.count() == 2 {
-            assert_eq!(rt;
-                (set.task(0).offset, set.task(1).offset),
-                (0, LATEST_OFFSET)
-            );
-        }
-        assert_eq!(rt; set.count(), 2);
-    }
+    let set = read_set(rt.alloc(), text)?;
+    expect_latest_offset(&rt, &set);
+    let again = written_set(rt.alloc(), &set)?;
+    expect_latest_offset(&rt, &again);
     Ok(())
 }
 
 #[test]
 fn a_set_is_made_of_its_tasks(rt: HostRuntime) -> Result<(), Fail> {
-    let alloc = rt.alloc();
-    let read = TaskSet::read(alloc, PAPER_SET.as_bytes())
-        .ok()
-        .ok_or("the paper's set")?;
-    let set = TaskSet::of(alloc, read.as_slice())?;
-    assert_eq!(rt; (set.count(), set.hyper()), (3, 280));
-    for (i, name, period, worst) in [
-        (0, b"t1".as_slice(), 8, 12),
-        (1, b"t2", 10, 12),
-        (2, b"t3", 14, 4),
-    ] {
-        if i < set.count() {
-            let task = set.task(i);
-            assert_eq!(rt; task.name.as_bytes(), name);
-            assert_eq!(rt; (task.period, task.worst, task.offset), (period, worst, 0));
-        }
-    }
+    let read = read_set(rt.alloc(), PAPER_SET)?;
+    let set = TaskSet::of(rt.alloc(), read.as_slice())?;
+    expect_paper_set(&rt, &set);
     Ok(())
 }
 
@@ -193,39 +215,28 @@ fn file_of(alloc: Global, count: usize) -> Result<String, AllocError> {
     Ok(text)
 }
 
+// The number of tasks and the hyperperiod of a file with `count` tasks, otherwise its error.
+fn read_many(alloc: Global, count: usize) -> Result<Result<(u32, u64), TaskFault>, AllocError> {
+    let text = file_of(alloc, count)?;
+    match TaskSet::read(alloc, text.as_bytes()) {
+        Ok(set) => Ok(Ok((set.count(), set.hyper()))),
+        Err(fault) => Ok(Err(fault)),
+    }
+}
+
 #[test]
 fn sixty_four_tasks_are_the_most(rt: HostRuntime) -> Result<(), Fail> {
-    let alloc = rt.alloc();
-    let most = TaskSet::read(alloc, file_of(alloc, MOST_TASKS)?.as_bytes())
-        .ok()
-        .ok_or("most")?;
-    assert_eq!(rt; (most.count(), most.hyper()), (64, 64));
-    let more = TaskSet::read(alloc, file_of(alloc, MOST_TASKS + 1)?.as_bytes());
+    let most = read_many(rt.alloc(), MOST_TASKS)?.ok();
+    assert_eq!(rt; most, Some((64, 64)));
+    let more = read_many(rt.alloc(), MOST_TASKS + 1)?;
     assert!(rt; matches!(more, Err(TaskFault::TooMany { count: 65 })));
     Ok(())
 }
 
-// The place of the task with this name, its period and its worst case.
-fn found_task(set: &TaskSet, name: &str) -> Option<(u32, u64, u64)> {
-    let place = set.find(name.as_bytes())?;
-    if place >= set.count() {
-        return None;
-    }
-    let task = set.task(place);
-    Some((place, task.period, task.worst))
-}
-
 #[test]
 fn a_written_set_is_read_again(rt: HostRuntime) -> Result<(), Fail> {
-    let alloc = rt.alloc();
-    let read = TaskSet::read(alloc, PAPER_SET.as_bytes())
-        .ok()
-        .ok_or("the paper's set")?;
-    let text = read.write(alloc)?;
-    let back = TaskSet::read(alloc, text.as_bytes()).ok().ok_or("written")?;
-    assert_eq!(rt; (back.count(), back.hyper()), (3, 280));
-    for (name, found) in [("t1", (0, 8, 12)), ("t2", (1, 10, 12)), ("t3", (2, 14, 4))] {
-        assert_eq!(rt; found_task(&back, name), Some(found), "{name}");
-    }
+    let read = read_set(rt.alloc(), PAPER_SET)?;
+    let back = written_set(rt.alloc(), &read)?;
+    expect_paper_set(&rt, &back);
     Ok(())
 }

@@ -1,16 +1,28 @@
 // Accounts of worked runs.
-ghost use Rattle.std.specs.Prelude.{◌≡◌, ◌<◌, ◌+◌, ◌^◌, ◌↔◌, IsTrue, length};
-ghost use Rattle.energy.specs.Books.{HasTask, HasRoom};
+ghost use Rattle.std.specs.Prelude.{◌≡◌, ◌≤◌, ◌<◌, ◌+◌, ◌^◌, ◌↔◌, [], IfOk, IsTrue, length};
+ghost use Rattle.energy.specs.Books.{books_of, HasTask, HasRoom};
 
 use dvs_base::{Note, Pos, Totals};
 use energy::{Account, energy_of};
 use freq_table::Machine;
 use std::alloc::Global;
+use std::process::Abort;
 use std::test::Fail;
 use test_inputs::example::{CONTROLLER_MACHINE, PAPER_MACHINE};
 
 fn machine_of(alloc: Global, text: &[u8]) -> Result<Machine, Fail> {
     Ok(Machine::read(alloc, text).ok().ok_or("machine")?)
+}
+
+// A new account of `tasks` tasks on the machine of a file of `points` entries.
+fn account_of(alloc: Global, text: &[u8], tasks: u32, points: u32) -> Result<Account, Fail>
+    ensures { IfOk result (λ a. a ≡ books_of tasks points []) }
+{
+    let machine = machine_of(alloc, text)?;
+    if machine.count() != points {
+        return Err(Fail::from("machine"));
+    }
+    Ok(Account::new(alloc, tasks, &machine)?)
 }
 
 fn position((tick, offset): (u64, u64)) -> Pos {
@@ -149,14 +161,20 @@ const PAPER_NOTES: &[(Row, u32)] = &[
     (Row::End(16, 364000000000, 0), 0),
 ];
 
-#[test]
-fn paper_example_is_booked(rt: HostRuntime) -> Result<(), Fail> {
-    let machine = machine_of(rt.alloc(), PAPER_MACHINE)?;
-    if machine.count() != 3 {
-        return Err(Fail::from("machine"));
-    }
-    let mut account = Account::new(rt.alloc(), 3, &machine)?;
-    assert_eq!(rt; book_all(&mut account, PAPER_NOTES, 3, 3), 31);
+// The account has these totals, and its first three tasks these energies.
+fn expect_sums(rt: &impl Abort, account: &Account, totals: Totals, energies: (u128, u128, u128))
+    requires { 3 ≤ length account.now.by_task }
+{
+    assert_eq!(rt; account.totals(), totals);
+    let tasks = (account.of_task(0), account.of_task(1), account.of_task(2));
+    assert_eq!(rt; tasks, energies);
+}
+
+// The account has the sums of the paper's example.
+fn expect_paper_sums(rt: &impl Abort, account: &Account)
+    requires tasks { length account.now.by_task ≡ 3 }
+    requires points { length account.now.by_point ≡ 3 }
+{
     let totals = Totals {
         run: 364000000000,
         idle: 0,
@@ -164,15 +182,21 @@ fn paper_example_is_booked(rt: HostRuntime) -> Result<(), Fail> {
         finished: 6,
         decisions: 8,
     };
-    assert_eq!(rt; account.totals(), totals);
-    let tasks = (account.of_task(0), account.of_task(1), account.of_task(2));
-    assert_eq!(rt; tasks, (192000000000, 100000000000, 72000000000));
+    let energies = (192000000000, 100000000000, 72000000000);
+    expect_sums(rt, account, totals, energies);
     let points = (
         account.of_point(0),
         account.of_point(1),
         account.of_point(2),
     );
     assert_eq!(rt; points, (108000000000, 256000000000, 0));
+}
+
+#[test]
+fn paper_example_is_booked(rt: HostRuntime) -> Result<(), Fail> {
+    let mut account = account_of(rt.alloc(), PAPER_MACHINE, 3, 3)?;
+    assert_eq!(rt; book_all(&mut account, PAPER_NOTES, 3, 3), 31);
+    expect_paper_sums(&rt, &account);
     Ok(())
 }
 
@@ -216,14 +240,11 @@ const CONTROLLER_NOTES: &[(Row, u32)] = &[
     (Row::End(100, 8306150000000, 53240000000), 0),
 ];
 
-#[test]
-fn controller_is_booked(rt: HostRuntime) -> Result<(), Fail> {
-    let machine = machine_of(rt.alloc(), CONTROLLER_MACHINE)?;
-    if machine.count() != 4 {
-        return Err(Fail::from("machine"));
-    }
-    let mut account = Account::new(rt.alloc(), 6, &machine)?;
-    assert_eq!(rt; book_all(&mut account, CONTROLLER_NOTES, 6, 4), 37);
+// The account has the sums of the controller's run.
+fn expect_controller_sums(rt: &impl Abort, account: &Account)
+    requires tasks { length account.now.by_task ≡ 6 }
+    requires points { length account.now.by_point ≡ 4 }
+{
     let totals = Totals {
         run: 8306150000000,
         idle: 53240000000,
@@ -231,9 +252,8 @@ fn controller_is_booked(rt: HostRuntime) -> Result<(), Fail> {
         finished: 7,
         decisions: 9,
     };
-    assert_eq!(rt; account.totals(), totals);
-    let tasks = (account.of_task(0), account.of_task(1), account.of_task(2));
-    assert_eq!(rt; tasks, (1017000000000, 953400000000, 1562500000000));
+    let energies = (1017000000000, 953400000000, 1562500000000);
+    expect_sums(rt, account, totals, energies);
     let tasks = (account.of_task(3), account.of_task(4), account.of_task(5));
     assert_eq!(rt; tasks, (3906250000000, 625000000000, 242000000000));
     let points = (
@@ -243,6 +263,13 @@ fn controller_is_booked(rt: HostRuntime) -> Result<(), Fail> {
         account.of_point(3),
     );
     assert_eq!(rt; points, (295240000000, 7593750000000, 470400000000, 0));
+}
+
+#[test]
+fn controller_is_booked(rt: HostRuntime) -> Result<(), Fail> {
+    let mut account = account_of(rt.alloc(), CONTROLLER_MACHINE, 6, 4)?;
+    assert_eq!(rt; book_all(&mut account, CONTROLLER_NOTES, 6, 4), 37);
+    expect_controller_sums(&rt, &account);
     Ok(())
 }
 

@@ -7,7 +7,7 @@ use std::test::Fail;
 use task_model::TaskSet;
 
 // The task set and the machine of two files.
-fn read(alloc: Global, tasks: &str, machine: &str) -> Result<(TaskSet, Machine), Fail> {
+pub(crate) fn read(alloc: Global, tasks: &str, machine: &str) -> Result<(TaskSet, Machine), Fail> {
     let tasks = TaskSet::read(alloc, tasks.as_bytes()).ok().ok_or("tasks")?;
     let machine = Machine::read(alloc, machine.as_bytes())
         .ok()

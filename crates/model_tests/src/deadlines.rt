@@ -1,11 +1,11 @@
 // The lowest speed for deadlines up to the periods. Unless a case says otherwise, the tasks are a (period 4, worst case 2)
 // and b (period 6, worst case 3).
+use crate::admissions::read;
 use edf_demand::{ConstrainFault, Constrained, Deadlines, constrain};
-use freq_table::Machine;
 use grid_fraction::Frac;
+use std::alloc::Global;
 use std::process::Abort;
 use std::test::Fail;
-use task_model::TaskSet;
 
 const TASKS: &str =
     r#"task = [{name = "a", period = 4, worst = 2}, {name = "b", period = 6, worst = 3}]"#;
@@ -14,22 +14,24 @@ const TWO_SPEEDS: &str = "point = [{speed = 1, millivolts = 1000}, {speed = 2, m
 
 const ONE_SPEED: &str = "point = [{speed = 1, millivolts = 1000}]";
 
+// The answer for a task file, a machine file and a deadline file.
+fn answer_to(alloc: Global, files: [&str; 3]) -> Result<Result<Constrained, ConstrainFault>, Fail> {
+    let [tasks, machine, deadlines] = files;
+    let (tasks, machine) = read(alloc, tasks, machine)?;
+    let deadlines = Deadlines::read(alloc, deadlines.as_bytes(), &tasks)
+        .ok()
+        .ok_or("deadlines")?;
+    Ok(constrain(alloc, &tasks, &deadlines, &machine))
+}
+
 // The answer for a task file, a machine file and a deadline file is this one.
 fn answers(
     rt: &(impl Abort + AllocGlobal),
     files: [&str; 3],
     want: Result<Constrained, ConstrainFault>,
 ) -> Result<(), Fail> {
-    let alloc = rt.alloc();
-    let [tasks, machine, deadlines] = files;
-    let tasks = TaskSet::read(alloc, tasks.as_bytes()).ok().ok_or("tasks")?;
-    let machine = Machine::read(alloc, machine.as_bytes())
-        .ok()
-        .ok_or("machine")?;
-    let deadlines = Deadlines::read(alloc, deadlines.as_bytes(), &tasks)
-        .ok()
-        .ok_or("deadlines")?;
-    assert_eq!(rt; constrain(alloc, &tasks, &deadlines, &machine), want);
+    let found = answer_to(rt.alloc(), files)?;
+    assert_eq!(rt; found, want);
     Ok(())
 }
 

@@ -72,6 +72,13 @@ fn is_over(
     Ok(())
 }
 
+// An answer for `units` units in 16 ticks at three speeds fails the check.
+fn fails(rt: &(impl Abort + AllocGlobal), units: u64, given: &Least) -> Result<(), Fail> {
+    let machine = machine_of(rt.alloc(), THREE_SPEEDS)?;
+    assert_eq!(rt; check(&machine, units, 16, given), false);
+    Ok(())
+}
+
 #[test]
 fn idles_and_runs_at_the_lowest_speed(rt: HostRuntime) -> Result<(), Fail> {
     let want = Least {
@@ -90,16 +97,13 @@ fn idles_and_runs_at_the_lowest_speed(rt: HostRuntime) -> Result<(), Fail> {
 
 #[test]
 fn mixes_two_speeds(rt: HostRuntime) -> Result<(), Fail> {
-    let machine = machine_of(rt.alloc(), THREE_SPEEDS)?;
-    assert_eq!(rt; least_energy(&machine, 40, 16), Ok(ROW));
-    assert_eq!(rt; check(&machine, 40, 16, &ROW), true);
+    is_least(&rt, THREE_SPEEDS, 40, 16, ROW)?;
     let dearer = Least {
         unit_price: 30000000001,
         ..ROW
     };
-    assert_eq!(rt; check(&machine, 40, 16, &dearer), false);
-    assert_eq!(rt; check(&machine, 41, 16, &ROW), false);
-    Ok(())
+    fails(&rt, 40, &dearer)?;
+    fails(&rt, 41, &ROW)
 }
 
 const ONE_HIGHER: &[Least] = &[
@@ -134,10 +138,9 @@ const ONE_HIGHER: &[Least] = &[
 
 #[test]
 fn a_number_one_higher_fails_the_check(rt: HostRuntime) -> Result<(), Fail> {
-    let machine = machine_of(rt.alloc(), THREE_SPEEDS)?;
-    assert!(rt; check(&machine, 40, 16, &ROW));
+    is_least(&rt, THREE_SPEEDS, 40, 16, ROW)?;
     for given in ONE_HIGHER {
-        assert!(rt; !check(&machine, 40, 16, given));
+        fails(&rt, 40, given)?;
     }
     Ok(())
 }
@@ -170,9 +173,8 @@ const ONE_LOWER: &[Least] = &[
 
 #[test]
 fn a_number_one_lower_fails_the_check(rt: HostRuntime) -> Result<(), Fail> {
-    let machine = machine_of(rt.alloc(), THREE_SPEEDS)?;
     for given in ONE_LOWER {
-        assert!(rt; !check(&machine, 40, 16, given));
+        fails(&rt, 40, given)?;
     }
     Ok(())
 }
@@ -180,7 +182,6 @@ fn a_number_one_lower_fails_the_check(rt: HostRuntime) -> Result<(), Fail> {
 // 48 units are full ticks at the middle speed, so the pairs below and above it both hold; the answer is the lower one.
 #[test]
 fn two_pairs_pass_the_check_where_both_hold(rt: HostRuntime) -> Result<(), Fail> {
-    let machine = machine_of(rt.alloc(), THREE_SPEEDS)?;
     let lower = Least {
         rounds: 1,
         low: 2,
@@ -203,8 +204,8 @@ fn two_pairs_pass_the_check_where_both_hold(rt: HostRuntime) -> Result<(), Fail>
         tick_minus: true,
         tick_price: 108000000000,
     };
-    assert_eq!(rt; least_energy(&machine, 48, 16), Ok(lower));
-    assert!(rt; check(&machine, 48, 16, &lower));
+    is_least(&rt, THREE_SPEEDS, 48, 16, lower)?;
+    let machine = machine_of(rt.alloc(), THREE_SPEEDS)?;
     assert!(rt; check(&machine, 48, 16, &upper));
     Ok(())
 }

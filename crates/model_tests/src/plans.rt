@@ -6,6 +6,7 @@ use grid_fraction::Frac;
 use rm_admit::rm_admit;
 use sched_model::{Admitted, Row, State};
 use std::alloc::{AllocError, Global};
+use std::process::Abort;
 use std::test::Fail;
 use task_model::TaskSet;
 use test_inputs::example::{PAPER_MACHINE, PAPER_TASKS};
@@ -67,23 +68,25 @@ fn has_name(plan: &Admitted, task: usize, name: &[u8]) -> bool {
     }
 }
 
-#[test]
-fn tasks_of_a_plan(rt: HostRuntime) -> Result<(), Fail> {
-    let alloc = rt.alloc();
-    let plan = edf_plan(alloc, UNSORTED, CHARGED)?;
-    assert_eq!(rt; numbers_of(&plan, 0), Some([12, 7, 1, 3]));
-    assert_eq!(rt; numbers_of(&plan, 1), Some([4, 0, 1, 3]));
-    assert_eq!(rt; numbers_of(&plan, 2), Some([6, 0, 2, 4]));
-    assert!(rt; has_name(&plan, 0, b"slow"));
-    assert!(rt; has_name(&plan, 1, b"fast"));
-    assert!(rt; has_name(&plan, 2, b"even"));
-    Ok(())
+// The tasks of the unsorted file are those of a plan.
+fn expect_unsorted(rt: &impl Abort, plan: &Admitted) {
+    assert_eq!(rt; numbers_of(plan, 0), Some([12, 7, 1, 3]));
+    assert_eq!(rt; numbers_of(plan, 1), Some([4, 0, 1, 3]));
+    assert_eq!(rt; numbers_of(plan, 2), Some([6, 0, 2, 4]));
+    assert!(rt; has_name(plan, 0, b"slow"));
+    assert!(rt; has_name(plan, 1, b"fast"));
+    assert!(rt; has_name(plan, 2, b"even"));
 }
 
 #[test]
-fn parts_of_a_plan_under_edf(rt: HostRuntime) -> Result<(), Fail> {
-    let alloc = rt.alloc();
-    let plan = edf_plan(alloc, UNSORTED, CHARGED)?;
+fn tasks_of_a_plan(rt: HostRuntime) -> Result<(), Fail> {
+    let plan = edf_plan(rt.alloc(), UNSORTED, CHARGED)?;
+    expect_unsorted(&rt, &plan);
+    Ok(())
+}
+
+// The parts of the plan of the unsorted file under EDF.
+fn expect_edf_parts(rt: &impl Abort, plan: &Admitted) {
     assert_eq!(rt; plan.scheduler(), Scheduler::Edf);
     let demand = Frac { num: 20, den: 12 };
     assert_eq!(rt;
@@ -91,7 +94,14 @@ fn parts_of_a_plan_under_edf(rt: HostRuntime) -> Result<(), Fail> {
         (3, 12, demand)
     );
     assert_eq!(rt; plan.machine().charge(), 1);
-    assert_eq!(rt; rm_order(alloc, &plan)?.as_slice(), [1, 2, 0].as_slice());
+}
+
+#[test]
+fn parts_of_a_plan_under_edf(rt: HostRuntime) -> Result<(), Fail> {
+    let plan = edf_plan(rt.alloc(), UNSORTED, CHARGED)?;
+    expect_edf_parts(&rt, &plan);
+    let order = rm_order(rt.alloc(), &plan)?;
+    assert_eq!(rt; order.as_slice(), [1, 2, 0].as_slice());
     Ok(())
 }
 

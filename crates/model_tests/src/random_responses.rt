@@ -1,8 +1,9 @@
 // Task sets at random, whose responses are compared with the definition. In nearly all of them the last task takes more
 // than a thousand steps of the iteration, so its response is searched for; about half of these have none.
-use crate::responses::answer;
+use crate::responses::{answer, expect_fault, expect_responses};
 use rm_response::ResponseFault;
 use std::alloc::Global;
+use std::process::Abort;
 use std::test::Fail;
 use test_inputs::Draws;
 
@@ -100,21 +101,37 @@ fn defined(alloc: Global, rows: &[Row; 4]) -> Result<Result<Vec<u64>, ResponseFa
     Ok(Ok(list))
 }
 
+// The responses found for a task file, or the fault, are those expected.
+fn expect_answer(
+    rt: &impl Abort,
+    tasks: &str,
+    found: Result<Vec<u64>, ResponseFault>,
+    want: &Result<Vec<u64>, ResponseFault>,
+) -> Result<(), Fail> {
+    match want {
+        Ok(list) => {
+            let found = found.ok().ok_or("responses")?;
+            expect_responses(rt, tasks, &found, list);
+        }
+        Err(fault) => expect_fault(rt, tasks, found.err(), *fault),
+    }
+    Ok(())
+}
+
+// The responses of the rows are those of the definition.
+fn compare(rt: &(impl Abort + AllocGlobal), rows: &[Row; 4]) -> Result<(), Fail> {
+    let alloc = rt.alloc();
+    let file = file_of(alloc, rows)?;
+    let want = defined(alloc, rows)?;
+    let found = answer(alloc, &file, MACHINE)?;
+    expect_answer(rt, &file, found, &want)
+}
+
 #[test]
 fn long_responses_are_those_of_the_definition(rt: HostRuntime) -> Result<(), Fail> {
-    let alloc = rt.alloc();
     let mut draws = Draws::from_seed(1);
     for _ in 0..SETS {
-        let rows = rows_of(&mut draws);
-        let file = file_of(alloc, &rows)?;
-        let found = answer(alloc, &file, MACHINE)?;
-        match defined(alloc, &rows)? {
-            Ok(list) => {
-                let found = found.ok().ok_or("responses")?;
-                assert_eq!(rt; found.as_slice(), list.as_slice(), "{file}");
-            }
-            Err(fault) => assert_eq!(rt; found.err(), Some(fault), "{file}"),
-        }
+        compare(&rt, &rows_of(&mut draws))?;
     }
     Ok(())
 }

@@ -1,10 +1,10 @@
 // Small task sets whose responses are worked by hand.
 
-use freq_table::Machine;
+use crate::admissions::read;
 use rm_response::{ResponseFault, rm_response};
 use std::alloc::Global;
+use std::process::Abort;
 use std::test::Fail;
-use task_model::TaskSet;
 
 const ONE: &str = "point = [{speed = 1, millivolts = 1000}]";
 
@@ -114,10 +114,7 @@ pub(crate) fn answer(
     tasks: &str,
     machine: &str,
 ) -> Result<Result<Vec<u64>, ResponseFault>, Fail> {
-    let tasks = TaskSet::read(alloc, tasks.as_bytes()).ok().ok_or("tasks")?;
-    let machine = Machine::read(alloc, machine.as_bytes())
-        .ok()
-        .ok_or("machine")?;
+    let (tasks, machine) = read(alloc, tasks, machine)?;
     let response = match rm_response(alloc, &tasks, &machine) {
         Ok(response) => response,
         Err(fault) => return Ok(Err(fault)),
@@ -129,15 +126,35 @@ pub(crate) fn answer(
     Ok(Ok(list))
 }
 
+// The responses found for a task file are those expected.
+pub(crate) fn expect_responses(rt: &impl Abort, tasks: &str, found: &[u64], want: &[u64]) {
+    assert_eq!(rt; found, want, "{tasks}");
+}
+
 #[test]
 fn responses_are_in_file_order(rt: HostRuntime) -> Result<(), Fail> {
     for case in RESPONSES {
         let found = answer(rt.alloc(), case.tasks, case.machine)?
             .ok()
             .ok_or("responses")?;
-        assert_eq!(rt; found.as_slice(), case.responses, "{}", case.tasks);
+        expect_responses(&rt, case.tasks, &found, case.responses);
     }
     Ok(())
+}
+
+// The fault found for a task file is the one expected.
+pub(crate) fn expect_fault(
+    rt: &impl Abort,
+    tasks: &str,
+    found: Option<ResponseFault>,
+    want: ResponseFault,
+) {
+    assert_eq!(rt; found, Some(want), "{tasks}");
+}
+
+// The fault of the tasks of one file on the machine of another, if they have no responses.
+fn fault_of(alloc: Global, tasks: &str, machine: &str) -> Result<Option<ResponseFault>, Fail> {
+    Ok(answer(alloc, tasks, machine)?.err())
 }
 
 #[test]
@@ -147,7 +164,7 @@ fn the_first_offset_is_named_before_all_else(rt: HostRuntime) -> Result<(), Fail
     {name = "y", period = 6, worst = 2, offset = 1},
     {name = "z", period = 6, worst = 2, offset = 3},
 ]"#;
-    let found = answer(rt.alloc(), tasks, ONE)?.err();
+    let found = fault_of(rt.alloc(), tasks, ONE)?;
     assert_eq!(rt; found, Some(ResponseFault::Offset { task: 1 }));
     Ok(())
 }
@@ -199,13 +216,13 @@ const MISSES: &[(&str, &str, u32, u128, u128)] = &[
 #[test]
 fn the_first_task_without_a_response_is_named(rt: HostRuntime) -> Result<(), Fail> {
     for (tasks, machine, task, num, cap) in MISSES {
-        let found = answer(rt.alloc(), tasks, machine)?.err();
+        let found = fault_of(rt.alloc(), tasks, machine)?;
         let want = ResponseFault::Misses {
             task: *task,
             num: *num,
             cap: *cap,
         };
-        assert_eq!(rt; found, Some(want), "{tasks}");
+        expect_fault(&rt, tasks, found, want);
     }
     Ok(())
 }

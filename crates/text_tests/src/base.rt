@@ -14,7 +14,7 @@ use std::{fs, io};
 
 #[test]
 fn numbers_have_one_spelling(rt: HostRuntime) {
-    for (text, want) in [
+    for (text, want) in &[
         ("0", Some(0)),
         ("18446744073709551615", Some(u64::MAX)),
         ("18446744073709551616", None),
@@ -22,17 +22,17 @@ fn numbers_have_one_spelling(rt: HostRuntime) {
         ("007", None),
         ("+7", None),
     ] {
-        assert_eq!(rt; whole(text.as_bytes()), want, "{text}");
+        assert_eq!(rt; whole(text.as_bytes()), *want, "{text}");
     }
 }
 
 #[test]
 fn wide_numbers_end_at_128_bits(rt: HostRuntime) {
-    for (text, want) in [
+    for (text, want) in &[
         ("340282366920938463463374607431768211455", Some(u128::MAX)),
         ("340282366920938463463374607431768211456", None),
     ] {
-        assert_eq!(rt; wide(text.as_bytes()), want, "{text}");
+        assert_eq!(rt; wide(text.as_bytes()), *want, "{text}");
     }
 }
 
@@ -54,14 +54,19 @@ fn names_differ_from_other_texts(rt: HostRuntime) {
     assert_eq!(rt; Short::of(b"a b").as_bytes(), b"a?b".as_slice());
 }
 
+// A sink in memory holds these bytes, and one put has failed.
+fn expect_held(rt: &impl Abort, sink: &MemSink, bytes: &[u8]) {
+    assert_eq!(rt; sink.bytes(), bytes);
+    assert_eq!(rt; sink.faults(), 1);
+}
+
 #[test]
 fn a_listed_put_fails(rt: HostRuntime) -> Result<(), Fail> {
     let listed = [FailAt { call: 2, taken: 3 }];
     let mut sink = MemSink::new(rt.alloc(), 100, &listed)?;
     assert!(rt; sink.put(b"trace 1\n").is_ok());
     assert!(rt; sink.put(b"plan edf none 16\n").is_err());
-    assert_eq!(rt; sink.bytes(), b"trace 1\npla".as_slice());
-    assert_eq!(rt; sink.faults(), 1);
+    expect_held(&rt, &sink, b"trace 1\npla");
     Ok(())
 }
 
@@ -70,20 +75,33 @@ fn a_put_without_room_adds_nothing(rt: HostRuntime) -> Result<(), Fail> {
     let mut sink = MemSink::new(rt.alloc(), 4, &[])?;
     assert!(rt; sink.put(b"12345").is_err());
     assert!(rt; sink.put(b"1234").is_ok());
-    assert_eq!(rt; sink.bytes(), b"1234".as_slice());
-    assert_eq!(rt; sink.faults(), 1);
+    expect_held(&rt, &sink, b"1234");
     Ok(())
+}
+
+// A load of the named file with this room gives these bytes or has this fault.
+fn expect_load(
+    rt: &(impl Abort + AllocGlobal),
+    shelf: &mut impl Shelf,
+    name: &str,
+    room: u32,
+    want: Result<&[u8], LoadFault>,
+) {
+    let loaded = shelf.load(rt.alloc(), name, u64::from(room));
+    let bytes = match &loaded {
+        Ok(bytes) => Ok(bytes.as_slice()),
+        Err(fault) => Err(*fault),
+    };
+    assert_eq!(rt; bytes, want, "{name}, room for {room}");
 }
 
 #[test]
 fn a_load_gives_one_byte_more_than_the_room(rt: HostRuntime) -> Result<(), Fail> {
-    let alloc = rt.alloc();
-    let mut shelf = MemShelf::new(alloc, &[2])?;
+    let mut shelf = MemShelf::new(rt.alloc(), &[2])?;
     shelf.add("a", b"12345")?;
-    let first = shelf.load(alloc, "a", 3).ok().ok_or("first")?;
-    assert_eq!(rt; first.as_slice(), b"1234".as_slice());
-    assert_eq!(rt; shelf.load(alloc, "a", 3).err(), Some(LoadFault::Failed));
-    assert_eq!(rt; shelf.load(alloc, "b", 3).err(), Some(LoadFault::Absent));
+    expect_load(&rt, &mut shelf, "a", 3, Ok(b"1234"));
+    expect_load(&rt, &mut shelf, "a", 3, Err(LoadFault::Failed));
+    expect_load(&rt, &mut shelf, "b", 3, Err(LoadFault::Absent));
     assert_eq!(rt; shelf.faults(), 1);
     Ok(())
 }
@@ -106,14 +124,9 @@ fn a_host_sink_writes_until_its_writer_is_full(rt: HostRuntime) {
 #[test]
 fn a_host_shelf_reads_files(rt: HostRuntime) -> Result<(), Fail> {
     fs::write(&rt, "present", "12345")?;
-    let alloc = rt.alloc();
     let mut shelf = HostShelf::new(&rt);
-    let bytes = shelf.load(alloc, "present", 3).ok().ok_or("present")?;
-    assert_eq!(rt; bytes.as_slice(), b"1234".as_slice());
-    assert_eq!(rt;
-        shelf.load(alloc, "missing", 3).err(),
-        Some(LoadFault::Failed)
-    );
+    expect_load(&rt, &mut shelf, "present", 3, Ok(b"1234"));
+    expect_load(&rt, &mut shelf, "missing", 3, Err(LoadFault::Failed));
     Ok(())
 }
 
@@ -126,6 +139,16 @@ fn long_file(alloc: Global, length: u32) -> Result<Vec<u8>, Fail> {
     Ok(bytes)
 }
 
+// The loaded bytes are the first `given` bytes of a file of these bytes.
+fn expect_first_bytes(rt: &impl Abort, bytes: &[u8], room: u32, loaded: &[u8], given: usize) {
+    let length = bytes.len();
+    assert_eq!(rt; loaded.len(), given, "{length} bytes, room for {room}");
+    assert!(rt;
+        bytes.starts_with(loaded),
+        "{length} bytes, room for {room}"
+    );
+}
+
 // A file of `length` bytes, loaded with this room, gives its first `given` bytes.
 fn loads_first_bytes(
     rt: &(impl Abort + AllocGlobal + Files),
@@ -135,16 +158,9 @@ fn loads_first_bytes(
 ) -> Result<(), Fail> {
     let bytes = long_file(rt.alloc(), length)?;
     fs::write(rt, "long", &bytes)?;
-    let mut shelf = HostShelf::new(rt);
-    let loaded = shelf
-        .load(rt.alloc(), "long", u64::from(room))
-        .ok()
-        .ok_or("long")?;
-    assert_eq!(rt; loaded.len(), given, "{length} bytes, room for {room}");
-    assert!(rt;
-        bytes.starts_with(&loaded),
-        "{length} bytes, room for {room}"
-    );
+    let loaded = HostShelf::new(rt).load(rt.alloc(), "long", u64::from(room));
+    let loaded = loaded.ok().ok_or("long")?;
+    expect_first_bytes(rt, &bytes, room, &loaded, given);
     Ok(())
 }
 
@@ -173,34 +189,43 @@ fn a_host_shelf_reads_files_of_several_pieces(rt: HostRuntime) -> Result<(), Fai
     Ok(())
 }
 
+// Loads of one host shelf of these files with each room give these bytes or have these faults.
+fn expect_host_loads(
+    rt: &(impl Abort + AllocGlobal),
+    files: &impl Files,
+    wants: &[(u32, Result<&[u8], LoadFault>)],
+) {
+    let mut shelf = HostShelf::new(files);
+    for (room, want) in wants {
+        expect_load(rt, &mut shelf, "a", *room, *want);
+    }
+}
+
 #[test]
-fn a_reader_that_gives_less_is_asked_again(rt: HostRuntime) -> Result<(), Fail> {
+fn a_reader_that_gives_less_is_asked_again(rt: HostRuntime) {
     let files = Trickling {
         text: b"12345",
         cut: None,
     };
-    for (room, want) in [(3, b"1234".as_slice()), (4, b"12345"), (5, b"12345")] {
-        let mut shelf = HostShelf::new(&files);
-        let read = shelf.load(rt.alloc(), "a", room).ok().ok_or("read")?;
-        assert_eq!(rt; read.as_slice(), want, "room for {room}");
-    }
-    Ok(())
+    expect_host_loads(&rt, &files, &[(3, Ok(b"1234"))]);
+    expect_host_loads(&rt, &files, &[(4, Ok(b"12345"))]);
+    expect_host_loads(&rt, &files, &[(5, Ok(b"12345"))]);
 }
 
 #[test]
-fn a_read_that_fails_in_mid_stream_fails_the_load(rt: HostRuntime) -> Result<(), Fail> {
+fn a_read_that_fails_in_mid_stream_fails_the_load(rt: HostRuntime) {
     let files = Trickling {
         text: b"12345",
         cut: Some(3),
     };
-    let mut shelf = HostShelf::new(&files);
-    for room in [3, 4, 5] {
-        let failed = shelf.load(rt.alloc(), "a", room);
-        assert_eq!(rt; failed.err(), Some(LoadFault::Failed), "room for {room}");
-    }
-    let read = shelf.load(rt.alloc(), "a", 2).ok().ok_or("read")?;
-    assert_eq!(rt; read.as_slice(), b"123".as_slice());
-    Ok(())
+    let failed = Err(LoadFault::Failed);
+    let wants = [
+        (3, failed),
+        (4, failed),
+        (5, failed),
+        (2, Ok(b"123".as_slice())),
+    ];
+    expect_host_loads(&rt, &files, &wants);
 }
 
 // Takes at most three bytes a call and counts its flushes, of which the one of the number `bad` fails.
@@ -229,7 +254,7 @@ impl<'a> Write for Flushed<'a> {
 
 // The put of the number `bad` fails, so each put flushes once, however many writes it takes, and a flush that fails is
 // no success.
-fn fails_at_flush(rt: &(impl Abort + AllocGlobal), bad: u64) -> Result<(), Fail> {
+fn fails_at_flush(rt: &(impl Abort + AllocGlobal), bad: u64) {
     let mut taken = Vec::new(rt.alloc());
     let mut sink = HostSink::new(Flushed {
         taken: &mut taken,
@@ -240,14 +265,13 @@ fn fails_at_flush(rt: &(impl Abort + AllocGlobal), bad: u64) -> Result<(), Fail>
         assert_eq!(rt; sink.put(piece).is_err(), bad == flush, "flush {bad}");
     }
     assert_eq!(rt; taken.as_slice(), b"1234567890abcd".as_slice());
-    Ok(())
 }
 
 #[test]
-fn a_put_fails_with_its_flush(rt: HostRuntime) -> Result<(), Fail> {
-    fails_at_flush(&rt, 1)?;
-    fails_at_flush(&rt, 2)?;
-    fails_at_flush(&rt, 3)
+fn a_put_fails_with_its_flush(rt: HostRuntime) {
+    fails_at_flush(&rt, 1);
+    fails_at_flush(&rt, 2);
+    fails_at_flush(&rt, 3);
 }
 
 #[test]

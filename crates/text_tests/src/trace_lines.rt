@@ -1,5 +1,6 @@
 // Lines of the example of Pillai and Shin 2001, and those that only version 2 has.
 use dvs_base::{GovernorKind, Line, Name, Note, Pos, Scheduler, Version};
+use std::process::Abort;
 use std::test::Fail;
 use trace_text::{
     PlanLine, TaskLine, write_head, write_note, write_share, write_task, write_version,
@@ -32,6 +33,11 @@ const NOTES: &[(Note, &[u8])] = &[
     ),
 ];
 
+// A line has this text.
+fn expect_text(rt: &impl Abort, line: &Line, text: &[u8]) {
+    assert_eq!(rt; line.as_bytes(), text);
+}
+
 #[test]
 fn lines_of_the_paper_example(rt: HostRuntime) -> Result<(), Fail> {
     let names = [Name::of(b"t1").ok_or("name")?];
@@ -42,11 +48,11 @@ fn lines_of_the_paper_example(rt: HostRuntime) -> Result<(), Fail> {
     };
     let mut line = Line::new();
     write_head(&mut line, plan);
-    assert_eq!(rt; line.as_bytes(), b"plan edf cc 16\n".as_slice());
+    expect_text(&rt, &line, b"plan edf cc 16\n");
     for (note, text) in NOTES {
         let mut line = Line::new();
         write_note(&mut line, note, &names);
-        assert_eq!(rt; line.as_bytes(), *text);
+        expect_text(&rt, &line, text);
     }
     Ok(())
 }
@@ -56,7 +62,7 @@ fn lines_of_version_2(rt: HostRuntime) -> Result<(), Fail> {
     let name = Name::of(b"t2").ok_or("name")?;
     let mut line = Line::new();
     write_version(&mut line, Version::Two);
-    assert_eq!(rt; line.as_bytes(), b"trace 2\n".as_slice());
+    expect_text(&rt, &line, b"trace 2\n");
     let mut line = Line::new();
     let task = TaskLine {
         period: 6,
@@ -64,9 +70,9 @@ fn lines_of_version_2(rt: HostRuntime) -> Result<(), Fail> {
         worst: 6,
     };
     write_task(&mut line, &name, task);
-    assert_eq!(rt; line.as_bytes(), b"task t2 6 2 6\n".as_slice());
+    expect_text(&rt, &line, b"task t2 6 2 6\n");
     let mut line = Line::new();
     write_share(&mut line, &name, 54000000000);
-    assert_eq!(rt; line.as_bytes(), b"energy t2 54000000000\n".as_slice());
+    expect_text(&rt, &line, b"energy t2 54000000000\n");
     Ok(())
 }

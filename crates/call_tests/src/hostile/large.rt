@@ -125,21 +125,24 @@ fn a_wrong_header_and_one_request_too_many(rt: HostRuntime) -> Result<(), Fail> 
     refuses_requests(&rt, rows.as_str(), "requests: wrong header")
 }
 
-// A file one byte longer than the limit, in place of each file of a run.
-#[test]
-fn a_file_over_the_limit_is_too_long(rt: HostRuntime) -> Result<(), Fail> {
-    let long = vec![in rt.alloc(); b'#'; LONGEST_FILE as usize + 1]?;
+// These bytes are too long in place of each file of a run, and of the requests.
+fn is_too_long(rt: &impl AllocGlobal, long: &[u8]) -> Result<(), Fail> {
     let run = Call {
         tasks: PAPER_TASKS,
         machine: PAPER_MACHINE,
         third: b"",
         words: "run --tasks T --machine M --scheduler edf --governor none --ticks 16 --demands F",
     };
-    run.with_tasks(&long).refuses_file(&rt, "tasks: too long")?;
-    run.with_machine(&long)
-        .refuses_file(&rt, "machine: too long")?;
-    run.with_third(&long)
-        .refuses_file(&rt, "demands: too long")?;
-    POLL.with_third(&long)
-        .refuses_file(&rt, "requests: too long")
+    run.with_tasks(long).refuses_file(rt, "tasks: too long")?;
+    run.with_machine(long)
+        .refuses_file(rt, "machine: too long")?;
+    run.with_third(long).refuses_file(rt, "demands: too long")?;
+    POLL.with_third(long).refuses_file(rt, "requests: too long")
+}
+
+// A file one byte longer than the limit, in place of each file of a run.
+#[test]
+fn a_file_over_the_limit_is_too_long(rt: HostRuntime) -> Result<(), Fail> {
+    let long = vec![in rt.alloc(); b'#'; LONGEST_FILE as usize + 1]?;
+    is_too_long(&rt, &long)
 }

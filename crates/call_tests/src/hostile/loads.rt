@@ -55,16 +55,29 @@ fn each_load_fails(rt: &impl AllocGlobal, call: Call<'_>, files: &[&str]) -> Res
     load_is_not_made(rt, call, number)
 }
 
+// Each load of each of these calls, which load these files, fails in turn.
+fn all_loads_fail(rt: &impl AllocGlobal, cases: &[(Call<'_>, &[&str])]) -> Result<(), Fail> {
+    for (call, files) in cases {
+        each_load_fails(rt, *call, files)?;
+    }
+    Ok(())
+}
+
+// A call of each command that loads files, and these files.
+const LOADED: [(Call, &[&str]); 8] = [
+    (CONTROLLER_RUN, &["tasks", "machine", "demands"]),
+    (ADMIT, &["tasks", "machine"]),
+    (REPLAY, &["tasks", "machine", "trace"]),
+    (MIGRATE, &["tasks", "machine", "trace"]),
+    (POLL, &["tasks", "machine", "requests"]),
+    (RESPONSE, &["tasks", "machine"]),
+    (CONSTRAIN, &["tasks", "machine", "deadlines"]),
+    (LEAST, &["machine"]),
+];
+
 #[test]
 fn each_load_of_each_command_fails(rt: HostRuntime) -> Result<(), Fail> {
-    each_load_fails(&rt, CONTROLLER_RUN, &["tasks", "machine", "demands"])?;
-    each_load_fails(&rt, ADMIT, &["tasks", "machine"])?;
-    each_load_fails(&rt, REPLAY, &["tasks", "machine", "trace"])?;
-    each_load_fails(&rt, MIGRATE, &["tasks", "machine", "trace"])?;
-    each_load_fails(&rt, POLL, &["tasks", "machine", "requests"])?;
-    each_load_fails(&rt, RESPONSE, &["tasks", "machine"])?;
-    each_load_fails(&rt, CONSTRAIN, &["tasks", "machine", "deadlines"])?;
-    each_load_fails(&rt, LEAST, &["machine"])
+    all_loads_fail(&rt, &LOADED)
 }
 
 #[test]

@@ -90,6 +90,14 @@ wanted: run 0:0 1:0 t1 1 4 100000000000
 found: run 0:0 1:0 t2 1 4 100000000000
 ";
 
+// Each put of the notes of each of these calls, which have these statuses and these notes, fails in turn.
+fn all_notes_fail(rt: &impl AllocGlobal, cases: &[(Call<'_>, u8, &str)]) -> Result<(), Fail> {
+    for (call, code, text) in cases {
+        each_note_fails(rt, *call, *code, text)?;
+    }
+    Ok(())
+}
+
 #[test]
 fn each_note_of_each_status_fails(rt: HostRuntime) -> Result<(), Fail> {
     let no_value = ADMIT.asked("admit --tasks T --machine");
@@ -97,13 +105,16 @@ fn each_note_of_each_status_fails(rt: HostRuntime) -> Result<(), Fail> {
     let long = ADMIT.asked(
         "run --tasks T --machine M --scheduler edf --governor la --ticks 1000000",
     );
-    each_note_fails(&rt, DENIED, 1, "denied edf 145 144\n")?;
-    each_note_fails(&rt, no_value, 2, "words: 4: no value for --machine\n")?;
-    each_note_fails(&rt, no_file, 3, "load: machine\n")?;
-    each_note_fails(&rt, ADMIT.with_machine(b""), 4, "machine: no points\n")?;
-    each_note_fails(&rt, long, 5, "limit: 296429 jobs, at most 100000\n")?;
-    each_note_fails(&rt, OVER_WORST, 6, "over worst: t2 2 13 12\n")?;
-    each_note_fails(&rt, DIFFERENT, 7, DIFFERENCE)
+    let cases = [
+        (DENIED, 1, "denied edf 145 144\n"),
+        (no_value, 2, "words: 4: no value for --machine\n"),
+        (no_file, 3, "load: machine\n"),
+        (ADMIT.with_machine(b""), 4, "machine: no points\n"),
+        (long, 5, "limit: 296429 jobs, at most 100000\n"),
+        (OVER_WORST, 6, "over worst: t2 2 13 12\n"),
+        (DIFFERENT, 7, DIFFERENCE),
+    ];
+    all_notes_fail(&rt, &cases)
 }
 
 // The first task asks for 8 units in its period of 2 ticks, and the second for one unit more.
@@ -112,32 +123,33 @@ const MISSES: &[u8] =
 
 const SLOW: &[u8] = b"point = [{speed = 1, millivolts = 1000}]";
 
+// Each note of a command beyond a run that denies its plan fails.
+fn each_denial_fails(rt: &impl AllocGlobal) -> Result<(), Fail> {
+    let too_many = LEAST.asked("least --machine M --units 65 --ticks 16");
+    let cases = [
+        (too_many, 1, "denied units 65 64\n"),
+        (RESPONSE.with_tasks(MISSES), 1, "misses b 17 16\n"),
+        (RESPONSE.with_tasks(TWO_TASKS), 1, "denied offset y\n"),
+        (CONSTRAIN.with_machine(SLOW), 1, "denied demand 6 7 6\n"),
+    ];
+    all_notes_fail(rt, &cases)
+}
+
 #[test]
 fn each_note_of_the_commands_beyond_a_run_fails(rt: HostRuntime) -> Result<(), Fail> {
-    let too_many = LEAST.asked("least --machine M --units 65 --ticks 16");
+    each_denial_fails(&rt)?;
     let no_file = LEAST.asked("least --machine X --units 1 --ticks 1");
     let one_field = CONSTRAIN.with_third(b"task,deadline\nc");
     let no_server = POLL.asked(
         "poll --tasks T --machine M --requests F --server z --scheduler edf --governor none --ticks 15",
     );
     let migrated = DIFFERENT.asked("migrate --tasks T --machine M --trace F");
-    each_note_fails(&rt, too_many, 1, "denied units 65 64\n")?;
-    each_note_fails(&rt, no_file, 3, "load: machine\n")?;
-    each_note_fails(&rt, RESPONSE.with_tasks(MISSES), 1, "misses b 17 16\n")?;
-    each_note_fails(&rt, RESPONSE.with_tasks(TWO_TASKS), 1, "denied offset y\n")?;
-    each_note_fails(
-        &rt,
-        CONSTRAIN.with_machine(SLOW),
-        1,
-        "denied demand 6 7 6\n",
-    )?;
-    each_note_fails(&rt, one_field, 4, "deadlines: row 1: 1 fields\n")?;
-    each_note_fails(
-        &rt,
-        POLL.with_third(b"arrival\n"),
-        4,
-        "requests: wrong header\n",
-    )?;
-    each_note_fails(&rt, no_server, 4, "tasks: no task z\n")?;
-    each_note_fails(&rt, migrated, 7, DIFFERENCE)
+    let cases = [
+        (no_file, 3, "load: machine\n"),
+        (one_field, 4, "deadlines: row 1: 1 fields\n"),
+        (POLL.with_third(b"arrival\n"), 4, "requests: wrong header\n"),
+        (no_server, 4, "tasks: no task z\n"),
+        (migrated, 7, DIFFERENCE),
+    ];
+    all_notes_fail(&rt, &cases)
 }

@@ -248,14 +248,26 @@ fn tells_no_probe(alloc: Global, call: Call<'_>, code: u8) -> Result<(), Fail> {
     probed(alloc, call, NO_FAULTS, &[releases])?.is(call.words, code, &[0])
 }
 
+// A call of each command that loads files succeeds, and a probe that would leave at its first note hears none.
+fn each_command_tells_no_probe(alloc: Global) -> Result<(), Fail> {
+    for call in &EACH_THAT_LOADS {
+        tells_no_probe(alloc, *call, 0)?;
+    }
+    Ok(())
+}
+
+// The calls of `NO_RUN` end with their statuses, and such a probe hears no note.
+fn no_run_tells_a_probe(alloc: Global) -> Result<(), Fail> {
+    for (words, code) in NO_RUN {
+        tells_no_probe(alloc, PROBED.asked(words), code)?;
+    }
+    Ok(())
+}
+
 #[test]
 fn probes_stay_where_no_run_tells_them(rt: HostRuntime) -> Result<(), Fail> {
-    for call in EACH_THAT_LOADS {
-        tells_no_probe(rt.alloc(), call, 0)?;
-    }
-    for (words, code) in NO_RUN {
-        tells_no_probe(rt.alloc(), PROBED.asked(words), code)?;
-    }
+    each_command_tells_no_probe(rt.alloc())?;
+    no_run_tells_a_probe(rt.alloc())?;
     let words = "run --tasks T --machine M --scheduler edf --governor none --ticks 3 --probes";
     tells_no_probe(rt.alloc(), DENIED.asked(words), 1)?;
     tells_no_probe(rt.alloc(), OVER_WORST, 6)

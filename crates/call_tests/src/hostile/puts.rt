@@ -6,6 +6,7 @@ use crate::hostile::example::{
 };
 use crate::hostile::lines::{Line, after, lines_of};
 use dvs_base::FailAt;
+use std::process::Abort;
 use std::test::Fail;
 use test_inputs::Ending;
 use test_inputs::example::{NONE_TRACE, TWO_TRACE_2};
@@ -67,23 +68,40 @@ fn each_put_fails(
     Ok(calls)
 }
 
-#[test]
-fn each_put_of_a_trace_fails(rt: HostRuntime) -> Result<(), Fail> {
-    assert_eq!(rt; each_put_fails(&rt, NONE_RUN, NONE_TRACE, &TAKEN)?, 100);
-    assert_eq!(rt; each_put_fails(&rt, TWO_RUN, TWO_TRACE_2, &TAKEN)?, 70);
-    assert_eq!(rt; each_put_fails(&rt, MIGRATE, TWO_TRACE_2, &TAKEN)?, 70);
+// Each put of each of these texts fails in turn after each number of bytes in `TAKEN`, which takes this many calls.
+fn expect_calls(
+    rt: &(impl Abort + AllocGlobal),
+    cases: &[(Call<'_>, &str, u64)],
+) -> Result<(), Fail> {
+    for (call, text, calls) in cases {
+        assert_eq!(rt; each_put_fails(rt, *call, text, &TAKEN)?, *calls);
+    }
     Ok(())
 }
 
+const TRACES: [(Call, &str, u64); 3] = [
+    (NONE_RUN, NONE_TRACE, 100),
+    (TWO_RUN, TWO_TRACE_2, 70),
+    (MIGRATE, TWO_TRACE_2, 70),
+];
+
+#[test]
+fn each_put_of_a_trace_fails(rt: HostRuntime) -> Result<(), Fail> {
+    expect_calls(&rt, &TRACES)
+}
+
+const OTHER_TEXTS: [(Call, &str, u64); 6] = [
+    (ADMIT, ADMITTED, 4),
+    (REPLAY, REPLAYED, 4),
+    (RESPONSE, RESPONSES, 10),
+    (CONSTRAIN, CONSTRAINED, 4),
+    (POLL, POLLED, 13),
+    (LEAST, LEAST_ENERGY, 7),
+];
+
 #[test]
 fn each_put_of_the_other_commands_fails(rt: HostRuntime) -> Result<(), Fail> {
-    assert_eq!(rt; each_put_fails(&rt, ADMIT, ADMITTED, &TAKEN)?, 4);
-    assert_eq!(rt; each_put_fails(&rt, REPLAY, REPLAYED, &TAKEN)?, 4);
-    assert_eq!(rt; each_put_fails(&rt, RESPONSE, RESPONSES, &TAKEN)?, 10);
-    assert_eq!(rt; each_put_fails(&rt, CONSTRAIN, CONSTRAINED, &TAKEN)?, 4);
-    assert_eq!(rt; each_put_fails(&rt, POLL, POLLED, &TAKEN)?, 13);
-    assert_eq!(rt; each_put_fails(&rt, LEAST, LEAST_ENERGY, &TAKEN)?, 7);
-    Ok(())
+    expect_calls(&rt, &OTHER_TEXTS)
 }
 
 // Each of these makes four runs of 50000 ticks, so they are separate tests.

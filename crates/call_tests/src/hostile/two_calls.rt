@@ -2,9 +2,35 @@
 use crate::call::{NO_FAULTS, Sinks};
 use crate::hostile::example::{ADMIT, RESPONSE};
 use crate::twice::{TwoCalls, twice};
+use dvs_base::MemShelf;
+use std::alloc::{AllocError, Global};
 use std::process::Abort;
 use std::test::Fail;
-use test_inputs::{Ending, words_of};
+use test_inputs::{Ending, Outcome, words_of};
+
+// Makes the calls `ADMIT` and `RESPONSE`, and returns the status of the first and the outcome of the second.
+fn both_called(
+    alloc: Global,
+    shelf: &mut MemShelf,
+    sinks: &mut Sinks,
+) -> Result<(u8, Outcome), AllocError> {
+    let admit = words_of(alloc, ADMIT.words)?;
+    let response = words_of(alloc, RESPONSE.words)?;
+    let words = TwoCalls {
+        first: &admit,
+        second: &response,
+    };
+    let (one, two) = twice(alloc, &words, shelf, &mut sinks.out, &mut sinks.notes);
+    let left = sinks.left(alloc, two.code(), shelf.faults())?;
+    Ok((one.code(), left))
+}
+
+// Makes both calls over one shelf, whose loads with the numbers in `failing` fail, and returns what `both_called` does.
+fn called_over_one_shelf(alloc: Global, failing: &[u64]) -> Result<(u8, Outcome), Fail> {
+    let mut shelf = ADMIT.shelf(alloc, failing)?;
+    let mut sinks = Sinks::new(alloc, 128, NO_FAULTS)?;
+    Ok(both_called(alloc, &mut shelf, &mut sinks)?)
+}
 
 // The calls `ADMIT` and `RESPONSE` over one shelf, whose loads with the numbers in `failing` fail. The first has the
 // status `first`, and the second ends so.
@@ -14,18 +40,8 @@ fn calls_end(
     first: u8,
     second: Ending<'_>,
 ) -> Result<(), Fail> {
-    let alloc = rt.alloc();
-    let admit = words_of(alloc, ADMIT.words)?;
-    let response = words_of(alloc, RESPONSE.words)?;
-    let words = TwoCalls {
-        first: &admit,
-        second: &response,
-    };
-    let mut shelf = ADMIT.shelf(alloc, failing)?;
-    let mut sinks = Sinks::new(alloc, 128, NO_FAULTS)?;
-    let (one, two) = twice(alloc, &words, &mut shelf, &mut sinks.out, &mut sinks.notes);
-    assert_eq!(rt; one.code(), first);
-    let left = sinks.left(alloc, two.code(), shelf.faults())?;
+    let (one, left) = called_over_one_shelf(rt.alloc(), failing)?;
+    assert_eq!(rt; one, first);
     left.is(RESPONSE.words, second)
 }
 

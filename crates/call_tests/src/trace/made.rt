@@ -164,7 +164,7 @@ fn both_are_replayed(rt: &impl AllocGlobal, made: &MadeFiles, pair: &str) -> Res
 // The traces of the generated plan, under every pair and in both versions, are replayed and migrated.
 fn each_is_replayed(rt: &impl AllocGlobal, seed: u64) -> Result<(), Fail> {
     let made = made_files(rt.alloc(), seed)?;
-    for pair in PAIRS {
+    for pair in &PAIRS {
         both_are_replayed(rt, &made, pair)?;
     }
     Ok(())
@@ -227,7 +227,7 @@ fn version_is_refused(
 // The traces of the generated plan, under every pair and in both versions, are refused with a changed byte.
 fn each_change_is_refused(alloc: Global, seed: u64, draws: &mut Draws) -> Result<(), Fail> {
     let made = made_files(alloc, seed)?;
-    for pair in PAIRS {
+    for pair in &PAIRS {
         version_is_refused(alloc, &made, pair, 1, draws)?;
         version_is_refused(alloc, &made, pair, 2, draws)?;
     }
