@@ -41,15 +41,18 @@ fn looked_up(alloc: Global, plan: &Admitted) -> Result<(Option<u32>, u64, Option
 }
 
 // What the agenda says of the plan of these tasks, before the first release.
-fn looked_up_of(alloc: Global, tasks: &[u8]) -> Result<(Option<u32>, u64, Option<u32>), Fail> {
+fn look_up_in_plan_of(
+    alloc: Global,
+    tasks: &[u8],
+) -> Result<(Option<u32>, u64, Option<u32>), Fail> {
     looked_up(alloc, &edf_plan(alloc, tasks)?)
 }
 
 #[test]
 fn the_next_release_is_the_least_offset(rt: HostRuntime) -> Result<(), Fail> {
-    let late = looked_up_of(rt.alloc(), LATE)?;
+    let late = look_up_in_plan_of(rt.alloc(), LATE)?;
     assert_eq!(rt; late, (None, 2, None));
-    let at_once = looked_up_of(rt.alloc(), AT_ONCE)?;
+    let at_once = look_up_in_plan_of(rt.alloc(), AT_ONCE)?;
     assert_eq!(rt; at_once, (None, 0, Some(1)));
     Ok(())
 }

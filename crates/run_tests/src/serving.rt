@@ -216,7 +216,7 @@ const AT_A_LOWER_SPEED: &[Done] = &[
 ];
 
 // What becomes of many requests under static, and the totals.
-fn served_under_static(alloc: Global) -> Result<(Vec<Done>, Totals), Fail> {
+fn serve_under_static(alloc: Global) -> Result<(Vec<Done>, Totals), Fail> {
     let plan = edf_plan(alloc, TASKS, PAPER_MACHINE)?;
     let governor = Static::new(alloc, &plan)?;
     if plan.count() == 0 {
@@ -227,7 +227,7 @@ fn served_under_static(alloc: Global) -> Result<(Vec<Done>, Totals), Fail> {
 
 #[test]
 fn a_lower_speed_serves_later(rt: HostRuntime) -> Result<(), Fail> {
-    let (outcomes, totals) = served_under_static(rt.alloc())?;
+    let (outcomes, totals) = serve_under_static(rt.alloc())?;
     assert_eq!(rt; outcomes.as_slice(), AT_A_LOWER_SPEED);
     assert_eq!(rt; totals.run, 612000000000);
     Ok(())

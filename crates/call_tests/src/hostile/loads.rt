@@ -64,7 +64,7 @@ fn all_loads_fail(rt: &impl AllocGlobal, cases: &[(Call<'_>, &[&str])]) -> Resul
 }
 
 // A call of each command that loads files, and these files.
-const LOADED: [(Call, &[&str]); 8] = [
+const CALLS_AND_FILES: [(Call, &[&str]); 8] = [
     (CONTROLLER_RUN, &["tasks", "machine", "demands"]),
     (ADMIT, &["tasks", "machine"]),
     (REPLAY, &["tasks", "machine", "trace"]),
@@ -77,7 +77,7 @@ const LOADED: [(Call, &[&str]); 8] = [
 
 #[test]
 fn each_load_of_each_command_fails(rt: HostRuntime) -> Result<(), Fail> {
-    all_loads_fail(&rt, &LOADED)
+    all_loads_fail(&rt, &CALLS_AND_FILES)
 }
 
 #[test]

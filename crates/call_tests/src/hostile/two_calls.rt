@@ -9,7 +9,7 @@ use std::test::Fail;
 use test_inputs::{Ending, Outcome, words_of};
 
 // Makes the calls `ADMIT` and `RESPONSE`, and returns the status of the first and the outcome of the second.
-fn both_called(
+fn make_both_calls(
     alloc: Global,
     shelf: &mut MemShelf,
     sinks: &mut Sinks,
@@ -25,11 +25,11 @@ fn both_called(
     Ok((one.code(), left))
 }
 
-// Makes both calls over one shelf, whose loads with the numbers in `failing` fail, and returns what `both_called` does.
-fn called_over_one_shelf(alloc: Global, failing: &[u64]) -> Result<(u8, Outcome), Fail> {
+// Makes both calls over one shelf, whose loads with the numbers in `failing` fail, and returns the same.
+fn call_over_one_shelf(alloc: Global, failing: &[u64]) -> Result<(u8, Outcome), Fail> {
     let mut shelf = ADMIT.shelf(alloc, failing)?;
     let mut sinks = Sinks::new(alloc, 128, NO_FAULTS)?;
-    Ok(both_called(alloc, &mut shelf, &mut sinks)?)
+    Ok(make_both_calls(alloc, &mut shelf, &mut sinks)?)
 }
 
 // The calls `ADMIT` and `RESPONSE` over one shelf, whose loads with the numbers in `failing` fail. The first has the
@@ -40,7 +40,7 @@ fn calls_end(
     first: u8,
     second: Ending<'_>,
 ) -> Result<(), Fail> {
-    let (one, left) = called_over_one_shelf(rt.alloc(), failing)?;
+    let (one, left) = call_over_one_shelf(rt.alloc(), failing)?;
     assert_eq!(rt; one, first);
     left.is(RESPONSE.words, second)
 }
