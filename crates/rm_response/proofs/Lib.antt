@@ -4,3 +4,5 @@ pub mod Examples
 pub mod LoadFits
 pub mod LoadsBefore
 pub mod RelaxedLoads
+pub mod RelaxedNodes
+pub mod JoinedLoads

@@ -1,17 +1,21 @@
 -- The loads of the tasks before a task in RM order, and what a fit beside them says of its response.
-use Rattle.std.proofs.Common.{◌≡◌, inl, inr, ℕ, ◌+◌, ◌*◌, ◌<◌, ◌≤◌, List, [], ◌∷◌, ◌++◌, length, take, drop, refl, sym, ◌∙◌, ap, subst, arith}
+use Rattle.std.proofs.Common.{◌≡◌, inl, inr, ℕ, ◌+◌, ◌*◌, ◌^◌, ◌<◌, ◌≤◌, List, [], ◌∷◌, ◌++◌, length, take, drop, refl, sym, ◌∙◌, ap, subst, arith}
 use Rattle.std.specs.Prelude.{All, insert, slice_index}
-use Rattle.std.proofs.Math.Nat.{le_of_mul-le-mul_left, lt_of_mul-lt-mul_left, mul-le-mul_right}
+use Rattle.std.proofs.Math.Nat.{le_of_mul-le-mul_left, lt_of_mul-lt-mul_left, mul-le-mul_left, mul-le-mul_right}
 use Rattle.std.proofs.lemmas.Bool.{cases_lt}
+use Rattle.std.proofs.lemmas.Nat.{mul-le}
 use Rattle.std.proofs.lemmas.List.{take-append-drop, drop_more, take_more}
 use Rattle.std.proofs.lemmas.List.Edits.{length-insert}
 use Rattle.std.proofs.lemmas.List.Elements.{All-append, All-cons, All-drop, All-nil, All-take}
 use Rattle.std.proofs.lemmas.List.Sums.{sum_by-cons, sum_by-insert}
 use Rattle.grid_fraction.specs.Numbers.{ceil_div}
+use Rattle.freq_table.specs.Tables.{last_entry}
+use Rattle.freq_table.specs.declared.limits.TheConstants.{TOP_SPEED}
+use Rattle.task_model.specs.declared.limits.TheConstants.{LONGEST_PERIOD, LONGEST_HYPERPERIOD}
 use Rattle.sched_model.specs.Plan.{Plan, count, period, worst, top_speed, hyper}
 use Rattle.sched_model.specs.Priority.{sum_before, in_order}
 use Rattle.sched_model.specs.Admission.{IsWithinLimits}
-use Rattle.sched_model.proofs.Limits.{period_divides}
+use Rattle.sched_model.proofs.Limits.{low_hyper, period_divides}
 use Rattle.sched_model.proofs.Orders.{sum_list, sum_list-snoc, sum_before-prefix, length-in_order}
 use Rattle.rm_response_laws.specs.Responses.{response, HasResponse, IsUnserved}
 use Rattle.rm_response_laws.specs.HeldWork.{held_work}
@@ -20,14 +24,14 @@ use Rattle.rm_response_laws.proofs.ResponseSearch.{response-bound, response-is, 
 use Rattle.rm_response.specs.declared.loads.Load.{Load}
 use Rattle.rm_response.specs.declared.supply.Supply.{Supply}
 use Rattle.rm_response.specs.Supplies.{IsSupply, IsDone, full_supply}
-use Rattle.rm_response.specs.Loads.{held, work_of, load_of, IsLoad, HasRate, AreInTurn, AreBefore, IsPutAfter}
+use Rattle.rm_response.specs.Loads.{held, work_of, load_of, IsLoad, HasRate, AreInTurn, AreBefore, IsAdded}
 use Rattle.rm_response.specs.Fits.{IsFirstFit}
 use Rattle.rm_response.proofs.Places.{at-below}
 use Rattle.rm_response.proofs.LoadFits.{put-in_turn}
 
--- the loads are the first k of the tasks js
+-- the loads are the first k of the tasks js, those of equal periods as one
 pub record AreFirst (p : Plan) (js : List ℕ) (k : ℕ) (xs : List Load) : Type 0 where
-  pub long : length xs ≡ k
+  pub long : length xs ≤ k
   pub each : All IsLoad xs
   pub rates : All (HasRate (hyper p)) xs
   pub in_turn : AreInTurn (full_supply p) xs
@@ -38,10 +42,29 @@ all-insert : (P : Load → Type 0) (xs : List Load) (k : ℕ) (x : Load) → All
 all-insert P xs k x all here =
     All-append P (take k xs) (x ∷ drop k xs) (All-take P k xs all) (All-cons P x (drop k xs) here (All-drop P k xs all))
 
+-- the numbers of two loads as one are low, since they are served in n ticks
+joined-low : (p : Plan) (lim : IsWithinLimits p) (x y : Load) (n : ℕ) → IsLoad x → y.period ≡ x.period → 1 ≤ n → n ≤ x.period
+    → held n y ≤ top_speed p * n → HasRate (hyper p) y → IsLoad y
+joined-low p lim x y n is_load same some within served rate =
+    let one : ceil_div n y.period ≡ 1 = ap (λ u. ceil_div u y.period) (omega arith) ∙ ceil-after 0 y.period n some (omega (arith, within, same)) in
+    let own : held n y ≡ y.worst = ap (λ m. m * y.worst) one ∙ omega arith in
+    let point = lim.machine.each (last_entry p.machine) (let m = lim.machine.some in omega arith) in
+    let speed : top_speed p ≤ TOP_SPEED = omega (arith, point.low_speed) in
+    let most : top_speed p * n ≤ TOP_SPEED * LONGEST_PERIOD = mul-le (top_speed p) n TOP_SPEED LONGEST_PERIOD speed (omega (arith, within, is_load.low_period)) in
+    let low : y.worst ≤ 2 ^ 60 = omega (arith, own, served, most) in
+    let units : y.worst * hyper p ≤ 2 ^ 60 * LONGEST_HYPERPERIOD = mul-le y.worst (hyper p) (2 ^ 60) LONGEST_HYPERPERIOD low (low_hyper p lim) in
+    let few : y.rate * 1 ≤ y.rate * y.period = mul-le-mul_left y.rate (omega (arith, same, is_load.some_period)) in
+    record {
+      some_period = omega (arith, same, is_load.some_period);
+      low_period = omega (arith, same, is_load.low_period);
+      low_worst = omega (arith, low);
+      low_rate = omega (arith, few, units, rate);
+    }
+
 module _ (p : Plan) (lim : IsWithinLimits p) (js : List ℕ) (is : js ≡ in_order (period p) (count p)) (k : ℕ) where
   pub first-none : AreFirst p js 0 []
   first-none = record {
-    long = refl;
+    long = omega arith;
     each = All-nil IsLoad;
     rates = All-nil (HasRate (hyper p));
     in_turn = tt;
@@ -72,25 +95,37 @@ module _ (p : Plan) (lim : IsWithinLimits p) (js : List ℕ) (is : js ≡ in_ord
 
     -- with the next task, put after some whose periods are at least its response, they are the first k + 1
     pub first-more : (ys : List Load) → HasResponse p j → IsLoad (load_of p j)
-        → IsPutAfter (response p j) (load_of p j) xs ys → AreFirst p js (k + 1) ys
-    first-more ys has is_load put =
+        → IsAdded (response p j) (load_of p j) xs ys → AreFirst p js (k + 1) ys
+    first-more ys has is_load added =
         let x = load_of p j in
+        let y = added.both in
+        let others = added.others in
+        let joined = added.joined in
+        let put = added.put in
+        let s = full_supply p in
+        let n = response p j in
         let bound = response-bound p j has in
-        let divides = period_divides p lim j (at-below (period p) (count p) js is k below) in
+        let task = at-below (period p) (count p) js is k below in
+        let divides = period_divides p lim j task in
         let rate : HasRate (hyper p) x = let all = ap (λ n. worst p j * n) divides in omega (arith, all) in
-        let within : work_of (x ∷ xs) (response p j) ≤ top_speed p * response p j =
-        omega (arith, sum_by-cons (held (response p j)) x xs, before-work (response p j), bound.fits) in
-        let all : IsDone (full_supply p) (work_of (x ∷ xs) (response p j)) (response p j) =
-        omega (arith, mul-le-mul_right (hyper p) within) in
-        let new : AreFirst p js (k + 1) (insert xs put.place x) = record {
-          long = length-insert xs put.place x put.within ∙ ap (λ n. n + 1) are.long;
-          each = all-insert IsLoad xs put.place x are.each is_load;
-          rates = all-insert (HasRate (hyper p)) xs put.place x are.rates rate;
-          in_turn = put-in_turn (full_supply p) (response p j) x xs put.place are.in_turn bound.some bound.within all put.long;
+        let rates = joined.rates (hyper p) rate are.rates in
+        let own = joined.work n in
+        let within : work_of (y ∷ others) n ≤ top_speed p * n =
+        omega (arith, sum_by-cons (held n) y others, own, before-work n, bound.fits) in
+        let all : IsDone s (work_of (y ∷ others) n) n = omega (arith, mul-le-mul_right (hyper p) within) in
+        let low : IsLoad y = joined-low p lim x y n is_load joined.same_period bound.some bound.within
+        (omega (arith, within, sum_by-cons (held n) y others)) rates.0 in
+        let new : AreFirst p js (k + 1) (insert others put.place y) = record {
+          long = omega (arith, length-insert others put.place y put.within, joined.fewer, are.long);
+          each = all-insert IsLoad others put.place y joined.each low;
+          rates = all-insert (HasRate (hyper p)) others put.place y rates.1 rates.0;
+          in_turn = put-in_turn s n y others put.place (joined.in_turn s are.in_turn) bound.some
+              (omega (arith, bound.within, joined.same_period)) all put.long;
           work = λ t.
-              sum_by-insert (held t) xs put.place x
-              ∙ (ap (λ n. n + held_work p t j) (are.work t)
-              ∙ (sym (sum_list-snoc (held_work p t) (take k js) j) ∙ ap (sum_list (held_work p t)) (sym (take_more js k 0 below))));
+              let sum = sum_list-snoc (held_work p t) (take k js) j in
+              let more : sum_list (held_work p t) (take (k + 1) js) ≡ sum_list (held_work p t) (take k js ++ j ∷ []) =
+              ap (sum_list (held_work p t)) (take_more js k 0 below) in
+              omega (arith, sum_by-insert (held t) others put.place y, joined.work t, are.work t, sum, more);
         } in
         subst (AreFirst p js (k + 1)) (sym put.is) new
 

@@ -1,11 +1,12 @@
 -- Work that fits into some ticks beside loads (after Bini and Buttazzo 2004).
-use Rattle.std.specs.Prelude.{ℕ, List, All, length, ◌+◌, ◌*◌, ◌≡◌, ◌<◌, ◌≤◌, Option, MatchOption}
+use Rattle.std.specs.Prelude.{ℕ, List, [], ◌∷◌, All, length, take, ◌+◌, ◌*◌, ◌≡◌, ◌<◌, ◌≤◌, Option, MatchOption}
 use Rattle.rm_response.specs.declared.loads.Load.{Load}
 use Rattle.rm_response.specs.declared.supply.Supply.{Supply}
+use Rattle.rm_response.specs.declared.relaxed.Relaxed.{Relaxed}
 use Rattle.rm_response.specs.declared.search.Ends.{Ends}
 use Rattle.rm_response.specs.declared.search.Ends.TheVariants.{Fit, NoFit, From}
-use Rattle.rm_response.specs.Supplies.{IsDone, IsMore}
-use Rattle.rm_response.specs.Loads.{IsLoad, HasRate, work_of}
+use Rattle.rm_response.specs.Supplies.{IsSupply, IsDone, IsMore}
+use Rattle.rm_response.specs.Loads.{IsLoad, HasRate, AreLoads, work_of}
 
 -- `rest` units fit into t of the ticks `low` to `most`: in t ticks a supply does them and the work of the loads
 pub record Fits (s : Supply) (xs : List Load) (rest low most t : ℕ) : Type 0 where
@@ -55,3 +56,22 @@ pub record IsRelaxed (s : Supply) (xs : List Load) (lower : Supply) (ys : List L
   pub each : All IsLoad ys
   pub rates : All (HasRate s.hyper) ys
   pub work : (t : ℕ) → work_of ys t * s.hyper + s.units * t ≤ work_of xs t * s.hyper + lower.units * t
+
+-- The loads of r that count with their jobs, fewer than the loads xs, can be searched with the supply of r, and what
+-- does not fit beside them does not fit beside xs.
+pub record IsRelaxedSearch (s : Supply) (xs : List Load) (r : Relaxed) : Type 0 where
+  pub within : r.count ≤ length r.loads
+  pub fewer : r.count < length xs
+  pub supply : IsSupply r.supply
+  pub loads : AreLoads r.supply (take r.count r.loads)
+  pub relaxed : IsRelaxed s xs r.supply (take r.count r.loads)
+
+-- if some loads of r count with their jobs, they are for a relaxed search
+abbrev pub IsNode : Supply → List Load → Relaxed → Type 0
+IsNode s xs r = 1 ≤ r.count → IsRelaxedSearch s xs r
+
+-- the first of the nodes is for all loads, and the later ones for the loads after the first
+abbrev pub AreNodes : Supply → List Load → List Relaxed → Type 0
+AreNodes s xs [] = Unit {0}
+AreNodes s [] (r ∷ rs) = Unit {0}
+AreNodes s (x ∷ xs) (r ∷ rs) = IsNode s (x ∷ xs) r × AreNodes s xs rs

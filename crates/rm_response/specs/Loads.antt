@@ -1,5 +1,5 @@
 -- Loads: tasks whose jobs count beside other work, in the order in which the search takes them away.
-use Rattle.std.specs.Prelude.{ℕ, List, [], ◌∷◌, length, take, insert, sum_by, All, ◌≡◌, ◌*◌, ◌^◌, ◌≤◌}
+use Rattle.std.specs.Prelude.{ℕ, List, [], ◌∷◌, length, take, insert, sum_by, All, ◌≡◌, ◌+◌, ◌*◌, ◌^◌, ◌≤◌}
 use Rattle.grid_fraction.specs.Numbers.{ceil_div}
 use Rattle.dvs_base.specs.declared.limits.TheConstants.{MOST_TASKS}
 use Rattle.task_model.specs.declared.limits.TheConstants.{LONGEST_PERIOD}
@@ -67,3 +67,19 @@ pub record IsPutAfter (s : ℕ) (x : Load) (old new : List Load) : Type 0 where
   pub within : place ≤ length old
   pub long : All (λ y. s ≤ y.period) (take place old)
   pub is : new ≡ insert old place x
+
+-- y is the load x, or x and one of the old loads of the same period as one, and the new loads are the others
+pub record IsJoined (x : Load) (old : List Load) (y : Load) (new : List Load) : Type 0 where
+  pub same_period : y.period ≡ x.period
+  pub fewer : length new ≤ length old
+  pub work : (t : ℕ) → held t y + work_of new t ≡ held t x + work_of old t
+  pub each : All IsLoad new
+  pub rates : (h : ℕ) → HasRate h x → All (HasRate h) old → HasRate h y × All (HasRate h) new
+  pub in_turn : (s : Supply) → AreInTurn s old → AreInTurn s new
+
+-- a load x is put into others, after some whose periods are at least s ticks, as one with the load of the same period
+pub record IsAdded (s : ℕ) (x : Load) (old new : List Load) : Type 0 where
+  pub both : Load
+  pub others : List Load
+  pub joined : IsJoined x old both others
+  pub put : IsPutAfter s both others new

@@ -8,6 +8,7 @@
 #![tactic(auto)]
 
 mod loads;
+mod nodes;
 mod relaxed;
 mod response;
 mod search;

@@ -1,20 +1,23 @@
 // The responses of a task set on a machine.
-ghost use Rattle.std.specs.Prelude.{◌≡◌, ◌<◌, ◌≤◌, IfOk, OnOk, IfErr, MatchResult, None, Some, length, slice_index, vec_capacity, [], ℕ};
+ghost use Rattle.std.specs.Prelude.{◌≡◌, ◌<◌, ◌≤◌, ◌^◌, IfOk, OnOk, IfErr, MatchResult, None, Some, length, slice_index, vec_capacity, [], ℕ};
 ghost use Rattle.dvs_base.specs.Checks.{IsUnlessMemory};
 ghost use Rattle.dvs_base.specs.declared.kind.Scheduler.TheVariants.{Rm};
+ghost use Rattle.task_model.specs.declared.limits.TheConstants.{LONGEST_PERIOD};
 ghost use Rattle.task_model.specs.Tasks.{task_at, NoneOffset};
 ghost use Rattle.sched_model.specs.Plan.{plan_of, count, period};
 ghost use Rattle.sched_model.specs.Priority.{in_order};
 ghost use Rattle.governor.specs.Worst.{level_work_in};
 ghost use Rattle.rm_response_laws.specs.Responses.{response, AllRespond, IsUnserved, MeetsAllDeadlines};
-ghost use Rattle.rm_response.specs.Loads.{AreBefore};
+ghost use Rattle.rm_response.specs.Supplies.{IsSupply};
+ghost use Rattle.rm_response.specs.Loads.{AreBefore, AreLoads};
+ghost use Rattle.rm_response.specs.Fits.{IsFirstFit};
 ghost use Rattle.rm_response.specs.Denials.{IsFirstLate, responses, AreLeast, misses_at, IsResponseDenial, IsMissedAtPeriod, IsShownMiss, exact_answer};
 ghost use Rattle.rm_response.specs.Known.{AreAllKnown, late_task};
 
 use crate::loads::{Load, add, load_of, work_of};
-use crate::relaxed::first_relaxed;
+use crate::nodes::nodes_of;
 use crate::search::{Span, first_fitting, fits, raised};
-use crate::supply::full_supply;
+use crate::supply::{Supply, full_supply};
 use freq_table::Machine;
 use sched_model::{rm_order, worst};
 use std::alloc::Global;
@@ -72,6 +75,22 @@ struct Late {
     work: u128,
 }
 
+// The first of the ticks of the span into which `rest` units fit beside the work of the loads; one more than the last
+// if there is none. The nodes have room here, so that a task that needs no search does not pay for it.
+#[inline(never)]
+fn searched(supply: Supply, loads: &[Load], rest: u128, span: Span) -> u64
+    requires supply { IsSupply supply }
+    requires loads { AreLoads supply loads.now }
+    requires low_rest { rest ≤ 2 ^ 102 }
+    requires some_ticks { 1 ≤ span.first }
+    requires in_span { span.first ≤ span.last }
+    requires low_ticks { span.last ≤ LONGEST_PERIOD }
+    ensures { IsFirstFit supply loads.now rest span.first span.last result }
+{
+    let nodes = nodes_of(supply, loads);
+    first_fitting(supply, loads, rest, span, &nodes)
+}
+
 // The response of task i in ticks; one more than its period if it has none. `from` is a number of ticks, and fewer
 // ticks don't serve its level. The loads are the tasks before it.
 fn response_of(tasks: &TaskSet, machine: &Machine, loads: &[Load], from: u64, i: u32) -> u64
@@ -92,11 +111,7 @@ fn response_of(tasks: &TaskSet, machine: &Machine, loads: &[Load], from: u64, i:
     if first > last || fits(supply, loads, job, first) {
         return first;
     }
-    let first = first_relaxed(supply, loads, job, Span { first, last });
-    if first > last {
-        return first;
-    }
-    first_fitting(supply, loads, job, Span { first, last })
+    searched(supply, loads, job, Span { first, last })
 }
 
 // The responses in file order, written over `entries`. They are computed in RM order, and the error is the first task

@@ -1,13 +1,14 @@
 // The search for ticks into which work fits beside loads (after Bini and Buttazzo 2004).
-ghost use Rattle.std.specs.Prelude.{◌≤◌, ◌+◌, ◌^◌, IsTrue, IsFalse, length, All};
+ghost use Rattle.std.specs.Prelude.{◌≡◌, ◌≤◌, ◌+◌, ◌^◌, IsTrue, IsFalse, length, drop, All};
 ghost use Rattle.dvs_base.specs.Widths.{u64_end};
 ghost use Rattle.dvs_base.specs.declared.limits.TheConstants.{MOST_TASKS};
 ghost use Rattle.task_model.specs.declared.limits.TheConstants.{LONGEST_PERIOD};
 ghost use Rattle.rm_response.specs.Supplies.{IsSupply, IsDone, IsMore};
 ghost use Rattle.rm_response.specs.Loads.{IsLoad, AreLoads, HasRate, work_of};
-ghost use Rattle.rm_response.specs.Fits.{NoneFits, FindsFit, EndsDecide, NoneBefore, IsFirstFit};
+ghost use Rattle.rm_response.specs.Fits.{NoneFits, FindsFit, EndsDecide, NoneBefore, IsFirstFit, AreNodes};
 
 use crate::loads::{Load, held, rates_of, work_of};
+use crate::relaxed::Relaxed;
 use crate::supply::{Supply, most_in};
 
 // The most times that the first of the ticks is raised in one call of `fitting`.
@@ -112,16 +113,33 @@ fn ends_of(supply: Supply, loads: &[Load], rest: u128, span: Span) -> Ends
     Ends::From(first)
 }
 
+// The nodes for the loads after the first.
+fn later_nodes(nodes: &[Relaxed]) -> &[Relaxed]
+    ensures { result.now ≡ drop 1 nodes.now }
+{
+    let Some((_, later)) = nodes.split_first() else {
+        return nodes;
+    };
+    later
+}
+
 // One of the ticks of the span into which `rest` units fit beside the work of the loads, if any. Unless the ends of the
-// span decide, the first load is taken away: as many of its jobs count as begin in the last of the ticks or, up to its
-// release before that, as begin up to there.
-pub(crate) fn fitting(supply: Supply, loads: &[Load], rest: u128, span: Span) -> Option<u64>
+// span or the loads of the first node decide, the first load is taken away: as many of its jobs count as begin in the
+// last of the ticks or, up to its release before that, as begin up to there.
+pub(crate) fn fitting(
+    supply: Supply,
+    loads: &[Load],
+    rest: u128,
+    span: Span,
+    nodes: &[Relaxed],
+) -> Option<u64>
     requires supply { IsSupply supply }
     requires loads { AreLoads supply loads.now }
     requires low_rest { rest ≤ 2 ^ 102 }
     requires some_ticks { 1 ≤ span.first }
     requires in_span { span.first ≤ span.last }
     requires low_ticks { span.last ≤ LONGEST_PERIOD }
+    requires nodes { AreNodes supply loads.now nodes.now }
     ensures { FindsFit supply loads.now rest span.first span.last result }
 {
     if is_beyond(supply, loads, rest, span.last) {
@@ -136,12 +154,20 @@ pub(crate) fn fitting(supply: Supply, loads: &[Load], rest: u128, span: Span) ->
         Ends::From(first) => first,
     };
     let last = span.last;
+    let left = Span { first, last };
+    if let Some((node, _)) = nodes.split_first()
+        && node.count > 0
+        && fitting(node.supply, node.heavy(), rest, left, &[]).is_none()
+    {
+        return None;
+    }
     let release = (last - 1) / load.period * load.period;
     let begun = Span {
         first: first.max(release + 1),
         last,
     };
-    let found = fitting(supply, others, rest + held(*load, last), begun);
+    let later = later_nodes(nodes);
+    let found = fitting(supply, others, rest + held(*load, last), begun, later);
     if found.is_some() || release < first {
         return found;
     }
@@ -149,21 +175,28 @@ pub(crate) fn fitting(supply: Supply, loads: &[Load], rest: u128, span: Span) ->
         first,
         last: release,
     };
-    fitting(supply, others, rest + held(*load, release), ended)
+    fitting(supply, others, rest + held(*load, release), ended, later)
 }
 
 // The first of the ticks of the span into which `rest` units fit beside the work of the loads; one more than the last
 // if there is none.
-pub(crate) fn first_fitting(supply: Supply, loads: &[Load], rest: u128, span: Span) -> u64
+pub(crate) fn first_fitting(
+    supply: Supply,
+    loads: &[Load],
+    rest: u128,
+    span: Span,
+    nodes: &[Relaxed],
+) -> u64
     requires supply { IsSupply supply }
     requires loads { AreLoads supply loads.now }
     requires low_rest { rest ≤ 2 ^ 102 }
     requires some_ticks { 1 ≤ span.first }
     requires in_span { span.first ≤ span.last }
     requires low_ticks { span.last ≤ LONGEST_PERIOD }
+    requires nodes { AreNodes supply loads.now nodes.now }
     ensures { IsFirstFit supply loads.now rest span.first span.last result }
 {
-    let Some(mut high) = fitting(supply, loads, rest, span) else {
+    let Some(mut high) = fitting(supply, loads, rest, span, nodes) else {
         return span.last + 1;
     };
     let mut low = span.first;
@@ -173,7 +206,7 @@ pub(crate) fn first_fitting(supply: Supply, loads: &[Load], rest: u128, span: Sp
             first: low,
             last: middle,
         };
-        match fitting(supply, loads, rest, half) {
+        match fitting(supply, loads, rest, half, nodes) {
             Some(ticks) => high = ticks,
             None => low = middle + 1,
         }

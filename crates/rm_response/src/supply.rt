@@ -11,7 +11,7 @@ use task_model::TaskSet;
 
 /// What the processor does for the loads of a search: at most `speed` units in a tick, and `units` in each `hyper`
 /// ticks.
-#[derive(Clone, Copy)]
+#[derive(Clone, Copy, Default)]
 pub(crate) struct Supply {
     pub(crate) speed: u64,
     pub(crate) hyper: u64,

@@ -8,7 +8,7 @@ use Rattle.sched_model.proofs.Limits.{some_period}
 use Rattle.sched_model.proofs.Orders.{length-in_order}
 use Rattle.rm_response_laws.specs.Responses.{HasResponse}
 use Rattle.rm_response.specs.declared.loads.Load.{Load}
-use Rattle.rm_response.specs.Loads.{load_of, work_of, IsLoad, AreBefore, IsPutAfter}
+use Rattle.rm_response.specs.Loads.{load_of, work_of, IsLoad, AreBefore, IsAdded}
 use Rattle.rm_response.proofs.Places.{at-below}
 use Rattle.rm_response.proofs.KnownResponses.{AreKnown, earlier, known-next, known-all}
 use Rattle.rm_response.proofs.LoadsBefore.{first-before, first-more, own-work}
@@ -86,8 +86,8 @@ loop-task-preserved c =
           (known-next p js c.requires.order k c.loop-task.from entries c.loop-task.invariant.known c.loop-task-test.true has);
       loads = first-more p lim js c.requires.order k loads c.loop-task.invariant.loads c.loop-task-test.true new has
           (subst IsLoad c.load_of.ensures.value c.load_of.ensures.low)
-          (subst (λ (r : ℕ). IsPutAfter r (load_of p j) loads new) c.response_of-response.ensures
-          (subst (λ (x : Load). IsPutAfter c.response_of-response.result x loads new) c.load_of.ensures.value c.add.ensures.put));
+          (subst (λ (r : ℕ). IsAdded r (load_of p j) loads new) c.response_of-response.ensures
+          (subst (λ (x : Load). IsAdded c.response_of-response.result x loads new) c.load_of.ensures.value c.add.ensures.added));
       room = omega arith;
     }
 
@@ -102,4 +102,8 @@ add-requires c =
     let p : Plan = plan_of c.args.tasks.now c.args.machine.now Rm in
     let all = ap (length {A = ℕ}) c.requires.order in
     let at = c.loop-task.invariant in
-    omega (arith, c.loop-task.loads.ok, at.loads.long, at.room, all, length-in_order (period p) (count p), c.loop-task-test.true)
+    record {
+      room = omega (arith, c.loop-task.loads.ok, at.loads.long, at.room, all, length-in_order (period p) (count p), c.loop-task-test.true);
+      low = c.load_of.ensures.low;
+      each = at.loads.each;
+    }

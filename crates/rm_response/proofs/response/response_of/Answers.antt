@@ -31,23 +31,6 @@ returns-then-first-last c =
     c.task-last.result.period c.raised-first.result (c.from-job.ensures ∙ c.worst.ensures.value)
     (ap (λ (x : Task). x.period) c.task-last.ensures.task) c.requires.some c.requires.unserved fit
 
-pub returns-then-first-last-2 : goal.returns-then-first-last-2
-returns-then-first-last-2 c =
-    let p : Plan = plan_of c.args.tasks.now c.args.machine.now Rm in
-    let s = c.full_supply-supply in
-    let xs = c.args.loads.now in
-    let job = c.from-job.result in
-    let last = c.task-last.result.period in
-    let later = c.first_relaxed-first in
-    let fit : IsFirstFit s.result xs job c.args.from last later.result =
-    record {
-      before = before-later s.result xs job c.args.from last c.raised-first.result later.result c.raised-first.ensures later.ensures;
-      fit = λ le. absurd (omega (arith, le, c.if-first-last-2.true));
-    } in
-    first-is p c.args.i xs c.requires.before s.result s.ensures.value s.ensures.low c.args.from job last later.result
-    (c.from-job.ensures ∙ c.worst.ensures.value) (ap (λ (x : Task). x.period) c.task-last.ensures.task) c.requires.some
-    c.requires.unserved fit
-
 pub returns : goal.returns
 returns c =
     let p : Plan = plan_of c.args.tasks.now c.args.machine.now Rm in
@@ -55,12 +38,10 @@ returns c =
     let xs = c.args.loads.now in
     let job = c.from-job.result in
     let last = c.task-last.result.period in
-    let later = c.first_relaxed-first in
-    let found = c.first_fitting in
+    let found = c.searched in
     let fit : IsFirstFit s.result xs job c.args.from last found.result =
     record {
-      before = before-later s.result xs job c.args.from last later.result found.result
-          (before-later s.result xs job c.args.from last c.raised-first.result later.result c.raised-first.ensures later.ensures)
+      before = before-later s.result xs job c.args.from last c.raised-first.result found.result c.raised-first.ensures
           found.ensures.before;
       fit = found.ensures.fit;
     } in

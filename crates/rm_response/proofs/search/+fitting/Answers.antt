@@ -6,11 +6,12 @@ use Rattle.rm_response.specs.declared.loads.Load.{Load}
 use Rattle.rm_response.specs.Loads.{AreLoads, IsLoad}
 use Rattle.rm_response.specs.Fits.{FindsFit, IsFrom}
 use Rattle.rm_response.proofs.LoadFits.{others-loads, found-from, found-in, found-before}
+use Rattle.rm_response.proofs.RelaxedNodes.{nodes-later}
 use Rattle.rm_response.proofs.search.+fitting.Goals.{then-is_some-via-then-is_some, then-is_some-via-else-is_some+then-release-first}
 use Rattle.rm_response.proofs.search.+fitting.Goals as goal
 
-pub returns : goal.returns
-returns t c =
+pub returns-2 : goal.returns-2
+returns-2 t c =
     let s = c.args.supply in
     let x = c.in-Some.load.now in
     let xs = c.in-Some.others.now in
@@ -22,12 +23,12 @@ returns t c =
     let loads : AreLoads s (x ∷ xs) = subst (AreLoads s) parts c.requires.loads in
     let is : IsFrom s (x ∷ xs) rest first most least =
     subst (λ (ys : List Load). IsFrom s ys rest first most least) parts c.in-From.ensures in
-    let found : FindsFit s (x ∷ xs) rest least most c.fitting.result =
+    let found : FindsFit s (x ∷ xs) rest least most c.fitting-2.result =
     found-before s x xs loads rest least most (omega arith) is.within c.held.result c.max.result c.held-2.result
-    c.fitting-found.result c.fitting.result (c.held.ensures.value, c.max.ensures, c.fitting-found.ensures)
-    (sym c.is_some.ensures ∙ c.if-is_some.false) c.held-2.ensures.value c.fitting.ensures in
-    subst (λ (ys : List Load). FindsFit s ys rest first most c.fitting.result) (sym parts)
-    (found-from s (x ∷ xs) rest first most least c.fitting.result is found)
+    c.fitting-found.result c.fitting-2.result (c.held.ensures.value, c.max.ensures, c.fitting-found.ensures)
+    (sym c.is_some.ensures ∙ c.if-is_some.false) c.held-2.ensures.value c.fitting-2.ensures in
+    subst (λ (ys : List Load). FindsFit s ys rest first most c.fitting-2.result) (sym parts)
+    (found-from s (x ∷ xs) rest first most least c.fitting-2.result is found)
 
 pub returns-then-is_some : goal.returns-then-is_some
 returns-then-is_some t c =
@@ -73,15 +74,18 @@ fitting-found-requires t c =
             omega (arith, low, c.held.ensures.low),
             (
               omega (arith, c.max.ensures),
-              (omega (arith, c.max.ensures, within, c.requires.some_ticks, is.from, is.within), c.requires.low_ticks),
+              (
+                omega (arith, c.max.ensures, within, c.requires.some_ticks, is.from, is.within),
+                (c.requires.low_ticks, nodes-later s c.args.loads.now c.args.nodes.now x xs c.later_nodes-later.result.now parts c.later_nodes-later.ensures c.requires.nodes),
+              ),
             ),
           ),
         ),
       ),
     )
 
-pub fitting-requires : goal.fitting-requires
-fitting-requires t c =
+pub fitting-requires-2 : goal.fitting-requires-2
+fitting-requires-2 t c =
     let s = c.args.supply in
     let x = c.in-Some.load.now in
     let xs = c.in-Some.others.now in
@@ -98,7 +102,10 @@ fitting-requires t c =
             omega (arith, low, c.held-2.ensures.low),
             (
               (let from = c.in-From.ensures.from in omega (arith, from, c.requires.some_ticks)),
-              (c.if-release-first.false, omega (arith, within, c.requires.low_ticks)),
+              (
+                c.if-release-first.false,
+                (omega (arith, within, c.requires.low_ticks), nodes-later s c.args.loads.now c.args.nodes.now x xs c.later_nodes-later.result.now parts c.later_nodes-later.ensures c.requires.nodes),
+              ),
             ),
           ),
         ),

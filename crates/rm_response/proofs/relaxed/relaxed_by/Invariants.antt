@@ -2,7 +2,7 @@ use Rattle.std.proofs.Common.{◌≡◌, ◌≤◌, length, take}
 use Rattle.rm_response.specs.declared.relaxed.TheConstants.{MOST_HEAVY}
 use Rattle.rm_response.specs.Fits.{IsRelaxed}
 use Rattle.rm_response.proofs.RelaxedLoads.{with_units}
-use Rattle.rm_response.proofs.relaxed.heaviest.Given as goal
+use Rattle.rm_response.proofs.relaxed.relaxed_by.Given as goal
 
 abbrev pub invariant-loop-k : goal.invariant-loop-k
 invariant-loop-k l = record {

@@ -3,10 +3,10 @@ use Rattle.std.specs.Prelude.{slice_index_or}
 use Rattle.std.proofs.lemmas.List.{take_more_set}
 use Rattle.rm_response.specs.Fits.{IsRelaxed}
 use Rattle.rm_response.proofs.RelaxedLoads.{no_load, with_units, relaxed-counts, relaxed-leaves}
-use Rattle.rm_response.proofs.relaxed.heaviest.Goals as goal
+use Rattle.rm_response.proofs.relaxed.relaxed_by.Goals as goal
 
-pub loop-k-preserved-then-is_heavy : goal.loop-k-preserved-then-is_heavy
-loop-k-preserved-then-is_heavy c =
+pub loop-k-preserved-then-marks-k : goal.loop-k-preserved-then-marks-k
+loop-k-preserved-then-marks-k c =
     let s = c.args.supply in
     let xs = c.args.loads.now in
     let ys = c.loop-k.heavy in

@@ -1,7 +1,7 @@
 use Rattle.std.proofs.Common.{◌≡◌, true, is_some, sym, ◌∙◌, subst}
 use Rattle.rm_response.specs.Loads.{AreInTurn}
 use Rattle.rm_response.proofs.RelaxedLoads.{turn-found}
-use Rattle.rm_response.proofs.relaxed.+are_in_turn.Goals as goal
+use Rattle.rm_response.proofs.nodes.+are_in_turn.Goals as goal
 
 pub returns-then-are_in_turn : goal.returns-then-are_in_turn
 returns-then-are_in_turn t c = λ on.

@@ -1,0 +1,139 @@
+// The nodes of a search: relaxed loads for each of its depths, made ready before it begins.
+ghost use Rattle.std.specs.Prelude.{◌≡◌, ◌≤◌, ◌<◌, IsTrue, IfSome, length, All};
+ghost use Rattle.dvs_base.specs.declared.limits.TheConstants.{MOST_TASKS};
+ghost use Rattle.rm_response.specs.declared.relaxed.TheConstants.{MOST_HEAVY};
+ghost use Rattle.rm_response.specs.Supplies.{IsSupply};
+ghost use Rattle.rm_response.specs.Loads.{IsLoad, AreInTurn, AreLoads, HasRate};
+ghost use Rattle.rm_response.specs.Fits.{IsNode, AreNodes};
+
+use crate::loads::Load;
+use crate::relaxed::{MOST_HEAVY, Relaxed, relaxed_by};
+use crate::search::{Span, fitting};
+use crate::supply::Supply;
+use dvs_base::MOST_TASKS;
+
+// The most loads that are tried for one node.
+const MOST_TRIES: u32 = 12;
+
+// Whether loads can be taken away in turn.
+fn are_in_turn(supply: Supply, loads: &[Load]) -> bool
+    requires supply { IsSupply supply }
+    requires few { length loads.now ≤ MOST_TASKS }
+    requires each { All IsLoad loads.now }
+    requires rates { All (HasRate supply.hyper) loads.now }
+    ensures { IsTrue result → AreInTurn supply loads.now }
+{
+    let Some((load, others)) = loads.split_first() else {
+        return true;
+    };
+    let period = Span {
+        first: 1,
+        last: load.period,
+    };
+    are_in_turn(supply, others)
+        && fitting(supply, others, u128::from(load.worst), period, &[]).is_some()
+}
+
+// The place of the greatest worst case among the loads that are not marked, the first of equal ones.
+fn heaviest(loads: &[Load], marks: &[bool]) -> Option<usize>
+    requires { length loads.now ≤ length marks.now }
+    ensures { IfSome result (λ k. k < length loads.now) }
+{
+    let mut place = None;
+    let mut worst = 0;
+    for (k, load) in loads.iter().enumerate() {
+        if !marks[k] && load.worst > worst {
+            place = Some(k);
+            worst = load.worst;
+        }
+    }
+    place
+}
+
+// Marks of the loads of greatest worst case, `MOST_HEAVY` of them.
+fn marked(loads: &[Load]) -> [bool; MOST_TASKS]
+    requires { length loads.now ≤ MOST_TASKS }
+    ensures { length result ≡ MOST_TASKS }
+{
+    let mut marks = [false; MOST_TASKS];
+    for _ in 0..MOST_HEAVY {
+        if let Some(k) = heaviest(loads, &marks) {
+            marks[k] = true;
+        }
+    }
+    marks
+}
+
+// A node whose marked loads count with their jobs, unless these can't be taken away in turn.
+fn node_by(supply: Supply, loads: &[Load], marks: &[bool]) -> Option<Relaxed>
+    requires supply { IsSupply supply }
+    requires many { MOST_HEAVY < length loads.now }
+    requires marked { length loads.now ≤ length marks.now }
+    requires each { All IsLoad loads.now }
+    requires rates { All (HasRate supply.hyper) loads.now }
+    ensures { IfSome result (IsNode supply loads.now) }
+{
+    let node = relaxed_by(supply, loads, marks);
+    if node.supply.units == 0 || !are_in_turn(node.supply, node.heavy()) {
+        return None;
+    }
+    Some(node)
+}
+
+// A node whose loads are put in one by one, those of greatest worst case first. One with which they can't be taken away
+// in turn is left out.
+fn node_one_by_one(supply: Supply, loads: &[Load]) -> Relaxed
+    requires supply { IsSupply supply }
+    requires many { MOST_HEAVY < length loads.now }
+    requires few { length loads.now ≤ MOST_TASKS }
+    requires each { All IsLoad loads.now }
+    requires rates { All (HasRate supply.hyper) loads.now }
+    ensures { IsNode supply loads.now result }
+{
+    let mut node = Relaxed::default();
+    let mut tried = [false; MOST_TASKS];
+    let mut counted = [false; MOST_TASKS];
+    for _ in 0..MOST_TRIES {
+        let Some(k) = heaviest(loads, &tried) else {
+            return node;
+        };
+        tried[k] = true;
+        counted[k] = true;
+        match node_by(supply, loads, &counted) {
+            Some(next) => node = next,
+            None => counted[k] = false,
+        }
+        if node.count == MOST_HEAVY {
+            return node;
+        }
+    }
+    node
+}
+
+// The loads of greatest worst case count with their jobs, as far as they can be taken away in turn.
+fn node_of(supply: Supply, loads: &[Load]) -> Relaxed
+    requires supply { IsSupply supply }
+    requires many { MOST_HEAVY < length loads.now }
+    requires few { length loads.now ≤ MOST_TASKS }
+    requires each { All IsLoad loads.now }
+    requires rates { All (HasRate supply.hyper) loads.now }
+    ensures { IsNode supply loads.now result }
+{
+    match node_by(supply, loads, &marked(loads)) {
+        Some(node) => node,
+        None => node_one_by_one(supply, loads),
+    }
+}
+
+// The nodes for the loads from each place on. The last loads, `MOST_HEAVY` or fewer, have none.
+pub(crate) fn nodes_of(supply: Supply, loads: &[Load]) -> [Relaxed; MOST_TASKS]
+    requires supply { IsSupply supply }
+    requires loads { AreLoads supply loads.now }
+    ensures { AreNodes supply loads.now result }
+{
+    let mut nodes = [Relaxed::default(); MOST_TASKS];
+    for k in 0..loads.len().saturating_sub(MOST_HEAVY) {
+        nodes[k] = node_of(supply, &loads[k..]);
+    }
+    nodes
+}
