@@ -1,4 +1,5 @@
 // Hostile use: each load and each put fails in turn, and inputs are cut or too large.
+mod changing;
 mod cuts;
 mod example;
 mod large;

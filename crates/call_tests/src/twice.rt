@@ -1,6 +1,7 @@
 // Two calls over one shelf and one pair of sinks.
-ghost use Rattle.std.specs.Prelude.{◌≡◌, ◌≤◌, ◌+◌};
-ghost use Rattle.dvs_base.specs.Outside.{Rose};
+ghost use Rattle.std.specs.Prelude.{◌≡◌, ◌≤◌, ◌+◌, ◌⊎◌, Some};
+ghost use Rattle.dvs_base.specs.Outside.{Files, Rose};
+ghost use Rattle.command_files.specs.GivenFiles.{MayHold};
 ghost use Rattle.rtdvs_top.specs.Asked.{asked_for, command_asked, loads_asked};
 ghost use Rattle.rtdvs_top.specs.Promises.{Answers};
 
@@ -18,7 +19,7 @@ pub struct TwoCalls<'a> {
 
 /// Makes two calls, both without probes, and returns their statuses.
 ///
-/// Each is an answer over the files that the shelf is known to hold before the first call, however that call ended.
+/// Each is an answer over all files that the shelf may hold by what it gave in both calls, however the first ended.
 /// If the shelf guarantees the loads of both calls, none fails.
 pub fn twice<S: Shelf, W: Sink, E: Sink>(
     alloc: Global,
@@ -30,11 +31,18 @@ pub fn twice<S: Shelf, W: Sink, E: Sink>(
     // the known files stay
     ensures held { (S.shows shelf.new).held ≡ (S.shows shelf.old).held }
 
-    // which status each call has, and when
-    ensures first { Answers (asked_for words.now.first.now (S.shows shelf.old))
+    // Which status each call has, and when: over all files that the shelf may hold by what it gave in both calls; over
+    // any files if its own words name none.
+    ensures first { (files : Files)
+        → MayHold (S.shows shelf.old) (S.shows shelf.new) files
+        ⊎ (loads_asked (command_asked words.now.first.now) ≡ 0)
+        → Answers (asked_for words.now.first.now (Some files))
         (Rose (S.shows shelf.old).faults (S.shows shelf.new).faults)
         (Rose (W.shows out.old).faults (W.shows out.new).faults) result.0 }
-    ensures second { Answers (asked_for words.now.second.now (S.shows shelf.old))
+    ensures second { (files : Files)
+        → MayHold (S.shows shelf.old) (S.shows shelf.new) files
+        ⊎ (loads_asked (command_asked words.now.second.now) ≡ 0)
+        → Answers (asked_for words.now.second.now (Some files))
         (Rose (S.shows shelf.old).faults (S.shows shelf.new).faults)
         (Rose (W.shows out.old).faults (W.shows out.new).faults) result.1 }
 

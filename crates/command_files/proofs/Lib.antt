@@ -1,4 +1,6 @@
 pub mod FirstInOrder
+pub mod GivenLoads
+pub mod GivenAsFiles
 pub mod FileLoads
 pub mod RefusedSteps
 pub mod Overloads

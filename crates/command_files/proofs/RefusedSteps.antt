@@ -80,15 +80,15 @@ demand-counts demand_fault.NoMemory before now same = same
 demand-counts (demand_fault.OverWorst task job units worst) before now same = same
 demand-counts e before now same = same
 
-module _ {T A : Type 0} (kind : FileKind) (name : List ℕ) (means : Files → Result A Status) (old new : ShelfView) (see : T → A)
+module _ {T A : Type 0} (files : Option Files) (kind : FileKind) (name : List ℕ) (means : Files → Result A Status) (old new : ShelfView) (see : T → A)
     (loads : MakesLoads 1 old new) (still : new.faults ≡ old.faults) where
   -- the step that loads one file, reads it and refuses it
-  pub file-refused : (r : Result T Status) (own : Status) → IsErrAnd r (IsRefusedAs own) → Refuses old.held means own
-      → IsLoadStep (one_file kind name means) old new r see
+  pub file-refused : (r : Result T Status) (own : Status) → IsErrAnd r (IsRefusedAs own) → Refuses files means own
+      → IsLoadStep (one_file kind name means) old new r see files
   file-refused (Ok v) own h refuses = absurd h
   file-refused (Err (status.Text why)) own h refuses = record {
     read = tt;
-    refused = subst (Refuses old.held means) (sym h.is) refuses;
+    refused = subst (Refuses files means) (sym h.is) refuses;
     failed = tt;
     loads = loads;
     counts = still;
@@ -96,7 +96,7 @@ module _ {T A : Type 0} (kind : FileKind) (name : List ℕ) (means : Files → R
   }
   file-refused (Err status.NoMemory) own h refuses = record {
     read = tt;
-    refused = subst (Refuses old.held means) (sym h.is) refuses;
+    refused = subst (Refuses files means) (sym h.is) refuses;
     failed = tt;
     loads = loads;
     counts = still;
@@ -106,11 +106,11 @@ module _ {T A : Type 0} (kind : FileKind) (name : List ℕ) (means : Files → R
 
   -- the step that loads the demands, reads them and refuses them
   pub demand-file-refused : (r : Result T Status) (e : DemandFault) → IsErrAnd r (λ s. s ≡ demand_status e)
-      → Refuses old.held means (demand_status e) → IsShown (demand_status e) → IsLoadStep (one_file kind name means) old new r see
+      → Refuses files means (demand_status e) → IsShown (demand_status e) → IsLoadStep (one_file kind name means) old new r see files
   demand-file-refused (Ok v) e h refuses shown = absurd h
   demand-file-refused (Err s) e h refuses shown = record {
     read = tt;
-    refused = subst (Refuses old.held means) (sym h) refuses;
+    refused = subst (Refuses files means) (sym h) refuses;
     failed = subst (OfLoad (FailsFrom (one_file kind name means).passed old new 1 (one_file kind name means).files)) (sym h) (demand-unloaded e _);
     loads = loads;
     counts = subst (CountsLoads old.faults new.faults) (sym h) (demand-counts e old.faults new.faults still);

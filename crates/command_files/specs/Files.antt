@@ -9,6 +9,7 @@ use Rattle.statuses.specs.declared.status.Status.{Status}
 use Rattle.task_model.specs.declared.task.Task.{Task}
 use Rattle.task_model.specs.Tasks.{names_of}
 use Rattle.command_files.specs.Meanings.{tasks_at, machine_at, server_at}
+use Rattle.command_files.specs.GivenFiles.{GaveMore}
 
 -- at most `most` loads were made: the files stay, the count never falls, and stays if the shelf was sure of `most`
 pub record MakesLoads (most : ℕ) (old new : ShelfView) : Type 0 where
@@ -16,6 +17,7 @@ pub record MakesLoads (most : ℕ) (old new : ShelfView) : Type 0 where
   pub later : old.faults ≤ new.faults
   pub steady : most ≤ old.sure → new.faults ≡ old.faults
   pub surety : old.sure ≤ new.sure + most
+  pub gave : GaveMore most old new
 
 -- whether the loads of a command go on after a file: its tasks and its machine have to be read, and one of the tasks of
 -- `poll` has to have the server's name too
@@ -67,15 +69,6 @@ loads_needed files c = loads_while (passes files c) (files_of c)
 -- the number of files that a command loads
 abbrev pub loads_of : CommandView → ℕ
 loads_of c = length (files_of c)
-
--- the known files that an answer depends on: if no file is named, none is needed
-abbrev pub files_needed : Option Files → List NamedFile → Option Files
-files_needed held [] = Some []
-files_needed held (f ∷ fs) = held
-
--- the files that a command's answer depends on: those that the shelf is known to hold; `workload` needs none
-abbrev pub files_for : Option Files → CommandView → Option Files
-files_for held c = files_needed held (files_of c)
 
 -- The load of one of these files, which is of this kind, failed, and those before it are passed; the first of them is
 -- the `place`-th load. The files are known and lack its name, and the count of failed loads stayed; or the count rose,

@@ -1,4 +1,5 @@
 pub mod Meanings
+pub mod GivenFiles
 pub mod Files
 pub mod Loads
 pub mod Admissions

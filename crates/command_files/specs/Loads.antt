@@ -39,7 +39,7 @@ files_after c = but_tasks (tasks_name c) (files_of c)
 
 -- the loads of a command after its tasks, if its files may be known
 abbrev pub later_files : {A : Type 0} → Option Files → CommandView → (Files → Result A Status) → LoadOf A
-later_files held c means = record { files = files_after c; passed = passes held c; means = means }
+later_files files c means = record { files = files_after c; passed = passes files c; means = means }
 
 -- the number of loads of the tasks, if a file of them is named
 abbrev pub tasks_loads : Option (List ℕ) → ℕ
@@ -48,25 +48,25 @@ tasks_loads (Some name) = 1
 
 -- whether the loads of a command go on after these tasks
 abbrev pub passes_tasks : Option Files → CommandView → Option (List ℕ) → Bool
-passes_tasks held c None = true
-passes_tasks held c (Some name) = passes held c (named_file file.Tasks name)
+passes_tasks files c None = true
+passes_tasks files c (Some name) = passes files c (named_file file.Tasks name)
 
 -- the most loads that a command's answer needs after its tasks
 abbrev pub loads_after : Option Files → CommandView → ℕ
-loads_after held c =
-    if passes_tasks held c (tasks_name c) then loads_while (passes held c) (files_after c) else 0
+loads_after files c =
+    if passes_tasks files c (tasks_name c) then loads_while (passes files c) (files_after c) else 0
 
 -- a load that failed after the tasks of a command is of one of its later files, and those before it are passed
-abbrev pub LaterLoadFails : ShelfView → ShelfView → CommandView → Status → Type 0
-LaterLoadFails old new c s =
-    OfLoad (λ kind. IsTrue (passes_tasks old.held c (tasks_name c)) × FailsFrom (passes old.held c) old new 1 (files_after c) kind) s
+abbrev pub LaterLoadFails : Option Files → ShelfView → ShelfView → CommandView → Status → Type 0
+LaterLoadFails files old new c s =
+    OfLoad (λ kind. IsTrue (passes_tasks files c (tasks_name c)) × FailsFrom (passes files c) old new 1 (files_after c) kind) s
 
 -- What a step that loads files gives: the value that they mean, or a refusal. The value is seen through `see`.
-pub record IsLoadStep {T A : Type 0} (l : LoadOf A) (old new : ShelfView) (r : Result T Status) (see : T → A) : Type 0 where
-  -- a value is the one that the known files mean
-  pub read : IfOk r (λ v. Gives old.held l.means (see v))
-  -- a status is the refusal of the known files, unless the outside or memory explains it
-  pub refused : IfErr r (Refuses old.held l.means)
+pub record IsLoadStep {T A : Type 0} (l : LoadOf A) (old new : ShelfView) (r : Result T Status) (see : T → A) (files : Option Files) : Type 0 where
+  -- a value is the one that the files mean
+  pub read : IfOk r (λ v. Gives files l.means (see v))
+  -- a status is the refusal of the files, unless the outside or memory explains it
+  pub refused : IfErr r (Refuses files l.means)
   -- a load that failed is of one of the files, and those before it are passed
   pub failed : IfErr r (OfLoad (FailsFrom l.passed old new 1 l.files))
   -- no further loads were made

@@ -2,6 +2,7 @@
 ghost use Rattle.std.specs.Prelude.{◌≡◌, ◌<◌, ◌^◌, Some, map, option_map, IfOk, IfErr};
 ghost use Rattle.command_files.specs.Meanings.{longest, bytes_at, tasks_at, machine_at, demands_at};
 ghost use Rattle.command_files.specs.Files.{if_named};
+ghost use Rattle.command_files.specs.GivenFiles.{ForFiles};
 ghost use Rattle.command_files.specs.Loads.{IsLoadStep, one_file, each_of};
 ghost use Rattle.statuses.specs.Status.{IsOfFile};
 
@@ -35,8 +36,8 @@ pub fn load_file<S: Shelf>(
     name: &str,
     shelf: &mut S,
 ) -> Result<Vec<u8>, Status>
-    ensures step { IsLoadStep (one_file file name.now (bytes_at file name.now)) (S.shows shelf.old) (S.shows shelf.new)
-        result (λ v. v.items) }
+    ensures step { ForFiles (S.shows shelf.old) (S.shows shelf.new) (IsLoadStep (one_file file name.now (bytes_at file name.now))
+        (S.shows shelf.old) (S.shows shelf.new) result (λ v. v.items)) }
     ensures of_file { IfErr result IsOfFile }
 {
     let most = longest(file);
@@ -53,8 +54,8 @@ pub fn load_file<S: Shelf>(
 
 /// The tasks of a file. `Load` and `Text` as for its bytes; `Text` if it isn't a task file, with its first fault.
 pub fn load_tasks<S: Shelf>(alloc: Global, name: &str, shelf: &mut S) -> Result<TaskSet, Status>
-    ensures step { IsLoadStep (one_file FileKind.Tasks name.now (tasks_at name.now)) (S.shows shelf.old)
-        (S.shows shelf.new) result (λ v. v) }
+    ensures step { ForFiles (S.shows shelf.old) (S.shows shelf.new) (IsLoadStep (one_file FileKind.Tasks name.now
+        (tasks_at name.now)) (S.shows shelf.old) (S.shows shelf.new) result (λ v. v)) }
     ensures of_file { IfErr result IsOfFile }
 {
     let bytes = load_file(alloc, FileKind::Tasks, name, shelf)?;
@@ -63,8 +64,8 @@ pub fn load_tasks<S: Shelf>(alloc: Global, name: &str, shelf: &mut S) -> Result<
 
 /// The machine of a file. `Load` and `Text` as for its bytes; `Text` if it isn't a machine file, with its first fault.
 pub fn load_machine<S: Shelf>(alloc: Global, name: &str, shelf: &mut S) -> Result<Machine, Status>
-    ensures step { IsLoadStep (one_file FileKind.Machine name.now (machine_at name.now)) (S.shows shelf.old)
-        (S.shows shelf.new) result (λ v. v) }
+    ensures step { ForFiles (S.shows shelf.old) (S.shows shelf.new) (IsLoadStep (one_file FileKind.Machine name.now
+        (machine_at name.now)) (S.shows shelf.old) (S.shows shelf.new) result (λ v. v)) }
     ensures of_file { IfErr result IsOfFile }
 {
     let bytes = load_file(alloc, FileKind::Machine, name, shelf)?;
@@ -78,8 +79,8 @@ fn load_named_demands<S: Shelf>(
     tasks: &TaskSet,
     shelf: &mut S,
 ) -> Result<Demands, Status>
-    ensures step { IsLoadStep (one_file FileKind.Demands name.now (demands_at tasks.now (Some name.now)))
-        (S.shows shelf.old) (S.shows shelf.new) result (λ v. v) }
+    ensures step { ForFiles (S.shows shelf.old) (S.shows shelf.new) (IsLoadStep (one_file FileKind.Demands name.now
+        (demands_at tasks.now (Some name.now))) (S.shows shelf.old) (S.shows shelf.new) result (λ v. v)) }
     ensures worsts { IfOk result (λ d. d.worsts ≡ map (λ t. t.worst) tasks.now) }
 {
     let bytes = load_file(alloc, FileKind::Demands, name, shelf)?;
@@ -94,9 +95,10 @@ pub fn load_demands<S: Shelf>(
     tasks: &TaskSet,
     shelf: &mut S,
 ) -> Result<Demands, Status>
-    ensures step { IsLoadStep (each_of (if_named FileKind.Demands (option_map (λ s. s.now) name.entry))
+    ensures step { ForFiles (S.shows shelf.old) (S.shows shelf.new) (IsLoadStep
+        (each_of (if_named FileKind.Demands (option_map (λ s. s.now) name.entry))
         (demands_at tasks.now (option_map (λ s. s.now) name.entry)))
-        (S.shows shelf.old) (S.shows shelf.new) result (λ v. v) }
+        (S.shows shelf.old) (S.shows shelf.new) result (λ v. v)) }
     ensures worsts { IfOk result (λ d. d.worsts ≡ map (λ t. t.worst) tasks.now) }
 {
     match name {

@@ -2,6 +2,7 @@
 ghost use Rattle.std.specs.Prelude.{IfOk};
 ghost use Rattle.words.specs.Commands.{IsReady, run as run_of};
 ghost use Rattle.words.specs.Shown.{shown_run};
+ghost use Rattle.command_files.specs.GivenFiles.{ForFiles};
 ghost use Rattle.command_files.specs.Loads.{IsLoadStep, later_files};
 ghost use Rattle.command_files.specs.PlannedRuns.{prepared_of, run_with, IsReadyRun};
 
@@ -24,8 +25,9 @@ pub fn load_planned<S: Shelf>(
     shelf: &mut S,
 ) -> Result<(Admitted, Demands), Status>
     requires { IsReady (shown_run words.now) }
-    ensures step { IsLoadStep (later_files (S.shows shelf.old).held (run_of (shown_run words.now))
-        (prepared_of (shown_run words.now) tasks.now)) (S.shows shelf.old) (S.shows shelf.new) result (λ x. (x.0, x.1)) }
+    ensures step { ForFiles (S.shows shelf.old) (S.shows shelf.new) (λ files. IsLoadStep
+        (later_files files (run_of (shown_run words.now)) (prepared_of (shown_run words.now) tasks.now))
+        (S.shows shelf.old) (S.shows shelf.new) result (λ x. (x.0, x.1)) files) }
     ensures ready { IfOk result (λ x. IsReadyRun words.now.governor (run_with (shown_run words.now) x.0 x.1)) }
 {
     let machine = load_machine(alloc, words.machine, shelf)?;

@@ -29,11 +29,11 @@ room_of_a_failing_sink = refl
 
 -- a sink of these bytes, which guarantees `sure` more
 abbrev sink : List ℕ → ℕ → SinkView
-sink bytes sure = record { written = Some bytes; faults = 0; sure = sure }
+sink bytes sure = record { written = Some bytes; taken = bytes; faults = 0; sure = sure }
 
 -- a text of two bytes takes two of the bytes that were guaranteed
 two_bytes : Wrote (sink [] 7) (sink (1 ∷ 2 ∷ []) 5) (1 ∷ 2 ∷ [])
-two_bytes = record { bytes = refl; steady = refl; surety = omega arith }
+two_bytes = record { bytes = (refl, refl); steady = refl; surety = omega arith }
 
 -- it may not take three
 two_bytes_for_three : Wrote (sink [] 7) (sink (1 ∷ 2 ∷ []) 4) (1 ∷ 2 ∷ []) → ⊥

@@ -1,25 +1,32 @@
 -- Texts written one after another.
-use Rattle.std.proofs.Common.{ℕ, ◌+◌, List, [], ◌++◌, length, length-append, take, Option, Some, None, Result, Ok, Err, refl, sym, ◌∙◌, subst, arith, append-nil, true≢false}
+use Rattle.std.proofs.Common.{ℕ, ◌+◌, List, [], ◌++◌, length, length-append, take, Option, Some, None, Result, Ok, Err, refl, sym, ◌∙◌, subst, arith, append-nil, append_assoc, ap, true≢false}
 use Rattle.std.specs.Prelude.{IsErr}
 use Rattle.std.specs.Io.KnownBytes.{Appends}
 use Rattle.std.proofs.KnownBytes.{Appends-trans}
 use Rattle.std.proofs.lemmas.List.{take-append-le}
 use Rattle.std.proofs.Math.Seq.{take-append-add}
-use Rattle.dvs_base.specs.Outside.{SinkView, Rose}
+use Rattle.dvs_base.specs.Outside.{SinkView, Rose, Takes}
 use Rattle.dvs_base.specs.WritesText.{Wrote, WroteSome, WritesText}
 
 appends-none : (a : Option (List ℕ)) → Appends a a []
 appends-none None = tt
 appends-none (Some xs) = sym (append-nil xs)
 
+-- what a sink took of one text after another, it took of both together
+pub takes-then : (a b c : SinkView) (t u : List ℕ) → Takes a b t → Takes b c u → Takes a c (t ++ u)
+takes-then a b c t u w x = (
+  Appends-trans a.written b.written c.written t u w.0 x.0,
+  x.1 ∙ (ap (λ (bytes : List ℕ). bytes ++ u) w.1 ∙ append_assoc a.taken t u),
+)
+
 -- writing the empty text changes nothing
 pub wrote-none : (a : SinkView) → Wrote a a []
-wrote-none a = record { bytes = appends-none a.written; steady = refl; surety = omega arith }
+wrote-none a = record { bytes = (appends-none a.written, sym (append-nil a.taken)); steady = refl; surety = omega arith }
 
 -- if two texts were written whole, one after the other, both together were written whole
 pub wrote-then : (a b c : SinkView) (t u : List ℕ) → Wrote a b t → Wrote b c u → Wrote a c (t ++ u)
 wrote-then a b c t u w x = record {
-  bytes = Appends-trans a.written b.written c.written t u w.bytes x.bytes;
+  bytes = takes-then a b c t u w.bytes x.bytes;
   steady = x.steady ∙ w.steady;
   surety = omega (arith, length-append t u, w.surety, x.surety);
 }
@@ -30,7 +37,7 @@ wrote-then-some a b c t u w x = record {
   part = (
     length t + x.part.0,
     omega (arith, length-append t u, x.part.1),
-    rw (take-append-add t u x.part.0) (Appends-trans a.written b.written c.written t (take x.part.0 u) w.bytes x.part.2),
+    rw (take-append-add t u x.part.0) (takes-then a b c t (take x.part.0 u) w.bytes x.part.2),
   );
   rose = subst (λ (f : ℕ). Rose f c.faults) w.steady x.rose;
   later = omega (arith, w.steady, x.later);

@@ -1,5 +1,6 @@
 pub mod Widths
 pub mod Text
+pub mod Loaded
 pub mod Outside
 pub mod WritesText
 pub mod Memory

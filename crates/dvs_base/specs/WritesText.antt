@@ -1,17 +1,16 @@
 -- What writing a text does to a sink.
 use Rattle.std.specs.Prelude.{◌≡◌, ℕ, ◌+◌, ◌≤◌, List, length, ◌<◌, Result, Ok, Err}
-use Rattle.std.specs.Io.KnownBytes.{Appends}
-use Rattle.dvs_base.specs.Outside.{SinkView, Rose, AppendsPrefix}
+use Rattle.dvs_base.specs.Outside.{SinkView, Rose, Takes, TakesPrefix}
 
--- the whole text was written: the known bytes grow by it, no fault is counted, and `sure` falls by at most its length
+-- the whole text was written: the sink took it, no fault is counted, and `sure` falls by at most its length
 pub record Wrote (old new : SinkView) (text : List ℕ) : Type 0 where
-  pub bytes : Appends old.written new.written text
+  pub bytes : Takes old new text
   pub steady : new.faults ≡ old.faults
   pub surety : old.sure ≤ new.sure + length text
 
 -- a first part of the text was written: the count of faults rose, and the whole text was not guaranteed
 pub record WroteSome (old new : SinkView) (text : List ℕ) : Type 0 where
-  pub part : AppendsPrefix old.written new.written text
+  pub part : TakesPrefix old new text
   pub rose : Rose old.faults new.faults
   pub later : old.faults ≤ new.faults
   pub unsure : old.sure < length text

@@ -25,6 +25,7 @@ mod part;
 mod plan_word;
 mod put;
 mod settings;
+mod told;
 mod void;
 
 pub use fault_line::{settings_line, too_many_line};
@@ -50,4 +51,5 @@ pub use settings::{
     DocumentFault, MemberFault, member_at, number_at, number_or_zero, read_document, text_at,
     unknown_key,
 };
+pub use told::{Loaded, Taken};
 pub use void::VoidSink;

@@ -1,4 +1,3 @@
-mod KnownFiles
 mod TopCall
 mod Words
 pub mod EndedWords

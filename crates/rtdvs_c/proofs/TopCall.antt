@@ -12,6 +12,7 @@ use Rattle.probes.specs.Program.{program_probes}
 use Rattle.statuses.specs.declared.status.Status.{Status}
 use Rattle.statuses.specs.declared.status.Status.TheVariants as status
 use Rattle.statuses.specs.Status.{code_of, CountsPuts, IsShown, Leaves}
+use Rattle.rtdvs_c.specs.declared.files.CallShelf.{CallShelf}
 use Rattle.rtdvs_c.specs.declared.text.GrownText.{GrownText}
 use Rattle.std.specs.Prelude.{IfOk, IsOk}
 use Rattle.statuses.specs.StatusLines.{status_text}
@@ -24,12 +25,18 @@ use Rattle.rtdvs_top.specs.ToldRuns.{IfAsked, notes_under}
 use Rattle.rtdvs_top.specs.Response.{RespondsOrIsDenied}
 use Rattle.rtdvs_top.specs.Trace.{AcceptsScheduleTexts, IsDoneUnless}
 use Rattle.dvs_base.specs.declared.kind.Scheduler.TheVariants.{Rm}
-use Rattle.rtdvs_top.specs.Asked.{asked_of, with_files}
+use Rattle.rtdvs_top.specs.Asked.{with_files}
+use Rattle.rtdvs_top.specs.Promised.{Promised, outside_of}
 use Rattle.rtdvs_top.specs.Promises.{answer_of_command, Answers, Writes, IsDoneOrDenied, ProvesRun, AdmitsByTest, ProvesTests, ProvesPoll, ProvesLeast, TellsProbes}
 use Rattle.rtdvs_c.specs.declared.TheConstants.{NO_MEMORY}
-use Rattle.rtdvs_c.specs.Replies.{ReplyView, reply_from, status_of, text_of, told_by, probes_after}
+use Rattle.rtdvs_c.specs.Replies.{ReplyView, shown_shelf, reply_from, status_of, text_of, told_by, probes_after}
 use Rattle.rtdvs_c.specs.Proves.{holding, status_at, answered, IsAnsweredOrDenied, ProvesCommand, Proves, IsReply}
-use Rattle.rtdvs_c.proofs.KnownFiles.{Promised, of-known}
+
+-- what the top call promises over these files, if both texts were empty and no put failed
+abbrev pub PromisedWhole : Files → Result CommandView WordFault → CallShelf → CallShelf → List ℕ → List ℕ → List ProbeView → Status → Type 0
+PromisedWhole files asked old new text noted after s =
+    Promised asked (outside_of (shown_shelf old) (holding []) (holding []) program_probes)
+    (outside_of (shown_shelf new) (holding text) (holding noted) after) s (Some files)
 
 -- the answer that ends with this status and has this text
 abbrev answer_with : Status → List ℕ → Result (List ℕ) Status
@@ -66,7 +73,7 @@ pub record Left (s : Status) (text : List ℕ) : Type 0 where
 
 -- what was put whole
 put-whole : (text noted : List ℕ) → NotedAs (holding []) (holding noted) text → noted ≡ text
-put-whole text noted (inl whole) = whole.bytes
+put-whole text noted (inl whole) = whole.bytes.0
 put-whole text noted (inr some) = absurd (not-rose some.rose)
 
 -- replies with equal parts are equal
@@ -74,9 +81,8 @@ reply-with : (code code' : ℕ) (text text' notes notes' : List ℕ) → code �
     → (let a : ReplyView = record { code = code; text = text; notes = notes } in a) ≡ record { code = code'; text = text'; notes = notes' }
 reply-with code code' text text' notes notes' c t n = rw (c, t, n) refl
 
-module _ (files : Files) (c : CommandView) (s : Status) (text noted : List ℕ) (after : List ProbeView) (left : Left s text)
-    (p : Promised (with_files files c) (Rose 0 0) (record { old = holding []; new = holding text }) (record { old = holding []; new = holding noted })
-    program_probes after s) where
+module _ (files : Files) (c : CommandView) (s : Status) (text noted : List ℕ) (old new : CallShelf) (after : List ProbeView)
+    (left : Left s text) (p : PromisedWhole files (Ok c) old new text noted after s) where
   -- the command's answer is this status with this text
   answer-is : answer_of_command c files ≡ answer_with s text
   answer-is = go s p.answers p.done left.memory left.written
@@ -84,7 +90,7 @@ module _ (files : Files) (c : CommandView) (s : Status) (text noted : List ℕ) 
       go : (s : Status) → Answers (with_files files c) (Rose 0 0) (Rose 0 0) s
           → (s ≡ status.Done → Writes (with_files files c) (holding []) (holding text))
           → s ≢ status.NoMemory → s ≢ status.Write → answer_of_command c files ≡ answer_with s text
-      go status.Done a d memory written = let w = d refl in w.1 ∙ ap Ok (sym w.2.bytes)
+      go status.Done a d memory written = let w = d refl in w.1 ∙ ap Ok (sym w.2.bytes.0)
       go status.NoMemory a d memory written = absurd (memory refl)
       go status.Write a d memory written = absurd (written refl)
       go (status.Load kind) (inl a) d memory written = a
@@ -129,7 +135,7 @@ module _ (files : Files) (c : CommandView) (s : Status) (text noted : List ℕ) 
           → answer_of_command c files ≡ answer_with s text → status_at files c ≡ s → IsAnsweredOrDenied files c
       go (run r) h is st = λ tasks machine demands means few.
           elim (h tasks machine demands means few not-rose not-rose left.memory) [
-            | inl done ↦ inl (record { text = is ∙ (ap (λ t. answer_with t text) done.0 ∙ ap Ok done.1.text); run = done.1.run })
+            | inl done ↦ inl (record { text = is ∙ (ap (λ t. answer_with t text) done.0 ∙ ap Ok done.1.text.0); run = done.1.run })
             | inr denied ↦ inr (record { why = denied.0; denies = is ∙ ap (λ t. answer_with t text) denied.1; fails = denied.2 })
           ]
       go (response r) h is st = λ tasks machine means.
@@ -208,41 +214,33 @@ left-none s old new written empty leaves = ap (λ (t : GrownText). t.bytes.items
 
 -- what a text that is written shows
 abbrev pub grown : List ℕ → ℕ → SinkView
-grown bytes faults = record { written = Some bytes; faults = faults; sure = 0 }
+grown bytes faults = record { written = Some bytes; taken = bytes; faults = faults; sure = 0 }
 
--- the top call's promises over sinks that were empty, if no put failed
-pub from-empty : (files : Files) (asked : Result CommandView WordFault) (s : Status)
+-- the top call's promises over texts that were empty, if no put failed
+pub from-empty : (files : Files) (asked : Result CommandView WordFault) (s : Status) (old new : CallShelf)
     {began text began_notes noted : List ℕ} {m n i j : ℕ} {before after : List ProbeView}
     → began ≡ [] → m ≡ 0 → n ≡ 0 → began_notes ≡ [] → i ≡ 0 → j ≡ 0 → before ≡ program_probes
-    → Promised (asked_of (Some files) asked) (Rose 0 0) (record { old = grown began m; new = grown text n })
-    (record { old = grown began_notes i; new = grown noted j }) before after s
-    → Promised (asked_of (Some files) asked) (Rose 0 0) (record { old = holding []; new = holding text })
-    (record { old = holding []; new = holding noted }) program_probes after s
-from-empty files asked s b m n c i j e p = rw (b, m, n, c, i, j, e) at p
+    → Promised asked (outside_of (shown_shelf old) (grown began m) (grown began_notes i) before)
+    (outside_of (shown_shelf new) (grown text n) (grown noted j) after) s (Some files)
+    → PromisedWhole files asked old new text noted after s
+from-empty files asked s old new b m n c i j e p = rw (b, m, n, c, i, j, e) at p
 
 -- The reply of a call, and what it proves: of a command, and of words that are refused.
-replies-of : (files : Files) (asked : Result CommandView WordFault) (s : Status) (text noted : List ℕ) (after : List ProbeView) → Left s text
-    → Promised (asked_of (Some files) asked) (Rose 0 0) (record { old = holding []; new = holding text })
-    (record { old = holding []; new = holding noted }) program_probes after s
+replies-of : (files : Files) (asked : Result CommandView WordFault) (s : Status) (text noted : List ℕ) (old new : CallShelf)
+    (after : List ProbeView) → Left s text → PromisedWhole files asked old new text noted after s
     → record { code = code_of s; text = text; notes = noted } ≡ reply_from asked files
-replies-of files (Ok c) s text noted after left p =
-    sym (replies files c s text noted after left (of-known files (Rose 0 0) (record { old = holding []; new = holding text })
-    (record { old = holding []; new = holding noted }) program_probes after s c p))
-replies-of files (Err why) s text noted after left p =
+replies-of files (Ok c) s text noted old new after left p = sym (replies files c s text noted old new after left p)
+replies-of files (Err why) s text noted old new after left p =
     let refused : s ≡ status.Words why = p.answers in
     sym (reply-with (code_of (status.Words why)) (code_of s) [] text (status_text [] (status.Words why)) noted
     (ap code_of (sym refused)) (sym (subst (λ t. HasNoText t text) refused left.none))
     (ap (status_text []) (sym refused) ∙ sym (put-whole (status_text [] s) noted p.notes)))
 
-proves-of : (files : Files) (asked : Result CommandView WordFault) (s : Status) (text noted : List ℕ) (after : List ProbeView)
-    → IsShown s → Left s text
-    → Promised (asked_of (Some files) asked) (Rose 0 0) (record { old = holding []; new = holding text })
-    (record { old = holding []; new = holding noted }) program_probes after s
+proves-of : (files : Files) (asked : Result CommandView WordFault) (s : Status) (text noted : List ℕ) (old new : CallShelf)
+    (after : List ProbeView) → IsShown s → Left s text → PromisedWhole files asked old new text noted after s
     → Proves files (Some asked)
-proves-of files (Ok c) s text noted after shown left p =
-    proves-command files c s text noted after left (of-known files (Rose 0 0) (record { old = holding []; new = holding text })
-    (record { old = holding []; new = holding noted }) program_probes after s c p) shown
-proves-of files (Err why) s text noted after shown left p = tt
+proves-of files (Ok c) s text noted old new after shown left p = proves-command files c s text noted old new after left p shown
+proves-of files (Err why) s text noted old new after shown left p = tt
 
 -- no other status has the code of memory that ran out
 code-memory : (s : Status) → s ≢ status.NoMemory → code_of s ≢ NO_MEMORY
@@ -257,13 +255,11 @@ code-memory (status.OverWorst task job units worst) memory = λ e. absurd (cc)
 code-memory (status.Differs line wanted found) memory = λ e. absurd (cc)
 code-memory status.Write memory = λ e. absurd (cc)
 
-pub is-reply : (files : Files) (asked : Result CommandView WordFault) (s : Status) (text noted : List ℕ) (after : List ProbeView)
-    (r : ReplyView) → Left s text
-    → Promised (asked_of (Some files) asked) (Rose 0 0) (record { old = holding []; new = holding text })
-    (record { old = holding []; new = holding noted }) program_probes after s
+pub is-reply : (files : Files) (asked : Result CommandView WordFault) (s : Status) (text noted : List ℕ) (old new : CallShelf)
+    (after : List ProbeView) (r : ReplyView) → Left s text → PromisedWhole files asked old new text noted after s
     → IsShown s → r ≡ record { code = code_of s; text = text; notes = noted } → IsReply files (Some asked) r
-is-reply files asked s text noted after r left p shown is = record {
-  reply = is ∙ replies-of files asked s text noted after left p;
-  proves = proves-of files asked s text noted after shown left p;
+is-reply files asked s text noted old new after r left p shown is = record {
+  reply = is ∙ replies-of files asked s text noted old new after left p;
+  proves = proves-of files asked s text noted old new after shown left p;
   memory = λ e. code-memory s left.memory (sym (ap (λ (x : ReplyView). x.code) is) ∙ e);
 }

@@ -30,7 +30,7 @@ status_at files c = status_of (answer_of_command c files)
 
 -- a sink that holds these bytes
 abbrev pub holding : List ℕ → SinkView
-holding bytes = record { written = Some bytes; faults = 0; sure = 0 }
+holding bytes = record { written = Some bytes; taken = bytes; faults = 0; sure = 0 }
 
 -- a sink that holds the text of a command's answer
 abbrev pub answered : Files → CommandView → SinkView

@@ -1,6 +1,7 @@
 -- What a call replies, as a function of its words and its files.
-use Rattle.std.specs.Prelude.{ℕ, List, [], ◌∷◌, ◌++◌, codes, length, take, drop, nat_le, if◌then◌else◌, Option, Some, None, Result, Ok, Err}
-use Rattle.dvs_base.specs.Outside.{Files}
+use Rattle.std.specs.Prelude.{ℕ, ◌-◌, List, [], ◌∷◌, ◌++◌, codes, length, take, drop, nat_le, if◌then◌else◌, Option, Some, None, Result, Ok, Err}
+use Rattle.dvs_base.specs.Outside.{Files, ShelfView}
+use Rattle.dvs_base.specs.Widths.{u64_end}
 use Rattle.dvs_base.specs.Checks.{◌>>=◌}
 use Rattle.demand_list.specs.Demands.{DemandsView}
 use Rattle.sched_model.specs.Plan.{Plan}
@@ -21,6 +22,7 @@ use Rattle.rtdvs_top.specs.Promises.{answer_of_command}
 use Rattle.rtdvs_c.specs.declared.TheConstants.{NO_ROOM, NO_WORDS}
 use Rattle.rtdvs_c.specs.declared.Lengths.{Lengths}
 use Rattle.rtdvs_c.specs.declared.files.CallFiles.{CallFiles}
+use Rattle.rtdvs_c.specs.declared.files.CallShelf.{CallShelf}
 use Rattle.rtdvs_c.specs.declared.reply.Reply.{Reply}
 use Rattle.rtdvs_c.specs.WordList.{asked_by}
 
@@ -33,6 +35,10 @@ call_files tasks machine list =
 -- the files that a shelf of a call holds
 abbrev pub held_by : CallFiles → Files
 held_by s = call_files s.tasks.now s.machine.now s.list.now
+
+-- what a shelf of a call shows: its files are known, and no load of them fails
+abbrev pub shown_shelf : CallShelf → ShelfView
+shown_shelf s = record { held = Some (held_by s.files); gave = s.loaded.loads; faults = 0; sure = u64_end - 1 }
 
 -- the status of an answer
 abbrev pub status_of : Result (List ℕ) Status → Status

@@ -1,14 +1,13 @@
 // The files of a call.
-ghost use Rattle.std.specs.Prelude.{◌≡◌, ◌-◌, Some};
+ghost use Rattle.std.specs.Prelude.{◌≡◌};
 ghost use Rattle.std.specs.Option.{option_copied};
 ghost use Rattle.dvs_base.specs.Outside.{file_of};
-ghost use Rattle.dvs_base.specs.Widths.{u64_end};
-ghost use Rattle.rtdvs_c.specs.Replies.{held_by};
+ghost use Rattle.rtdvs_c.specs.Replies.{held_by, shown_shelf};
 
-use dvs_base::{LoadFault, Shelf};
+use dvs_base::{LoadFault, Loaded, Shelf};
 use std::alloc::Global;
 
-/// The three files of a call. No load of them fails, unless memory runs out.
+/// The three files of a call.
 #[derive(Clone, Copy)]
 pub(crate) struct CallFiles<'a> {
     pub(crate) tasks: &'a [u8],
@@ -30,15 +29,28 @@ impl<'a> CallFiles<'a> {
     }
 }
 
-impl<'a> Shelf for CallFiles<'a> {
-    ghost shows = { λ s. record { held = Some (held_by s); faults = 0; sure = u64_end - 1 } };
+/// The shelf of a call: its files, and the loads that gave bytes. No load fails, unless memory runs out.
+#[derive(Drop)]
+pub(crate) struct CallShelf<'a> {
+    pub(crate) files: CallFiles<'a>,
+    pub(crate) loaded: Loaded,
+}
+
+impl<'a> Shelf for CallShelf<'a> {
+    ghost shows = { shown_shelf };
 
     fn load(&mut self, alloc: Global, name: &str, room: u64) -> Result<Vec<u8>, LoadFault> {
-        let file = match self.named(name) {
+        let file = match self.files.named(name) {
             Some(file) => file,
             None => return Err(LoadFault::Absent),
         };
         let most = file.len().min(room as usize + 1);
-        Vec::from_slice(alloc, &file[..most]).map_err(|_| LoadFault::NoMemory)
+        match Vec::from_slice(alloc, &file[..most]) {
+            Ok(bytes) => {
+                self.loaded = self.loaded.and(name.as_bytes(), room, &bytes);
+                Ok(bytes)
+            }
+            Err(_) => Err(LoadFault::NoMemory),
+        }
     }
 }

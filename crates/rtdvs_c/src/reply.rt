@@ -8,9 +8,10 @@ ghost use Rattle.rtdvs_c.specs.WordList.{asked_by};
 ghost use Rattle.rtdvs_c.specs.Proves.{IsReply};
 
 use crate::NO_WORDS;
-use crate::files::CallFiles;
+use crate::files::{CallFiles, CallShelf};
 use crate::text::GrownText;
 use crate::word_list::{WordsFault, read_words};
+use dvs_base::Loaded;
 use probes::{Probe, ProgramProbes};
 use rtdvs_top::{Status, rtdvs};
 use std::alloc::{AllocError, Global};
@@ -56,7 +57,10 @@ fn reply_with(
     ensures { IfOk result (λ reply. IsReply (held_by files.entry) (Some (command_of (map string_bytes words.now)))
         (shown_reply reply)) }
 {
-    let mut shelf = files;
+    let mut shelf = CallShelf {
+        files,
+        loaded: Loaded::new(),
+    };
     let mut out = GrownText::new(alloc);
     let mut notes = GrownText::new(alloc);
     let status = rtdvs(alloc, words, &mut shelf, &mut out, &mut notes, probes);

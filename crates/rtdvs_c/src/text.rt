@@ -25,7 +25,7 @@ impl GrownText {
 }
 
 impl Sink for GrownText {
-    ghost shows = { λ s. record { written = Some s.bytes.items; faults = s.faults; sure = 0 } };
+    ghost shows = { λ s. record { written = Some s.bytes.items; taken = s.bytes.items; faults = s.faults; sure = 0 } };
 
     fn put(&mut self, bytes: &[u8]) -> Result<(), Failed> {
         match self.bytes.extend_from_slice(bytes) {

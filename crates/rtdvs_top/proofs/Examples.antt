@@ -22,7 +22,8 @@ use Rattle.words.specs.declared.command.TraceUse.{TraceUse}
 use Rattle.words.specs.declared.command.TraceUse.TheVariants.{Replay, Migrate}
 use Rattle.command_files.specs.Meanings.{tasks_at, machine_at}
 use Rattle.rtdvs_top.specs.Constrain.{deadlines_at, constrain_with, constrain_answer}
-use Rattle.command_files.specs.Files.{MakesLoads, files_for, loads_needed}
+use Rattle.command_files.specs.Files.{MakesLoads, loads_needed}
+use Rattle.command_files.specs.GivenFiles.{Holds, MayHold, AreShort, HaveDistinctNames}
 use Rattle.rtdvs_top.specs.Asked.{with_files}
 use Rattle.rtdvs_top.specs.Promises.{AdmitsOrDenies, IsDoneOrDenied, LoadFailed, MeansRun, PutsNotes}
 use Rattle.rtdvs_top.specs.Response.{FailsToRespond}
@@ -140,35 +141,35 @@ no_server files tasks = rw tasks refl
 least_alone : (files : Files) (why : Status) → machine_at (codes "m") files ≡ Err why → loads_needed (Some files) least_words ≡ 1
 least_alone files why machine = rw machine refl
 
--- `workload` loads nothing; if the files are not known, each file may be loaded
+-- `workload` loads nothing; over any files, each file may be loaded
 files_unknown : (loads_needed None (workload 1) ≡ 0) × (map (loads_needed None) with_tasks ≡ (3 ∷ 2 ∷ 2 ∷ 3 ∷ 3 ∷ 2 ∷ 3 ∷ 3 ∷ []))
 files_unknown = (refl, refl)
 
 -- a shelf whose files are not known, after `faults` failed loads, and sure of `sure` more
 abbrev shelf : ℕ → ℕ → ShelfView
-shelf faults sure = record { held = None; faults = faults; sure = sure }
+shelf faults sure = record { held = None; gave = []; faults = faults; sure = sure }
 
 -- the machine's load is the second: it may fail if the shelf was sure of one load
-second_load : LoadFailed (shelf 0 1) (shelf 1 0) (Ok admit_words) (Load Machine)
+second_load : LoadFailed None (shelf 0 1) (shelf 1 0) (Ok admit_words) (Load Machine)
 second_load = inr (refl, inl (refl, inr (omega arith, omega arith)))
 
 -- but not if it was sure of two, with any files
-sure_of_two : (held : Option Files) → LoadFailed (record { held = held; faults = 0; sure = 2 }) (shelf 1 1) (Ok admit_words) (Load Machine) → ⊥
-sure_of_two held (inl tasks) = absurd (let same = tasks.0 in cc)
-sure_of_two held (inr (passed, inl (same, inl lacks))) = omega (arith, lacks.1)
-sure_of_two held (inr (passed, inl (same, inr failed))) = omega (arith, failed.1)
-sure_of_two held (inr (passed, inr none)) = none.1
+sure_of_two : (files held : Option Files) → LoadFailed files (record { held = held; gave = []; faults = 0; sure = 2 }) (shelf 1 1) (Ok admit_words) (Load Machine) → ⊥
+sure_of_two files held (inl tasks) = absurd (let same = tasks.0 in cc)
+sure_of_two files held (inr (passed, inl (same, inl lacks))) = omega (arith, lacks.1)
+sure_of_two files held (inr (passed, inl (same, inr failed))) = omega (arith, failed.1)
+sure_of_two files held (inr (passed, inr none)) = none.1
 
 -- the demands' load is the third
-sure_of_three : LoadFailed (shelf 0 3) (shelf 1 2) (Ok (run_with (Some (codes "f")))) (Load Demands) → ⊥
+sure_of_three : LoadFailed None (shelf 0 3) (shelf 1 2) (Ok (run_with (Some (codes "f")))) (Load Demands) → ⊥
 sure_of_three (inl tasks) = absurd (let same = tasks.0 in cc)
 sure_of_three (inr (passed, inl machine)) = absurd (let same = machine.0 in cc)
 sure_of_three (inr (passed, inr (read, inl (same, inl lacks)))) = omega (arith, lacks.1)
 sure_of_three (inr (passed, inr (read, inl (same, inr failed)))) = omega (arith, failed.1)
 sure_of_three (inr (passed, inr (read, inr none))) = none.1
 
--- a load of the machine shows that the tasks were read, if the files are known
-read_first : (files : Files) (new : ShelfView) → LoadFailed (record { held = Some files; faults = 0; sure = 0 }) new (Ok admit_words) (Load Machine)
+-- a load of the machine shows that the tasks were read
+read_first : (files : Files) (new : ShelfView) → LoadFailed (Some files) (record { held = Some files; gave = []; faults = 0; sure = 0 }) new (Ok admit_words) (Load Machine)
     → IsTrue (is_ok (tasks_at (codes "t") files))
 read_first files new (inl tasks) = absurd (let same = tasks.0 in cc)
 read_first files new (inr later) = later.0
@@ -199,9 +200,32 @@ probes_left : (LeavesProbes {V = ℕ} false Done 1 2 → ⊥) × (LeavesProbes {
     × (LeavesProbes {V = ℕ} true (Limit 100001) 1 2 → ⊥)
 probes_left = (λ same. omega (arith, same), λ same. omega (arith, same), λ same. omega (arith, same))
 
--- the count of failed loads never falls, and a command without files depends on none
-counts_of_loads : (MakesLoads 1 (shelf 3 0) (shelf 2 0) → ⊥) × (files_for None (workload 1) ≡ Some [])
-counts_of_loads = (λ made. omega (arith, made.later), refl)
+-- the count of failed loads never falls
+counts_of_loads : MakesLoads 1 (shelf 3 0) (shelf 2 0) → ⊥
+counts_of_loads made = omega (arith, made.later)
+
+-- a shelf that is not known, after it gave the file of the name 1, whose one byte is 3
+abbrev gave_one : ShelfView
+gave_one = record { held = None; gave = (1 ∷ [], 9, 3 ∷ []) ∷ []; faults = 0; sure = 0 }
+
+-- it may hold that file, beside others; it can't hold another under this name, or none
+one_given : MayHold (shelf 0 0) gave_one ((2 ∷ [], 4 ∷ []) ∷ (1 ∷ [], 3 ∷ []) ∷ [])
+    × (MayHold (shelf 0 0) gave_one ((1 ∷ [], 4 ∷ []) ∷ []) → ⊥) × (MayHold (shelf 0 0) gave_one [] → ⊥)
+one_given = ((refl, tt), λ may. absurd (let same = may.0 in cc), λ may. absurd (let same = may.0 in cc))
+
+-- a shelf that is known may hold its own files and no others, also if it gave other bytes
+own_held : (files : Files) → MayHold (record { held = Some []; gave = []; faults = 0; sure = 0 }) gave_one files → files ≡ []
+own_held files may = may
+
+-- of a longer file the room and one byte more were given; no load gave more
+cut_file : Holds ((1 ∷ [], 3 ∷ 4 ∷ 5 ∷ []) ∷ []) (1 ∷ [], 1, 3 ∷ 4 ∷ [])
+    × (Holds ((1 ∷ [], 3 ∷ 4 ∷ 5 ∷ []) ∷ []) (1 ∷ [], 2, 3 ∷ 4 ∷ []) → ⊥)
+    × AreShort ((1 ∷ [], 1, 3 ∷ 4 ∷ []) ∷ []) × (AreShort ((1 ∷ [], 0, 3 ∷ 4 ∷ []) ∷ []) → ⊥)
+cut_file = (refl, λ same. absurd (cc), (omega arith, tt), λ short. omega (arith, short.0))
+
+-- two loads of one name don't have distinct names, also with another between them
+named_twice : HaveDistinctNames ((1 ∷ [], 9, []) ∷ (2 ∷ [], 9, []) ∷ (1 ∷ [], 8, 3 ∷ []) ∷ []) → ⊥
+named_twice distinct = distinct.0.1.0 refl
 
 -- a status doesn't show its cause by two equal numbers or notes, nor is the refusal of a file one that is a status of its own
 not_shown : (IsShown (NotAdmitted (denied.Edf 4 4)) → ⊥) × (IsShown (NotAdmitted (denied.Rm 0 4 4)) → ⊥) × (IsShown (NotAdmitted (Response 0 4 4)) → ⊥)

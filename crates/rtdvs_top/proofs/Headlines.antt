@@ -1,7 +1,6 @@
 -- The headline, from how an answer ends and what its run met.
 use Rattle.std.proofs.Common.{◌≡◌, inl, inr, ℕ, ◌≤◌, Bool, true, false, List, Option, Some, Result, Ok, Err, refl, sym, ◌∙◌, ap, subst, nat_lt, if◌then◌else◌}
-use Rattle.std.specs.Io.KnownBytes.{Appends}
-use Rattle.dvs_base.specs.Outside.{Files, SinkView, Rose}
+use Rattle.dvs_base.specs.Outside.{Files, SinkView, Rose, Takes}
 use Rattle.dvs_base.specs.Checks.{and_then}
 use Rattle.task_model.specs.declared.task.Task.{Task}
 use Rattle.freq_table.specs.Tables.{Table}
@@ -78,7 +77,7 @@ module _ (r : RunView) (files : Files) (tasks : List Task) (machine : Table) (de
       let Ready : Plan × DemandsView → Type 0 = λ x. IsReadyRun r.governor (run_with r x.0 x.1) in (
         prepared-is admitted,
         record {
-          text = subst (Appends old.written new.written) text ends.2.bytes;
+          text = subst (Takes old new) text ends.2.bytes;
           run = has-met r.version plan demands r.ticks r.governor (own Ready met.0 (met.2, met.3) met.1 met.4 admitted met.5);
         },
       )
@@ -98,7 +97,7 @@ module _ (r : RunView) (files : Files) (tasks : List Task) (machine : Table) (de
       go (inr denial) =
           inr (denial.0, is ∙ ap status_of (answer-is ∙ ap after denial.1), denied-plan plan denial.0 denial.1)
 
--- the run whose files are known, from how its answer ends and what it met
+-- the run over these files, from how its answer ends and what it met
 pub proves-run : (files : Option Files) (c : CommandView) (s : Status) (old new : SinkView)
     → EndsAs old new files (answer_of_command c) s → ProvesDone files c s → ProvesRun (asked_with files c) old new s
 proves-run (Some files) (run r) status.Done old new ends met =

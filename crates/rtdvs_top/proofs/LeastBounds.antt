@@ -1,8 +1,7 @@
--- What a `least` whose file is known has met, from how its answer ends.
+-- What a `least` over these files has met, from how its answer ends.
 use Rattle.std.proofs.Common.{◌≡◌, ◌*◌, ℕ, Bool, true, false, List, Option, Some, Result, Ok, Err, refl, sym, ◌∙◌, ap, subst, arith, nat_lt, if◌then◌else◌}
 use Rattle.std.proofs.lemmas.Bool.Decides.{nat_tests}
-use Rattle.std.specs.Io.KnownBytes.{Appends}
-use Rattle.dvs_base.specs.Outside.{Files, SinkView}
+use Rattle.dvs_base.specs.Outside.{Files, SinkView, Takes}
 use Rattle.dvs_base.specs.Checks.{and_then}
 use Rattle.freq_table.specs.Tables.{Table, highest_speed}
 use Rattle.std.specs.Prelude.{IfOk}
@@ -42,12 +41,12 @@ too-many l m why h = go (nat_lt (l.ticks * highest_speed m) l.units) refl h
     go true e h = record { numbers = cc; more = grind (arith, nat_tests) }
     go false e h = absurd (cc)
 
--- a `least` whose file is known, from how its answer ends and what it met
+-- a `least` over these files, from how its answer ends and what it met
 pub proves-least : (files : Option Files) (c : CommandView) (s : Status) (old new : SinkView)
     → EndsAs old new files (answer_of_command c) s → ProvesDone files c s → ProvesLeast (asked_with files c) old new s
 proves-least (Some files) (least l) status.Done old new ends met =
     let whole : ends.0 ≡ least_text met.1 = text-is l files met.0 met.1 ends.0 met.2 met.3.answer ends.1 in
-    (met.0, met.1, met.2, met.3, subst (Appends old.written new.written) whole ends.2.bytes)
+    (met.0, met.1, met.2, met.3, subst (Takes old new) whole ends.2.bytes)
 proves-least (Some files) (least l) (status.NotAdmitted why) old new ends met =
     let d = denied-later (machine_at l.machine files) (least_on l) why (machine_at-denies-not l.machine files) ends in
     (d.0, d.1, too-many l d.0 why d.2)

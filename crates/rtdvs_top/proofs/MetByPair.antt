@@ -7,11 +7,13 @@ use Rattle.words.specs.Commands.{CommandView, tasks_name, run}
 use Rattle.rtdvs_top.specs.Asked.{asked_with}
 use Rattle.rtdvs_top.specs.Promises.{LoadFailed, TellsProbes, answer_of_command}
 use Rattle.statuses.specs.Steps.{IsRefusal, Refuses}
-use Rattle.command_files.specs.Files.{files_for, MakesLoads, loads_needed}
+use Rattle.command_files.specs.Files.{MakesLoads, loads_needed}
+use Rattle.command_files.specs.GivenFiles.{ForFiles, Known}
+use Rattle.command_files.proofs.GivenLoads.{both-made, more-made, known-first, known-later}
 use Rattle.command_files.specs.Loads.{tasks_loads, loads_after}
 use Rattle.statuses.specs.Status.{CountsLoads, LeavesProbes}
-use Rattle.rtdvs_top.specs.Prepared.{Ends, EndsAs, PutEnds, HasTaskNames, HasAnswer, IsPutStep, IsPrepareStep, IsTasksStep, IsRefused, IsPrepared, CallView, views_of, IsAnswered, ProvesDone, answer_of}
-use Rattle.rtdvs_top.proofs.TasksFirst.{needed-loads, both-made, more-made, later-failed}
+use Rattle.rtdvs_top.specs.Prepared.{Ends, EndsAs, PutEnds, HasTaskNames, HasAnswer, IsPutStep, IsPrepareStep, IsTasksStep, IsRefused, IsPrepared, CallView, views_of, IsAnswered, ProvesDone, answer_of, ForFilesWith, AreTasksAt}
+use Rattle.rtdvs_top.proofs.TasksFirst.{needed-loads, later-failed}
 use Rattle.rtdvs_top.specs.declared.prepared.Prepared.{Prepared}
 use Rattle.statuses.specs.declared.status.Status.{Status}
 use Rattle.statuses.specs.declared.status.Status.TheVariants as status
@@ -73,12 +75,11 @@ refused-told (Some files) (run r) old new before after status.Write refusal = ab
 refused-told (Some files) c old new before after s refusal = tt
 
 -- what was refused before anything was put answers the command
-refused-answered : (old new : CallView) (c : CommandView) (tasks : Option (List Task)) (s : Status)
-    → IsRefused (files_for old.shelf.held c) c tasks s → LoadFailed old.shelf new.shelf (Ok c) s
-    → MakesLoads (loads_needed old.shelf.held c) old.shelf new.shelf → CountsLoads old.shelf.faults new.shelf.faults s
-    → IsAnswered c old new s tasks
-refused-answered old new c tasks s refused failed loads counts =
-    let files = files_for old.shelf.held c in
+refused-answered : (files : Option Files) (old new : CallView) (c : CommandView) (tasks : Option (List Task)) (s : Status)
+    → IsRefused files c tasks s → LoadFailed files old.shelf new.shelf (Ok c) s
+    → MakesLoads (loads_needed files c) old.shelf new.shelf → CountsLoads old.shelf.faults new.shelf.faults s
+    → IsAnswered c old new s tasks files
+refused-answered files old new c tasks s refused failed loads counts =
     let refusal = refusal-of files (answer_of_command c) s refused.ended in
     record {
       ended = refused-ends files old.out new.out (answer_of_command c) s refusal refused.ended;
@@ -93,50 +94,63 @@ refused-answered old new c tasks s refused failed loads counts =
     }
 
 -- so does a refusal of its tasks
-pub tasks-answered : (old new : CallView) (c : CommandView) (s : Status) → IsTasksStep old.shelf new.shelf c (Err s)
-    → IsAnswered c old new s None
-tasks-answered old new c s step =
-    let held = old.shelf.held in
-    let few : tasks_loads (tasks_name c) ≤ loads_needed held c = omega (arith, needed-loads held c) in
-    refused-answered old new c None s step.refused step.failed (more-made old.shelf new.shelf few step.loads) step.counts
+pub tasks-answered : (old new : CallView) (c : CommandView) (s : Status) → ForFiles old.shelf new.shelf (IsTasksStep old.shelf new.shelf c (Err s))
+    → ForFiles old.shelf new.shelf (IsAnswered c old new s None)
+tasks-answered old new c s step files known =
+    let first = step files known in
+    let few : tasks_loads (tasks_name c) ≤ loads_needed files c = omega (arith, needed-loads files c) in
+    refused-answered files old new c None s first.refused first.failed (more-made old.shelf new.shelf few first.loads) first.counts
 
 -- what is prepared for a command whose tasks were read
-module _ (c : CommandView) (old mid new : ShelfView) (tasks : Option (List Task)) (first : IsTasksStep old mid c (Ok tasks)) where
-  abbrev held-is : mid.held ≡ old.held
-  held-is = first.loads.held
+module _ (c : CommandView) (old mid new : ShelfView) (tasks : Option (List Task)) (first : ForFiles old mid (IsTasksStep old mid c (Ok tasks))) where
+  abbrev made : MakesLoads (tasks_loads (tasks_name c)) old mid
+  made = (first None tt).loads
 
-  all-loads : MakesLoads (loads_after mid.held c) mid new → MakesLoads (loads_needed old.held c) old new
-  all-loads made =
-      let later = subst (λ (held : Option Files). MakesLoads (loads_after held c) mid new) held-is made in
-      more-made old new (omega (arith, needed-loads old.held c)) (both-made old mid new first.loads later)
+  abbrev still : mid.faults ≡ old.faults
+  still = (first None tt).counts
+
+  all-loads : (files : Option Files) → MakesLoads (loads_after files c) mid new → MakesLoads (loads_needed files c) old new
+  all-loads files later = more-made old new (omega (arith, needed-loads files c)) (both-made old mid new made later)
+
+  -- what holds of what is prepared, over files that the shelf may hold
+  abbrev Prepares : Result Prepared Status → Type 0
+  Prepares r = ForFilesWith mid new (λ files. AreTasksAt files (tasks_name c) tasks) (IsPrepareStep mid new c tasks r)
+
+  step-of : (r : Result Prepared Status) → Prepares r → (files : Option Files) → Known files old new → IsPrepareStep mid new c tasks r files
+  step-of r steps files known =
+      let later = (steps None tt (first None tt).read).loads in
+      steps files (known-later _ _ old mid new made.held made.gave later.gave files known)
+      (first files (known-first _ _ old mid new made.held made.gave later.gave files known)).read
+
+  -- what is known of it without files
+  pub prepared-any : (p : Prepared) → Prepares (Ok p) → IsPrepared None c tasks p
+  prepared-any p steps = (steps None tt (first None tt).read).prepared
 
   -- it is refused
-  pub prepare-answered : (out_old out_new : SinkView) (before after : List ProbeView) (s : Status)
-      → IsPrepareStep mid new c tasks (Err s)
-      → IsAnswered c (views_of old out_old before) (views_of new out_new after) s tasks
-  prepare-answered out_old out_new before after s step =
-      refused-answered (views_of old out_old before) (views_of new out_new after) c tasks s
-      (subst (λ (held : Option Files). IsRefused (files_for held c) c tasks s) held-is step.refused)
-      (later-failed c old mid new s first.loads first.counts step.failed) (all-loads step.loads)
-      (subst (λ (n : ℕ). CountsLoads n new.faults s) first.counts step.counts)
+  pub prepare-answered : (out_old out_new : SinkView) (before after : List ProbeView) (s : Status) → Prepares (Err s)
+      → ForFiles old new (IsAnswered c (views_of old out_old before) (views_of new out_new after) s tasks)
+  prepare-answered out_old out_new before after s steps files known =
+      let step = step-of (Err s) steps files known in
+      refused-answered files (views_of old out_old before) (views_of new out_new after) c tasks s step.refused
+      (later-failed files c old mid new s made still step.failed) (all-loads files step.loads)
+      (subst (λ (n : ℕ). CountsLoads n new.faults s) still step.counts)
 
   -- it was put
   pub put-answered : {W V : Type 0} (out : W × W) (probes : V × V) (shows : W → SinkView) (counts : V → List ProbeView)
-      (p : Prepared) (s : Status) → IsPrepareStep mid new c tasks (Ok p) → IsPutStep out probes shows counts p s
-      → IsAnswered c (views_of old (shows out.0) (counts probes.0)) (views_of new (shows out.1) (counts probes.1)) s tasks
-  put-answered out probes shows counts p s step put =
-      let files = files_for old.held c in
-      let prepared : IsPrepared files c tasks p =
-      subst (λ (held : Option Files). IsPrepared (files_for held c) c tasks p) held-is step.prepared in
-      let steady : new.faults ≡ old.faults = step.counts ∙ first.counts in
+      (p : Prepared) (s : Status) → Prepares (Ok p) → IsPutStep out probes shows counts p s
+      → ForFiles old new (IsAnswered c (views_of old (shows out.0) (counts probes.0)) (views_of new (shows out.1) (counts probes.1)) s tasks)
+  put-answered out probes shows counts p s steps put files known =
+      let step = step-of (Ok p) steps files known in
+      let prepared : IsPrepared files c tasks p = step.prepared in
+      let steady : new.faults ≡ old.faults = step.counts ∙ still in
       let ends = put.ends in
       record {
         ended = put-ends files c (shows out.0) (shows out.1) (answer_of p) s prepared.answer put.ended;
         met = put-cases (answer_of p) s (ProvesDone files c) ends prepared.met tt tt (λ jobs. tt);
         tested = prepared.tested s ends;
         named = put-named files c tasks (answer_of p) s ends prepared.named;
-        failed = put-cases (answer_of p) s (LoadFailed old new (Ok c)) ends tt tt tt (λ jobs. tt);
-        loads = all-loads step.loads;
+        failed = put-cases (answer_of p) s (LoadFailed files old new (Ok c)) ends tt tt tt (λ jobs. tt);
+        loads = all-loads files step.loads;
         counts = put-cases (answer_of p) s (CountsLoads old.faults new.faults) ends steady steady steady (λ jobs. steady);
         told = prepared.told (shows out.0) (shows out.1) (counts probes.0) (counts probes.1) s put.told;
         shown = put.shown;

@@ -5,7 +5,9 @@ use Rattle.words.specs.declared.command.WordFault.{WordFault}
 use Rattle.words.specs.Commands.{CommandView, run, admit, traced, workload, response, constrain, poll, least}
 use Rattle.rtdvs_top.specs.Asked.{asked_with}
 use Rattle.rtdvs_top.specs.Promises.{answer_of_command, IsAnswer, Answers, Writes, WritesPart, IsSureOf, LoadFailed}
-use Rattle.command_files.specs.Files.{NamedFile, MakesLoads, loads_while, loads_needed, loads_of, files_of, files_needed, files_for, is_passed, passes, FailsFrom}
+use Rattle.command_files.specs.Files.{NamedFile, MakesLoads, loads_while, loads_needed, loads_of, files_of, is_passed, passes, FailsFrom}
+use Rattle.dvs_base.specs.Loaded.{Load}
+use Rattle.command_files.specs.GivenFiles.{MayBe, MayHold, Known, loads_since}
 use Rattle.statuses.specs.Status.{CountsPuts, Leaves}
 use Rattle.rtdvs_top.specs.Prepared.{EndsAs}
 use Rattle.statuses.specs.declared.status.FileKind.{FileKind}
@@ -31,42 +33,34 @@ stops files (constrain r) = search rules
 stops files (poll q) = search rules
 stops files (least l) = search rules
 
+-- a file that the shelf lacks is none of the files that it may hold
+lacking : (files : Files) (held : Option Files) (given : List Load) (name : List ℕ) → MayBe held given files → Lacks held name
+    → file_of files name ≡ None
+lacking files None given name may lacks = absurd lacks
+lacking files (Some known) given name may lacks = subst (λ (fs : Files). file_of fs name ≡ None) (sym may) lacks
+
 -- a load that failed is the answer, or the count of faults rose
 fails-answer : (files : Files) (c : CommandView) (old new : ShelfView) (answer : Result (List ℕ) Status) (kind : FileKind)
-    → old.held ≡ Some files → (place : ℕ) (fs : List NamedFile) → StopsAt files c fs answer
+    → MayHold old new files → (place : ℕ) (fs : List NamedFile) → StopsAt files c fs answer
     → FailsFrom (passes (Some files) c) old new place fs kind
     → (answer ≡ Err (status.Load kind)) ⊎ Rose old.faults new.faults
-fails-answer files c old new answer kind known place [] stop fails = absurd fails
-fails-answer files c old new answer kind known place (f ∷ fs) stop (inl (same, inl lacks)) =
-    inl (rw same (stop.0 (subst (λ (held : Option Files). Lacks held f.name) known lacks.0)))
-fails-answer files c old new answer kind known place (f ∷ fs) stop (inl (same, inr rose)) = inr rose.0
-fails-answer files c old new answer kind known place (f ∷ fs) stop (inr (read, later)) =
-    fails-answer files c old new answer kind known (place + 1) fs (stop.1 read) later
-
--- if a load of these files failed, those that are needed are the shelf's
-held-are : (files : Files) (passed : NamedFile → Bool) (old new : ShelfView) (kind : FileKind) (fs : List NamedFile)
-    → files_needed old.held fs ≡ Some files → FailsFrom passed old new 1 fs kind → old.held ≡ Some files
-held-are files passed old new kind [] known fails = absurd fails
-held-are files passed old new kind (f ∷ fs) known fails = known
-
-fails-in-answer : (files : Files) (c : CommandView) (old new : ShelfView) (kind : FileKind)
-    → files_for old.held c ≡ Some files → FailsFrom (passes (files_for old.held c) c) old new 1 (files_of c) kind
-    → (answer_of_command c files ≡ Err (status.Load kind)) ⊎ Rose old.faults new.faults
-fails-in-answer files c old new kind known fails =
-    fails-answer files c old new (answer_of_command c files) kind
-    (held-are files (passes (files_for old.held c) c) old new kind (files_of c) known fails) 1 (files_of c) (stops files c)
-    (subst (λ (held : Option Files). FailsFrom (passes held c) old new 1 (files_of c) kind) known fails)
+fails-answer files c old new answer kind may place [] stop fails = absurd fails
+fails-answer files c old new answer kind may place (f ∷ fs) stop (inl (same, inl lacks)) =
+    inl (rw same (stop.0 (lacking files old.held (loads_since old new) f.name may lacks.0)))
+fails-answer files c old new answer kind may place (f ∷ fs) stop (inl (same, inr rose)) = inr rose.0
+fails-answer files c old new answer kind may place (f ∷ fs) stop (inr (read, later)) =
+    fails-answer files c old new answer kind may (place + 1) fs (stop.1 read) later
 
 pub answers-of : (files : Option Files) (c : CommandView) (old new : ShelfView) (out_old out_new : SinkView) (s : Status)
-    → files_for old.held c ≡ files
-    → EndsAs out_old out_new files (answer_of_command c) s → LoadFailed old new (Ok c) s
+    → Known files old new
+    → EndsAs out_old out_new files (answer_of_command c) s → LoadFailed files old new (Ok c) s
     → Answers (asked_with files c) (Rose old.faults new.faults) (Rose out_old.faults out_new.faults) s
 answers-of None c old new out_old out_new s known ends failed = tt
 answers-of (Some files) c old new out_old out_new status.Done known ends failed = rw ends.1 refl
 answers-of (Some files) c old new out_old out_new status.Write known ends failed = (rw ends.1 refl, ends.2.rose)
 answers-of (Some files) c old new out_old out_new (status.Words why) known ends failed = absurd ends
 answers-of (Some files) c old new out_old out_new (status.Load kind) known ends failed =
-    fails-in-answer files c old new kind known failed
+    fails-answer files c old new (answer_of_command c files) kind known 1 (files_of c) (stops files c) failed
 answers-of (Some files) c old new out_old out_new status.NoMemory known ends failed = tt
 answers-of (Some files) c old new out_old out_new s known ends failed = ends
 

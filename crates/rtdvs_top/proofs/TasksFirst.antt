@@ -13,7 +13,8 @@ use Rattle.statuses.specs.Status.{IsOfFile, OfLoad}
 use Rattle.statuses.specs.Steps.{EndsWith, Refuses}
 use Rattle.statuses.specs.StatusLines.{status_text}
 use Rattle.command_files.specs.Meanings.{tasks_at}
-use Rattle.command_files.specs.Files.{NamedFile, named_file, files_of, files_needed, files_for, passes, FailsFrom, MakesLoads, loads_needed, loads_while, names_at, names_from}
+use Rattle.command_files.specs.Files.{NamedFile, named_file, files_of, passes, FailsFrom, MakesLoads, loads_needed, loads_while, names_at, names_from}
+use Rattle.command_files.proofs.GivenLoads.{gave-none}
 use Rattle.command_files.specs.Loads.{one_file, but_first, but_tasks, passes_tasks, tasks_loads, loads_after, IsLoadStep, LaterLoadFails}
 use Rattle.rtdvs_top.specs.Admit.{admit_after_tasks}
 use Rattle.rtdvs_top.specs.Run.{run_after_tasks}
@@ -23,7 +24,7 @@ use Rattle.rtdvs_top.specs.Constrain.{constrain_after_tasks}
 use Rattle.rtdvs_top.specs.Poll.{poll_after_tasks}
 use Rattle.rtdvs_top.specs.Asked.{Asked, asked_with, with_files}
 use Rattle.rtdvs_top.specs.Promises.{answer_of_command, LoadFailed, ProvesTests}
-use Rattle.rtdvs_top.specs.Prepared.{AreTasksAt, HasTaskNames, IsRefused, IsTasksStep}
+use Rattle.rtdvs_top.specs.Prepared.{AreTasksAt, HasTaskNames, IsTasksStep}
 
 -- a command that names a file of tasks loads it first, and its answer goes on with the tasks
 record LoadsTasks (c : CommandView) (name : List ℕ) : Type 0 where
@@ -56,7 +57,7 @@ ends-then step next (status.Load kind) h = tt
 ends-then step next s h = ap (λ r. and_then r next) h
 
 -- a status that is of a file says nothing of an exact test
-of-file-tested : (a : Asked) (s : Status) → IsOfFile s → ProvesTests a s
+pub of-file-tested : (a : Asked) (s : Status) → IsOfFile s → ProvesTests a s
 of-file-tested (with_files files (response r)) status.Done h = absurd h
 of-file-tested (with_files files (response r)) (status.NotAdmitted why) h = absurd h
 of-file-tested (with_files files (response r)) s h = tt
@@ -67,12 +68,9 @@ of-file-tested (with_files files (constrain r)) s h = tt
 of-file-tested a s h = tt
 
 -- the load of the tasks that a command names
-module _ (c : CommandView) (name : List ℕ) (named : Some name ≡ tasks_name c) (old new : ShelfView) where
+module _ (c : CommandView) (name : List ℕ) (named : Some name ≡ tasks_name c) (old new : ShelfView) (files : Option Files) where
   abbrev own : LoadsTasks c name
   own = subst (Starts c) (sym named) (starts c)
-
-  held-are : files_for old.held c ≡ old.held
-  held-are = ap (files_needed old.held) own.first
 
   refuses : (held : Option Files) (s : Status) → Refuses held (tasks_at name) s → Refuses held (answer_of_command c) s
   refuses None s h = h
@@ -92,12 +90,12 @@ module _ (c : CommandView) (name : List ℕ) (named : Some name ≡ tasks_name c
 
   -- a load that failed is of the command's first file
   first-failed : (s : Status) → OfLoad (FailsFrom (λ f. true) old new 1 (named_file file.Tasks name ∷ [])) s
-      → LoadFailed old new (Ok c) s
+      → LoadFailed files old new (Ok c) s
   first-failed (status.Load kind) h =
-      subst (λ (fs : List NamedFile). FailsFrom (passes (files_for old.held c) c) old new 1 fs kind) (sym own.first) (alone h)
+      subst (λ (fs : List NamedFile). FailsFrom (passes files c) old new 1 fs kind) (sym own.first) (alone h)
     where
       alone : FailsFrom (λ f. true) old new 1 (named_file file.Tasks name ∷ []) kind
-          → FailsFrom (passes (files_for old.held c) c) old new 1 (named_file file.Tasks name ∷ but_first (files_of c)) kind
+          → FailsFrom (passes files c) old new 1 (named_file file.Tasks name ∷ but_first (files_of c)) kind
       alone (inl x) = inl x
       alone (inr x) = absurd x.1
   first-failed s h = tt
@@ -106,10 +104,10 @@ module _ (c : CommandView) (name : List ℕ) (named : Some name ≡ tasks_name c
   own-loads made = subst (λ (o : Option (List ℕ)). MakesLoads (tasks_loads o) old new) named made
 
   -- the tasks were read
-  pub tasks-read : (tasks : List Task) → IsLoadStep {A = List Task} (one_file file.Tasks name (tasks_at name)) old new (Ok tasks) (λ v. v)
-      → IsTasksStep old new c (Ok (Some tasks))
+  pub tasks-read : (tasks : List Task) → IsLoadStep {A = List Task} (one_file file.Tasks name (tasks_at name)) old new (Ok tasks) (λ v. v) files
+      → IsTasksStep old new c (Ok (Some tasks)) files
   tasks-read tasks step = record {
-    read = subst (λ (o : Option (List ℕ)). AreTasksAt old.held o (Some tasks)) named step.read;
+    read = subst (λ (o : Option (List ℕ)). AreTasksAt files o (Some tasks)) named step.read;
     refused = tt;
     failed = tt;
     loads = own-loads step.loads;
@@ -117,22 +115,20 @@ module _ (c : CommandView) (name : List ℕ) (named : Some name ≡ tasks_name c
   }
 
   -- they were refused
-  pub tasks-refused : (s : Status) → IsLoadStep {A = List Task} (one_file file.Tasks name (tasks_at name)) old new (Err s) (λ (v : List Task). v)
-      → IsOfFile s → IsTasksStep old new c (Err s)
-  tasks-refused s step of_file =
-      let of_known = λ (held : Option Files). IsRefused held c None s in
-      record {
-        read = tt;
-        refused = subst of_known (sym held-are) (record {
-          ended = refuses old.held s step.refused;
-          tested = of-file-tested (asked_with old.held c) s of_file;
-          named = unnamed old.held s of_file step.refused;
-          shown = step.shown;
-        });
-        failed = first-failed s step.failed;
-        loads = own-loads step.loads;
-        counts = step.counts;
-      }
+  pub tasks-refused : (s : Status) → IsLoadStep {A = List Task} (one_file file.Tasks name (tasks_at name)) old new (Err s) (λ (v : List Task). v) files
+      → IsOfFile s → IsTasksStep old new c (Err s) files
+  tasks-refused s step of_file = record {
+    read = tt;
+    refused = record {
+      ended = refuses files s step.refused;
+      tested = of-file-tested (asked_with files c) s of_file;
+      named = unnamed files s of_file step.refused;
+      shown = step.shown;
+    };
+    failed = first-failed s step.failed;
+    loads = own-loads step.loads;
+    counts = step.counts;
+  }
 
 -- what holds of an error that is handed on
 pub at-error : {T : Type 0} (P : Result T Status → Type 0) (r : Result T Status) (s : Status) → IsErrAnd r (λ x. x ≡ s) → P (Err s)
@@ -140,14 +136,17 @@ pub at-error : {T : Type 0} (P : Result T Status → Type 0) (r : Result T Statu
 at-error P (Ok v) s is h = absurd is
 at-error {T} P (Err x) s is h = subst (λ (y : Status). P (Err y)) (sym is) h
 
+-- no load was made
+pub none-made : (shelf : ShelfView) → MakesLoads 0 shelf shelf
+none-made shelf = record { held = refl; later = omega arith; steady = λ sure. refl; surety = omega arith; gave = gave-none shelf }
+
 -- a command without a file of tasks loads none
-pub no-tasks : (c : CommandView) (shelf : ShelfView) → None ≡ tasks_name c → IsTasksStep shelf shelf c (Ok None)
-no-tasks c shelf none = record {
-  read = subst (λ (o : Option (List ℕ)). AreTasksAt shelf.held o None) none tt;
+pub no-tasks : (c : CommandView) (shelf : ShelfView) → None ≡ tasks_name c → (files : Option Files) → IsTasksStep shelf shelf c (Ok None) files
+no-tasks c shelf none files = record {
+  read = subst (λ (o : Option (List ℕ)). AreTasksAt files o None) none tt;
   refused = tt;
   failed = tt;
-  loads = subst (λ (o : Option (List ℕ)). MakesLoads (tasks_loads o) shelf shelf) none
-      (record { held = refl; later = omega arith; steady = λ sure. refl; surety = omega arith });
+  loads = subst (λ (o : Option (List ℕ)). MakesLoads (tasks_loads o) shelf shelf) none (none-made shelf);
   counts = refl;
 }
 
@@ -159,22 +158,6 @@ needed-loads held c = go (tasks_name c) (starts c)
         ≡ tasks_loads o + (if passes_tasks held c o then loads_while (passes held c) (but_tasks o (files_of c)) else 0)
     go None none = omega arith
     go (Some name) own = ap (loads_while (passes held c)) own.first
-
-pub both-made : {m n : ℕ} (old mid new : ShelfView) → MakesLoads m old mid → MakesLoads n mid new → MakesLoads (m + n) old new
-both-made old mid new first later = record {
-  held = later.held ∙ first.held;
-  later = omega (arith, first.later, later.later);
-  steady = λ sure. later.steady (omega (arith, sure, first.surety)) ∙ first.steady (omega (arith, sure));
-  surety = omega (arith, first.surety, later.surety);
-}
-
-pub more-made : {m n : ℕ} (old new : ShelfView) → m ≤ n → MakesLoads m old new → MakesLoads n old new
-more-made old new more made = record {
-  held = made.held;
-  later = made.later;
-  steady = λ sure. made.steady (omega (arith, sure, more));
-  surety = omega (arith, made.surety, more);
-}
 
 -- A load that failed, if `few` loads were made before it, failed in a later place.
 module _ (passed : NamedFile → Bool) (old mid new : ShelfView) (kind : FileKind) (few : ℕ) (made : MakesLoads few old mid)
@@ -190,28 +173,22 @@ module _ (passed : NamedFile → Bool) (old mid new : ShelfView) (kind : FileKin
       inr (read, fails-later (near + 1) (far + 1) fs (omega (arith, room)) later)
 
 -- a load that failed after the tasks of a command were read
-module _ (old mid new : ShelfView) (kind : FileKind) (still : mid.faults ≡ old.faults) where
-  -- the files that a command needs are the shelf's, if one of their loads failed
-  known : (c : CommandView) (fs : List NamedFile) → FailsFrom (passes old.held c) old new 1 fs kind
-      → FailsFrom (passes (files_needed old.held fs) c) old new 1 fs kind
-  known c [] fails = absurd fails
-  known c (f ∷ fs) fails = fails
+module _ (files : Option Files) (old mid new : ShelfView) (kind : FileKind) (still : mid.faults ≡ old.faults) where
+  abbrev Fails : CommandView → Option (List ℕ) → Type 0
+  Fails c o = IsTrue (passes_tasks files c o) × FailsFrom (passes files c) mid new 1 (but_tasks o (files_of c)) kind
 
-  abbrev Fails : CommandView → Option Files → Option (List ℕ) → Type 0
-  Fails c held o = IsTrue (passes_tasks held c o) × FailsFrom (passes held c) mid new 1 (but_tasks o (files_of c)) kind
-
-  load-failed : (c : CommandView) → MakesLoads (tasks_loads (tasks_name c)) old mid → LaterLoadFails mid new c (status.Load kind)
-      → LoadFailed old new (Ok c) (status.Load kind)
-  load-failed c made fails = known c (files_of c) (go (tasks_name c) (starts c) made (subst (λ held. Fails c held (tasks_name c)) made.held fails))
+  load-failed : (c : CommandView) → MakesLoads (tasks_loads (tasks_name c)) old mid → LaterLoadFails files mid new c (status.Load kind)
+      → LoadFailed files old new (Ok c) (status.Load kind)
+  load-failed c made fails = go (tasks_name c) (starts c) made fails
     where
-      go : (o : Option (List ℕ)) → Starts c o → MakesLoads (tasks_loads o) old mid → Fails c old.held o
-          → FailsFrom (passes old.held c) old new 1 (files_of c) kind
-      go None none made fails = fails-later (passes old.held c) old mid new kind 0 made still 1 1 (files_of c) (omega arith) fails.1
+      go : (o : Option (List ℕ)) → Starts c o → MakesLoads (tasks_loads o) old mid → Fails c o
+          → FailsFrom (passes files c) old new 1 (files_of c) kind
+      go None none made fails = fails-later (passes files c) old mid new kind 0 made still 1 1 (files_of c) (omega arith) fails.1
       go (Some name) own made fails =
-          subst (λ (fs : List NamedFile). FailsFrom (passes old.held c) old new 1 fs kind) (sym own.first)
-          (inr (fails.0, fails-later (passes old.held c) old mid new kind 1 made still 1 (1 + 1) _ (omega arith) fails.1))
+          subst (λ (fs : List NamedFile). FailsFrom (passes files c) old new 1 fs kind) (sym own.first)
+          (inr (fails.0, fails-later (passes files c) old mid new kind 1 made still 1 (1 + 1) _ (omega arith) fails.1))
 
-pub later-failed : (c : CommandView) (old mid new : ShelfView) (s : Status) → MakesLoads (tasks_loads (tasks_name c)) old mid
-    → mid.faults ≡ old.faults → LaterLoadFails mid new c s → LoadFailed old new (Ok c) s
-later-failed c old mid new (status.Load kind) made still fails = load-failed old mid new kind still c made fails
-later-failed c old mid new s made still fails = tt
+pub later-failed : (files : Option Files) (c : CommandView) (old mid new : ShelfView) (s : Status) → MakesLoads (tasks_loads (tasks_name c)) old mid
+    → mid.faults ≡ old.faults → LaterLoadFails files mid new c s → LoadFailed files old new (Ok c) s
+later-failed files c old mid new (status.Load kind) made still fails = load-failed files old mid new kind still c made fails
+later-failed files c old mid new s made still fails = tt

@@ -90,7 +90,7 @@ HoldsOfMeant files r tasks Holds =
     × (deadlines : List ℕ) × (deadlines_at tasks r.deadlines files ≡ Ok deadlines)
     × Holds (plan_of tasks machine Edf) (slice_index deadlines)
 
--- The test of `constrain`, if the files are known, without a premise. A test that is done, that denies the tasks or
+-- The test of `constrain` over these files, without a premise. A test that is done, that denies the tasks or
 -- that has too many jobs is of the tasks, the machine and the relative deadlines that its files mean.
 abbrev pub ProvesDeadlines : Files → ConstrainView → Status → Type 0
 ProvesDeadlines files r status.Done =

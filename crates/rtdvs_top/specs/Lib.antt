@@ -9,4 +9,5 @@ pub mod Trace
 pub mod Response
 pub mod Constrain
 pub mod Promises
+pub mod Promised
 pub mod Prepared

@@ -26,11 +26,12 @@ use Rattle.std.specs.List.{AllByRecursion}
 use Rattle.replay.specs.Replays.{NamesTask}
 use Rattle.rtdvs_top.specs.declared.prepared.ReadyRun.{ReadyRun}
 use Rattle.statuses.specs.Steps.{EndsWith, Gives, Refuses, CountsStep, IsTestStep}
-use Rattle.command_files.specs.Files.{files_for, names_by, loads_needed, MakesLoads}
+use Rattle.command_files.specs.Files.{names_by, loads_needed, MakesLoads}
+use Rattle.command_files.specs.GivenFiles.{Known}
 use Rattle.command_files.specs.Loads.{LaterLoadFails, loads_after, tasks_loads}
 use Rattle.statuses.specs.Status.{CountsLoads, Leaves, LeavesProbes, IsShown}
 use Rattle.statuses.specs.StatusLines.{status_text}
-use Rattle.rtdvs_top.specs.Asked.{asked_of, asked_with}
+use Rattle.rtdvs_top.specs.Asked.{asked_with}
 use Rattle.rtdvs_top.specs.ToldRuns.{IfAsked, TellsRun}
 use Rattle.rtdvs_top.specs.Run.{answer_of_plan}
 use Rattle.command_files.specs.PlannedRuns.{run_with, prepared_of, IsRunnable, IsReadyRun}
@@ -66,7 +67,7 @@ Ends old new answer status.Done = (text : List ℕ) × (answer ≡ Ok text) × W
 Ends old new answer status.Write = (text : List ℕ) × (answer ≡ Ok text) × WroteSome old new text
 Ends old new answer s = EndsWith answer s
 
--- how the writing of an answer ends, if the files are known, and if they aren't
+-- how the writing of an answer over these files, if any, ends
 abbrev pub EndsAs : SinkView → SinkView → Option Files → (Files → Result (List ℕ) Status) → Status → Type 0
 EndsAs old new files answer status.Done = (text : List ℕ) × Gives files answer text × Wrote old new text
 EndsAs old new files answer status.Write = (text : List ℕ) × Gives files answer text × WroteSome old new text
@@ -93,31 +94,31 @@ abbrev pub ProvesDone : Option Files → CommandView → Status → Type 0
 ProvesDone files c status.Done = IsKnownDone files c
 ProvesDone files c s = ⊤
 
--- If the files are known, the lines of a status have the names of the command's tasks. If a command that asks for
--- probes is done, these are the names that the probes' lines have.
+-- The lines of a status have the names that these files give the command's tasks. If a command that asks for probes is
+-- done, these are the names that the probes' lines have.
 abbrev pub HasTaskNames : Option Files → CommandView → Option (List Task) → Status → Type 0
 HasTaskNames None c tasks s = ⊤
 HasTaskNames (Some files) c tasks status.Done = IfAsked (asks_probes c) (names_of tasks ≡ names_by c files)
 HasTaskNames (Some files) c tasks s = status_text (names_of tasks) s ≡ status_text (names_by c files) s
 
 -- a command was answered with this status, and its tasks if they were read
-pub record IsAnswered (c : CommandView) (old new : CallView) (s : Status) (tasks : Option (List Task)) : Type 0 where
+pub record IsAnswered (c : CommandView) (old new : CallView) (s : Status) (tasks : Option (List Task)) (files : Option Files) : Type 0 where
   -- the answer's text was written, or a first part of it, or the status is the answer's refusal
-  pub ended : EndsAs old.out new.out (files_for old.shelf.held c) (answer_of_command c) s
+  pub ended : EndsAs old.out new.out files (answer_of_command c) s
   -- what is known of a run, a replay, a `poll` run or a `least` that is done
-  pub met : ProvesDone (files_for old.shelf.held c) c s
+  pub met : ProvesDone files c s
   -- what an exact test proves
-  pub tested : ProvesTests (asked_of old.shelf.held (Ok c)) s
+  pub tested : ProvesTests (asked_with files c) s
   -- the names in the lines are those of the command's tasks
-  pub named : HasTaskNames (files_for old.shelf.held c) c tasks s
+  pub named : HasTaskNames files c tasks s
   -- which load failed, and that the files before it were read
-  pub failed : LoadFailed old.shelf new.shelf (Ok c) s
+  pub failed : LoadFailed files old.shelf new.shelf (Ok c) s
   -- no more loads were made than the answer needs
-  pub loads : MakesLoads (loads_needed old.shelf.held c) old.shelf new.shelf
+  pub loads : MakesLoads (loads_needed files c) old.shelf new.shelf
   -- the shelf's count of failed loads shows in the status
   pub counts : CountsLoads old.shelf.faults new.shelf.faults s
   -- what the probes were told
-  pub told : TellsProbes (asked_of old.shelf.held (Ok c)) old.out new.out old.probes new.probes s
+  pub told : TellsProbes (asked_with files c) old.out new.out old.probes new.probes s
   -- what the status shows by itself
   pub shown : IsShown s
 
@@ -217,7 +218,7 @@ pub record IsPutStep {W V : Type 0} (out : W × W) (probes : V × V) (shows : W 
   -- what the status shows by itself
   pub shown : IsShown s
 
--- if the files are known, the command has this answer
+-- over these files, the command has this answer
 abbrev pub HasAnswer : Option Files → CommandView → Result (List ℕ) Status → Type 0
 HasAnswer None c answer = ⊤
 HasAnswer (Some files) c answer = answer_of_command c files ≡ answer
@@ -234,7 +235,7 @@ pub record IsPrepared (files : Option Files) (c : CommandView) (tasks : Option (
   pub told : (old new : SinkView) (before after : List ProbeView) (s : Status) → PutTells p old new before after s
       → TellsProbes (asked_with files c) old new before after s
 
--- these are the tasks of a named file, if a file is named; known files hold them
+-- these are the tasks of a named file, if a file is named; these files hold them
 abbrev pub AreTasksAt : Option Files → Option (List ℕ) → Option (List Task) → Type 0
 AreTasksAt files None None = ⊤
 AreTasksAt files (Some name) (Some tasks) = Gives files (tasks_at name) tasks
@@ -247,27 +248,31 @@ pub record IsRefused (files : Option Files) (c : CommandView) (tasks : Option (L
   pub named : HasTaskNames files c tasks s
   pub shown : IsShown s
 
+-- this holds of each files that the shelf may hold and that have this, and without files
+abbrev pub ForFilesWith : ShelfView → ShelfView → (Option Files → Type 0) → (Option Files → Type 0) → Type 0
+ForFilesWith old new Has Is = (files : Option Files) → Known files old new → Has files → Is files
+
 -- What the load of a command's tasks gives: the tasks, if the command names a file of them, or its refusal.
-pub record IsTasksStep (old new : ShelfView) (c : CommandView) (r : Result (Option (List Task)) Status) : Type 0 where
-  pub read : IfOk r (AreTasksAt old.held (tasks_name c))
-  pub refused : IfErr r (IsRefused (files_for old.held c) c None)
+pub record IsTasksStep (old new : ShelfView) (c : CommandView) (r : Result (Option (List Task)) Status) (files : Option Files) : Type 0 where
+  pub read : IfOk r (AreTasksAt files (tasks_name c))
+  pub refused : IfErr r (IsRefused files c None)
   -- a load that failed is of the command's first file
-  pub failed : IfErr r (LoadFailed old new (Ok c))
+  pub failed : IfErr r (LoadFailed files old new (Ok c))
   -- no other load was made
   pub loads : MakesLoads (tasks_loads (tasks_name c)) old new
   -- the count of failed loads changes only with the status `Load`
   pub counts : CountsStep old.faults new.faults r
 
 -- What a command prepares before anything is put, after its tasks were read.
-pub record IsPrepareStep (old new : ShelfView) (c : CommandView) (tasks : Option (List Task)) (r : Result Prepared Status) : Type 0 where
+pub record IsPrepareStep (old new : ShelfView) (c : CommandView) (tasks : Option (List Task)) (r : Result Prepared Status) (files : Option Files) : Type 0 where
   -- its put gives the command's answer
-  pub prepared : IfOk r (IsPrepared (files_for old.held c) c tasks)
+  pub prepared : IfOk r (IsPrepared files c tasks)
   -- or the answer is refused
-  pub refused : IfErr r (IsRefused (files_for old.held c) c tasks)
+  pub refused : IfErr r (IsRefused files c tasks)
   -- a load that failed is of a later file, and those before it are passed
-  pub failed : IfErr r (LaterLoadFails old new c)
+  pub failed : IfErr r (LaterLoadFails files old new c)
   -- no more loads were made than the answer needs
-  pub loads : MakesLoads (loads_after old.held c) old new
+  pub loads : MakesLoads (loads_after files c) old new
   -- the count of failed loads changes only with the status `Load`
   pub counts : CountsStep old.faults new.faults r
 

@@ -1,7 +1,7 @@
 -- What the top call promises, clause by clause.
-use Rattle.std.specs.Prelude.{Result, Ok, ◌≡◌, ⊤, Some, ℕ, List, [], Err, ◌⊎◌, IsOk, None, ◌≤◌, length, ◌*◌, ◌<◌, ◌≢◌}
+use Rattle.std.specs.Prelude.{Result, Ok, ◌≡◌, ⊤, Option, Some, ℕ, List, [], Err, ◌⊎◌, IsOk, None, ◌≤◌, length, ◌*◌, ◌<◌, ◌≢◌}
 use Rattle.dvs_base.specs.Checks.{◌>>=◌}
-use Rattle.dvs_base.specs.Outside.{Files, SinkView, ShelfView, Rose}
+use Rattle.dvs_base.specs.Outside.{Files, SinkView, ShelfView, Rose, Takes}
 use Rattle.sched_model.specs.Plan.{Plan, plan_of, period, hyper, top_speed}
 use Rattle.sched_model.specs.Admission.{PassesTest}
 use Rattle.words.specs.Commands.{RunView, AdmitView, TracedView, PollView, CommandView, run, admit, traced, poll, workload, response, constrain, least, asks_probes}
@@ -9,7 +9,6 @@ use Rattle.words.specs.declared.command.WordFault.{WordFault}
 use Rattle.statuses.specs.declared.status.Denied.{Denied}
 use Rattle.statuses.specs.declared.status.Status.{Status}
 use Rattle.statuses.specs.declared.status.Status.TheVariants as status
-use Rattle.std.specs.Io.KnownBytes.{Appends}
 use Rattle.dvs_base.specs.WritesText.{Wrote, WroteSome}
 use Rattle.dvs_base.specs.declared.kind.GovernorKind.{GovernorKind}
 use Rattle.dvs_base.specs.declared.kind.Version.{Version}
@@ -38,7 +37,7 @@ use Rattle.rtdvs_top.specs.Generated.{workload_answer}
 use Rattle.rtdvs_top.specs.Response.{response_answer, MeansPlan, RespondsOrIsDenied, ProvesResponses}
 use Rattle.rtdvs_top.specs.Constrain.{constrain_answer, ProvesDeadlines}
 use Rattle.rtdvs_top.specs.Least.{least_answer, least_text, IsLeastOn, AreTooMany}
-use Rattle.command_files.specs.Files.{files_for, files_of, passes, FailsFrom, names_by}
+use Rattle.command_files.specs.Files.{files_of, passes, FailsFrom, names_by}
 use Rattle.statuses.specs.Status.{OfLoad}
 use Rattle.statuses.specs.StatusLines.{status_text}
 use Rattle.statuses.specs.Noted.{NotedAs, noted_text}
@@ -102,8 +101,7 @@ AdmitsOrDenies plan status.Write = Passes plan
 AdmitsOrDenies plan (status.NotAdmitted why) = (p : Plan) × (plan ≡ Ok p) × IsDeniedBy p why
 AdmitsOrDenies plan s = ⊤
 
--- What the answer of `run`, `admit`, `replay`, `migrate` or `poll` shows of its scheduler's test, if its files are
--- known.
+-- what the answer of `run`, `admit`, `replay`, `migrate` or `poll` over these files shows of its scheduler's test
 abbrev pub AdmitsByTest : Asked → Status → Type 0
 AdmitsByTest (with_files files (run r)) s = AdmitsOrDenies (run_plan r files) s
 AdmitsByTest (with_files files (admit a)) s = AdmitsOrDenies (admit_plan a files) s
@@ -131,35 +129,35 @@ IsAnswer loads_rose puts_rose answer status.Done = IsOk answer
 IsAnswer loads_rose puts_rose answer status.Write = IsOk answer × puts_rose
 IsAnswer loads_rose puts_rose answer s = answer ≡ Err s
 
--- if the files are known, the status is that of the command's answer, unless the outside or memory explains it
+-- the status is that of the command's answer over these files, unless the outside or memory explains it
 abbrev pub Answers : Asked → Type 0 → Type 0 → Status → Type 0
 Answers (without_files c) loads_rose puts_rose s = ⊤
 Answers (refused_words why) loads_rose puts_rose s = s ≡ status.Words why
 Answers (with_files files c) loads_rose puts_rose s = IsAnswer loads_rose puts_rose (answer_of_command c files) s
 
--- if the files are known, the answer's text was written whole; if they are not known, some text was
+-- the text of the answer over these files was written whole; over any files, some text was
 abbrev pub Writes : Asked → SinkView → SinkView → Type 0
 Writes (with_files files c) old new = (text : List ℕ) × (answer_of_command c files ≡ Ok text) × Wrote old new text
 Writes (without_files c) old new = (text : List ℕ) × Wrote old new text
 Writes (refused_words why) old new = ⊤
 
--- if the files are known, a first part of the answer's text was written; if they are not known, one of some text
+-- a first part of the text of the answer over these files was written; over any files, one of some text
 abbrev pub WritesPart : Asked → SinkView → SinkView → Type 0
 WritesPart (with_files files c) old new =
     (text : List ℕ) × (answer_of_command c files ≡ Ok text) × WroteSome old new text
 WritesPart (without_files c) old new = (text : List ℕ) × WroteSome old new text
 WritesPart (refused_words why) old new = ⊤
 
--- the files are known, and the sink is sure of the whole answer
+-- the sink is sure of the whole answer over these files
 abbrev pub IsSureOf : Asked → SinkView → Type 0
 IsSureOf (with_files files c) sink = (text : List ℕ) → answer_of_command c files ≡ Ok text → length text ≤ sink.sure
 IsSureOf a sink = ⊥
 
--- A load that failed is of one of the command's files, by its place among them. If the files are known, those before
+-- A load that failed is of one of the command's files, by its place among them. If these are its files, those before
 -- it were read; the machine of `poll` is loaded only after its server was found.
-abbrev pub LoadFailed : ShelfView → ShelfView → Result CommandView WordFault → Status → Type 0
-LoadFailed old new (Ok c) s = OfLoad (FailsFrom (passes (files_for old.held c) c) old new 1 (files_of c)) s
-LoadFailed old new (Err why) s = ⊤
+abbrev pub LoadFailed : Option Files → ShelfView → ShelfView → Result CommandView WordFault → Status → Type 0
+LoadFailed files old new (Ok c) s = OfLoad (FailsFrom (passes files c) old new 1 (files_of c)) s
+LoadFailed files old new (Err why) s = ⊤
 
 -- the files of a run mean these tasks, this machine and these demands
 pub record MeansRun (r : RunView) (files : Files) (tasks : List Task) (machine : Table) (demands : DemandsView) : Type 0 where
@@ -169,10 +167,10 @@ pub record MeansRun (r : RunView) (files : Files) (tasks : List Task) (machine :
 
 -- what holds of a run that is done: its text was written, and it has met all that an admitted plan meets
 pub record IsDoneRun (v : Version) (kind : GovernorKind) (r : Run) (old new : SinkView) : Type 0 where
-  pub text : Appends old.written new.written (text_under v kind r)
+  pub text : Takes old new (text_under v kind r)
   pub run : HasMet v kind r
 
--- The run, if its files are known, without a premise. A run that is done, or that is denied, is of the tasks, the
+-- The run over these files, without a premise. A run that is done, or that is denied, is of the tasks, the
 -- machine and the demands that its files mean.
 abbrev pub ProvesRun : Asked → SinkView → SinkView → Status → Type 0
 ProvesRun (with_files files (run r)) old new status.Done =
@@ -190,9 +188,9 @@ ProvesTests (with_files files (response r)) s = ProvesResponses files r s
 ProvesTests (with_files files (constrain r)) s = ProvesDeadlines files r s
 ProvesTests a s = ⊤
 
--- A `poll` run that is done, if its files are known, has served its requests in the one schedule of its server's
--- plan: each exactly if its job is done, a later one never by an earlier job, and each by the deadline that its
--- backlog bounds, if that lies within the run.
+-- A `poll` run over these files that is done has served its requests in the one schedule of its server's plan: each
+-- exactly if its job is done, a later one never by an earlier job, and each by the deadline that its backlog bounds, if
+-- that lies within the run.
 abbrev pub ProvesPoll : Asked → Status → Type 0
 ProvesPoll (with_files files (poll q)) status.Done =
     (tasks : List Task) × (s : ServerView) × (tasks_at q.tasks files ≡ Ok tasks) × (polling_of q tasks files ≡ Ok s)
@@ -205,7 +203,7 @@ RunsOrIsDenied v kind r old new s =
     ((s ≡ status.Done) × IsDoneRun v kind r old new)
     ⊎ ((why : Denied) × (s ≡ status.NotAdmitted why) × IsDeniedBy r.plan why)
 
--- The headline. The files of a run are known and describe these tasks, this machine and these demands; the run releases
+-- The headline. These files of a run describe these tasks, this machine and these demands; the run releases
 -- no more jobs than the limit; no load and no put failed, and memory didn't run out. Then the plan of these tasks, this
 -- machine and the words' scheduler runs with these demands, or it is denied. Under the same premises the exact test
 -- under RM is done if all tasks of its files have responses, and otherwise it denies them.
@@ -221,13 +219,13 @@ IsDoneOrDenied (with_files files (response r)) loads_rose old new s =
     → RespondsOrIsDenied (plan_of tasks machine Rm) s
 IsDoneOrDenied a loads_rose old new s = ⊤
 
--- The answer of `least`, if its file is known, without a premise. One that is done has written the lines of the
+-- The answer of `least` over these files, without a premise. One that is done has written the lines of the
 -- answer for the machine that its file means, which passes the check and is the minimum; one that is denied asks for
 -- more units than that machine does in the ticks.
 abbrev pub ProvesLeast : Asked → SinkView → SinkView → Status → Type 0
 ProvesLeast (with_files files (least l)) old new status.Done =
     (m : Table) × (a : Least) × (machine_at l.machine files ≡ Ok m) × IsLeastOn m l a
-    × Appends old.written new.written (least_text a)
+    × Takes old new (least_text a)
 ProvesLeast (with_files files (least l)) old new (status.NotAdmitted why) =
     (m : Table) × (machine_at l.machine files ≡ Ok m) × AreTooMany m l why
 ProvesLeast a old new s = ⊤

@@ -44,7 +44,7 @@ pub record MeansPlan (r : ResponseView) (files : Files) (tasks : List Task) (mac
   pub tasks_are : tasks_at r.tasks files ≡ Ok tasks
   pub machine_is : machine_at r.machine files ≡ Ok machine
 
--- The exact test under RM, if its files are known, without a premise. A test that is done, or that denies the tasks,
+-- The exact test under RM over these files, without a premise. A test that is done, or that denies the tasks,
 -- is of the tasks and the machine that its files mean.
 abbrev pub ProvesResponses : Files → ResponseView → Status → Type 0
 ProvesResponses files r status.Done =

@@ -74,7 +74,7 @@ IsDoneUnless loads_rose puts_rose status.Write = puts_rose
 IsDoneUnless loads_rose puts_rose status.NoMemory = ⊤
 IsDoneUnless loads_rose puts_rose s = ⊥
 
--- A replay or a migration is done, if the files are known, exactly if the trace file is the text, in either
+-- A replay or a migration over these files is done exactly if the trace file is the text, in either
 -- version, of a schedule for some demand list: one that is done shows the list, which the text fixes, and each such
 -- file is done, unless a load, a put or memory failed.
 abbrev pub AcceptsScheduleTexts : Asked → Type 0 → Type 0 → Status → Type 0

@@ -5,7 +5,7 @@ ghost use Rattle.std.specs.Prelude.{Some, ◌≡◌, ◌<◌, length};
 ghost use Rattle.words.specs.Commands.{admit as admit_of};
 ghost use Rattle.words.specs.Shown.{shown_admit};
 ghost use Rattle.rtdvs_top.specs.Admit.{admitted_text};
-ghost use Rattle.rtdvs_top.specs.Prepared.{IsPrepareStep};
+ghost use Rattle.rtdvs_top.specs.Prepared.{IsPrepareStep, ForFilesWith};
 
 use crate::Status;
 use crate::prepared::Prepared;
@@ -24,9 +24,9 @@ pub(crate) fn prepare_admit<'a, S: Shelf>(
     tasks: &'a TaskSet,
     shelf: &mut S,
 ) -> Result<Prepared<'a>, Status>
-    requires { Gives (S.shows shelf.old).held (tasks_at words.now.tasks.now) tasks.now }
-    ensures { IsPrepareStep (S.shows shelf.old) (S.shows shelf.new) (admit_of (shown_admit words.now)) (Some tasks.now)
-        result }
+    ensures { ForFilesWith (S.shows shelf.old) (S.shows shelf.new)
+        (λ files. Gives files (tasks_at words.now.tasks.now) tasks.now)
+        (IsPrepareStep (S.shows shelf.old) (S.shows shelf.new) (admit_of (shown_admit words.now)) (Some tasks.now) result) }
 {
     let machine = load_machine(alloc, words.machine, shelf)?;
     let plan = admit(alloc, words.scheduler, tasks, &machine)?;

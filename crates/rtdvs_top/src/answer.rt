@@ -1,4 +1,5 @@
 // The answer to a command: its tasks are read, it prepares the rest, and that is put.
+ghost use Rattle.command_files.specs.GivenFiles.{ForFiles};
 ghost use Rattle.std.specs.Prelude.{◌≡◌, map};
 ghost use Rattle.words.specs.Commands.{IsReadyCommand, asks_probes};
 ghost use Rattle.words.specs.Shown.{shown_command};
@@ -21,7 +22,8 @@ fn load_its_tasks<S: Shelf>(
     command: &Command<'_>,
     shelf: &mut S,
 ) -> Result<Option<TaskSet>, Status>
-    ensures { IsTasksStep (S.shows shelf.old) (S.shows shelf.new) (shown_command command.now) result }
+    ensures { ForFiles (S.shows shelf.old) (S.shows shelf.new)
+        (IsTasksStep (S.shows shelf.old) (S.shows shelf.new) (shown_command command.now) result) }
 {
     match command.tasks() {
         Some(name) => Ok(Some(load_tasks(alloc, name, shelf)?)),
@@ -48,9 +50,9 @@ pub(crate) fn answer_command<S: Shelf, W: Sink, P: Probe>(
     probes: &mut Vec<P>,
 ) -> (Status, Option<TaskSet>)
     requires { IsReadyCommand (shown_command command.now) }
-    ensures answered { IsAnswered (shown_command command.now)
+    ensures answered { ForFiles (S.shows shelf.old) (S.shows shelf.new) (IsAnswered (shown_command command.now)
         (views_of (S.shows shelf.old) (W.shows out.old) (map P.seen probes.old.items))
-        (views_of (S.shows shelf.new) (W.shows out.new) (map P.seen probes.new.items)) result.0 result.1 }
+        (views_of (S.shows shelf.new) (W.shows out.new) (map P.seen probes.new.items)) result.0 result.1) }
     ensures leaves { Leaves result.0 out.old out.new }
     ensures kept { LeavesProbes (asks_probes (shown_command command.now)) result.0 probes.old probes.new }
 {

@@ -1,4 +1,5 @@
 // The answer of `constrain`, the test of deadlines below the periods.
+ghost use Rattle.command_files.specs.GivenFiles.{ForFiles};
 ghost use Rattle.statuses.specs.Steps.{Gives, IsTestStep};
 ghost use Rattle.command_files.specs.Meanings.{tasks_at};
 ghost use Rattle.std.specs.Prelude.{Some, ◌≡◌, ◌<◌, length, slice_index, IfOk, OnOk, IfErr};
@@ -10,7 +11,7 @@ ghost use Rattle.words.specs.Commands.{constrain as constrain_of};
 ghost use Rattle.words.specs.Shown.{shown_constrain};
 ghost use Rattle.statuses.specs.Status.{IsOfFile};
 ghost use Rattle.rtdvs_top.specs.Constrain.{deadlines_at, constrained_text, constrain_with, KeepsDeadlines};
-ghost use Rattle.rtdvs_top.specs.Prepared.{RefusesBy, IsPrepareStep};
+ghost use Rattle.rtdvs_top.specs.Prepared.{RefusesBy, IsPrepareStep, ForFilesWith};
 
 use crate::prepared::Prepared;
 use crate::{Denied, FileKind, Status};
@@ -29,8 +30,9 @@ fn load_deadlines<S: Shelf>(
     tasks: &TaskSet,
     shelf: &mut S,
 ) -> Result<Deadlines, Status>
-    ensures step { IsLoadStep (one_file FileKind.Deadlines name.now (deadlines_at tasks.now name.now))
-        (S.shows shelf.old) (S.shows shelf.new) result (λ v. v) }
+    ensures step { ForFiles (S.shows shelf.old) (S.shows shelf.new) (IsLoadStep (one_file FileKind.Deadlines name.now
+        (deadlines_at tasks.now name.now))
+        (S.shows shelf.old) (S.shows shelf.new) result (λ v. v)) }
     ensures each { IfOk result (AreFor tasks.now) }
     ensures of_file { IfErr result IsOfFile }
 {
@@ -89,9 +91,9 @@ pub(crate) fn prepare_constrain<'a, S: Shelf>(
     tasks: &'a TaskSet,
     shelf: &mut S,
 ) -> Result<Prepared<'a>, Status>
-    requires { Gives (S.shows shelf.old).held (tasks_at words.now.tasks.now) tasks.now }
-    ensures { IsPrepareStep (S.shows shelf.old) (S.shows shelf.new) (constrain_of (shown_constrain words.now))
-        (Some tasks.now) result }
+    ensures { ForFilesWith (S.shows shelf.old) (S.shows shelf.new)
+        (λ files. Gives files (tasks_at words.now.tasks.now) tasks.now)
+        (IsPrepareStep (S.shows shelf.old) (S.shows shelf.new) (constrain_of (shown_constrain words.now)) (Some tasks.now) result) }
 {
     let machine = load_machine(alloc, words.machine, shelf)?;
     let deadlines = load_deadlines(alloc, words.deadlines, tasks, shelf)?;

@@ -1,4 +1,5 @@
 // The answer of `least`.
+ghost use Rattle.command_files.specs.GivenFiles.{ForFiles};
 ghost use Rattle.std.specs.Prelude.{◌≡◌, ◌<◌, ◌≤◌, length, IfOk, None};
 ghost use Rattle.dvs_base.specs.WritesText.{WritesText};
 ghost use Rattle.words.specs.Commands.{HasReadyTicks, least as least_of};
@@ -90,7 +91,8 @@ pub(crate) fn prepare_least<'a, S: Shelf>(
     shelf: &mut S,
 ) -> Result<Prepared<'a>, Status>
     requires { HasReadyTicks (shown_least words.now) }
-    ensures { IsPrepareStep (S.shows shelf.old) (S.shows shelf.new) (least_of (shown_least words.now)) None result }
+    ensures { ForFiles (S.shows shelf.old) (S.shows shelf.new)
+        (IsPrepareStep (S.shows shelf.old) (S.shows shelf.new) (least_of (shown_least words.now)) None result) }
 {
     let machine = load_machine(alloc, words.machine, shelf)?;
     let least = bound_energy(words, &machine)?;

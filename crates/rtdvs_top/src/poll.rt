@@ -1,4 +1,5 @@
 // The server of a `poll` run: its files loaded, its run, and its lines.
+ghost use Rattle.command_files.specs.GivenFiles.{ForFiles};
 ghost use Rattle.statuses.specs.Steps.{Gives, IsTestStep};
 ghost use Rattle.command_files.specs.Meanings.{tasks_at, server_at};
 ghost use Rattle.std.specs.Prelude.{Some, ◌≡◌, ◌<◌, ◌≤◌, ◌+◌, ◌*◌, ◌++◌, [], codes, Ok, IfOk, length, if◌then◌else◌};
@@ -11,7 +12,7 @@ ghost use Rattle.words.specs.Commands.{poll as poll_of, IsReadyCommand};
 ghost use Rattle.words.specs.Shown.{shown_poll};
 ghost use Rattle.command_files.specs.Loads.{IsLoadStep, one_file, later_files};
 ghost use Rattle.rtdvs_top.specs.Poll.{requests_at, polling_at, poll_status, outcome_text, request_lines, is_served, served_among, polled_line, polled_text};
-ghost use Rattle.rtdvs_top.specs.Prepared.{IsPollable, IsServed, IsPrepareStep};
+ghost use Rattle.rtdvs_top.specs.Prepared.{IsPollable, IsServed, IsPrepareStep, ForFilesWith};
 
 use crate::at_pair::at_pair;
 use crate::prepared::{Polling, Prepared};
@@ -42,8 +43,8 @@ fn find_server(name: &str, tasks: &TaskSet) -> Result<u32, Status>
 
 // The requests of a file.
 fn load_requests<S: Shelf>(alloc: Global, name: &str, shelf: &mut S) -> Result<Requests, Status>
-    ensures { IsLoadStep (one_file FileKind.Requests name.now (requests_at name.now))
-        (S.shows shelf.old) (S.shows shelf.new) result (λ v. v) }
+    ensures { ForFiles (S.shows shelf.old) (S.shows shelf.new) (IsLoadStep (one_file FileKind.Requests name.now
+        (requests_at name.now)) (S.shows shelf.old) (S.shows shelf.new) result (λ v. v)) }
 {
     let bytes = load_file(alloc, FileKind::Requests, name, shelf)?;
     Ok(Requests::read(alloc, &bytes)?)
@@ -58,8 +59,9 @@ fn load_polling<S: Shelf>(
     shelf: &mut S,
 ) -> Result<Polling, Status>
     requires { server_at words.now.server.now tasks.now ≡ Ok server }
-    ensures step { IsLoadStep (later_files (S.shows shelf.old).held (poll_of (shown_poll words.now))
-        (polling_at (shown_poll words.now) server tasks.now)) (S.shows shelf.old) (S.shows shelf.new) result (λ s. s) }
+    ensures step { ForFiles (S.shows shelf.old) (S.shows shelf.new) (λ files. IsLoadStep
+        (later_files files (poll_of (shown_poll words.now)) (polling_at (shown_poll words.now) server tasks.now))
+        (S.shows shelf.old) (S.shows shelf.new) result (λ s. s) files) }
     ensures server { IfOk result (λ s. s.task < count s.plan) }
     ensures scheduler { IfOk result (λ s. s.plan.scheduler ≡ words.now.scheduler) }
 {
@@ -230,9 +232,9 @@ pub(crate) fn prepare_poll<'a, S: Shelf>(
     shelf: &mut S,
 ) -> Result<Prepared<'a>, Status>
     requires ready { IsReadyCommand (poll_of (shown_poll words.now)) }
-    requires tasks { Gives (S.shows shelf.old).held (tasks_at words.now.tasks.now) tasks.now }
-    ensures { IsPrepareStep (S.shows shelf.old) (S.shows shelf.new) (poll_of (shown_poll words.now)) (Some tasks.now)
-        result }
+    ensures { ForFilesWith (S.shows shelf.old) (S.shows shelf.new)
+        (λ files. Gives files (tasks_at words.now.tasks.now) tasks.now)
+        (IsPrepareStep (S.shows shelf.old) (S.shows shelf.new) (poll_of (shown_poll words.now)) (Some tasks.now) result) }
 {
     let server = find_server(words.server, tasks)?;
     let polling = load_polling(alloc, words, server, tasks, shelf)?;

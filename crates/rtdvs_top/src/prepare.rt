@@ -1,8 +1,9 @@
 // What a command prepares: its files loaded and read, its tests made.
 ghost use Rattle.std.specs.Option.{option_copied};
+ghost use Rattle.std.specs.Prelude.{None};
 ghost use Rattle.words.specs.Commands.{IsReadyCommand, tasks_name};
 ghost use Rattle.words.specs.Shown.{shown_command};
-ghost use Rattle.rtdvs_top.specs.Prepared.{AreTasksAt, IsPrepareStep};
+ghost use Rattle.rtdvs_top.specs.Prepared.{AreTasksAt, IsPrepareStep, ForFilesWith};
 
 use crate::Status;
 use crate::admit::prepare_admit;
@@ -27,10 +28,11 @@ pub(crate) fn prepare<'a, S: Shelf>(
     shelf: &mut S,
 ) -> Result<Prepared<'a>, Status>
     requires ready { IsReadyCommand (shown_command command.now) }
-    requires tasks { AreTasksAt (S.shows shelf.old).held (tasks_name (shown_command command.now))
-        (option_copied tasks) }
-    ensures { IsPrepareStep (S.shows shelf.old) (S.shows shelf.new) (shown_command command.now)
-        (option_copied tasks.entry) result }
+    requires tasks { AreTasksAt None (tasks_name (shown_command command.now)) (option_copied tasks) }
+    ensures { ForFilesWith (S.shows shelf.old) (S.shows shelf.new)
+        (λ files. AreTasksAt files (tasks_name (shown_command command.now)) (option_copied tasks.entry))
+        (IsPrepareStep (S.shows shelf.old) (S.shows shelf.new) (shown_command command.now)
+        (option_copied tasks.entry) result) }
 {
     match (command.words(), tasks) {
         (CommandWords::Run(words), Some(tasks)) => prepare_run(alloc, &words, tasks, shelf),

@@ -8,7 +8,7 @@ ghost use Rattle.sched_model.specs.Plan.{plan_of};
 ghost use Rattle.words.specs.Commands.{response as response_of};
 ghost use Rattle.words.specs.Shown.{shown_response};
 ghost use Rattle.statuses.specs.declared.status.Denied.{Denied};
-ghost use Rattle.rtdvs_top.specs.Prepared.{IsPrepareStep};
+ghost use Rattle.rtdvs_top.specs.Prepared.{IsPrepareStep, ForFilesWith};
 ghost use Rattle.rtdvs_top.specs.Response.{responses_on, response_text, responses_text, Responds, FailsToRespond};
 
 use crate::prepared::Prepared;
@@ -77,9 +77,9 @@ pub(crate) fn prepare_response<'a, S: Shelf>(
     tasks: &'a TaskSet,
     shelf: &mut S,
 ) -> Result<Prepared<'a>, Status>
-    requires { Gives (S.shows shelf.old).held (tasks_at words.now.tasks.now) tasks.now }
-    ensures { IsPrepareStep (S.shows shelf.old) (S.shows shelf.new) (response_of (shown_response words.now))
-        (Some tasks.now) result }
+    ensures { ForFilesWith (S.shows shelf.old) (S.shows shelf.new)
+        (λ files. Gives files (tasks_at words.now.tasks.now) tasks.now)
+        (IsPrepareStep (S.shows shelf.old) (S.shows shelf.new) (response_of (shown_response words.now)) (Some tasks.now) result) }
 {
     let machine = load_machine(alloc, words.machine, shelf)?;
     let response = respond(alloc, tasks, &machine)?;

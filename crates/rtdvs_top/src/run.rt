@@ -5,7 +5,7 @@ ghost use Rattle.command_files.specs.Meanings.{tasks_at};
 ghost use Rattle.dvs_base.specs.PlanWords.{IsPair};
 ghost use Rattle.words.specs.Commands.{IsReady, run as run_of};
 ghost use Rattle.words.specs.Shown.{shown_run};
-ghost use Rattle.rtdvs_top.specs.Prepared.{IsPrepareStep, IsPutStep, ready_run, status_of_put, status_of_writing};
+ghost use Rattle.rtdvs_top.specs.Prepared.{IsPrepareStep, ForFilesWith, IsPutStep, ready_run, status_of_put, status_of_writing};
 ghost use Rattle.command_files.specs.PlannedRuns.{IsRunnable};
 ghost use Rattle.rtdvs_top.specs.declared.prepared.Prepared.TheVariants as prepared;
 
@@ -29,9 +29,9 @@ pub(crate) fn prepare_run<'a, S: Shelf>(
     shelf: &mut S,
 ) -> Result<Prepared<'a>, Status>
     requires ready { IsReady (shown_run words.now) }
-    requires tasks { Gives (S.shows shelf.old).held (tasks_at words.now.tasks.now) tasks.now }
-    ensures { IsPrepareStep (S.shows shelf.old) (S.shows shelf.new) (run_of (shown_run words.now)) (Some tasks.now)
-        result }
+    ensures { ForFilesWith (S.shows shelf.old) (S.shows shelf.new)
+        (λ files. Gives files (tasks_at words.now.tasks.now) tasks.now)
+        (IsPrepareStep (S.shows shelf.old) (S.shows shelf.new) (run_of (shown_run words.now)) (Some tasks.now) result) }
 {
     let (plan, demands) = load_planned(alloc, words, tasks, shelf)?;
     Ok(Prepared::Trace(ReadyRun {

@@ -1,11 +1,10 @@
 // The top call.
-ghost use Rattle.std.specs.Prelude.{◌≡◌, ◌≤◌, ◌↔◌, map};
-ghost use Rattle.dvs_base.specs.Outside.{Rose};
-ghost use Rattle.rtdvs_top.specs.Asked.{asked_for, command_asked, loads_asked, loads_wanted, probes_asked};
-ghost use Rattle.rtdvs_top.specs.Promises.{Answers, Writes, WritesPart, IsSureOf, LoadFailed, ProvesRun, ProvesTests, ProvesPoll, IsDoneOrDenied, ProvesLeast, PutsNotes, TellsProbes, AdmitsByTest};
-ghost use Rattle.command_files.specs.Files.{MakesLoads};
+ghost use Rattle.std.specs.Prelude.{◌≡◌, ◌≤◌, ◌↔◌, Some, None, map};
+ghost use Rattle.dvs_base.specs.Outside.{Files, Rose};
+ghost use Rattle.command_files.specs.GivenFiles.{HaveDistinctNames, MayHold, loads_since};
+ghost use Rattle.rtdvs_top.specs.Asked.{command_asked, loads_asked, probes_asked};
+ghost use Rattle.rtdvs_top.specs.Promised.{Promised, outside_of};
 ghost use Rattle.statuses.specs.Status.{CountsLoads, CountsPuts, IsShown, Leaves, LeavesProbes};
-ghost use Rattle.rtdvs_top.specs.Trace.{AcceptsScheduleTexts};
 ghost use Rattle.words.specs.declared.command.WordFault.{WordFault};
 
 use crate::Status;
@@ -35,49 +34,33 @@ pub fn rtdvs<S: Shelf, W: Sink, E: Sink>(
     notes: &mut E,
     probes: &mut Vec<Box<dyn Probe>>,
 ) -> Status
-    // Which status: the answer's, unless a load or a put failed or memory ran out; and what it shows by itself.
-    ensures answers { Answers (asked_for words.now (S.shows shelf.old))
-        (Rose (S.shows shelf.old).faults (S.shows shelf.new).faults)
-        (Rose (W.shows out.old).faults (W.shows out.new).faults) result }
+    // Over all files that the shelf may hold, the call keeps each promise of the record `Promised`. These files are its
+    // own if they are known; otherwise all that hold what its loads gave in this call.
+    ensures promised { (files : Files) → MayHold (S.shows shelf.old) (S.shows shelf.new) files
+        → Promised (command_asked words.now)
+        (outside_of (S.shows shelf.old) (W.shows out.old) (E.shows notes.old) (map (λ b. seen b) probes.old.items))
+        (outside_of (S.shows shelf.new) (W.shows out.new) (E.shows notes.new) (map (λ b. seen b) probes.new.items))
+        result (Some files) }
+    // There are such files, unless two loads of this call were of one name.
+    ensures agree { HaveDistinctNames (loads_since (S.shows shelf.old) (S.shows shelf.new))
+        → (files : Files) × MayHold (S.shows shelf.old) (S.shows shelf.new) files }
+    // Over any files, the call keeps the promises that don't depend on what is in them.
+    ensures any_files { Promised (command_asked words.now)
+        (outside_of (S.shows shelf.old) (W.shows out.old) (E.shows notes.old) (map (λ b. seen b) probes.old.items))
+        (outside_of (S.shows shelf.new) (W.shows out.new) (E.shows notes.new) (map (λ b. seen b) probes.new.items))
+        result None }
+
+    // What a status says by itself: that the words are refused, that a put failed, its cause; and what it leaves.
     ensures words { (why : WordFault) → (result ≡ Status.Words why) ↔ (command_asked words.now ≡ Err why) }
-    ensures load { LoadFailed (S.shows shelf.old) (S.shows shelf.new) (command_asked words.now) result }
     ensures write { result ≡ Status.Write → Rose (W.shows out.old).faults (W.shows out.new).faults }
     ensures shown { IsShown result }
-
-    // What is on `out`: the whole answer, if a put failed a first part of it, otherwise nothing.
-    ensures done { result ≡ Status.Done
-        → Writes (asked_for words.now (S.shows shelf.old)) (W.shows out.old) (W.shows out.new) }
-    ensures part { result ≡ Status.Write
-        → WritesPart (asked_for words.now (S.shows shelf.old)) (W.shows out.old) (W.shows out.new) }
     ensures leaves { Leaves result out.old out.new }
-
-    // What the answer proves: of a run, of the scheduler's test, of a trace, of exact tests, of a server, of energy.
-    ensures headline { IsDoneOrDenied (asked_for words.now (S.shows shelf.old))
-        (Rose (S.shows shelf.old).faults (S.shows shelf.new).faults) (W.shows out.old) (W.shows out.new) result }
-    ensures run { ProvesRun (asked_for words.now (S.shows shelf.old)) (W.shows out.old) (W.shows out.new) result }
-    ensures admitted { AdmitsByTest (asked_for words.now (S.shows shelf.old)) result }
-    ensures exact { AcceptsScheduleTexts (asked_for words.now (S.shows shelf.old))
-        (Rose (S.shows shelf.old).faults (S.shows shelf.new).faults)
-        (Rose (W.shows out.old).faults (W.shows out.new).faults) result }
-    ensures tested { ProvesTests (asked_for words.now (S.shows shelf.old)) result }
-    ensures polled { ProvesPoll (asked_for words.now (S.shows shelf.old)) result }
-    ensures least { ProvesLeast (asked_for words.now (S.shows shelf.old)) (W.shows out.old) (W.shows out.new) result }
-
-    // What is on `notes`, and what the probes were told: a run's notes if the words ask for probes, otherwise nothing.
-    ensures notes { PutsNotes (asked_for words.now (S.shows shelf.old)) (map (λ b. seen b) probes.new.items) result
-        (E.shows notes.old) (E.shows notes.new) }
     ensures kept { LeavesProbes (probes_asked (command_asked words.now)) result probes.old probes.new }
-    ensures told { TellsProbes (asked_for words.now (S.shows shelf.old)) (W.shows out.old) (W.shows out.new)
-        (map (λ b. seen b) probes.old.items) (map (λ b. seen b) probes.new.items) result }
 
-    // What is left of the shelf, how counts of faults go with the status, and that what is guaranteed doesn't fail.
-    ensures shelf { MakesLoads (loads_wanted (S.shows shelf.old).held (command_asked words.now))
-        (S.shows shelf.old) (S.shows shelf.new) }
-    ensures counts { CountsLoads (S.shows shelf.old).faults (S.shows shelf.new).faults result }
-    ensures puts { CountsPuts (W.shows out.old).faults (W.shows out.new).faults result }
-    ensures sure { IsSureOf (asked_for words.now (S.shows shelf.old)) (W.shows out.old)
-        → (W.shows out.new).faults ≡ (W.shows out.old).faults }
-    ensures loads { loads_asked (command_asked words.now) ≤ (S.shows shelf.old).sure
+    // How the counts of failed loads and failed puts go with the status, and that loads that are guaranteed don't fail.
+    ensures load_count { CountsLoads (S.shows shelf.old).faults (S.shows shelf.new).faults result }
+    ensures put_count { CountsPuts (W.shows out.old).faults (W.shows out.new).faults result }
+    ensures sure_loads { loads_asked (command_asked words.now) ≤ (S.shows shelf.old).sure
         → (S.shows shelf.new).faults ≡ (S.shows shelf.old).faults }
 {
     let command = match read_words(words) {

@@ -1,4 +1,5 @@
 // A trace compared with the schedule for the demands that it fixes, and what `replay` and `migrate` prepare.
+ghost use Rattle.command_files.specs.GivenFiles.{ForFiles};
 ghost use Rattle.statuses.specs.Steps.{Gives, IsTestStep};
 ghost use Rattle.command_files.specs.Meanings.{tasks_at};
 ghost use Rattle.std.specs.Prelude.{Some, ◌≡◌, map, IfOk, ◌<◌, length};
@@ -8,7 +9,7 @@ ghost use Rattle.words.specs.Commands.{traced};
 ghost use Rattle.words.specs.Shown.{shown_trace};
 ghost use Rattle.command_files.specs.Loads.{IsLoadStep, one_file, later_files};
 ghost use Rattle.rtdvs_top.specs.Trace.{task_names, task_line, lines_of_tasks, trace_of, trace_at, traced_of, replay_status, totals_at, replayed_text, IsMigratable};
-ghost use Rattle.rtdvs_top.specs.Prepared.{IsComparable, IsPrepareStep};
+ghost use Rattle.rtdvs_top.specs.Prepared.{IsComparable, IsPrepareStep, ForFilesWith};
 
 use crate::at_pair::at_pair;
 use crate::prepared::Prepared;
@@ -70,8 +71,8 @@ fn load_trace<S: Shelf>(
     tasks: &TaskSet,
     shelf: &mut S,
 ) -> Result<Trace, Status>
-    ensures step { IsLoadStep (one_file FileKind.Trace name.now (trace_at tasks.now name.now))
-        (S.shows shelf.old) (S.shows shelf.new) result (λ t. t) }
+    ensures step { ForFiles (S.shows shelf.old) (S.shows shelf.new) (IsLoadStep (one_file FileKind.Trace name.now
+        (trace_at tasks.now name.now)) (S.shows shelf.old) (S.shows shelf.new) result (λ t. t)) }
     ensures trace { IfOk result (IsTrace (task_names tasks.now) (lines_of_tasks tasks.now)) }
 {
     let bytes = load_file(alloc, FileKind::Trace, name, shelf)?;
@@ -85,8 +86,9 @@ fn load_traced<S: Shelf>(
     tasks: &TaskSet,
     shelf: &mut S,
 ) -> Result<(Admitted, Trace), Status>
-    ensures step { IsLoadStep (later_files (S.shows shelf.old).held (traced (shown_trace words.now))
-        (traced_of (shown_trace words.now) tasks.now)) (S.shows shelf.old) (S.shows shelf.new) result (λ x. (x.0, x.1)) }
+    ensures step { ForFiles (S.shows shelf.old) (S.shows shelf.new) (λ files. IsLoadStep
+        (later_files files (traced (shown_trace words.now)) (traced_of (shown_trace words.now) tasks.now))
+        (S.shows shelf.old) (S.shows shelf.new) result (λ x. (x.0, x.1)) files) }
     ensures compared { IfOk result (λ x. IsComparable x.0 x.1) }
 {
     let machine = load_machine(alloc, words.machine, shelf)?;
@@ -184,9 +186,9 @@ pub(crate) fn prepare_trace<'a, S: Shelf>(
     tasks: &'a TaskSet,
     shelf: &mut S,
 ) -> Result<Prepared<'a>, Status>
-    requires { Gives (S.shows shelf.old).held (tasks_at words.now.tasks.now) tasks.now }
-    ensures { IsPrepareStep (S.shows shelf.old) (S.shows shelf.new) (traced (shown_trace words.now)) (Some tasks.now)
-        result }
+    ensures { ForFilesWith (S.shows shelf.old) (S.shows shelf.new)
+        (λ files. Gives files (tasks_at words.now.tasks.now) tasks.now)
+        (IsPrepareStep (S.shows shelf.old) (S.shows shelf.new) (traced (shown_trace words.now)) (Some tasks.now) result) }
 {
     let (plan, trace) = load_traced(alloc, words, tasks, shelf)?;
     let _admitted = plan.scheduler();

@@ -3,7 +3,7 @@ ghost use Rattle.std.specs.Prelude.{None};
 
 use crate::call::{Call, NO_FAULTS, left_over};
 use crate::hostile::example::{ADMIT, CONSTRAIN, CONTROLLER_RUN, POLL, REPLAY};
-use dvs_base::{LONGEST_FILE, LONGEST_TRACE, LoadFault, Shelf};
+use dvs_base::{LONGEST_FILE, LONGEST_TRACE, LoadFault, Loaded, Shelf};
 use std::alloc::{AllocError, Global};
 use std::test::Fail;
 use test_inputs::Ending;
@@ -59,16 +59,16 @@ const TRACE: Kind = Kind {
     most: LONGEST_TRACE,
 };
 
-// A shelf with the files of a call; that of the kind is one character, as often as there is room for or once more.
+// The files of a call; that of the kind is one character, as often as there is room for or once more.
 #[derive(Drop)]
-struct LongShelf {
+struct LongFiles {
     kind: Kind,
     byte: u8,
     over: bool,
     room: u64,
 }
 
-impl LongShelf {
+impl LongFiles {
     fn bytes_of(&mut self, alloc: Global, name: &str, room: u64) -> Result<Vec<u8>, AllocError> {
         if name == self.kind.name {
             self.room = room;
@@ -82,12 +82,22 @@ impl LongShelf {
     }
 }
 
+// A shelf of these files, and what it gave.
+#[derive(Drop)]
+struct LongShelf {
+    files: LongFiles,
+    loaded: Loaded,
+}
+
 impl Shelf for LongShelf {
-    ghost shows = { λ s. record { held = None; faults = 0; sure = 0 } };
+    ghost shows = { λ s. record { held = None; gave = s.loaded.loads; faults = 0; sure = 0 } };
 
     fn load(&mut self, alloc: Global, name: &str, room: u64) -> Result<Vec<u8>, LoadFault> {
-        match self.bytes_of(alloc, name, room) {
-            Ok(bytes) if bytes.len() as u64 <= room + 1 => Ok(bytes),
+        match self.files.bytes_of(alloc, name, room) {
+            Ok(bytes) if bytes.len() as u64 <= room + 1 => {
+                self.loaded = self.loaded.and(name.as_bytes(), room, &bytes);
+                Ok(bytes)
+            }
             _ => Err(LoadFault::NoMemory),
         }
     }
@@ -106,14 +116,18 @@ fn refused(line: &str) -> Ending<'_> {
 // A file of this kind that repeats this character is refused with the line, after a load for the most bytes.
 fn is_refused(alloc: Global, kind: Kind, byte: u8, over: bool, line: &str) -> Result<(), Fail> {
     let whole = format!(in alloc; "{}: {line}\n", kind.word)?;
-    let mut shelf = LongShelf {
+    let files = LongFiles {
         kind,
         byte,
         over,
         room: 0,
     };
+    let mut shelf = LongShelf {
+        files,
+        loaded: Loaded::new(),
+    };
     let left = left_over(alloc, kind.call.words, &mut shelf, NO_FAULTS)?;
-    if shelf.room != kind.most {
+    if shelf.files.room != kind.most {
         return Err(Fail::new(format_args!("{line}: another room")));
     }
     left.is(kind.call.words, refused(whole.as_str()))

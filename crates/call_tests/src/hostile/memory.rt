@@ -1,5 +1,5 @@
 // A shelf that is always out of memory.
-ghost use Rattle.std.specs.Prelude.{None};
+ghost use Rattle.std.specs.Prelude.{None, []};
 
 use crate::call::{Faults, left_over};
 use crate::hostile::example::EACH_THAT_LOADS;
@@ -15,7 +15,7 @@ struct FullShelf {
 }
 
 impl Shelf for FullShelf {
-    ghost shows = { λ s. record { held = None; faults = 0; sure = 0 } };
+    ghost shows = { λ s. record { held = None; gave = []; faults = 0; sure = 0 } };
 
     fn load(&mut self, _alloc: Global, _name: &str, _room: u64) -> Result<Vec<u8>, LoadFault> {
         self.loads = self.loads.saturating_add(1);

@@ -1,6 +1,6 @@
-use Rattle.std.proofs.Common.{ℕ, List, Option, Some, None, Result, rules}
+use Rattle.std.proofs.Common.{◌≡◌, ℕ, Bool, true, if◌then◌else◌, List, ◌∷◌, Option, Some, None, Result, refl, sym, subst, rules}
 use Rattle.std.specs.Prelude.{slice_index}
-use Rattle.dvs_base.specs.Outside.{Files}
+use Rattle.dvs_base.specs.Outside.{Files, ShelfView}
 use Rattle.dvs_base.specs.declared.kind.Scheduler.TheVariants.{Edf}
 use Rattle.task_model.specs.declared.task.Task.{Task}
 use Rattle.freq_table.specs.Tables.{Table}
@@ -16,7 +16,11 @@ use Rattle.rtdvs_top.specs.Constrain.{deadlines_at}
 use Rattle.rtdvs_top.specs.Promises.{ProvesTests}
 use Rattle.rtdvs_top.specs.declared.prepared.Prepared.{Prepared}
 use Rattle.rtdvs_top.specs.Prepared.{IsPrepareStep, RefusesBy}
-use Rattle.rtdvs_top.proofs.TasksFirst.{at-error}
+use Rattle.command_files.proofs.GivenLoads.{known-first, known-later, loads-two}
+use Rattle.command_files.specs.Files.{named_file, if_named, passes, loads_while, MakesLoads}
+use Rattle.command_files.specs.Loads.{loads_after}
+use Rattle.statuses.specs.declared.status.FileKind.TheVariants as file
+use Rattle.rtdvs_top.proofs.TasksFirst.{at-error, of-file-tested}
 use Rattle.rtdvs_top.proofs.constrain.prepare_constrain.Goals as goal
 
 -- what a refusal proves, from what the files mean
@@ -32,25 +36,96 @@ deadlines-tested (Some files) r tasks machine deadlines step (status.Limit jobs)
     (tasks, read, (machine, m, deadlines, d, by))
 deadlines-tested (Some files) r tasks machine deadlines step s read m d ends by = tt
 
-pub returns-in_err-lowest_line : goal.returns-in_err-lowest_line
-returns-in_err-lowest_line g c =
+tasks-passed : (files : Option Files) (r : ConstrainView) (tasks : List Task) → Gives files (tasks_at r.tasks) tasks
+    → passes files (constrain r) (named_file file.Tasks r.tasks) ≡ true
+tasks-passed None r tasks read = refl
+tasks-passed (Some files) r tasks read = rw read refl
+
+-- both loads after the tasks were made
+all-made : (files : Option Files) (r : ConstrainView) (tasks : List Task) (m : Table) (old mid new : ShelfView)
+    → Gives files (tasks_at r.tasks) tasks → Gives files (machine_at r.machine) m → MakesLoads 1 old mid
+    → MakesLoads (loads_while (λ f. true) (if_named file.Deadlines (Some r.deadlines))) mid new
+    → MakesLoads (loads_after files (constrain r)) old new
+all-made files r tasks m old mid new read machine first later =
+    let c = constrain r in
+    let fs = named_file file.Machine r.machine ∷ if_named file.Deadlines (Some r.deadlines) in
+    subst (λ (b : Bool). MakesLoads (if b then loads_while (passes files c) fs else 0) old new) (sym (tasks-passed files r tasks read))
+    (loads-two files c r.machine m file.Deadlines (Some r.deadlines) old mid new machine first later)
+
+pub returns-in_err-deadlines : goal.returns-in_err-deadlines
+returns-in_err-deadlines g c files known read =
     let r = shown_constrain c.args.words.now in
     let tasks = c.args.tasks.now in
     let old = g.S.Shelf.shows c.args.shelf.now in
     let new = g.S.Shelf.shows c.load_deadlines.new.shelf in
+    let gm = (c.in_ok-machine.ensures.step None tt).loads in
+    let gd = (c.in_err-deadlines.ensures.step None tt).loads in
+    let m = c.in_ok-machine.ensures.step files (known-first _ _ _ _ _ gm.held gm.gave gd.gave files known) in
+    let d = c.in_err-deadlines.ensures.step files (known-later _ _ _ _ _ gm.held gm.gave gd.gave files known) in
+    at-error (λ (x : Result Prepared Status). IsPrepareStep old new (constrain r) (Some tasks) x files) _ _
+    c.from_residual-in_err-deadlines.ensures.1
+    (record {
+      prepared = tt;
+      refused = record {
+        ended = search (rules, m, d, read);
+        tested = of-file-tested (asked_with files (constrain r)) _ c.in_err-deadlines.ensures.of_file;
+        named = search (rules, m, d, read);
+        shown = d.shown;
+      };
+      failed = search (rules, m, d, read);
+      loads = all-made files r tasks _ _ _ _ read m.read gm gd;
+      counts = search (rules, m, d);
+    })
+
+pub returns-in_err-lowest_line : goal.returns-in_err-lowest_line
+returns-in_err-lowest_line g c files known read =
+    let r = shown_constrain c.args.words.now in
+    let tasks = c.args.tasks.now in
+    let old = g.S.Shelf.shows c.args.shelf.now in
+    let new = g.S.Shelf.shows c.load_deadlines.new.shelf in
+    let gm = (c.in_ok-machine.ensures.step None tt).loads in
+    let gd = (c.in_ok-deadlines.ensures.step None tt).loads in
+    let m = c.in_ok-machine.ensures.step files (known-first _ _ _ _ _ gm.held gm.gave gd.gave files known) in
+    let d = c.in_ok-deadlines.ensures.step files (known-later _ _ _ _ _ gm.held gm.gave gd.gave files known) in
     let e = c.in_err-lowest_line.ensures in
-    at-error (λ (x : Result Prepared Status). IsPrepareStep old new (constrain r) (Some tasks) x) _ _
+    at-error (λ (x : Result Prepared Status). IsPrepareStep old new (constrain r) (Some tasks) x files) _ _
     c.from_residual-in_err-lowest_line.ensures.1
     (record {
       prepared = tt;
       refused = record {
-        ended = search rules;
-        tested = deadlines-tested old.held r tasks c.in_ok-machine.machine c.in_ok-deadlines.deadlines _ _ c.requires
-            c.in_ok-machine.ensures.step.read (search rules) e.step.refused e.fails;
-        named = search rules;
+        ended = search (rules, m, d, read);
+        tested = deadlines-tested files r tasks c.in_ok-machine.machine c.in_ok-deadlines.deadlines _ _ read
+            m.read (search (rules, d)) e.step.refused e.fails;
+        named = search (rules, m, d, read);
         shown = e.step.shown;
       };
-      failed = search rules;
-      loads = search rules;
-      counts = search rules;
+      failed = search (rules, m, d, read);
+      loads = all-made files r tasks _ _ _ _ read m.read gm gd;
+      counts = search (rules, m, d, read);
     })
+
+pub returns : goal.returns
+returns g c files known read =
+    let r = shown_constrain c.args.words.now in
+    let tasks = c.args.tasks.now in
+    let old = g.S.Shelf.shows c.args.shelf.now in
+    let new = g.S.Shelf.shows c.load_deadlines.new.shelf in
+    let gm = (c.in_ok-machine.ensures.step None tt).loads in
+    let gd = (c.in_ok-deadlines.ensures.step None tt).loads in
+    let m = c.in_ok-machine.ensures.step files (known-first _ _ _ _ _ gm.held gm.gave gd.gave files known) in
+    let d = c.in_ok-deadlines.ensures.step files (known-later _ _ _ _ _ gm.held gm.gave gd.gave files known) in
+    record {
+      prepared = record {
+        answer = search (rules, m, d, read);
+        puttable = search (rules, m, d, read);
+        tells = search (rules, m, d, read);
+        named = search (rules, m, d, read);
+        met = search (rules, m, d, read);
+        tested = search (rules, m, d, read);
+        told = search (rules, m, d, read);
+      };
+      refused = tt;
+      failed = tt;
+      loads = all-made files r tasks _ _ _ _ read m.read gm gd;
+      counts = search (rules, m, d);
+    }

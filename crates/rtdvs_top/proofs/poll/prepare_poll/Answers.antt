@@ -8,15 +8,16 @@ use Rattle.rtdvs_top.proofs.TasksFirst.{at-error}
 use Rattle.rtdvs_top.proofs.poll.prepare_poll.Goals as goal
 
 pub returns-in_err-served : goal.returns-in_err-served
-returns-in_err-served g c =
+returns-in_err-served g c files known read =
+    let p = c.in_ok-polling.ensures.step files known in
     let old = g.S.Shelf.shows c.args.shelf.now in
     let new = g.S.Shelf.shows c.load_polling.new.shelf in
-    at-error (λ (x : Result Prepared Status). IsPrepareStep old new (poll (shown_poll c.args.words.now)) (Some c.args.tasks.now) x) _ _
+    at-error (λ (x : Result Prepared Status). IsPrepareStep old new (poll (shown_poll c.args.words.now)) (Some c.args.tasks.now) x files) _ _
     c.from_residual-in_err-served.ensures.1
     (record {
       prepared = tt;
-      refused = record { ended = search rules; tested = search rules; named = search rules; shown = c.in_err-served.ensures.step.shown };
-      failed = search rules;
-      loads = search rules;
-      counts = search rules;
+      refused = record { ended = search (rules, p, read); tested = search (rules, p, read); named = search (rules, p, read); shown = c.in_err-served.ensures.step.shown };
+      failed = search (rules, p, read);
+      loads = search (rules, p, read);
+      counts = search (rules, p, read);
     })

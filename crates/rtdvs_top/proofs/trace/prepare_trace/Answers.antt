@@ -20,36 +20,38 @@ all-later None r tasks read = refl
 all-later (Some files) r tasks read = rw read refl
 
 pub returns-in_err-totals : goal.returns-in_err-totals
-returns-in_err-totals g c =
+returns-in_err-totals g c files known read =
+    let p = c.in_ok-plan.ensures.step files known in
     let r = shown_trace c.args.words.now in
     let old = g.S.Shelf.shows c.args.shelf.now in
     let new = g.S.Shelf.shows c.load_traced.new.shelf in
-    at-error (λ (x : Result Prepared Status). IsPrepareStep old new (traced r) (Some c.args.tasks.now) x) _ _
+    at-error (λ (x : Result Prepared Status). IsPrepareStep old new (traced r) (Some c.args.tasks.now) x files) _ _
     c.from_residual-in_err-totals.ensures.1
     (record {
       prepared = tt;
-      refused = record { ended = search rules; tested = search rules; named = search rules; shown = c.in_err-totals.ensures.step.shown };
-      failed = search rules;
-      loads = search rules;
-      counts = search rules;
+      refused = record { ended = search (rules, p, read); tested = search (rules, p, read); named = search (rules, p, read); shown = c.in_err-totals.ensures.step.shown };
+      failed = search (rules, p, read);
+      loads = search (rules, p, read);
+      counts = search (rules, p, read);
     })
 
 pub returns-in-Replay : goal.returns-in-Replay
-returns-in-Replay g c =
+returns-in-Replay g c files known read =
+    let p = c.in_ok-plan.ensures.step files known in
     let old = g.S.Shelf.shows c.args.shelf.now in
-    let all = all-later old.held (shown_trace c.args.words.now) c.args.tasks.now c.requires in
+    let all = all-later files (shown_trace c.args.words.now) c.args.tasks.now read in
     record {
       prepared = record {
-        answer = search rules;
-        puttable = search rules;
-        tells = search rules;
-        named = search rules;
-        met = search rules;
-        tested = search rules;
-        told = search rules;
+        answer = search (rules, p, read);
+        puttable = search (rules, p, read);
+        tells = search (rules, p, read);
+        named = search (rules, p, read);
+        met = search (rules, p, read);
+        tested = search (rules, p, read);
+        told = search (rules, p, read);
       };
       refused = tt;
       failed = tt;
-      loads = subst (λ (n : ℕ). MakesLoads n old (g.S.Shelf.shows c.load_traced.new.shelf)) all c.in_ok-plan.ensures.step.loads;
-      counts = search rules;
+      loads = subst (λ (n : ℕ). MakesLoads n old (g.S.Shelf.shows c.load_traced.new.shelf)) all p.loads;
+      counts = search (rules, p, read);
     }
