@@ -7,10 +7,10 @@ import subprocess
 from pathlib import Path
 
 import pytest
-from examples import LIBRARY, TOP
 from hypothesis import HealthCheck, settings
 
 from rtdvs.engine import Engine
+from tests.shared.examples import LIBRARY, TOP
 
 # Libraries print numbers as the environment asks, be it with a decimal comma; messages stay English.
 locale.setlocale(locale.LC_ALL, "")

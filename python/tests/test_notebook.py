@@ -6,10 +6,10 @@ from fractions import Fraction
 from pathlib import Path
 
 import pytest
-import tour
-from examples import TEST_DATA, TOP
 
-from rtdvs.decimals import decimal
+from rtdvs._numbers import decimal
+from tests.shared.examples import TEST_DATA, TOP
+from tools import tour
 
 STORED = tour.read()
 CELLS = {cell["id"]: cell for cell in tour.code_cells(STORED)}

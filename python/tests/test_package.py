@@ -5,64 +5,123 @@ import re
 import subprocess
 import sys
 import tomllib
+from importlib import import_module
 from pathlib import Path
+from types import ModuleType
 
 import pytest
-from examples import TOP
 
 import rtdvs
+from tests.shared.examples import TOP
 
 SOURCE = Path(rtdvs.__file__).parent
-MODULES = sorted(SOURCE.glob("*.py"))
-TESTS = sorted(Path(__file__).parent.glob("*.py"))
-LAYERS = [
-    {"files", "errors", "decimals"},
-    {"answers", "calls"},
-    {"library"},
-    {"engine"},
-    {"trace"},
-    {"rules", "explain", "simulate", "commandline"},
-    {"statistics", "compare", "sensitivity", "draws", "generate", "evaluate", "paper_table"},
-    {"design", "device_tree"},
-    {"canvas", "marks", "figures", "plot", "convert", "page"},
-    {"serve"},
-    {"cli", "__init__", "__main__"},
-]
+MODULES = sorted(SOURCE.rglob("*.py"))
+TESTS = sorted(path for folder in ("tests", "tools") for path in (TOP / "python" / folder).rglob("*.py"))
+LAYERS = [{"_display", "_files", "_numbers", "_version", "errors"}, {"model"}, {"trace"}, {"rules", "engine"}, {"studies", "board", "export"},
+          {"plot", "web"}, {"cli"}]
+"""The modules and packages at the top. Each imports from layers before its own, and from itself."""
+NUMBERS_FIRST = {"_numbers": {"errors"}, "_display": {"_numbers"}}  # of one layer
+LATE = {"_display": {"plot"}}  # what is imported when a picture is shown
+FRONT = {"__init__", "__main__"}  # these may import all layers
+HIDING = {"model._csv", "rules.check"}  # these have names of others
 
 
-def layer(module: str) -> int | None:
-    return next((place for place, names in enumerate(LAYERS) if module in names), None)
+def dotted(module: Path) -> str:
+    """A module's name without `rtdvs.`: `model.tasks`; a package's is that of its folder."""
+    return ".".join(module.relative_to(SOURCE).with_suffix("").parts).removesuffix(".__init__")
 
 
-def imports(module: Path) -> set[str]:
-    """The modules of the package that a module imports, also inside functions."""
-    nodes = [node for node in ast.walk(ast.parse(module.read_text())) if isinstance(node, ast.ImportFrom)]
-    direct = {(node.module or "").partition("rtdvs.")[2] for node in nodes}
-    return direct | {name.name for node in nodes if node.module == "rtdvs" for name in node.names}
+def layer(package: str) -> int:
+    found = [place for place, names in enumerate(LAYERS) if package in names]
+    assert found, f"{package} is in no layer"
+    return found[0]
+
+
+def is_module(package: str, name: str) -> bool:
+    """Whether a name in a package of rtdvs is a module: a function may have the name of one."""
+    return package.startswith("rtdvs") and isinstance(getattr(import_module(package), name, None), ModuleType)
+
+
+def imports(module: Path) -> dict[str, bool]:
+    """The modules that a module imports, also inside functions, and whether only for types."""
+    tree = ast.parse(module.read_text())
+    typing = {id(inner) for node in ast.walk(tree) if isinstance(node, ast.If) and "TYPE_CHECKING" in ast.dump(node.test)
+              for inner in ast.walk(node)}
+    found: dict[str, bool] = {}
+    for node in ast.walk(tree):
+        names = [name.name for name in node.names] if isinstance(node, ast.Import) else []
+        if isinstance(node, ast.ImportFrom):
+            assert node.level == 0, "an import says the whole name"
+            names = [node.module or "", *(f"{node.module}.{name.name}" for name in node.names
+                                          if is_module(node.module or "", name.name))]
+        for name in names:
+            found[name] = id(node) in typing and found.get(name, True)
+    return found
+
+
+def package_imports(module: Path) -> set[str]:
+    """The modules of rtdvs, without `rtdvs.`, that a module imports; those for types only aren't among them."""
+    known = {dotted(each) for each in MODULES}
+    inner = {name.removeprefix("rtdvs.") for name, is_typing in imports(module).items() if not is_typing}
+    return inner & known - {dotted(module)}
 
 
 def test_version() -> None:
     """It is the first version of CHANGELOG.md."""
     found = re.search(r"^## ([0-9.]+) \(", (TOP / "CHANGELOG.md").read_text(), re.MULTILINE)
     project = tomllib.loads((TOP / "python" / "pyproject.toml").read_text())["project"]
-    assert found is not None and project["version"] == found[1]
+    assert found is not None and project["version"] == rtdvs.__version__ == found[1]
 
 
 def test_public_names() -> None:
-    assert sorted(rtdvs.__all__) == rtdvs.__all__
+    assert sorted(rtdvs.__all__) == rtdvs.__all__ and len(rtdvs.__all__) == 45
     assert all(getattr(rtdvs, name).__doc__ for name in rtdvs.__all__)
+    for name in ("simulate", "compare", "explain", "evaluate"):
+        assert callable(getattr(rtdvs, name))
 
 
-@pytest.mark.parametrize("module", MODULES, ids=[module.stem for module in MODULES])
+@pytest.mark.parametrize("module", [module for module in MODULES if dotted(module) not in FRONT | HIDING], ids=dotted)
+def test_no_module_hides_another(module: Path) -> None:
+    """A module has no name that its package exports, and none of the standard library; a package may have one."""
+    name = dotted(module).rpartition(".")[2]
+    assert module.name == "__init__.py" or name not in sys.stdlib_module_names
+    package = import_module(f"rtdvs.{dotted(module)}".rpartition(".")[0])
+    assert name not in getattr(package, "__all__", [])
+    assert isinstance(getattr(package, name), ModuleType)
+
+
+@pytest.mark.parametrize("module", MODULES, ids=dotted)
 def test_layers(module: Path) -> None:
-    """A module imports from its own layer and those above only."""
-    own = layer(module.stem)
-    for name in imports(module):
-        other = layer(name)
-        assert own is None or other is None or other <= own, f"{module.stem} imports {name}"
+    """A module imports from layers before its own, and what other packages say they have."""
+    own = dotted(module).split(".")[0]
+    if own in FRONT:
+        return
+    place = layer(own)
+    for name in package_imports(module):
+        other, *inner = name.split(".")
+        if other in {own, "__init__"} or other in NUMBERS_FIRST.get(own, set()) | LATE.get(own, set()):
+            continue
+        assert layer(other) < place, f"layer {own} imports {other}: {dotted(module)} imports rtdvs.{name}"
+        assert not inner, f"{dotted(module)} imports rtdvs.{name}, inside the package {other}"
 
 
-@pytest.mark.parametrize("module", [*MODULES, *TESTS], ids=[module.stem for module in [*MODULES, *TESTS]])
+def test_no_cycles() -> None:
+    """The modules of a package can be put in an order in which each imports earlier ones only."""
+    left = {dotted(module): {name for name in package_imports(module) if "." in name}
+            for module in MODULES if module.stem != "__init__"}
+    while left:
+        first = [name for name, others in left.items() if not others & left.keys()]
+        assert first, f"a cycle among {', '.join(left)}"
+        for name in first:
+            del left[name]
+
+
+@pytest.mark.parametrize("module", [module for module in MODULES if dotted(module).split(".")[0] != "cli"], ids=dotted)
+def test_only_commands_read_words(module: Path) -> None:
+    assert "argparse" not in imports(module)
+
+
+@pytest.mark.parametrize("module", [*MODULES, *TESTS], ids=lambda path: str(path.relative_to(TOP / "python")))
 def test_functions_are_short(module: Path) -> None:
     for node in ast.walk(ast.parse(module.read_text())):
         if isinstance(node, ast.FunctionDef):
@@ -71,7 +130,7 @@ def test_functions_are_short(module: Path) -> None:
 
 def test_no_dependencies() -> None:
     """All modules are imported where matplotlib and pandas are missing."""
-    names = [f"rtdvs.{module.stem}" for module in MODULES if module.stem != "__main__"]
+    names = [f"rtdvs.{dotted(module)}" for module in MODULES if module.stem not in FRONT]
     missing = "import sys; sys.modules |= dict.fromkeys(['matplotlib', 'pandas', 'numpy'])"
     words = [sys.executable, "-c", f"{missing}; import {', '.join(names)}"]
     subprocess.run(words, env={"PYTHONPATH": str(SOURCE.parent)}, check=True)

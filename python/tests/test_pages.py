@@ -26,7 +26,8 @@ from dataclasses import dataclass, field
 from pathlib import Path
 
 import pytest
-from examples import PAGES, SOURCE, TEST_DATA, TOP
+
+from tests.shared.examples import PAGES, SOURCE, TEST_DATA, TOP
 
 SOLUTIONS = Path("examples", "exercises", "solutions.txt")
 TOKEN = re.compile(r"""

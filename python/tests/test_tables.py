@@ -13,16 +13,16 @@ from itertools import pairwise
 from math import ceil
 
 import pytest
-from examples import BOARD, DATA, NUMBER, PAGES, PAPER, TOP, XSCALE, cases, files, value
 
-from rtdvs.compare import energy_of, runs
-from rtdvs.decimals import decimal
-from rtdvs.draws import PUBLISHED_MILLISECOND, PUBLISHED_SEED, PUBLISHED_TICKS, PUBLISHED_TOP
+from rtdvs._numbers import decimal
 from rtdvs.engine import Engine
-from rtdvs.evaluate import MACHINES
-from rtdvs.files import Requests
-from rtdvs.paper_table import EXAMPLE, PAIRS, PUBLISHED, shares
+from rtdvs.model import Requests
+from rtdvs.studies import (
+    MACHINES, PAPER_EXAMPLE, PAPER_PAIRS, PUBLISHED, PUBLISHED_MILLISECOND, PUBLISHED_SEED,
+    PUBLISHED_TICKS, PUBLISHED_TOP, energy_of, paper_shares, runs,
+)
 from rtdvs.trace import Run, Trace
+from tests.shared.examples import BOARD, DATA, NUMBER, PAGES, PAPER, TOP, XSCALE, cases, files, value
 
 TENTHS = [decimal(Fraction(tenth, 10), 1) for tenth in range(1, 11)]
 
@@ -63,11 +63,11 @@ def row(*cells: object) -> str:
 
 
 def readme(engine: Engine) -> Iterator[str]:
-    energies = [energy_of(text) for text in runs(engine, EXAMPLE, PAIRS) if isinstance(text, str)]
-    finer = shares(engine, 3)
+    energies = [energy_of(text) for text in runs(engine, PAPER_EXAMPLE, PAPER_PAIRS) if isinstance(text, str)]
+    finer = paper_shares(engine, 3)
     yield row("energy, in 10^9", *(short(Fraction(energy, 10**9), 4) for energy in energies))
     yield row("Pillai and Shin (2001)", *PUBLISHED[1:])
-    yield row("this run", *(short(share, 4) for share in shares(engine, 1)))
+    yield row("this run", *(short(share, 4) for share in paper_shares(engine, 1)))
     yield row("ticks 3 times finer", *(short(share, 4) for share in finer))
     yield f"the shares are exactly {finer[4]} and {short(finer[5], 4)}."
 
@@ -86,7 +86,7 @@ def units(engine: Engine) -> Iterator[str]:
     first = demands.units[tasks.tasks[0].name, 1]
     yield (f"where it is {machine.charge}, the first job of `{tasks.tasks[0].name}` has {first} units in the "
            f"demand file and {first + 2 * machine.charge} in the trace")
-    finer = [700 * share for share in shares(engine, 3)]
+    finer = [700 * share for share in paper_shares(engine, 3)]
     yield f"of continuous time, {finer[4]}/700 and {finer[5]}/700"
 
 
@@ -94,7 +94,7 @@ def least(engine: Engine) -> Iterator[str]:
     costs = {point.speed: point.millivolts**2 * 1000 for point in BOARD.points}
     yield "A unit costs {} at speed 2, {} at 3 and {} at 4".format(*costs.values())
     for governor in ("none", "static", "cc", "la"):
-        trace = Trace.parse(engine.run(PAPER, BOARD, "edf", governor, 16, EXAMPLE.demands))
+        trace = engine.run(PAPER, BOARD, "edf", governor, 16, PAPER_EXAMPLE.demands)
         ran = Counter[int]()
         for note, speed in trace.at_speeds():
             ran[speed] += note.units if isinstance(note, Run) else 0
@@ -110,7 +110,7 @@ def least(engine: Engine) -> Iterator[str]:
 
 def controller(engine: Engine) -> Iterator[str]:
     tasks, machine, demands = files("controller")
-    trace = Trace.parse(engine.run(tasks, machine, "edf", "cc", 100, demands))
+    trace = engine.run(tasks, machine, "edf", "cc", 100, demands)
     ran = sum(note.units for note in trace.notes if isinstance(note, Run))
     found = engine.least(machine, ran, 100)
     bound = Fraction(found.energy, found.rounds)
@@ -290,7 +290,7 @@ def unnamed(text: str, names: set[str]) -> Iterator[str]:
 
 
 def test_rules_name_their_tests() -> None:
-    tests = [*(TOP / "python" / "tests").glob("test_*.py"), *(TOP / "crates").glob("*/src/**/*.rt")]
+    tests = [*(TOP / "python" / "tests").rglob("test_*.py"), *(TOP / "crates").glob("*/src/**/*.rt")]
     found = re.findall(r"^def (test_\w+)|#\[test\](?:\n.*?)*?\nfn (\w+)",
                        "\n".join(path.read_text(encoding="utf-8") for path in tests), re.MULTILINE)
     names = {name for pair in found for name in pair if name}

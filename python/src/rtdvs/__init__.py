@@ -1,21 +1,69 @@
-"""Exact schedules and energies of periodic tasks with voltage scaling."""
+"""Exact schedules and energies of periodic tasks with voltage scaling.
 
-from rtdvs.engine import Engine, EngineError, find_engine
-from rtdvs.files import (
-    Deadlines, Demands, FileFault, Machine, Point, Request, Requests, Task, TaskSet,
+    tasks, machine = TaskSet.read(Path("tasks.toml")), Machine.read(Path("machine.toml"))
+    trace = find_engine().run(tasks, machine, "edf", "cc", ticks=16)
+
+The packages below this one have the rest: rtdvs.board, rtdvs.export, rtdvs.rules, rtdvs.studies and others.
+"""
+
+from rtdvs._version import __version__
+from rtdvs.engine import Call, Engine, admit_call, find_engine, response_call, run_call
+from rtdvs.errors import (
+    BadValue, DeadlineMissed, Denied, EngineError, FileRefused, NoEngine, OverWorst, Refused, RtdvsError,
+    TimedOut, TooManyJobs, TraceFault, WrongTrace,
 )
+from rtdvs.model import (
+    PAIRS, Deadlines, Demands, Governor, Machine, Point, Request, Requests, Scheduler, Task, TaskSet,
+)
+from rtdvs.plot import plot_trace, save_trace
+from rtdvs.rules import Walk, check, explain, simulate
+from rtdvs.studies import Sweep, compare, evaluate, sensitivity, uunifast
+from rtdvs.trace import Job, Trace, task_statistics
 
 __all__ = [
+    "BadValue",
+    "Call",
+    "DeadlineMissed",
     "Deadlines",
     "Demands",
+    "Denied",
     "Engine",
     "EngineError",
-    "FileFault",
+    "FileRefused",
+    "Governor",
+    "Job",
     "Machine",
+    "NoEngine",
+    "OverWorst",
+    "PAIRS",
     "Point",
+    "Refused",
     "Request",
     "Requests",
+    "RtdvsError",
+    "Scheduler",
+    "Sweep",
     "Task",
     "TaskSet",
+    "TimedOut",
+    "TooManyJobs",
+    "Trace",
+    "TraceFault",
+    "Walk",
+    "WrongTrace",
+    "__version__",
+    "admit_call",
+    "check",
+    "compare",
+    "evaluate",
+    "explain",
     "find_engine",
+    "plot_trace",
+    "response_call",
+    "run_call",
+    "save_trace",
+    "sensitivity",
+    "simulate",
+    "task_statistics",
+    "uunifast",
 ]

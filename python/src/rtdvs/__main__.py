@@ -1,3 +1,3 @@
-from rtdvs.cli import entry
+from rtdvs.cli.main import entry
 
 entry()

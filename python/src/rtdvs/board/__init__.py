@@ -1,0 +1,45 @@
+"""Boards in milliseconds, cycles and volts, and device trees."""
+
+from rtdvs.board.description import Board, BoardPoint, BoardTask, board_fault, is_measured, points_of
+from rtdvs.board.device_tree import Choice, OperatingPoint, OperatingTable, operating_points
+from rtdvs.board.energy import Spent, check_trace, nanojoules, spent
+from rtdvs.board.files import machine_text, read_design, write_design
+from rtdvs.board.reporting import Asked, Load, report, run_ticks, unserved
+from rtdvs.board.scale import (
+    Design, Rounding, Scale, choose_scale, choose_tick, choose_unit, design, machine_of, settle, usual_demands,
+)
+
+__all__ = [
+    "Asked",
+    "Board",
+    "BoardPoint",
+    "BoardTask",
+    "Choice",
+    "Design",
+    "Load",
+    "OperatingPoint",
+    "OperatingTable",
+    "Rounding",
+    "Scale",
+    "Spent",
+    "board_fault",
+    "check_trace",
+    "choose_scale",
+    "choose_tick",
+    "choose_unit",
+    "design",
+    "is_measured",
+    "machine_of",
+    "machine_text",
+    "nanojoules",
+    "operating_points",
+    "points_of",
+    "read_design",
+    "report",
+    "run_ticks",
+    "settle",
+    "spent",
+    "unserved",
+    "usual_demands",
+    "write_design",
+]

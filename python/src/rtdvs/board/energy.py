@@ -1,0 +1,82 @@
+"""What a run takes of a board's battery, exactly: joules, mean milliwatts and hours."""
+
+from dataclasses import dataclass
+from fractions import Fraction
+
+from rtdvs.board.description import Board, board_fault, is_measured
+from rtdvs.board.scale import Design
+from rtdvs.rules import check
+from rtdvs.trace import Idle, Run, Trace
+
+
+@dataclass(frozen=True, slots=True)
+class Spent:
+    """The joules of a run, and how many milliseconds it takes.
+
+    >>> spent = Spent(Fraction(1, 100), Fraction(50))
+    >>> spent.milliwatts, spent.hours(Fraction(3700))
+    (Fraction(200, 1), Fraction(37, 2))
+    """
+
+    joules: Fraction
+    milliseconds: Fraction
+
+    @property
+    def milliwatts(self) -> Fraction:
+        """The mean power."""
+        return self.joules * 10**6 / self.milliseconds
+
+    def hours(self, battery: Fraction) -> Fraction | None:
+        """How long a battery, in milliwatt hours, lasts; None if no energy is used."""
+        return battery / self.milliwatts if self.joules else None
+
+
+def nanojoules(board: Board) -> tuple[Fraction, ...]:
+    """The nanojoules of a running cycle at each point, by rising frequency; raises BadValue.
+
+    They are measured, or in proportion to the square of the voltage, from the milliwatts of the highest point.
+
+    >>> board = Board.parse('''
+    ... task = [{name = "a", period_ms = 1, worst_cycles = 1}]
+    ... point = [{mhz = 500, volts = 1}, {mhz = 1000, volts = 2, milliwatts = 800}]''')
+    >>> nanojoules(board)
+    (Fraction(1, 5), Fraction(4, 5))
+    """
+    top = board.rising[-1]
+    if top.milliwatts is None:
+        raise board_fault("joules need milliwatts at the highest point")
+    if is_measured(board.points):
+        return tuple((point.milliwatts or Fraction(0)) / point.megahertz for point in board.rising)
+    if top.volts is None or not all(point.volts for point in board.points):
+        raise board_fault("joules need volts at each point, or milliwatts at each")
+    return tuple(((point.volts or 0) / top.volts)**2 * top.milliwatts / top.megahertz for point in board.rising)
+
+
+def spent(board: Board, made: Design, trace: Trace) -> Spent:
+    """What a run of a board's files takes: each cycle counts as at the point that is in force there.
+
+    An idle cycle counts as the board's share of a running one. The trace isn't checked. Raises BadValue if no
+    power was measured.
+
+    >>> from rtdvs.board.scale import Scale, design
+    >>> board = Board.parse('''
+    ... task = [{name = "a", period_ms = 2, worst_cycles = 4000}]
+    ... point = [{mhz = 4, volts = 1, milliwatts = 8}]''')
+    >>> made = design(board, Scale(Fraction(1), Fraction(1000)))
+    >>> run = "speed 0 4 4/1\\nrun 0:0 1:0 a 1 4 4000000\\nend 1 4000000 0\\n"
+    >>> spent(board, made, Trace.parse(f"trace 1\\nplan edf mine 1\\n{run}")).joules  # 4000 cycles of 2 nJ
+    Fraction(1, 125000)
+    """
+    of_speed = {point.speed: cost for point, cost in zip(made.machine.points, nanojoules(board), strict=True)}
+    units = Fraction(0)
+    for note, speed in trace.at_speeds():
+        if isinstance(note, Run):
+            units += note.units * of_speed[speed]
+        elif isinstance(note, Idle):
+            units += note.units * of_speed[speed] * board.idle_share
+    return Spent(units * made.scale.unit / 10**9, made.milliseconds(trace.ticks))
+
+
+def check_trace(made: Design, trace: Trace) -> None:
+    """Raises TraceFault, with the line, if a trace isn't a legal one of these files under any governor."""
+    check(made.tasks, made.machine, trace.text().splitlines(keepends=True), any_governor=True)

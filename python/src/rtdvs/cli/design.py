@@ -1,0 +1,182 @@
+"""From milliseconds, cycles, MHz and volts to the files of the program, and from its energies back to joules.
+
+A board is described in a TOML file; its points may also come from a device tree, its source or its blob:
+
+    idle_share = 0.1          # of a running cycle's energy
+    switch_us = 20            # a switch of speed
+    battery_mwh = 3700
+    highest_milliwatts = 900  # at the highest point of a device tree, for joules
+
+    [[task]]
+    name = "control"
+    period_ms = 5
+    worst_cycles = 1_200_000  # or worst_ms = 1.2 and at_mhz = 1000
+    usual_cycles = 700_000    # what a job usually takes; for demands.csv and --report
+
+    [[point]]
+    mhz = 400
+    volts = 1.0               # or milliwatts = 170 at each point
+
+The files say their scale in their first lines. With --trace a run of them is checked, and its joules are
+counted exactly, by the milliwatts of the speed in force.
+
+All numbers are exact. What doesn't fit is rounded so that the set is never easier: periods and speeds down,
+worst cases, voltages and the charge up.
+"""
+
+import argparse
+import re
+import sys
+from collections.abc import Iterator
+from fractions import Fraction
+from pathlib import Path
+
+from rtdvs._numbers import plain, rounded
+from rtdvs.board import (
+    Board, Choice, Design, OperatingTable, Scale, Spent, board_fault, check_trace, choose_scale, design,
+    machine_of, machine_text, operating_points, points_of, read_design, report, run_ticks, settle, spent,
+    unserved, usual_demands, write_design,
+)
+from rtdvs.cli.options import (
+    Commands, add_engine_options, add_output, add_pair, add_parser, engine_of, exact_fraction, input_path,
+    open_input, read_text, whole_number, write_output,
+)
+from rtdvs.errors import TraceFault
+from rtdvs.trace import Trace
+
+
+def add_command(commands: Commands) -> None:
+    """Adds the command `design`.
+
+    >>> commands = argparse.ArgumentParser().add_subparsers()
+    >>> add_command(commands)
+    >>> list(commands.choices)
+    ['design']
+    """
+    parser = add_parser(commands, "design", _handle,
+                        "files in ticks and work units from milliseconds, cycles and volts",
+                        "design --board board.toml --folder drone\n"
+                        "design --board board.toml --folder drone --trace drone.trace\n"
+                        "design --device-tree examples/board.dts --table little --output machine.toml")
+    parser.add_argument("--board", type=input_path, metavar="FILE", help="the description of a board")
+    parser.add_argument("--folder", type=Path,
+                        help="writes tasks.toml and machine.toml there; with --trace they are there")
+    parser.add_argument("--tick-ms", type=exact_fraction, metavar="MS",
+                        help="the tick, in place of a chosen one")
+    parser.add_argument("--unit-cycles", type=exact_fraction, metavar="CYCLES",
+                        help="the work unit, likewise")
+    parser.add_argument("--trace", type=input_path, metavar="FILE",
+                        help="prints joules, mean power and battery hours of a run of the files in --folder")
+    parser.add_argument("--report", action="store_true",
+                        help="prints admission, responses, and power and hours of each pair")
+    parser.add_argument("--ms", type=exact_fraction, metavar="MS",
+                        help="the time of the runs of --report, and of demands.csv")
+    _add_tree_options(parser)
+    _add_settle_options(parser)
+    add_output(parser)
+
+
+def _add_tree_options(parser: argparse.ArgumentParser) -> None:
+    group = parser.add_argument_group("device tree", "without --board the machine file is printed")
+    group.add_argument("--device-tree", type=input_path, metavar="FILE", help="a device tree: its source or its blob")
+    group.add_argument("--table", default="", help="a table's label or path; needed if there are several")
+    group.add_argument("--supported-hw", type=_hardware, default=(), metavar="N[,N..]",
+                       help="the hardware's version, level by level, for opp-supported-hw")
+    group.add_argument("--suffix", default="", help="takes opp-microvolt-SUFFIX")
+    group.add_argument("--supply", type=whole_number(1), default=1, metavar="N",
+                       help="which supply; 1 by default")
+    group.add_argument("--turbo", action="store_true", help="takes points of turbo-mode too, which need boost")
+
+
+def _add_settle_options(parser: argparse.ArgumentParser) -> None:
+    group = parser.add_argument_group("the tick",
+                                      "halves the tick until the energy of a run moves by at most 1 %%")
+    group.add_argument("--settle-ms", type=exact_fraction, metavar="MS", help="the time of each run")
+    add_pair(parser, "edf", "cc")
+    add_engine_options(parser)
+
+
+def _hardware(word: str) -> tuple[int, ...]:
+    levels = word.split(",")
+    if not all(re.fullmatch(r"0[xX][0-9a-fA-F]+|[0-9]+", level) for level in levels):
+        raise argparse.ArgumentTypeError(f"no numbers with commas between them: {word!r}")
+    return tuple(int(level, 16 if level[:2].lower() == "0x" else 10) for level in levels)
+
+
+def _handle(args: argparse.Namespace) -> int:
+    for option in ("tick_ms", "unit_cycles", "settle_ms", "ms"):
+        if getattr(args, option) is not None and getattr(args, option) <= 0:
+            raise board_fault(f"--{option.replace('_', '-')} has to be above 0")
+    if args.board is None and args.device_tree is None:
+        raise board_fault("give --board or --device-tree")
+    table = _table_of(args)
+    if args.board is None:
+        scale = Scale(args.tick_ms or Fraction(1), args.unit_cycles or Fraction(1000))
+        machine, _ = machine_of(Board((), points_of(table.points)), scale)
+        write_output(args, machine_text(machine, f"{table.name}: {scale.text()}", table.note()))
+        return 0
+    board = Board.parse(read_text(args.board, "board"), table.points)
+    lines = _energy_lines(board, args) if args.trace is not None else _design_lines(board, table, args)
+    write_output(args, "".join(f"{line}\n" for line in lines))
+    return 0
+
+
+def _table_of(args: argparse.Namespace) -> OperatingTable:
+    """The points of `--device-tree`; those that are left out are said on standard error."""
+    if args.device_tree is None:
+        return OperatingTable("", ())
+    with open_input(args.device_tree) as file:
+        choice = Choice(args.table, args.supported_hw, args.suffix, args.supply, args.turbo)
+        table = operating_points(file.read(), choice)
+    if table.left_out:
+        print(f"note: {table.note()}", file=sys.stderr)
+    return table
+
+
+def _design_lines(board: Board, table: OperatingTable, args: argparse.Namespace) -> Iterator[str]:
+    scale = choose_scale(board, args.tick_ms, args.unit_cycles)
+    made = design(board, scale)
+    if args.settle_ms is not None:
+        for made, joules in settle(board, scale, lambda made: _run(board, made, args).joules):
+            time = plain(made.milliseconds(made.ticks_of(args.settle_ms)))
+            yield f"tick {plain(made.scale.tick)} ms: {rounded(joules)} joules in {time} ms"
+    yield made.scale.text()
+    yield from (rounding.text() for rounding in made.roundings)
+    ticks = run_ticks(made) if args.ms is None else made.ticks_of(args.ms)
+    if args.report:
+        yield from "\n".join(report(board, made, ticks)).splitlines()
+    elif line := unserved(board, made):
+        yield line
+    if args.folder is not None:
+        demands = usual_demands(board, made, ticks) if any(task.usual is not None for task in board.tasks) else None
+        write_design(args.folder, made, table.note(), demands)
+        if demands is not None:
+            yield f"demands.csv is for {ticks} ticks, {plain(made.milliseconds(ticks))} ms"
+
+
+def _run(board: Board, made: Design, args: argparse.Namespace) -> Spent:
+    """What a run over the time of `--settle-ms` takes, in whole ticks of the design."""
+    ticks = made.ticks_of(args.settle_ms)
+    demands = usual_demands(board, made, ticks)
+    trace = engine_of(args).run(made.tasks, made.machine, args.scheduler, args.governor, ticks, demands)
+    return spent(board, made, trace)
+
+
+def _energy_lines(board: Board, args: argparse.Namespace) -> Iterator[str]:
+    if args.folder is None:
+        raise board_fault("--trace needs --folder, with the files that were run")
+    made = read_design(args.folder, board)
+    for given, taken in ((args.tick_ms, made.scale.tick), (args.unit_cycles, made.scale.unit)):
+        if given not in (None, taken):
+            raise board_fault(f"in the files of {args.folder} {made.scale.text()}, not {plain(given)}")
+    trace = Trace.parse(read_text(args.trace, "trace"))
+    try:
+        check_trace(made, trace)
+    except TraceFault as fault:
+        raise board_fault(f"the trace is of no run of the files in {args.folder}: {fault}") from None
+    run = spent(board, made, trace)
+    yield f"{rounded(run.joules)} joules in {plain(run.milliseconds)} ms"
+    yield f"{rounded(run.milliwatts)} milliwatts on average"
+    if board.battery is not None:
+        hours, of = run.hours(board.battery), f"from {plain(board.battery)} milliwatt hours"
+        yield f"no energy was used {of}" if hours is None else f"{rounded(hours)} hours {of}"

@@ -1,0 +1,71 @@
+"""The evaluation of Pillai and Shin (2001) with random sets: energy over utilisation, in tables.
+
+A sweep runs each set under each pair of scheduler and governor, on the machines and for the demands of the
+figures, and writes a table for each figure of docs/EVALUATION.md into the folder, of all results there. It
+leaves a file for each set, so a sweep that was stopped goes on when the call is made again. A file that was
+changed, or isn't whole, is named and made again. The last line counts what is wrong: a file of another set,
+an energy below the bound or above EDF with none.
+"""
+
+import argparse
+import sys
+from pathlib import Path
+
+from rtdvs._files import write_whole
+from rtdvs.cli.options import (
+    Commands, add_engine_options, add_parser, engine_of, exact_fraction, processes_of, progress, whole_number,
+)
+from rtdvs.studies import (
+    DRAWS, FIGURES, PUBLISHED_COUNTS, TENTHS, Sweep, broken, evaluate, faults, figure_table, finished,
+    read_records, shares, summary,
+)
+
+
+def add_command(commands: Commands) -> None:
+    """Adds the command `evaluate`.
+
+    >>> commands = argparse.ArgumentParser().add_subparsers()
+    >>> add_command(commands)
+    >>> list(commands.choices)
+    ['evaluate']
+    """
+    parser = add_parser(commands, "evaluate", _handle, "energy over utilisation, of random sets",
+                        "evaluate --folder sweep --jobs 4 --counts 5 --utilisations 0.1 0.2")
+    parser.add_argument("--folder", type=Path, required=True, help="where results and tables are kept")
+    parser.add_argument("--sets", type=whole_number(1, 999), default=100, metavar="N",
+                        help="for each number of tasks and each utilisation; 100 unless given")
+    parser.add_argument("--draws", choices=list(DRAWS), default="published", help="published unless given")
+    parser.add_argument("--counts", type=int, choices=PUBLISHED_COUNTS, nargs="+", default=PUBLISHED_COUNTS,
+                        help="the numbers of tasks; all unless given")
+    parser.add_argument("--utilisations", type=tenth, nargs="+", default=TENTHS, metavar="U",
+                        help="tenths from 0.1 to 1; all unless given")
+    add_engine_options(parser, jobs=True)
+
+
+def tenth(word: str) -> int:
+    """For argparse's `type`: a utilisation from 0.1 to 1.0, in tenths.
+
+    >>> tenth("0.7"), tenth("1")
+    (7, 10)
+    """
+    tenths = exact_fraction(word) * 10
+    if tenths not in TENTHS:
+        raise argparse.ArgumentTypeError(f"a utilisation is 0.1, 0.2 .. or 1, not {word}")
+    return int(tenths)
+
+
+def _handle(args: argparse.Namespace) -> int:
+    sweep = Sweep(args.draws, args.sets, counts=args.counts, tenths=args.utilisations)
+    total = len(set(args.counts)) * len(set(args.utilisations)) * args.sets
+    for line in broken(args.folder):
+        print(f"{line}; it is made again if the sweep has it", file=sys.stderr)
+    with processes_of(args) as executor:
+        for _ in progress(evaluate(engine_of(args), args.folder, sweep, executor), total, "sets"):
+            pass
+    records = read_records(args.folder, finished(args.folder))
+    found = shares(records)
+    for figure, panels in FIGURES.items():
+        write_whole(args.folder / f"{figure}.tsv", figure_table(panels, found))
+    wrong = [*broken(args.folder), *faults(records)]
+    print(*wrong, summary(records, wrong), sep="\n")
+    return 2 if wrong else 0

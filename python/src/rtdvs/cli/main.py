@@ -1,0 +1,143 @@
+"""Exact schedules and energies of periodic tasks with voltage scaling: tools beside the program rtdvs."""
+
+import argparse
+import os
+import signal
+import sys
+from collections.abc import Iterator, Sequence
+from contextlib import contextmanager
+from types import ModuleType
+
+from rtdvs.cli import (
+    compare, convert, design, evaluate, explain, generate, page, paper_table, per_task, plot, sensitivity,
+    serve, simulate,
+)
+from rtdvs.engine import end_calls, wait_for_calls
+from rtdvs.errors import RtdvsError
+
+SIGNALS = (signal.SIGINT, signal.SIGTERM, signal.SIGHUP)
+PERIOD = 0.25  # seconds after which a process that waits looks for signals again
+GRACE = 2.0  # seconds for an orderly end
+COMMANDS: tuple[ModuleType, ...] = (
+    explain, simulate, per_task, compare, sensitivity, generate, evaluate, paper_table, design, plot,
+    convert, page, serve,
+)
+
+
+def parser() -> argparse.ArgumentParser:
+    """The parser of all commands.
+
+    >>> parser().parse_args("generate published --count 5 --tenths 2 --number 1".split()).tenths
+    2
+    """
+    top = argparse.ArgumentParser(prog="python3 -m rtdvs", description=__doc__)
+    commands = top.add_subparsers(title="commands", metavar="COMMAND", required=True)
+    for module in COMMANDS:
+        module.add_command(commands)
+    return top
+
+
+def main(words: Sequence[str] | None = None) -> int:
+    """Runs a command and returns its exit status: 1 only for a wrong trace, 2 for any other failure.
+
+    After an interrupt it is 128 and the signal's number.
+
+    >>> main(["--foo"])
+    2
+    """
+    if sys.stderr is None:
+        sys.stderr = open(os.devnull, "w")
+    if sys.stdout is None:
+        return _refused("standard output is closed")
+    try:
+        status = _handled(words)
+        sys.stdout.flush()
+        return status
+    except BrokenPipeError:
+        return 2
+    except KeyboardInterrupt as end:
+        return 128 + int(end.args[0] if end.args else signal.SIGINT)
+    except OSError as fault:
+        return _refused(f"{fault.filename or 'input or output'}: {fault.strerror}")
+    except MemoryError:
+        return _refused("no memory")
+    except (RtdvsError, ValueError) as fault:
+        return _refused(str(fault))
+
+
+def _handled(words: Sequence[str] | None) -> int:
+    """The exit status of a command, or of argparse's own answer."""
+    try:
+        top = parser()
+        args = top.parse_args(words)
+        lists = (value if isinstance(value, list) else [value] for value in vars(args).values())
+        if sum(isinstance(value, bytes) for values in lists for value in values) > 1:
+            top.error("only one file can be standard input")
+        return int(args.handler(args))
+    except SystemExit as end:
+        return end.code if isinstance(end.code, int) else 0
+
+
+def _refused(line: str) -> int:
+    print(f"rtdvs: {line}", file=sys.stderr)
+    return 2
+
+
+@contextmanager
+def ended_by_signals() -> Iterator[None]:
+    """In the block a signal ends all programs and is a KeyboardInterrupt; a second one ends the process at once.
+
+    So does the end of two seconds, since an exception in a callback is lost. A signal that was ignored is so still.
+    An alarm comes again and again, since a signal just before a thread waits for a lock doesn't end the waiting.
+
+    >>> with ended_by_signals():
+    ...     signal.getsignal(signal.SIGTERM) is _interrupt
+    True
+    """
+    before = {number: signal.getsignal(number) for number in SIGNALS}
+    taken = [number for number in SIGNALS if before[number] is not signal.SIG_IGN]
+    try:
+        signal.signal(signal.SIGALRM, lambda *_: None)
+        signal.setitimer(signal.ITIMER_REAL, PERIOD, PERIOD)
+        for number in taken:
+            signal.signal(number, _interrupt)
+        yield
+    finally:
+        signal.setitimer(signal.ITIMER_REAL, 0)
+        for number in taken:
+            signal.signal(number, before[number])
+
+
+def _interrupt(number: int, frame: object) -> None:
+    for each in (*SIGNALS, signal.SIGALRM):
+        signal.signal(each, lambda *_: _leave(128 + number, PERIOD))
+    signal.setitimer(signal.ITIMER_REAL, GRACE, PERIOD)
+    end_calls()
+    raise KeyboardInterrupt(number)
+
+
+def _leave(status: int, grace: float) -> None:
+    """Ends the process. Its programs are waited for, at most that long; a call in this process isn't."""
+    wait_for_calls(grace)
+    os._exit(status)
+
+
+def entry() -> None:
+    """Ends the process with the status of its command line.
+
+    >>> from unittest.mock import patch
+    >>> with patch("sys.argv", ["rtdvs", "--foo"]):
+    ...     entry()
+    Traceback (most recent call last):
+    SystemExit: 2
+    """
+    with ended_by_signals():
+        status = main()
+        try:
+            sys.stdout.flush()
+        except (AttributeError, OSError):
+            # What is left can't be written, and the interpreter must not try it again.
+            os.dup2(os.open(os.devnull, os.O_WRONLY), 1)
+        if status > 128:
+            _leave(status, GRACE)
+    raise SystemExit(status)

@@ -1,0 +1,392 @@
+"""What the commands share: options, input, output and a progress bar."""
+
+import argparse
+import inspect
+import io
+import multiprocessing
+import os
+import re
+import signal
+import sys
+from collections.abc import Callable, Iterable, Iterator, Sequence
+from concurrent.futures import Executor, ProcessPoolExecutor, ThreadPoolExecutor
+from contextlib import AbstractContextManager, contextmanager
+from fractions import Fraction
+from pathlib import Path
+from threading import Thread
+from time import monotonic
+from typing import BinaryIO, TypeAlias, TypeVar
+
+from rtdvs._files import write_whole
+from rtdvs._numbers import whole
+from rtdvs.engine import Engine, TryEngine, find_engine, stop_calls
+from rtdvs.errors import BadValue, WordFault
+from rtdvs.model import MOST_TICKS, Demands, Machine, TaskSet, load
+from rtdvs.trace import Done, Trace
+
+Commands: TypeAlias = "argparse._SubParsersAction[argparse.ArgumentParser]"
+Item = TypeVar("Item")
+Input = Path | bytes
+"""A file's path, or what standard input held."""
+
+FILES = {
+    "tasks": "the task file",
+    "machine": "the machine file",
+    "demands": "the demand file: the work units of single jobs",
+    "deadlines": "the deadline file",
+    "requests": "the request file",
+    "trace": "the trace, in version 1 or 2",
+}
+BAR = 30
+SCHEDULERS, KINDS = ("edf", "rm"), ("none", "static", "cc", "la")
+
+
+# Options
+
+def add_parser(commands: Commands, name: str, handler: Callable[[argparse.Namespace], int], about: str,
+               example: str) -> argparse.ArgumentParser:
+    """Adds a command: its handler, whose docstring or its module's is the help, and calls as an example.
+
+    >>> commands = argparse.ArgumentParser(prog="rtdvs").add_subparsers()
+    >>> parser = add_parser(commands, "shout", lambda args: 0, "prints loudly", "shout --ticks 3")
+    >>> parser.epilog
+    'example:\\n  python3 -m rtdvs shout --ticks 3'
+    """
+    described = inspect.getdoc(handler) or sys.modules[handler.__module__].__doc__
+    calls = "".join(f"\n  python3 -m rtdvs {words}" for words in example.split("\n"))
+    parser = commands.add_parser(name, help=about, description=described, epilog=f"example:{calls}",
+                                 formatter_class=argparse.RawDescriptionHelpFormatter)
+    parser.set_defaults(handler=handler)
+    return parser
+
+
+def add_ticks(parser: argparse.ArgumentParser) -> None:
+    """Adds `--ticks`, the length of a run.
+
+    >>> parser = argparse.ArgumentParser()
+    >>> add_ticks(parser)
+    >>> parser.parse_args(["--ticks", "16"]).ticks
+    16
+    """
+    parser.add_argument("--ticks", type=whole_number(1, MOST_TICKS), required=True, metavar="N",
+                        help="the length of the run")
+
+
+def add_pair(parser: argparse.ArgumentParser, scheduler: str | None = None,
+             governor: str | None = None) -> None:
+    """Adds `--scheduler` and `--governor`, which are required without a default.
+
+    >>> parser = argparse.ArgumentParser()
+    >>> add_pair(parser, "edf")
+    >>> parser.parse_args(["--governor", "cc"])
+    Namespace(scheduler='edf', governor='cc')
+    """
+    for name, words, default in (("scheduler", SCHEDULERS, scheduler), ("governor", KINDS, governor)):
+        parser.add_argument(f"--{name}", choices=words, default=default, required=default is None,
+                            help=default and f"{default} unless given")
+
+
+def add_files(parser: argparse.ArgumentParser, required: Sequence[str], optional: Sequence[str] = ()) -> None:
+    """Adds options for files, each an Input: tasks, machine, demands, deadlines, requests, trace.
+
+    >>> parser = argparse.ArgumentParser()
+    >>> add_files(parser, ["tasks"], ["demands"])
+    >>> parser.parse_args(["--tasks", "a.toml"])
+    Namespace(tasks=PosixPath('a.toml'), demands=None)
+    """
+    for kind in (*required, *optional):
+        about, needed = f"{FILES[kind]}; - is standard input", kind in required
+        parser.add_argument(f"--{kind}", type=input_path, required=needed, metavar="FILE", help=about)
+
+
+def add_output(parser: argparse.ArgumentParser) -> None:
+    """Adds `--output FILE`; without it a command prints.
+
+    >>> parser = argparse.ArgumentParser()
+    >>> add_output(parser)
+    >>> parser.parse_args(["--output", "cc.svg"]).output
+    PosixPath('cc.svg')
+    """
+    parser.add_argument("--output", type=Path, metavar="FILE", help="write to this file, and print nothing")
+
+
+def add_engine_options(parser: argparse.ArgumentParser, jobs: bool = False) -> None:
+    """Adds `--program` and `--timeout` (seconds), and with `jobs` also `--jobs`, the number of calls at a time.
+
+    >>> parser = argparse.ArgumentParser()
+    >>> add_engine_options(parser, jobs=True)
+    >>> parser.parse_args(["--timeout", "0.5", "--jobs", "4"])
+    Namespace(program=None, timeout=0.5, jobs=4)
+    """
+    about = "the program rtdvs or its library librtdvs.so; without it that of $RTDVS, a built one, or rtdvs on the path"
+    parser.add_argument("--program", type=Path, metavar="FILE", help=about)
+    parser.add_argument("--timeout", type=seconds, metavar="SECONDS", help="the longest that a call may take")
+    if jobs:
+        parser.add_argument("--jobs", type=whole_number(1, 1024), default=1, metavar="N",
+                            help="calls of the program at a time (default: 1)")
+
+
+def whole_number(least: int = 0, most: int | None = None) -> Callable[[str], int]:
+    """For argparse's `type`: decimal digits without sign or leading zero, within the bounds.
+
+    >>> whole_number(1)("16")
+    16
+    >>> whole_number(1)("016")
+    Traceback (most recent call last):
+    argparse.ArgumentTypeError: a whole number from 1 on, not 016
+    """
+    def number(word: str) -> int:
+        try:
+            return whole(word, least, most)
+        except WordFault as fault:
+            raise argparse.ArgumentTypeError(str(fault)) from None
+
+    return number
+
+
+def exact_fraction(word: str) -> Fraction:
+    """For argparse's `type`: a decimal or a fraction, exactly.
+
+    >>> exact_fraction("0.7"), exact_fraction("5/7")
+    (Fraction(7, 10), Fraction(5, 7))
+    """
+    if not re.fullmatch(r"[0-9]{1,99}(\.[0-9]{1,99}|/0*[1-9][0-9]{0,99})?", word):
+        raise argparse.ArgumentTypeError(f"a number such as 0.7 or 7/10, not {word}")
+    return Fraction(word)
+
+
+def seconds(word: str) -> float:
+    """For argparse's `type`: a time above 0 in seconds.
+
+    >>> seconds("0.5")
+    0.5
+    """
+    time = exact_fraction(word)
+    if not 0 < time <= 10**6:
+        raise argparse.ArgumentTypeError(f"seconds above 0 and at most 1000000, not {word}")
+    return float(time)
+
+
+# Input and output
+
+def input_path(word: str) -> Input:
+    """The path that a word names; `-` is standard input, which is read to its end. For argparse's `type`.
+
+    >>> input_path("tasks.toml")
+    PosixPath('tasks.toml')
+    """
+    if word == "":
+        raise argparse.ArgumentTypeError("a file's name, not an empty word")
+    if word == "-" and sys.stdin is None:
+        raise argparse.ArgumentTypeError("standard input is closed")
+    return sys.stdin.buffer.read() if word == "-" else Path(word)
+
+
+def read_tasks(args: argparse.Namespace) -> TaskSet:
+    """The task set of `--tasks`; raises Refused and OSError.
+
+    >>> read_tasks(argparse.Namespace(tasks=b"")).tasks
+    Traceback (most recent call last):
+    rtdvs.errors.FileRefused: tasks: no tasks
+    """
+    return TaskSet.parse(_content(args.tasks))
+
+
+def read_machine(args: argparse.Namespace) -> Machine:
+    """The machine of `--machine`; raises Refused and OSError.
+
+    >>> read_machine(argparse.Namespace(machine=b"[[point]]\\nspeed = 2\\nmillivolts = 900")).points
+    (Point(speed=2, millivolts=900),)
+    """
+    return Machine.parse(_content(args.machine))
+
+
+def read_demands(args: argparse.Namespace, tasks: TaskSet) -> Demands | None:
+    """The demands of `--demands`, or None without that option; raises Refused and OSError.
+
+    >>> from rtdvs.model import Task
+    >>> read_demands(argparse.Namespace(demands=b"task,job,units\\na,1,2\\n"), TaskSet((Task("a", 4, 3),)))
+    Demands(units={('a', 1): 2})
+    """
+    return None if args.demands is None else Demands.parse(_content(args.demands), tasks)
+
+
+def read_files(args: argparse.Namespace) -> tuple[TaskSet, Machine, Demands | None]:
+    """The contents of a task file, a machine file and a demand file; raises Refused, OSError.
+
+    >>> files = {"tasks": b'task = [{ name = "a", period = 4, worst = 3 }]', "demands": None}
+    >>> machine = b"[[point]]\\nspeed = 2\\nmillivolts = 900"
+    >>> read_files(argparse.Namespace(machine=machine, **files))[2] is None
+    True
+    """
+    tasks = read_tasks(args)
+    return tasks, read_machine(args), read_demands(args, tasks)
+
+
+def _content(source: Input) -> bytes:
+    return source if isinstance(source, bytes) else load(source)
+
+
+def open_input(source: Input) -> AbstractContextManager[BinaryIO]:
+    """The file, or what standard input held, to be read line by line; raises OSError.
+
+    >>> with open_input(b"trace 2\\n") as file:
+    ...     next(file)
+    b'trace 2\\n'
+    """
+    return io.BytesIO(source) if isinstance(source, bytes) else source.open("rb")
+
+
+def read_text(source: Input, kind: str) -> str:
+    """All of the input as text; raises OSError, and a BadValue that begins with the kind if it isn't UTF-8.
+
+    >>> read_text(b"\\xff", "trace")
+    Traceback (most recent call last):
+    rtdvs.errors.BadValue: trace: not UTF-8
+    """
+    with open_input(source) as file:
+        content = file.read()
+    try:
+        return content.decode("utf-8")
+    except UnicodeDecodeError:
+        raise BadValue(f"{kind}: not UTF-8") from None
+
+
+def read_trace(args: argparse.Namespace) -> tuple[Trace, int]:
+    """The trace of `--trace`, and the charge of `--charge` or `--machine`, or 0; raises OSError.
+
+    Raises TraceFault if the trace isn't one of the files of `--tasks` and `--machine`, if these are given, and
+    BadValue for a machine without any tasks.
+
+    >>> from rtdvs.trace import SAMPLE
+    >>> tasks = b'task = [{ name = "t", period = 3, worst = 4 }]'
+    >>> read_trace(argparse.Namespace(trace=SAMPLE.encode(), tasks=tasks, machine=None, charge=1))
+    Traceback (most recent call last):
+    rtdvs.errors.TraceFault: line 3: its tasks aren't those of the task file
+    """
+    trace = Trace.parse(read_text(args.trace, "trace"))
+    machine = None if args.machine is None else read_machine(args)
+    if args.tasks is not None:
+        trace.belongs_to(read_tasks(args), machine)
+    elif machine is not None and not trace.tasks:
+        raise BadValue("--machine needs --tasks: a trace of version 1 doesn't name its tasks")
+    elif machine is not None:
+        trace.belongs_to(TaskSet(trace.tasks), machine)
+    return trace, args.charge if args.charge is not None else machine.charge if machine else 0
+
+
+def note_charge(trace: Trace, charge: int) -> None:
+    """Prints a note on standard error if a job used more units than declared: then the machine's charge differs.
+
+    >>> tasks = "trace 2\\nplan edf none 2\\ntask a 2 0 1\\n"
+    >>> run = "release 0 a 1\\nspeed 0 1 1/1\\nrun 0:0 1:0 a 1 1 1\\ndone 1:0 a 1 1\\nidle 1:0 2:0 1 0\\n"
+    >>> note_charge(Trace.parse(f"{tasks}{run}energy a 1\\nend 2 1 0\\n"), charge=0)
+    """
+    most = {task.name: task.worst + 2 * charge for task in trace.tasks}
+    for note in trace.notes:
+        if isinstance(note, Done) and note.used > most.get(note.task, note.used):
+            print(f"note: {note.task} job {note.job} used {note.used} of {most[note.task]} declared units: "
+                  "give the machine's charge by --charge", file=sys.stderr)
+            return
+
+
+def write_output(args: argparse.Namespace, text: str | bytes) -> None:
+    """Writes the file of `--output`, which is as before if that fails, or to standard output; raises OSError.
+
+    >>> write_output(argparse.Namespace(output=Path("/dev/null")), "trace 2\\n")
+    """
+    if args.output is not None:
+        write_whole(args.output, text)
+        return
+    sys.stdout.flush()
+    sys.stdout.buffer.write(text.encode("utf-8") if isinstance(text, str) else text)
+
+
+# Calls
+
+def engine_of(args: argparse.Namespace) -> Engine:
+    """The engine of `--program` and `--timeout` (seconds); raises NoEngine.
+
+    >>> engine_of(argparse.Namespace(program=Path("/absent/rtdvs"), timeout=None))
+    Traceback (most recent call last):
+    rtdvs.errors.NoEngine: /absent/rtdvs: no such program
+    """
+    engine = find_engine(args.program, args.timeout)
+    if isinstance(engine, TryEngine) and sys.stderr.isatty():
+        print("no built program, so rt try compiles one; it takes a minute", file=sys.stderr)
+    return engine
+
+
+@contextmanager
+def executor_of(args: argparse.Namespace) -> Iterator[Executor]:
+    """Makes `--jobs` calls at a time, for `engine.answers(calls, executor)` in a `with` block.
+
+    If the block isn't left at its end, the programs that run are ended, and no call is waited for.
+
+    >>> with executor_of(argparse.Namespace(jobs=2)) as executor:
+    ...     [*executor.map(abs, [1, -2])]
+    [1, 2]
+    """
+    executor = ThreadPoolExecutor(args.jobs)
+    try:
+        yield executor
+    except BaseException:
+        executor.shutdown(wait=False, cancel_futures=True)
+        stop_calls()
+        raise
+    executor.shutdown()
+
+
+@contextmanager
+def processes_of(args: argparse.Namespace) -> Iterator[Executor]:
+    """As executor_of, with `--jobs` processes, which end with this one.
+
+    >>> with processes_of(argparse.Namespace(jobs=1)) as executor:
+    ...     [*executor.map(abs, [1, -2])]
+    [1, 2]
+    """
+    executor = ProcessPoolExecutor(args.jobs, initializer=_follow_the_first)
+    try:
+        yield executor
+    except BaseException:
+        for process in multiprocessing.active_children():
+            process.kill()
+        executor.shutdown(wait=False, cancel_futures=True)
+        raise
+    executor.shutdown()
+
+
+def _follow_the_first() -> None:
+    """Makes a process of a pool end with the one that started it, which alone takes an interrupt."""
+    signal.signal(signal.SIGINT, signal.SIG_IGN)
+    for number in (signal.SIGTERM, signal.SIGHUP):
+        signal.signal(number, signal.SIG_DFL)
+    Thread(target=_end_with_parent, daemon=True).start()
+
+
+def _end_with_parent() -> None:
+    parent = multiprocessing.parent_process()
+    if parent is not None:
+        parent.join()
+        os._exit(1)
+
+
+def progress(items: Iterable[Item], total: int, label: str) -> Iterator[Item]:
+    """The items, with a bar on standard error while they come, if that is a terminal.
+
+    >>> [*progress("abc", 3, "letters")]
+    ['a', 'b', 'c']
+    """
+    if not sys.stderr.isatty():
+        yield from items
+        return
+    shown = 0.0
+    try:
+        for count, item in enumerate(items, 1):
+            if monotonic() - shown > 0.1:
+                shown = monotonic()
+                bar = "#" * (BAR * count // max(total, count))
+                print(f"\r{label} [{bar:{BAR}}] {count}/{total}", end="", file=sys.stderr, flush=True)
+            yield item
+    finally:
+        print("\r\x1b[K", end="", file=sys.stderr, flush=True)

@@ -1,0 +1,89 @@
+"""Pictures of traces, of comparisons and of the evaluation, by matplotlib.
+
+Each is drawn into the caller's axes or into a file: SVG, PDF or PNG, by its name. A picture has no
+background, and colours that can be read on white and on dark.
+"""
+
+import argparse
+import sys
+from collections.abc import Callable
+from pathlib import Path
+
+from rtdvs.cli.options import (
+    Commands, add_engine_options, add_files, add_parser, add_ticks, engine_of, input_path, note_charge,
+    read_demands, read_machine, read_tasks, read_text, read_trace, whole_number,
+)
+from rtdvs.errors import BadValue
+from rtdvs.plot import View, parse_means, save_compare, save_means, save_trace
+from rtdvs.studies import compare
+
+
+def add_command(commands: Commands) -> None:
+    """Adds the command `plot`.
+
+    >>> commands = argparse.ArgumentParser().add_subparsers()
+    >>> add_command(commands)
+    >>> list(commands.choices)
+    ['plot']
+    """
+    parser = add_parser(commands, "plot", _handle, "pictures of traces, of comparisons and of the evaluation",
+                        "plot trace --trace paper.trace --top 4 --output paper.svg\n"
+                        "plot compare --tasks tasks.toml --machine machine.toml --ticks 99 --output a.pdf\n"
+                        "plot evaluation --table examples/evaluation/tasks.tsv --output tasks.svg")
+    kinds = parser.add_subparsers(metavar="PICTURE", required=True)
+    trace = kinds.add_parser("trace", help="a trace, task by task, with the speed and the demand")
+    add_files(trace, ("trace",), ("tasks", "machine"))
+    for option, least, text in (("--from", 0, "the first tick"), ("--to", 1, "the last tick"),
+                                ("--top", 1, "the speed of full height; the fastest by default"),
+                                ("--charge", 0, "the machine's charge, which a trace doesn't name"),
+                                ("--width", 1, "pixels; 1000 by default")):
+        trace.add_argument(option, type=whole_number(least), metavar="N", help=text)
+    _add_file(trace, _run_trace)
+    pairs = kinds.add_parser("compare", help="the energy of each pair, and its time at each speed")
+    add_files(pairs, ("tasks", "machine"), ("demands",))
+    add_ticks(pairs)
+    add_engine_options(pairs)
+    _add_file(pairs, _run_compare)
+    means = kinds.add_parser("evaluation", help="a table of the evaluation")
+    means.add_argument("--table", type=input_path, required=True, metavar="FILE", help="the table")
+    means.add_argument("--columns", type=whole_number(1), default=3, metavar="N",
+                       help="panels in a row; 3 by default")
+    _add_file(means, _run_means)
+
+
+def _add_file(parser: argparse.ArgumentParser, draw: Callable[[argparse.Namespace], None]) -> None:
+    parser.add_argument("--output", type=Path, required=True, metavar="FILE",
+                        help="the picture: .svg, .pdf or .png")
+    parser.add_argument("--background", default="none", metavar="COLOUR", help="none by default")
+    parser.set_defaults(draw=draw)
+
+
+def _handle(args: argparse.Namespace) -> int:
+    try:
+        from matplotlib.colors import is_color_like
+
+        if not is_color_like(args.background):
+            raise BadValue(f"no colour: {args.background}")
+        args.draw(args)
+    except ModuleNotFoundError as error:
+        print(f"plot: {error.name} is not installed; it is python3-matplotlib of Debian, matplotlib of PyPI",
+              file=sys.stderr)
+        return 2
+    return 0
+
+
+def _run_trace(args: argparse.Namespace) -> None:
+    trace, charge = read_trace(args)
+    view = View(getattr(args, "from") or 0, args.to, args.top, charge)
+    note_charge(trace, view.charge)
+    save_trace(trace, args.output, view, args.width or 1000, args.background)
+
+
+def _run_compare(args: argparse.Namespace) -> None:
+    tasks = read_tasks(args)
+    rows = compare(engine_of(args), tasks, read_machine(args), args.ticks, read_demands(args, tasks))
+    save_compare(rows, args.output, args.background)
+
+
+def _run_means(args: argparse.Namespace) -> None:
+    save_means(parse_means(read_text(args.table, "table")), args.output, args.columns, args.background)

@@ -1,0 +1,35 @@
+"""Serves the page of a trace with an editor, for a browser on this machine.
+
+Each change of the tasks, the machine, the demands or the run calls the program, and the schedule is drawn
+again. What the program refuses is shown at the field, in its words. The address carries the whole example.
+
+It listens on 127.0.0.1 only, and answers only requests for that host and from its own pages. A run has at
+most 10,000 jobs; 4 calls are made at a time, each for at most 10 seconds. Ctrl and C end it.
+"""
+
+import argparse
+from dataclasses import replace
+
+from rtdvs.cli.options import Commands, add_engine_options, add_parser, engine_of, whole_number
+from rtdvs.engine import TryEngine
+from rtdvs.web import HOST, LONGEST_CALL, LONGEST_TRY, PORT, PageServer
+
+
+def _handle(args: argparse.Namespace) -> int:
+    args.timeout = args.timeout or LONGEST_CALL
+    engine = engine_of(args)
+    if isinstance(engine, TryEngine):
+        engine = replace(engine, timeout=LONGEST_TRY)
+    with PageServer(args.port, engine) as server:
+        print(f"http://{HOST}:{server.port}/ for browsers on this machine only; Ctrl and C end it", flush=True)
+        server.serve_forever()
+    return 0
+
+
+def add_command(commands: Commands) -> None:
+    """Adds the command `serve`."""
+    parser = add_parser(commands, "serve", _handle, "serve a page with an editor for a browser on this machine",
+                        "serve --port 8080")
+    parser.add_argument("--port", type=whole_number(0, 65535), default=PORT, metavar="N",
+                        help=f"the port of 127.0.0.1; 0 is a free one (default: {PORT})")
+    add_engine_options(parser)

@@ -1,0 +1,62 @@
+"""Calls of the program, by a process, by the shared library, or by `rt try`."""
+
+from rtdvs.engine.answers import (
+    Admitted, Constrained, GovernorTotals, Least, Polled, Replayed, Service, parse_admitted,
+    parse_constrained, parse_least, parse_polled, parse_replayed, parse_responses, parse_trace, parse_workload,
+)
+from rtdvs.engine.calls import (
+    Answer, Call, DeadlineSource, DemandSource, MachineSource, RequestSource, Source, TaskSource, TraceSource, Word,
+    admit_call, constrain_call, least_call, migrate_call, poll_call, replay_call, response_call, run_call, workload_call,
+)
+from rtdvs.engine.engine import CRATE, Engine, LibraryEngine, TryEngine, find_engine
+from rtdvs.engine.library import Lengths, answer, main, opened
+from rtdvs.engine.process import end_calls, stop_calls, wait_for_calls
+
+__all__ = [
+    "Admitted",
+    "Answer",
+    "CRATE",
+    "Call",
+    "Constrained",
+    "DeadlineSource",
+    "DemandSource",
+    "Engine",
+    "GovernorTotals",
+    "Least",
+    "Lengths",
+    "LibraryEngine",
+    "MachineSource",
+    "Polled",
+    "Replayed",
+    "RequestSource",
+    "Service",
+    "Source",
+    "TaskSource",
+    "TraceSource",
+    "TryEngine",
+    "Word",
+    "admit_call",
+    "answer",
+    "constrain_call",
+    "end_calls",
+    "find_engine",
+    "least_call",
+    "main",
+    "migrate_call",
+    "opened",
+    "parse_admitted",
+    "parse_constrained",
+    "parse_least",
+    "parse_polled",
+    "parse_replayed",
+    "parse_responses",
+    "parse_trace",
+    "parse_workload",
+    "poll_call",
+    "replay_call",
+    "response_call",
+    "run_call",
+    "stop_calls",
+    "wait_for_calls",
+    "workload_call",
+]

@@ -1,0 +1,211 @@
+"""Programs that end with their caller.
+
+Each program is in the process group of a guard: a shell that waits for the end of a pipe from this process. An
+exception, a signal or a crash closes the pipe; the guard then removes the call's folder and ends the group, with all
+that the program started. A guard of a call that ended is used again.
+"""
+
+import atexit
+import os
+import secrets
+import signal
+from collections.abc import Iterator, Sequence
+from contextlib import contextmanager, suppress
+from dataclasses import dataclass
+from io import FileIO
+from pathlib import Path
+from shutil import rmtree
+from subprocess import DEVNULL, PIPE, Popen, TimeoutExpired
+from tempfile import gettempdir
+from time import monotonic, sleep
+
+from rtdvs.engine.calls import Answer
+from rtdvs.errors import Crashed, NoEngine, SystemFault, TimedOut
+
+GUARD = """trap '' HUP INT QUIT TERM
+cd /
+folder=
+while IFS= read -r line; do folder=$line; done
+if [ -e "$folder" ]; then
+    kill -TERM 0
+    /bin/rm -rf -- "$folder"
+    sleep 0.1
+fi
+kill -KILL 0"""
+"""The last line also ends what ignores the first signal, or was only just put into the group."""
+
+
+@dataclass(eq=False, slots=True)
+class Guard:
+    """A process group that ends when `line` is closed, and the folder of its call, which goes with it.
+
+    >>> with guarded() as guard:
+    ...     guard.folder.is_dir()
+    True
+    """
+
+    group: int
+    line: FileIO
+    folder: Path
+
+
+RUNNING: set[Guard] = set()
+IDLE: list[Guard] = []
+ENDED: list[bool] = []
+"""Of this process: guards of calls, guards that are free, and whether it makes no more calls."""
+
+
+@contextmanager
+def guarded() -> Iterator[Guard]:
+    """A guard for one call, whose folder is there until the call ends; raises SystemFault.
+
+    If the block isn't left at its end, the group is killed.
+
+    >>> with guarded() as guard:
+    ...     (guard.folder / "0").write_bytes(b"idle = 1")
+    8
+    >>> guard.folder.exists()
+    False
+    """
+    guard = _taken()
+    RUNNING.add(guard)
+    try:
+        if ENDED:
+            raise Crashed("this process makes no more calls")
+        with _refusals():
+            guard.line.write(os.fsencode(guard.folder) + b"\n")
+            guard.folder.mkdir(0o700)
+            yield guard
+        rmtree(guard.folder, ignore_errors=True)
+    except BaseException:
+        _end(guard)
+        raise
+    finally:
+        RUNNING.discard(guard)
+    if guard.folder.exists():
+        _end(guard)
+    else:
+        IDLE.append(guard)
+
+
+def stop_calls() -> None:
+    """Ends all programs that run for this process. It waits for nothing, so a signal's handler may call it."""
+    for guard in [*RUNNING, *IDLE]:
+        guard.line.close()
+
+
+def end_calls() -> None:
+    """As stop_calls, and this process then makes no more calls: it is about to end."""
+    ENDED.append(True)
+    stop_calls()
+
+
+def wait_for_calls(seconds: float) -> None:
+    """Waits until no program runs for this process and no folder of a call is left, at most that long."""
+    end = monotonic() + seconds
+    while RUNNING and monotonic() < end:
+        sleep(0.005)
+
+
+def program_answer(words: Sequence[str], guard: Guard, timeout: float | None, folder: Path | None = None) -> Answer:
+    """What a program leaves that runs in the guard's group, and in that folder.
+
+    Raises NoEngine for what is no program, SystemFault, and TimedOut after that many seconds.
+
+    >>> with guarded() as guard:
+    ...     program_answer(["sh", "-c", "echo 3; exit 1"], guard, timeout=60)
+    Answer(status=1, out=b'3\\n', notes=b'')
+    """
+    try:
+        process = Popen(words, stdin=DEVNULL, stdout=PIPE, stderr=PIPE, process_group=guard.group, cwd=folder)
+    except OSError as error:
+        if error.filename is None:
+            raise
+        raise NoEngine(f"{words[0]}: {error.strerror}") from None
+    with process:
+        try:
+            if guard.line.closed:  # then the guard may have ended its group before this one was in it
+                process.kill()
+            out, notes = process.communicate(timeout=timeout)
+        except TimeoutExpired as late:
+            raise TimedOut(late.timeout) from None
+        finally:
+            if process.returncode is None:
+                guard.line.close()
+                process.kill()
+    return Answer(process.wait(), out, notes)
+
+
+@contextmanager
+def _refusals() -> Iterator[None]:
+    """An OSError of the system becomes a SystemFault."""
+    try:
+        yield
+    except OSError as error:
+        raise SystemFault(error.filename or "a call of the program", error.strerror) from None
+
+
+def _taken() -> Guard:
+    """A guard that is free and lives still, or a new one."""
+    with suppress(IndexError):
+        while True:
+            guard = IDLE.pop()
+            if _lives(guard):
+                guard.folder = _new_name()
+                return guard
+            guard.line.close()
+    with _refusals():
+        return _started()
+
+
+def _new_name() -> Path:
+    return Path(gettempdir(), f"rtdvs-{secrets.token_hex(8)}")
+
+
+def _started() -> Guard:
+    """A new guard. Its group is there when this returns, so a program can be put into it."""
+    folder = _new_name()
+    end, line = os.pipe()
+    try:
+        given = [(os.POSIX_SPAWN_DUP2, end, 0), *((os.POSIX_SPAWN_OPEN, stream, os.devnull, os.O_WRONLY, 0)
+                                                  for stream in (1, 2))]
+        group = os.posix_spawn("/bin/sh", ["sh", "-c", GUARD], os.environ, file_actions=given, setpgroup=0)
+    except BaseException:
+        os.close(line)
+        raise
+    finally:
+        os.close(end)
+    return Guard(group, FileIO(line, "w"), folder)
+
+
+def _lives(guard: Guard) -> bool:
+    try:
+        return os.waitpid(guard.group, os.WNOHANG) == (0, 0) and not guard.line.closed
+    except ChildProcessError:
+        return False
+
+
+def _end(guard: Guard) -> None:
+    """Removes a guard's folder and ends its group. If this is interrupted, the guard does it."""
+    guard.line.close()
+    rmtree(guard.folder, ignore_errors=True)
+    with suppress(ChildProcessError):
+        if guard.folder.exists():  # a process without free descriptors can't remove it, but its guard can
+            os.waitid(os.P_PID, guard.group, os.WEXITED | os.WNOWAIT)
+    with suppress(ProcessLookupError, PermissionError):
+        os.killpg(guard.group, signal.SIGKILL)
+    with suppress(ChildProcessError):
+        while True:
+            os.waitpid(-guard.group, 0)
+
+
+def _forget() -> None:
+    """A forked process has no part in the calls of the one that it is from."""
+    for guard in [*RUNNING, *IDLE]:
+        guard.line.close()
+    RUNNING.clear()
+    IDLE.clear()
+
+
+atexit.register(end_calls)
+os.register_at_fork(after_in_child=_forget)

@@ -1,0 +1,14 @@
+"""Traces for other tools: trace events for Chrome and Perfetto, waves for GTKWave.
+
+A tick is a microsecond. Energies are whole numbers.
+"""
+
+from rtdvs.export._time import millionths
+from rtdvs.export.chrome import events_text
+from rtdvs.export.vcd import vcd_text
+
+__all__ = [
+    "events_text",
+    "millionths",
+    "vcd_text",
+]

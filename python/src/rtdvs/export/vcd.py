@@ -1,0 +1,64 @@
+"""Traces as waves, for GTKWave."""
+
+from collections.abc import Iterator, Sequence
+from itertools import chain, groupby
+from operator import itemgetter
+
+from rtdvs._numbers import significant
+from rtdvs.export._time import MILLION, millionths
+from rtdvs.trace import REALS, Decision, Done, Idle, Release, Run, Trace
+
+
+def vcd_text(trace: Trace) -> str:
+    """A trace as a value change dump, for GTKWave, PulseView and sigrok, in picoseconds.
+
+    A task `t1` has the wires `t1`, which is 1 while it runs, and `t1/open`, from a job's release until its
+    end. Beside them are idle time, the number of the job that runs (0 if none), the speed, the published
+    demand and the energy so far, to 15 digits. These numbers are reals: libsigrok reads no further than a
+    vector of several bits.
+
+    >>> from rtdvs.trace import SAMPLE
+    >>> vcd_text(Trace.parse(SAMPLE)).splitlines()[-3:]
+    ['1r0', '#2000000', 'r6000 e']
+    """
+    moments = groupby(_changes(trace), itemgetter(0))
+    changes = ([f"#{time}", *(line for _, line in moment)] for time, moment in moments)
+    return "".join(f"{line}\n" for line in chain(_definitions(trace.names), *changes))
+
+
+def _definitions(names: Sequence[str]) -> Iterator[str]:
+    yield from ("$timescale 1 ps $end", "$var wire 1 r0 idle $end")
+    yield from (f"$var real 64 {letter} {name} $end" for letter, name in REALS.items())
+    yield "$scope module tasks $end"
+    for number, name in enumerate(names, 1):
+        yield from (f"$var wire 1 r{number} {name} $end", f"$var wire 1 o{number} {name}/open $end")
+    yield from ("$upscope $end", "$enddefinitions $end")
+
+
+def _initial(tasks: int) -> Iterator[str]:
+    """Each wire's value at tick 0, which is idle."""
+    yield from ("$dumpvars", "1r0", *(f"r0 {letter}" for letter in REALS))
+    for number in range(1, tasks + 1):
+        yield from (f"0r{number}", f"0o{number}")
+    yield "$end"
+
+
+def _changes(trace: Trace) -> Iterator[tuple[int, str]]:
+    """The changes of the wires, each with its time."""
+    wires = {name: number for number, name in enumerate(("", *trace.names))}
+    running = spent = 0
+    yield from ((0, line) for line in _initial(len(trace.names)))
+    for note, speed in trace.at_speeds():
+        if isinstance(note, Release):
+            yield note.tick * MILLION, f"1o{wires[note.task]}"
+        elif isinstance(note, Decision):
+            yield note.tick * MILLION, f"r{note.speed} s"
+            yield note.tick * MILLION, f"r{significant(note.num, note.den, 9)} d"
+        elif isinstance(note, Done):
+            yield millionths(note.at, speed), f"0o{wires[note.task]}"
+        elif isinstance(note, Run | Idle):
+            wire, job = (wires[note.task], note.job) if isinstance(note, Run) else (0, 0)
+            switch = (f"0r{running}", f"1r{wire}") if wire != running else ()
+            running, spent = wire, spent + note.energy
+            yield from ((millionths(note.begin, speed), line) for line in (f"r{job} j", *switch))
+            yield millionths(note.end, speed), f"r{significant(spent, 1, 15)} e"

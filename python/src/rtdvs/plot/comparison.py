@@ -1,0 +1,80 @@
+"""Pictures of comparisons."""
+
+from collections.abc import Mapping, Sequence
+from fractions import Fraction
+from pathlib import Path
+from typing import TYPE_CHECKING
+
+from rtdvs._numbers import decimal
+from rtdvs.plot._style import INK, POINT, SMALL, TEXT, bare, legend, new_figure, patch, save, settings, words
+from rtdvs.studies import Row
+
+if TYPE_CHECKING:
+    from matplotlib.axes import Axes
+
+ENERGY, BOUND, TIME = "#d55e00", "#009e73", "#0072b2"
+
+
+def plot_compare(rows: Sequence[Row], energy: "Axes", time: "Axes") -> None:
+    """Draws a comparison into two axes: energies as shares of EDF with `none`, and the time at each speed.
+
+    A mark is at the bound for the row's units. A pair that is denied has its line in place of a bar.
+
+    >>> energy, time = new_figure(96, 96).subplots(2)
+    >>> plot_compare([Row("rm", "cc", None, "denied rm y 7 6")], energy, time)
+    >>> energy.texts[0].get_text()
+    'denied rm y 7 6'
+    """
+    for axes, title in ((energy, "energy, as a share of EDF none; the mark is the bound"),
+                        (time, "time at speed")):
+        bare(axes, "x")
+        axes.set_title(title, loc="left", fontsize=SMALL, color=INK)
+        axes.set(xlim=(0, 1), ylim=(len(rows) - 0.5, -0.5), yticks=[])
+        axes.set_xticks([0, 0.25, 0.5, 0.75, 1], ["0.00", "0.25", "0.50", "0.75", "1.00"], fontsize=SMALL)
+    energy.set_yticks(range(len(rows)), [f"{row.scheduler.upper()} {row.governor}" for row in rows],
+                      fontsize=TEXT)
+    speeds = sorted({speed for row in rows if row.result for speed in row.result.residency})
+    shades = {speed: 0.7 if len(speeds) == 1 else 0.3 + 0.6 * place / (len(speeds) - 1)
+              for place, speed in enumerate(speeds)}
+    for place, row in enumerate(rows):
+        _draw_energy(energy, place, row)
+        _draw_times(time, place, row, shades)
+    legend(time, [patch(str(speed), TIME, shade) for speed, shade in shades.items()], max(1, len(shades)),
+           loc="lower right", bbox_to_anchor=(1, 1), handlelength=1, columnspacing=1, borderpad=0)
+
+
+def save_compare(rows: Sequence[Row], path: Path, background: str = "none") -> None:
+    """Draws a comparison into a file, as SVG, PDF or PNG by its name; raises BadValue, OSError.
+
+    >>> save_compare([Row("rm", "cc", None, "denied rm y 7 6")], Path("a.gif"))
+    Traceback (most recent call last):
+    rtdvs.errors.BadValue: a picture is a file .svg, .pdf or .png, and not a.gif
+    """
+    with settings():
+        high = 24 * len(rows) + 70
+        figure = new_figure(810, high)
+        low, tall = 30 / high, 24 * len(rows) / high
+        plot_compare(rows, *(figure.add_axes((left / 810, low, 300 / 810, tall)) for left in (90, 480)))
+        save(figure, path, background)
+
+
+def _draw_energy(axes: "Axes", place: int, row: Row) -> None:
+    if row.result is None or row.result.share is None:
+        words(axes, 0.02, place, row.refusal or "no share", va="center")
+        return
+    share, pair = row.result.share, f"{row.scheduler}-{row.governor}"
+    axes.barh(place, float(share), height=2 / 3, color=ENERGY, alpha=0.75, gid=f"energy-{pair}")
+    words(axes, float(share) + 0.013, place, decimal(share, 3), va="center")
+    if row.result.above_bound is not None:
+        axes.vlines(float(share / (1 + row.result.above_bound)), place - 0.42, place + 0.42, color=BOUND,
+                    linewidth=3 * POINT, zorder=3, gid=f"bound-{pair}")
+
+
+def _draw_times(axes: "Axes", place: int, row: Row, shades: Mapping[int, float]) -> None:
+    begin = Fraction(0)
+    for speed, shade in shades.items():
+        time = row.result.residency.get(speed, Fraction(0)) if row.result else Fraction(0)
+        if time:
+            axes.barh(place, float(time), left=float(begin), height=2 / 3, color=TIME, alpha=shade,
+                      linewidth=0)
+        begin += time

@@ -1,0 +1,425 @@
+"""Pictures of traces, by matplotlib.
+
+Each is drawn into the caller's axes or into a file: SVG, PDF or PNG, by its name. A picture has no
+background, and colours that can be read on white and on dark.
+"""
+
+import math
+from collections.abc import Iterable, Sequence
+from dataclasses import dataclass
+from fractions import Fraction
+from functools import cached_property, partial
+from pathlib import Path
+from typing import TYPE_CHECKING, Any
+
+from rtdvs._numbers import readable, short
+from rtdvs.errors import BadValue
+from rtdvs.plot._style import (
+    INK, PIXEL, POINT, SMALL, TEXT, TITLE, bare, beside, drawn, legend, new_figure, patch, save, settings, sign,
+    words,
+)
+from rtdvs.plot._thinning import (
+    Bar, Completion, bars, by_task, completions, join_narrow, round_step, steps, thin,
+)
+from rtdvs.trace import Decision, Trace
+
+if TYPE_CHECKING:
+    from matplotlib.axes import Axes
+    from matplotlib.figure import Figure
+
+# Lengths are in pixels, 96 to the inch.
+ROW = 58            # a task's row
+BAR = 36            # a run at full height
+SPEED = 72          # the speed row up to full height
+LINE = 16           # a line of the energies
+TICKS = 5           # the ticks' lines go on below the speed row
+DEMANDS = 28        # the row of the demands' values
+CAP = 1.5           # a demand is drawn up to this share of the full height
+LEAST = 0.6         # the narrowest bar
+NARROW = 3          # narrower bars are drawn over the arrows, others below them
+GAP = 0.5           # narrow bars with smaller gaps are drawn as one
+NEAR = 2            # marks of one kind that are nearer are drawn once
+LETTER = 6.4        # room for a letter of small text
+NAME_LETTER = 7.8   # room for a letter of a name
+DEMAND = "#c04aa8"
+DEADLINE = "#e0434b"
+RIM = "#555555"
+COLOURS = ("#3f83c8", "#d07a1f", "#2f9e74", "#9a6dd0", "#a08a00", "#2a9fb5", "#9c7350", "#6f7fd8")
+DOTS = (0, (1, 1.6))
+TIP_ABOVE, TIP_BELOW = 6, 7     # matplotlib's carets with their tip at the place
+
+
+@dataclass(frozen=True, slots=True)
+class View:
+    """What of a trace is drawn.
+
+    The ticks from `first` to `last` (the end of the run by default); `top`, the speed of full height (by
+    default the fastest of the trace, and pictures to be compared need the same one); `charge`, the machine's,
+    which each worst case has twice.
+
+    >>> View(first=10, last=20).charge
+    0
+    """
+
+    first: int = 0
+    last: int | None = None
+    top: int | None = None
+    charge: int = 0
+
+
+def settled(trace: Trace, view: View) -> View:
+    """The view with its defaults filled in; raises BadValue if it doesn't fit the trace.
+
+    >>> from rtdvs.trace import SAMPLE
+    >>> settled(Trace.parse(SAMPLE), View())
+    View(first=0, last=2, top=3, charge=0)
+    """
+    fastest = max((decision.speed for decision in trace.decisions), default=0)
+    last = trace.ticks if view.last is None else view.last
+    top = fastest if view.top is None else view.top
+    for is_wrong, reason in (
+            (not fastest, "trace: no decision, so nothing can be drawn"),
+            (last > trace.ticks, f"--to has to be at most {trace.ticks}, the ticks of the run"),
+            (view.first >= last, f"--from has to be below {last}"),
+            (top < fastest, f"--top has to be at least {fastest}, the fastest speed")):
+        if is_wrong:
+            raise BadValue(reason)
+    return View(view.first, last, top, view.charge)
+
+
+# The picture of a trace
+
+
+@dataclass(frozen=True)
+class _Frame:
+    """A trace in its axes: y in pixels above the speed row's floor, x in ticks, `scale` pixels each."""
+
+    trace: Trace
+    axes: "Axes"
+    view: View
+    first: int
+    last: int
+    top: int
+
+    @cached_property
+    def names(self) -> tuple[str, ...]:
+        return self.trace.names
+
+    @cached_property
+    def width(self) -> float:
+        """The pixels of all ticks in view."""
+        return float(self.axes.get_position().width * self.axes.figure.get_figwidth() / PIXEL)
+
+    @cached_property
+    def scale(self) -> float:
+        return self.width / (self.last - self.first)
+
+    @cached_property
+    def spans(self) -> list[tuple[float, float, Decision]]:
+        """The decisions with the ticks in view for which they hold."""
+        held = ((max(each.tick, self.first), min(end, self.last), each) for each, end in self.trace.spans)
+        return [span for span in held if span[0] < span[1]]
+
+    @cached_property
+    def speed_row(self) -> float:
+        """The height of the speed row, with the demands' lines."""
+        peak = max(decision.num / decision.den for decision in self.trace.decisions)
+        return self.speed_height(max(self.top, peak))
+
+    def floor(self, row: int) -> float:
+        return self.speed_row + DEMANDS + (len(self.names) - 1 - row) * ROW
+
+    def bar_height(self, speed: float) -> float:
+        return BAR * speed / self.top
+
+    def speed_height(self, speed: float) -> float:
+        return SPEED * min(speed / self.top, CAP)
+
+    def is_shown(self, tick: float) -> bool:
+        return self.first <= tick <= self.last
+
+    def overlaps(self, bar: Bar) -> bool:
+        return bar.begin < self.last and bar.end > self.first
+
+    def room(self, begin: float, end: float) -> float:
+        """The pixels between two ticks, of which only those in the view count."""
+        return (min(end, self.last) - max(begin, self.first)) * self.scale
+
+
+def _frame(trace: Trace, axes: Any, view: View) -> _Frame:
+    view = settled(trace, view)
+    assert view.last is not None and view.top is not None
+    return _Frame(trace, axes, view, view.first, view.last, view.top)
+
+
+def plot_trace(trace: Trace, axes: "Axes", view: View = View()) -> None:
+    """Draws a trace into axes, which should be `trace_height` pixels high. Raises BadValue if the view
+    doesn't fit.
+
+    A task's row has an arrow up at each release, an arrow down at each deadline, a bar for each run, as high
+    as its speed, and a circle at each completion, with the units used and the worst case. The speed row has
+    the speed as a line, idle time in grey, the demand as a dotted line, and a dot at each decision.
+
+    >>> from matplotlib.figure import Figure
+    >>> from rtdvs.trace import SAMPLE
+    >>> axes = Figure().add_subplot()
+    >>> plot_trace(Trace.parse(SAMPLE), axes)
+    >>> axes.get_title(loc="left").splitlines()[0]
+    'edf, mine: 2 ticks'
+    """
+    frame, runs = _frame(trace, axes, view), bars(trace)
+    idle = list(filter(frame.overlaps, runs.get("", [])))
+    for draw in (_draw_axes, _draw_head, _draw_rows):
+        draw(frame)
+    for row, name in enumerate(frame.names):
+        shown = filter(frame.overlaps, runs.get(name, []))
+        _draw_bars(frame, shown, frame.floor(row), BAR / frame.top, f"run-{name}",
+                   facecolor=COLOURS[row % len(COLOURS)])
+    _draw_bars(frame, idle, 0, SPEED / frame.top, "idle", facecolor=INK, alpha=0.3)
+    for draw in (_draw_scale, _draw_speeds, _draw_decisions):
+        draw(frame)
+    _draw_legend(frame, has_idle=bool(idle))
+
+
+def trace_height(trace: Trace, view: View = View()) -> float:
+    """The pixels that axes for a trace should be high.
+
+    >>> from rtdvs.trace import SAMPLE
+    >>> trace_height(Trace.parse(SAMPLE))
+    158.0
+    """
+    return _frame(trace, None, view).floor(0) + ROW
+
+
+def save_trace(trace: Trace, path: Path, view: View = View(), width: int = 1000,
+               background: str = "none") -> None:
+    """Draws a trace into a file, `width` pixels wide; raises BadValue, OSError.
+
+    >>> from rtdvs.trace import SAMPLE
+    >>> save_trace(Trace.parse(SAMPLE), Path("a.svg"), width=200)
+    Traceback (most recent call last):
+    rtdvs.errors.BadValue: --width has to be at least 347
+    """
+    with settings():
+        save(_figure(trace, view, width), path, background)
+
+
+def svg_text(trace: Trace, view: View = View(), width: int = 1000, background: str = "none") -> str:
+    """A trace as SVG, `width` pixels wide; raises BadValue.
+
+    >>> from rtdvs.trace import SAMPLE
+    >>> svg_text(Trace.parse(SAMPLE)).count("</svg>")
+    1
+    """
+    with settings():
+        text = drawn(_figure(trace, view, width), "svg", background).decode()
+    return text[text.index("<svg"):]
+
+
+def _figure(trace: Trace, view: View, width: int) -> "Figure":
+    names = trace.names
+    facts = [_facts(trace, name, view.charge) for name in names]
+    left = max([100, *(18 + NAME_LETTER * len(name) for name in names),
+                *(18 + LETTER * len(fact) for fact in facts)])
+    if width < left + 220:
+        raise BadValue(f"--width has to be at least {math.ceil(left + 220)}")
+    high = trace_height(trace, view) + TICKS
+    above = 30 + LINE * len(_energy_lines(trace, width - left - 20))
+    figure = new_figure(width, above + high + 26)
+    axes = figure.add_axes((left / width, 0, 1 - (left + 20) / width, 1))
+    plot_trace(trace, axes, view)
+    signs = axes.get_legend()
+    below = 26 + 15 * -(-len(signs.get_texts()) // int(signs._ncols))
+    tall = above + high + below
+    figure.set_size_inches(width * PIXEL, tall * PIXEL)
+    axes.set_position((left / width, below / tall, 1 - (left + 20) / width, high / tall))
+    return figure
+
+
+def _draw_axes(frame: _Frame) -> None:
+    axes, first, last = frame.axes, frame.first, frame.last
+    bare(axes, "x")
+    axes.set(xlim=(first, last), ylim=(-TICKS, frame.floor(0) + ROW), yticks=[])
+    step = round_step(last - first, max(1, int(frame.width / (12 + 7 * len(str(last))))))
+    ticks = range(-(-first // step) * step, last + 1, step)
+    axes.set_xticks(list(ticks), [str(tick) for tick in ticks], fontsize=SMALL)
+    axes.grid(axis="x", color=INK, alpha=0.4, linewidth=0.5 * POINT)
+
+
+def _draw_head(frame: _Frame) -> None:
+    """The title and the energies."""
+    axes, trace, first, last = frame.axes, frame.trace, frame.first, frame.last
+    is_whole = (first, last) == (0, trace.ticks)
+    ticks = f"{last} ticks" if is_whole else f"ticks {first} to {last} of {trace.ticks}"
+    lines = _energy_lines(trace, frame.width)
+    axes.set_title(f"{trace.scheduler}, {trace.governor}: {ticks}", loc="left", fontsize=TITLE, color=INK,
+                   pad=(8 + LINE * len(lines)) * POINT)
+    beside(axes, (0, 1), (0, 5), "\n".join(lines), xycoords="axes fraction", va="bottom", fontsize=TEXT)
+
+
+def _energy_lines(trace: Trace, width: float) -> list[str]:
+    lines = ["energy of the run:"]
+    for part in (f"{readable(trace.run_energy)} running,", f"{readable(trace.idle_energy)} idle,",
+                 "in units × mV² × 1000"):
+        if (len(lines[-1]) + 1 + len(part)) * 6.9 > width:
+            lines.append(part)
+        else:
+            lines[-1] += f" {part}"
+    return lines
+
+
+def _facts(trace: Trace, name: str, charge: int) -> str:
+    task = next((task for task in trace.tasks if task.name == name), None)
+    if task is None:
+        return ""
+    offset = f", offset {task.offset}" if task.offset else ""
+    return f"period {task.period}{offset}, worst {task.worst}" + (f"+{2 * charge}" if charge else "")
+
+
+def _beside(frame: _Frame, y: float, text: str, margin: float = 8, **style: Any) -> None:
+    """A text on the left of the axes."""
+    beside(frame.axes, (0, y), (-margin, 0), text, xycoords=("axes fraction", "data"), ha="right", **style)
+
+
+def _draw_rows(frame: _Frame) -> None:
+    """The rows of the tasks, but for their bars."""
+    trace, charge = frame.trace, frame.view.charge
+    jobs, complete = by_task(trace), completions(trace)
+    worst = {task.name: f"/{task.worst + 2 * charge}" for task in trace.tasks}
+    for row, name in enumerate(frame.names):
+        floor, facts = frame.floor(row), _facts(trace, name, charge)
+        frame.axes.hlines(floor, frame.first, frame.last, color=INK, linewidth=POINT)
+        _beside(frame, floor + (24 if facts else 16), name, fontsize=TEXT, family="monospace")
+        _beside(frame, floor + 10, facts)
+        _draw_arrows(frame, row, [job.release for job in jobs[name]], is_due=False)
+        due = [job.deadline for job in jobs[name] if job.deadline is not None]
+        _draw_arrows(frame, row, due, is_due=True)
+        shown = [done for done in complete[name] if frame.is_shown(done.at)]
+        places = set(thin((done.at for done in shown), NEAR / frame.scale))
+        kept = [done for done in shown if done.at in places]
+        _draw_completions(frame, row, kept)
+        for done in kept:
+            _label_completion(frame, floor, done, f"{done.used}{worst.get(name, '')}")
+
+
+def _draw_arrows(frame: _Frame, row: int, ticks: Sequence[int], is_due: bool) -> None:
+    """Draws a task's releases, or its deadlines."""
+    floor, high = frame.floor(row), 28 if is_due else 48
+    style: dict[str, Any] = {"color": DEADLINE if is_due else INK, "zorder": 2.2, "clip_on": False}
+    kept = thin(filter(frame.is_shown, ticks), NEAR / frame.scale)
+    frame.axes.vlines(kept, floor, floor + high, linewidth=1.6 * POINT, **style)
+    frame.axes.plot(kept, [floor if is_due else floor + high] * len(kept), linestyle="none", fillstyle="none",
+                    marker=TIP_BELOW if is_due else TIP_ABOVE, markersize=6 * POINT,
+                    markeredgewidth=1.6 * POINT,
+                    gid=f"{'deadline' if is_due else 'release'}-{frame.names[row]}", **style)
+
+
+def _draw_bars(frame: _Frame, shown: Iterable[Bar], floor: float, unit: float, name: str,
+               **style: Any) -> None:
+    """Draws bars on a floor, so high for each unit of speed; narrow ones over the arrows, others below."""
+    from matplotlib.collections import PolyCollection
+
+    cut = (Bar(max(bar.begin, frame.first), min(bar.end, frame.last), bar.speed) for bar in shown)
+    corners: dict[bool, list[list[tuple[float, float]]]] = {False: [], True: []}
+    for bar in join_narrow(cut, NARROW / frame.scale, GAP / frame.scale):
+        is_narrow = (bar.end - bar.begin) * frame.scale < NARROW
+        begin, end = bar.begin, max(bar.end, bar.begin + LEAST / frame.scale)
+        high = floor + unit * bar.speed
+        corners[is_narrow].append([(begin, floor), (begin, high), (end, high), (end, floor)])
+    for is_narrow, polygons in corners.items():
+        if polygons:
+            made = PolyCollection(polygons, linewidth=0, zorder=2.4 if is_narrow else 2,
+                                  gid=f"{name}-narrow" if is_narrow else name, **style)
+            frame.axes.add_collection(made, autolim=False)
+
+
+def _draw_completions(frame: _Frame, row: int, kept: Sequence[Completion]) -> None:
+    heights = [frame.floor(row) + frame.bar_height(done.speed) for done in kept]
+    frame.axes.plot([done.at for done in kept], heights, linestyle="none", marker="o",
+                    markersize=5.2 * POINT, color="white", markeredgecolor=RIM, markeredgewidth=1.2 * POINT,
+                    zorder=2.6, clip_on=False, gid=f"done-{frame.names[row]}")
+
+
+def _label_completion(frame: _Frame, floor: float, done: Completion, text: str) -> None:
+    """The units, between release and deadline: above the bars before the completion, or after it, or not."""
+    room = LETTER * len(text) + 10
+    if frame.room(done.release, done.at) >= room:
+        words(frame.axes, done.at - 4 / frame.scale, floor + frame.bar_height(done.highest) + 4, text,
+              ha="right")
+    elif frame.room(done.at, frame.last if done.due is None else done.due) >= room:
+        words(frame.axes, done.at + 5 / frame.scale, floor + frame.bar_height(done.speed) + 4, text)
+
+
+def _draw_scale(frame: _Frame) -> None:
+    """The scale of speeds: 0, the top, and each speed of the trace that has room beside those before it."""
+    line = partial(frame.axes.hlines, xmin=frame.first, xmax=frame.last, color=INK)
+    line(0, linewidth=POINT)
+    heights: list[float] = []
+    for speed in dict.fromkeys([0, frame.top, *(decision.speed for decision in frame.trace.decisions)]):
+        height = frame.speed_height(speed)
+        if all(abs(height - other) >= 11 for other in heights):
+            heights.append(height)
+            line(height, alpha=0.4, linewidth=0.5 * POINT)
+            _beside(frame, height, str(speed), va="center")
+    margin = LETTER * len(str(frame.top)) + 14
+    _beside(frame, 36, "speed", margin, fontsize=TEXT)
+    _beside(frame, 22, "units/tick", margin)
+    _beside(frame, frame.speed_row + 11, "demand", color=DEMAND)
+    _beside(frame, -TICKS, "ticks", va="top")
+
+
+def _draw_speeds(frame: _Frame) -> None:
+    """The lines of the speeds and of the demands."""
+    speeds = [(begin, end, frame.speed_height(each.speed)) for begin, end, each in frame.spans]
+    demands = [(begin, end, frame.speed_height(each.num / each.den)) for begin, end, each in frame.spans]
+    draw = partial(frame.axes.plot, clip_on=False, zorder=2.5)
+    near = GAP / frame.scale
+    draw(*zip(*steps(speeds, near)), gid="speed", color=INK, linewidth=1.8 * POINT)
+    draw(*zip(*steps(demands, near)), gid="demand", color=DEMAND, linewidth=1.6 * POINT, linestyle=DOTS)
+
+
+def _draw_decisions(frame: _Frame) -> None:
+    """A dot for each demand, or a triangle if it is above the picture; and its value, if there is room."""
+    places: dict[str, list[tuple[float, float]]] = {"decision": [], "over": []}
+    latest: dict[int, float] = {}
+    for begin, end, decision in frame.spans:
+        value = Fraction(decision.num, decision.den)
+        y = frame.speed_height(float(value))
+        if (begin - latest.get(int(y / NEAR), -math.inf)) * frame.scale < NEAR or begin != decision.tick:
+            continue
+        latest[int(y / NEAR)] = begin
+        places["over" if value > Fraction(CAP) * frame.top else "decision"].append((begin, y))
+        if (end - begin) * frame.scale >= LETTER * len(short(value)) + 6:
+            words(frame.axes, begin + 2 / frame.scale, frame.speed_row + 11, short(value), color=DEMAND)
+    for name, marker, size in (("decision", "o", 4.4), ("over", "^", 7)):
+        frame.axes.plot([x for x, _ in places[name]], [y for _, y in places[name]], linestyle="none",
+                        marker=marker, color=DEMAND, markersize=size * POINT, markeredgewidth=0, zorder=2.7,
+                        clip_on=False, gid=name)
+
+
+def _draw_legend(frame: _Frame, has_idle: bool) -> None:
+    what = "used/worst case" if frame.trace.tasks else "used"
+    handles = [
+        _sign("release", INK, TIP_ABOVE), _sign("deadline", DEADLINE, TIP_BELOW),
+        patch(f"run (full height: {frame.top})", COLOURS[0]),
+        _sign(f"done: {what}" + (", with the charge" if frame.view.charge else ""), "white", "o",
+              markeredgecolor=RIM),
+        _sign("speed", INK, "", linestyle="-"), _sign("demand (dot: decision)", DEMAND, "o", linestyle=DOTS)]
+    if has_idle:
+        handles.append(patch("idle", INK, 0.3))
+    if any(each.num > Fraction(CAP) * frame.top * each.den for _, _, each in frame.spans):
+        handles.append(_sign("demand above the picture", DEMAND, "^"))
+    released = ([job.release for job in jobs] for jobs in by_task(frame.trace).values())
+    if any(len(thin(ticks, NEAR / frame.scale)) < len(ticks) for ticks in released):
+        handles.append(_sign(f"near marks (less than {NEAR} pixels) once", "none", ""))
+    longest = max(len(handle.get_label()) for handle in handles)
+    high = frame.floor(0) + ROW + TICKS
+    legend(frame.axes, handles, max(1, int(frame.width / (longest * 5.5 + 38))), loc="upper left",
+           bbox_to_anchor=(0, -20 / high), borderaxespad=0, handlelength=1.5, columnspacing=1.5,
+           handletextpad=0.5, borderpad=0)
+
+
+def _sign(label: str, colour: str, marker: object, **style: Any) -> Any:
+    filled = "full" if marker == "o" else "none"
+    return sign(label, colour, **{"linestyle": "none", "marker": marker, "markersize": 5 * POINT,
+                                  "fillstyle": filled, **style})

@@ -1,0 +1,223 @@
+"""Tasks, a machine and a scheduler, with what follows from them: the rates, the static demand, admission.
+
+All of it is in whole numbers of any size: ticks, work units, and demands as fractions num/den of work units
+per tick that are never reduced.
+"""
+
+from collections.abc import Callable, Mapping
+from dataclasses import dataclass
+from fractions import Fraction
+from functools import cached_property
+from operator import mul
+from typing import Any
+
+from rtdvs.errors import BadValue, Denied
+from rtdvs.model import Demands, Machine, Point, Scheduler, Task, TaskSet
+
+Demand = tuple[int, int]
+Needs = Mapping[tuple[str, int], int]
+"""The work units of jobs, by their tasks and numbers, with the charge."""
+
+
+@dataclass(frozen=True, slots=True)
+class JobView:
+    """What a scheduler or a governor sees of a job at a tick; it is made anew for each call.
+
+    Ticks are those of the run; work units have the machine's charge twice. `executed` are the units that the
+    job has had, and `remaining_wcet` what it may still need by its worst case: 0 once it is complete.
+
+    >>> job = JobView(Task("a", 4, 2), 1, now=1, release=0, absolute_deadline=4, executed=1, remaining_wcet=1)
+    >>> job.is_complete, job.wcet
+    (False, 2)
+    """
+
+    task: Task
+    number: int
+    now: int
+    release: int
+    absolute_deadline: int
+    executed: int
+    remaining_wcet: int
+    is_complete: bool = False
+
+    @property
+    def wcet(self) -> int:
+        """What a job that isn't complete needs at most; what a complete one had.
+
+        >>> JobView(Task("a", 4, 2), 1, 1, 0, 4, executed=1, remaining_wcet=0, is_complete=True).wcet
+        1
+        """
+        return self.executed + self.remaining_wcet
+
+
+Priority = Callable[[JobView], Any]
+"""A scheduler of your own: the open job with the least value runs, of equal ones the first in the file."""
+
+
+def ceiling(num: int, den: int) -> int:
+    """The quotient, rounded up.
+
+    >>> ceiling(7, 2), ceiling(6, 2)
+    (4, 3)
+    """
+    return -(-num // den)
+
+
+@dataclass(frozen=True)
+class Plan:
+    """Tasks, a machine and a scheduler, with what follows from them.
+
+    The scheduler is a Scheduler, its word, or a function, the priority of a job; BadValue for another word.
+
+    >>> machine = Machine((Point(2, 3000), Point(4, 5000)))
+    >>> plan = Plan(TaskSet((Task("a", 4, 4), Task("b", 6, 9))), machine, "edf")
+    >>> plan.hyperperiod, plan.rates, plan.static, plan.lowest(30, 12).speed
+    (12, (12, 18), (30, 12), 4)
+    """
+
+    tasks: TaskSet
+    machine: Machine
+    scheduler: str | Priority
+
+    def __post_init__(self) -> None:
+        if not callable(self.scheduler):
+            object.__setattr__(self, "scheduler", Scheduler(self.scheduler))
+
+    def ruled(self) -> Scheduler:
+        """One of the two schedulers; raises BadValue for a function, which has no test and no static demand.
+
+        >>> EXAMPLE.ruled()
+        <Scheduler.EDF: 'edf'>
+        """
+        if callable(self.scheduler):
+            raise BadValue("a scheduler that is a function has no admission test and no static demand")
+        return Scheduler(self.scheduler)
+
+    @cached_property
+    def hyperperiod(self) -> int:
+        """The least common multiple of the periods, in ticks.
+
+        >>> EXAMPLE.hyperperiod
+        12
+        """
+        return self.tasks.hyperperiod
+
+    @cached_property
+    def worsts(self) -> tuple[int, ...]:
+        """The worst case of each task in work units, with the charge for two switches.
+
+        >>> Plan(TaskSet((Task("a", 4, 4),)), Machine((Point(2, 3000),), charge=3), "edf").worsts
+        (10,)
+        """
+        return tuple(task.worst + 2 * self.machine.charge for task in self.tasks)
+
+    @cached_property
+    def weights(self) -> tuple[int, ...]:
+        """The jobs of each task in a hyperperiod.
+
+        >>> EXAMPLE.weights
+        (3, 2)
+        """
+        return tuple(self.hyperperiod // task.period for task in self.tasks)
+
+    @cached_property
+    def rates(self) -> tuple[int, ...]:
+        """The work units of each task in a hyperperiod, all jobs at their worst cases.
+
+        >>> EXAMPLE.rates
+        (12, 18)
+        """
+        return tuple(map(mul, self.worsts, self.weights))
+
+    @cached_property
+    def spare(self) -> int:
+        """The work units that the highest speed can do in a hyperperiod beyond all rates.
+
+        >>> EXAMPLE.spare
+        18
+        """
+        return self.machine.top_speed * self.hyperperiod - sum(self.rates)
+
+    @cached_property
+    def by_period(self) -> tuple[int, ...]:
+        """The places of the tasks in RM order.
+
+        >>> EXAMPLE.by_period
+        (0, 1)
+        """
+        return tuple(sorted(range(len(self.tasks)), key=lambda place: self.tasks[place].period))
+
+    def level(self, rank: int) -> tuple[Task, int]:
+        """The task at a place of the RM order, and the work of it and those before it in its period.
+
+        >>> EXAMPLE.level(1)  # 2 * 4 + 9
+        (Task(name='b', period=6, worst=9, offset=0), 17)
+        """
+        tasks = self.tasks
+        task, jobs = tasks[self.by_period[rank]], self.by_period[:rank + 1]
+        return task, sum(ceiling(task.period, tasks[place].period) * self.worsts[place] for place in jobs)
+
+    @cached_property
+    def static(self) -> Demand:
+        """The demand of `static`: under RM that of the first level with the most work per tick.
+
+        >>> EXAMPLE.static
+        (30, 12)
+        >>> tie = TaskSet((Task("a", 4, 4), Task("b", 5, 2), Task("c", 8, 4)))
+        >>> Plan(tie, EXAMPLE.machine, "rm").static  # of 4/4, (2 * 4 + 2)/5 and (2 * 4 + 2 * 2 + 4)/8
+        (10, 5)
+        """
+        if self.ruled() == "edf":
+            return sum(self.rates), self.hyperperiod
+        levels = map(self.level, range(len(self.tasks)))
+        task, work = max(levels, key=lambda level: Fraction(level[1], level[0].period))
+        return work, task.period
+
+    @cached_property
+    def static_speed(self) -> int:
+        """The lowest speed that meets the static demand, in work units per tick.
+
+        >>> EXAMPLE.static_speed
+        4
+        """
+        return self.lowest(*self.static).speed
+
+    def lowest(self, num: int, den: int) -> Point:
+        """The slowest point that meets a demand, or the last if none does.
+
+        >>> EXAMPLE.lowest(4, 2), EXAMPLE.lowest(9, 2)
+        (Point(speed=2, millivolts=3000), Point(speed=4, millivolts=5000))
+        """
+        for point in self.machine.points:
+            if num <= point.speed * den:
+                return point
+        return self.machine.points[-1]
+
+    def needs(self, demands: Demands) -> Needs:
+        """What the named jobs need.
+
+        >>> EXAMPLE.needs(Demands({("a", 1): 2}))
+        {('a', 1): 2}
+        """
+        charge = 2 * self.machine.charge
+        return {job: units + charge for job, units in demands.units.items()}
+
+    def admit(self) -> None:
+        """Raises Denied if the scheduler's test fails.
+
+        >>> Plan(TaskSet((Task("a", 4, 9),)), Machine((Point(2, 3000),)), "rm").admit()
+        Traceback (most recent call last):
+        rtdvs.errors.Denied: denied rm a 9 8
+        """
+        top = self.machine.top_speed
+        if self.ruled() == "edf":
+            if sum(self.rates) > top * self.hyperperiod:
+                raise Denied("edf", sum(self.rates), top * self.hyperperiod)
+            return
+        for task, work in map(self.level, range(len(self.tasks))):
+            if work > top * task.period:
+                raise Denied("rm", work, top * task.period, task.name)
+
+
+EXAMPLE = Plan(TaskSet((Task("a", 4, 4), Task("b", 6, 9))), Machine((Point(2, 3000), Point(4, 5000))), "edf")
+"""A small plan, for the examples."""

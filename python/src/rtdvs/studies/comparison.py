@@ -1,0 +1,274 @@
+"""What each scheduler and governor does to the energy and to the tasks of one set."""
+
+from collections.abc import Iterable, Iterator, Mapping, Sequence
+from concurrent.futures import Executor
+from dataclasses import dataclass, replace
+from fractions import Fraction
+
+from rtdvs._display import Cell, Shown
+from rtdvs._numbers import aligned, decimal
+from rtdvs.engine import Answer, Engine, Least, least_call, parse_least, run_call
+from rtdvs.errors import Denied, TraceFault
+from rtdvs.model import Demands, Machine, TaskSet
+from rtdvs.trace import Run, Trace, task_statistics
+
+PAIRS = (("edf", "none"), ("edf", "static"), ("edf", "cc"), ("edf", "la"),
+         ("rm", "none"), ("rm", "static"), ("rm", "cc"))
+
+HEADING = ("scheduler", "governor", "energy", "of_none", "above_bound", "switches", "idle", "least_laxity",
+           "jitter")
+
+
+@dataclass(frozen=True, slots=True)
+class Result:
+    """A run of a pair.
+
+    `energy` is of running and idling, in the unit of a trace. `share` is of the energy of EDF with `none`;
+    None if that is denied or 0. `above_bound` is what the energy is above the bound of `least`, as a share of
+    the bound; None if that is 0. `switches` counts the decisions with another speed than before. `idle` is a
+    share of the run, and so is each speed's `residency`. `least_laxity` and `jitter`, in ticks, are over all
+    complete jobs: the least time from a completion to its deadline, and the greatest difference between two
+    responses of one task. None without such a job.
+
+    >>> idle = Result(12, None, None, 0, Fraction(1), None, None, residency={3: Fraction(1)})
+    >>> cells(Row("rm", "cc", idle), [3])[2:]
+    ('12', '-', '-', '0', '1.0000', '-', '-', '1.0000')
+    """
+
+    energy: int
+    share: Fraction | None
+    above_bound: Fraction | None
+    switches: int
+    idle: Fraction
+    least_laxity: Fraction | None
+    jitter: Fraction | None
+    residency: Mapping[int, Fraction]
+
+
+@dataclass(frozen=True, slots=True)
+class Row:
+    """A pair with its result; a pair that is denied has no result, but the line of the refusal.
+
+    >>> Row("rm", "cc", None, "denied rm y 7 6").refusal
+    'denied rm y 7 6'
+    """
+
+    scheduler: str
+    governor: str
+    result: Result | None
+    refusal: str = ""
+
+
+KINDS = {"scheduler": "object", "governor": "object", "energy": "object", "of_none": "float64",
+         "above_bound": "float64", "switches": "Int64", "idle": "float64", "least_laxity": "float64",
+         "jitter": "float64"}
+
+
+class Comparison(tuple[Row, ...], Shown):
+    """The rows of a comparison, as a tuple that a notebook shows as a table.
+
+    >>> Comparison([Row("rm", "cc", None, "denied rm y 7 6")]).frame()[["governor", "refusal"]].values.tolist()
+    [['cc', 'denied rm y 7 6']]
+    """
+
+    __slots__ = ()
+
+    def speeds(self) -> list[int]:
+        """The speeds of all runs, rising."""
+        return sorted({speed for row in self if row.result for speed in row.result.residency})
+
+    def _columns(self) -> Mapping[str, str]:
+        return KINDS | {f"at_{speed}": "float64" for speed in self.speeds()} | {"refusal": "object"}
+
+    def _rows(self) -> Iterator[tuple[Cell, ...]]:
+        for row in self:
+            values: list[Cell] = [None] * (len(self._columns()) - 3)
+            if found := row.result:
+                values = [found.energy, found.share, found.above_bound, found.switches, found.idle,
+                          found.least_laxity, found.jitter,
+                          *(found.residency.get(speed, Fraction(0)) for speed in self.speeds())]
+            yield row.scheduler, row.governor, *values, row.refusal
+
+
+@dataclass(frozen=True, slots=True)
+class Case:
+    """The files of a comparison, and its ticks.
+
+    >>> from rtdvs import Point, Task
+    >>> Case(TaskSet((Task("a", 5, 7),)), Machine((Point(2, 1000),)), ticks=20).finer(3).ticks
+    60
+    """
+
+    tasks: TaskSet
+    machine: Machine
+    ticks: int
+    demands: Demands | None = None
+
+    def finer(self, times: int) -> "Case":
+        """The same in ticks this many times finer. Speeds stay in units per tick, so all units grow as well.
+
+        >>> from rtdvs import Point, Task
+        >>> case = Case(TaskSet((Task("a", 5, 7),)), Machine((Point(2, 1000),), charge=1), 20)
+        >>> case.finer(3).tasks.tasks[0], case.finer(3).machine.charge
+        (Task(name='a', period=15, worst=21, offset=0), 3)
+        """
+        tasks = TaskSet.of((task.name, task.period * times, task.worst * times, task.offset * times)
+                           for task in self.tasks)
+        demands = self.demands and Demands({job: units * times for job, units in self.demands.units.items()})
+        machine = replace(self.machine, charge=self.machine.charge * times)
+        return Case(tasks, machine, self.ticks * times, demands)
+
+
+def runs(engine: Engine, case: Case, pairs: Iterable[tuple[str, str]],
+         executor: Executor | None = None) -> Iterator[str | Denied]:
+    """The text of each pair's trace, or its denial; raises the program's other refusals.
+
+    >>> from rtdvs import Point, Task, find_engine
+    >>> case = Case(TaskSet((Task("a", 4, 4),)), Machine((Point(1, 1000),)), 8)
+    >>> [energy_of(str(text)) for text in runs(find_engine(), case, PAIRS[:2])]
+    [8000000000, 8000000000]
+    """
+    calls = (run_call(case.tasks, case.machine, scheduler, governor, case.ticks, case.demands)
+             for scheduler, governor in pairs)
+    return map(text_or_denial, engine.answers(calls, executor))
+
+
+def text_or_denial(answer: Answer) -> str | Denied:
+    """Standard output of the answer, or the Denied that it is; raises any other refusal.
+
+    >>> text_or_denial(Answer(1, b"", b"denied rm y 7 6\\n"))
+    Denied(test='rm', asked=7, capacity=6, task='y', ticks=None)
+    """
+    try:
+        return answer.text()
+    except Denied as denied:
+        return denied
+
+
+def energy_of(trace: str) -> int:
+    r"""Running and idle energy together, by the last line of a whole trace's text.
+
+    >>> energy_of("trace 1\n..\nend 16 364000000000 1000\n")
+    364000001000
+    """
+    _, _, run_energy, idle_energy = trace.rstrip("\n").rpartition("\n")[2].split(" ")
+    return int(run_energy) + int(idle_energy)
+
+
+def units_of(trace: Trace) -> int:
+    """The work units of all runs, with the charge.
+
+    >>> from rtdvs.trace import SAMPLE
+    >>> units_of(Trace.parse(SAMPLE))
+    4
+    """
+    return sum(note.units for note in trace.notes if isinstance(note, Run))
+
+
+def result(trace: Trace, tasks: TaskSet, least: Least, base: int) -> Result:
+    """The result of a trace, with the bound for its units; `base` is the energy that shares are of, or 0.
+
+    Raises TraceFault if a job isn't of the set.
+
+    >>> from rtdvs import Task
+    >>> from rtdvs.trace import SAMPLE
+    >>> tasks, least = TaskSet((Task("t", 2, 4),)), Least(1, 2, 2, 3, 0, 4000, 1000, 0)
+    >>> found = result(Trace.parse(SAMPLE), tasks, least, 9000)
+    >>> found.share, found.above_bound, found.switches
+    (Fraction(2, 3), Fraction(1, 2), 1)
+    """
+    of_tasks = task_statistics(trace, tasks)
+    laxities = [each.least_laxity for each in of_tasks if each.least_laxity is not None]
+    jitters = [each.jitter for each in of_tasks if each.jitter is not None]
+    bound = Fraction(least.energy, least.rounds)
+    return Result(
+        energy=trace.energy,
+        share=Fraction(trace.energy, base) if base else None,
+        above_bound=trace.energy / bound - 1 if bound else None,
+        switches=trace.switches,
+        idle=trace.idle_time / trace.ticks,
+        least_laxity=min(laxities, default=None),
+        jitter=max(jitters, default=None),
+        residency={speed: time / trace.ticks for speed, time in trace.residency().items()},
+    )
+
+
+def compare(engine: Engine, tasks: TaskSet, machine: Machine, ticks: int, demands: Demands | None = None,
+            traces: Sequence[Trace] = (), executor: Executor | None = None) -> Comparison:
+    """A row for each of the seven pairs, and for each trace given beside them.
+
+    Raises TraceFault if a trace is of other tasks, another machine or other ticks, and what the program raises, but not for a pair that is
+    denied.
+
+    >>> from rtdvs import Point, Task, find_engine
+    >>> machine = Machine((Point(1, 1000), Point(2, 2000)))
+    >>> rows = compare(find_engine(), TaskSet((Task("a", 4, 4),)), machine, 8)
+    >>> [(row.governor, row.result.energy, row.result.share) for row in rows[:2]]
+    [('none', 32000000000, Fraction(1, 1)), ('static', 8000000000, Fraction(1, 4))]
+    """
+    for trace in traces:
+        if trace.ticks != ticks:
+            raise TraceFault(2, f"a run of {trace.ticks} ticks, and not of {ticks}")
+        trace.belongs_to(tasks, machine)
+    found = [text if isinstance(text, Denied) else Trace.parse(text)
+             for text in runs(engine, Case(tasks, machine, ticks, demands), PAIRS, executor)]
+    done = [trace for trace in [*found, *traces] if isinstance(trace, Trace)]
+    bounds = engine.answers((least_call(machine, units_of(trace), ticks) for trace in done), executor)
+    base = found[0].energy if isinstance(found[0], Trace) else 0
+    results = (result(trace, tasks, parse_least(bound.text()), base) for trace, bound in zip(done, bounds))
+    pairs = [*PAIRS, *((trace.scheduler, trace.governor) for trace in traces)]
+    return Comparison(Row(*pair, None, str(trace)) if isinstance(trace, Denied) else Row(*pair, next(results))
+                 for pair, trace in zip(pairs, [*found, *traces]))
+
+
+def finer_energies(engine: Engine, case: Case, times: int,
+                   executor: Executor | None = None) -> tuple[Fraction | None, ...]:
+    """The energy of each of the seven pairs in finer ticks, in the unit of the case; None if it is denied.
+
+    >>> from rtdvs import Point, Task, find_engine
+    >>> case = Case(TaskSet((Task("a", 4, 4),)), Machine((Point(1, 1000),)), 8)
+    >>> finer_energies(find_engine(), case, 10)[0]
+    Fraction(8000000000, 1)
+    """
+    return tuple(None if isinstance(text, Denied) else Fraction(energy_of(text), times)
+                 for text in runs(engine, case.finer(times), PAIRS, executor))
+
+
+def table(rows: Sequence[Row]) -> str:
+    """The rows below their heading, all shares and ticks with four decimal places.
+
+    >>> table([Row("rm", "cc", None, "denied rm y 7 6")]).splitlines()[1]
+    'rm         cc        denied rm y 7 6'
+    """
+    speeds = sorted({speed for row in rows if row.result for speed in row.result.residency})
+    heading = (*HEADING, *(f"at_{speed}" for speed in speeds))
+    return aligned([heading, *(cells(row, speeds) for row in rows)], left=2)
+
+
+def cells(row: Row, speeds: Sequence[int]) -> tuple[str, ...]:
+    """The fields of a row's line, with a share of the run for each of the speeds.
+
+    >>> cells(Row("rm", "cc", None, "denied rm y 7 6"), [2, 3])
+    ('rm', 'cc', 'denied rm y 7 6')
+    """
+    result = row.result
+    if result is None:
+        return row.scheduler, row.governor, row.refusal
+    residency = (result.residency.get(speed, Fraction(0)) for speed in speeds)
+    values = (result.energy, result.share, result.above_bound, result.switches, result.idle,
+              result.least_laxity, result.jitter, *residency)
+    texts = (str(value) if isinstance(value, int) else decimal(value, 4) for value in values)
+    return row.scheduler, row.governor, *texts
+
+
+def finer_table(rows: Sequence[Row], finer: Mapping[int, Sequence[Fraction | None]]) -> str:
+    """The energies in finer ticks, as shares of those of the rows, with four decimal places.
+
+    >>> finer_table([Row("rm", "cc", None, "denied rm y 7 6")], {10: [None]}).splitlines()[1]
+    'rm         cc               -'
+    """
+    heading = ("scheduler", "governor", *(f"finer_{times}" for times in finer))
+    shares = [[energy / row.result.energy if energy is not None and row.result and row.result.energy else None
+               for row, energy in zip(rows, energies)] for energies in finer.values()]
+    return aligned([heading, *((row.scheduler, row.governor, *(decimal(share, 4) for share in column))
+                               for row, *column in zip(rows, *shares))], left=2)

@@ -1,0 +1,51 @@
+"""Traces of runs: their notes, read strictly, and what these say of the jobs.
+
+The text is that of docs/TRACE.md in version 1 or 2, except that any word may be the governor.
+Energies and work units are whole numbers of any size. A position is a tick and the units of that tick that
+have passed; as a time it is an exact fraction of ticks, the units over the speed in force.
+"""
+
+from rtdvs.trace._belongs import wrong_energy, wrong_sums
+from rtdvs.trace.jobs import Job
+from rtdvs.trace.notes import (
+    Decision, Done, End, Head, Idle, Line, Note, Position, Release, Run, TaskEnergy, task_text,
+)
+from rtdvs.trace.reader import NO_FRACTION, Reader, closing_fault, lines_of, parse_lines
+from rtdvs.trace.per_task import COLUMNS, Statistics, TaskStatistics, task_statistics
+from rtdvs.trace.tables import REALS, TABLES, csv_text, frame, rows, ticks
+from rtdvs.trace.whole import SAMPLE, Trace
+
+__all__ = [
+    "COLUMNS",
+    "Decision",
+    "Done",
+    "End",
+    "Head",
+    "Idle",
+    "Job",
+    "Line",
+    "NO_FRACTION",
+    "Note",
+    "Position",
+    "REALS",
+    "Reader",
+    "Release",
+    "Run",
+    "SAMPLE",
+    "Statistics",
+    "TABLES",
+    "TaskEnergy",
+    "TaskStatistics",
+    "Trace",
+    "closing_fault",
+    "csv_text",
+    "frame",
+    "lines_of",
+    "parse_lines",
+    "rows",
+    "task_statistics",
+    "task_text",
+    "ticks",
+    "wrong_energy",
+    "wrong_sums",
+]

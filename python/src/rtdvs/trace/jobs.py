@@ -1,0 +1,114 @@
+"""The jobs of a trace: the one place where they are rebuilt from its notes."""
+
+from collections.abc import Iterable, Mapping
+from dataclasses import dataclass
+from fractions import Fraction
+
+from rtdvs.errors import TraceFault
+from rtdvs.trace.notes import Done, Note, Release, Run
+
+Placed = tuple[int, Note, int]
+"""A note with the number of its line, and with the speed in force there, in work units per tick."""
+
+
+@dataclass(frozen=True, slots=True)
+class Job:
+    """A released job. Times are in ticks; start and completion are None if they aren't within the run.
+
+    `deadline` is the release and the period; None if the period isn't known. `preemptions` counts how often
+    another job began to run while the job was begun, open and the one that ran last.
+
+    >>> job = Job("t2", 1, release=0, deadline=10, start=Fraction(8, 3), completion=Fraction(4), units=4)
+    >>> job.response, job.laxity
+    (Fraction(4, 1), Fraction(6, 1))
+    """
+
+    task: str
+    number: int
+    release: int
+    deadline: int | None
+    start: Fraction | None = None
+    completion: Fraction | None = None
+    units: int = 0
+    preemptions: int = 0
+    energy: int = 0
+
+    @property
+    def response(self) -> Fraction | None:
+        """The ticks from the release to the completion.
+
+        >>> Job("t", 1, release=2, deadline=10, completion=Fraction(7, 2)).response
+        Fraction(3, 2)
+        """
+        return None if self.completion is None else self.completion - self.release
+
+    @property
+    def laxity(self) -> Fraction | None:
+        """The ticks from the completion to the deadline; None without one of them.
+
+        >>> Job("t", 1, release=2, deadline=10, completion=Fraction(7, 2)).laxity
+        Fraction(13, 2)
+        """
+        if self.deadline is None or self.completion is None:
+            return None
+        return self.deadline - self.completion
+
+
+def periods_of(notes: Iterable[Note]) -> dict[str, int]:
+    """Each task's period in ticks, as version 1 says it: the distance of its first two releases, if it has two.
+
+    >>> periods_of([Release(3, "a", 1), Release(3, "b", 1), Release(7, "a", 2)])
+    {'a': 4}
+    """
+    ticks: dict[str, list[int]] = {}
+    for note in notes:
+        if isinstance(note, Release):
+            ticks.setdefault(note.task, []).append(note.tick)
+    return {task: at[1] - at[0] for task, at in ticks.items() if len(at) > 1}
+
+
+@dataclass(slots=True)
+class _Begun:
+    """A job while its notes are read."""
+
+    release: int
+    deadline: int | None
+    start: Fraction | None = None
+    completion: Fraction | None = None
+    units: int = 0
+    preemptions: int = 0
+    energy: int = 0
+
+
+def rebuilt(notes: Iterable[Placed], periods: Mapping[str, int]) -> tuple[Job, ...]:
+    """The jobs in the order of their release lines. Raises TraceFault for a note that no job can have.
+
+    >>> rebuilt([(3, Release(0, "a", 1), 1), (4, Release(0, "a", 1), 1)], {})
+    Traceback (most recent call last):
+    rtdvs.errors.TraceFault: line 4: a job 1 is released twice
+    """
+    jobs: dict[tuple[str, int], _Begun] = {}
+    last: _Begun | None = None  # the job that ran last
+    for line, note, speed in notes:
+        if not isinstance(note, Release | Run | Done):
+            continue
+        job = jobs.get((note.task, note.job))
+        if isinstance(note, Release):
+            if job:
+                raise TraceFault(line, f"{note.task} job {note.job} is released twice")
+            period = periods.get(note.task)
+            jobs[note.task, note.job] = _Begun(note.tick, None if period is None else note.tick + period)
+            continue
+        if job is None or job.completion is not None:
+            why = "is not released" if job is None else "is complete"
+            raise TraceFault(line, f"{note.task} job {note.job} {why}")
+        if isinstance(note, Done):
+            job.completion = note.at.time(speed)
+            continue
+        if last and last is not job and last.completion is None:
+            last.preemptions += 1
+        last = job
+        job.units, job.energy = job.units + note.units, job.energy + note.energy
+        job.start = note.begin.time(speed) if job.start is None else job.start
+    return tuple(Job(*key, job.release, job.deadline, job.start, job.completion, job.units, job.preemptions,
+                     job.energy) for key, job in jobs.items())

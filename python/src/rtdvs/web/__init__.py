@@ -1,0 +1,40 @@
+"""Pages for a browser: in one file, or served."""
+
+from rtdvs.web.data import (
+    MOST_TEXT, Shown, apart, boards_of, chunks, first_window, in_one_file, pack, page_data, pieces,
+    residency, safe_json, sheet, tick_of, with_data,
+)
+from rtdvs.web.server import (
+    HOST, LONGEST_CALL, LONGEST_TRY, PORT, Example, PageServer, answer_of, compare_answer,
+    examples, field_of, read_example, run_answer,
+)
+
+__all__ = [
+    "Example",
+    "HOST",
+    "LONGEST_CALL",
+    "LONGEST_TRY",
+    "MOST_TEXT",
+    "PORT",
+    "PageServer",
+    "Shown",
+    "answer_of",
+    "apart",
+    "boards_of",
+    "chunks",
+    "compare_answer",
+    "examples",
+    "field_of",
+    "first_window",
+    "in_one_file",
+    "pack",
+    "page_data",
+    "pieces",
+    "read_example",
+    "residency",
+    "run_answer",
+    "safe_json",
+    "sheet",
+    "tick_of",
+    "with_data",
+]

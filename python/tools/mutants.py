@@ -1,0 +1,192 @@
+"""Plants changes in the package's modules, and lists those that no test sees.
+
+    cd python && PYTHONPATH=src python3 -m tools.mutants src/rtdvs/rules src/rtdvs/trace --count 300 --seed 1
+
+A change is one of these: another comparison, a number greater by one, `and` in place of `or`, a condition turned, a
+call left out, None in place of what a function returns. Changes are drawn by the seed from all that can be planted. For
+each one the docstrings of its module and the tests that import it, or a module that does, are run up to the first that
+fails. It is planted in a copy of the folder, so nothing here is changed. A survivor may be right all the same: a reader
+has to judge it. The status is 1 if there are survivors.
+"""
+
+import argparse
+import ast
+import os
+import random
+import shutil
+import subprocess
+import sys
+from collections.abc import Iterable, Iterator, Sequence
+from copy import deepcopy
+from dataclasses import dataclass
+from pathlib import Path
+from tempfile import TemporaryDirectory
+
+TOP = Path(__file__).resolve().parents[1]
+COMPARISONS: dict[type[ast.cmpop], type[ast.cmpop]] = {
+    ast.Lt: ast.LtE, ast.LtE: ast.Lt, ast.Gt: ast.GtE, ast.GtE: ast.Gt, ast.Eq: ast.NotEq, ast.NotEq: ast.Eq,
+    ast.In: ast.NotIn, ast.NotIn: ast.In, ast.Is: ast.IsNot, ast.IsNot: ast.Is}
+
+
+@dataclass(frozen=True, slots=True)
+class Change:
+    """A change of a module: the node's place in `ast.walk`, the line, and what is there before and after."""
+
+    module: Path
+    node: int
+    line: int
+    before: str
+    after: str
+
+    def text(self) -> str:
+        """The change on one line.
+
+        >>> Change(Path("a.py"), 7, 3, "1", "2").text()
+        'a.py:3: 1 -> 2'
+        """
+        return f"{self.module}:{self.line}: {self.before} -> {self.after}"
+
+
+def changed(node: ast.AST) -> ast.AST | None:
+    """What is planted in place of a node; None if nothing is.
+
+    >>> ast.unparse(changed(ast.parse("a < b", mode="eval").body))
+    'a <= b'
+    """
+    made = deepcopy(node)
+    match made:
+        case ast.Compare(ops=[first, *rest]) if type(first) in COMPARISONS:
+            made.ops = [COMPARISONS[type(first)](), *rest]
+        case ast.BoolOp(op=ast.And() | ast.Or()):
+            made.op = ast.Or() if isinstance(made.op, ast.And) else ast.And()
+        case ast.Constant(value=int()) if not isinstance(made.value, bool):
+            made.value += 1
+        case ast.Constant(value=bool()):
+            made.value = not made.value
+        case ast.If() | ast.IfExp() | ast.While():
+            made.test = ast.UnaryOp(ast.Not(), made.test)
+        case ast.Expr(value=ast.Call()):
+            return ast.Pass()
+        case ast.Return(value=ast.expr()) if not _is_none(made.value):
+            made.value = ast.Constant(None)
+        case _:
+            return None
+    return made
+
+
+def _is_none(value: ast.expr | None) -> bool:
+    return isinstance(value, ast.Constant) and value.value is None
+
+
+def _head(node: ast.AST) -> str:
+    """The first line of a node's text, without a block below it."""
+    return ast.unparse(ast.fix_missing_locations(node)).splitlines()[0]
+
+
+def changes(module: Path) -> Iterator[Change]:
+    """All changes that can be planted in a module. Annotations, imports and texts have none."""
+    tree = ast.parse(module.read_text(encoding="utf-8"))
+    typed = {id(inner) for node in ast.walk(tree) for field in ("annotation", "returns")
+             if isinstance(hint := getattr(node, field, None), ast.AST) for inner in ast.walk(hint)}
+    for place, node in enumerate(ast.walk(tree)):
+        after = None if id(node) in typed else changed(node)
+        if after is not None:
+            yield Change(module, place, getattr(node, "lineno", 0), _head(node), _head(after))
+
+
+def planted(text: str, place: int) -> str:
+    """A module's text with the change at that place of `ast.walk`.
+
+    >>> planted("if a == 1:\\n    b()\\n", 2)
+    'if a != 1:\\n    b()'
+    """
+    tree = ast.parse(text)
+    wanted = [*ast.walk(tree)][place]
+
+    class Planter(ast.NodeTransformer):
+        def visit(self, node: ast.AST) -> ast.AST:
+            return changed(node) or node if node is wanted else super().generic_visit(node)
+
+    return ast.unparse(ast.fix_missing_locations(Planter().visit(tree)))
+
+
+# The tests of a module
+
+
+def dotted(path: Path, root: Path = TOP) -> str:
+    """The name by which a file is imported.
+
+    >>> dotted(TOP / "src" / "rtdvs" / "rules" / "__init__.py"), dotted(TOP / "tests" / "shared" / "model.py")
+    ('rtdvs.rules', 'tests.shared.model')
+    """
+    inner = path.relative_to(root / "src" if path.is_relative_to(root / "src") else root)
+    return ".".join(inner.with_suffix("").parts).removesuffix(".__init__")
+
+
+def imported(path: Path) -> set[str]:
+    """The modules that a file imports, and what may be modules: a.b.c for `from a.b import c`."""
+    found: set[str] = set()
+    for node in ast.walk(ast.parse(path.read_text(encoding="utf-8"))):
+        if isinstance(node, ast.Import):
+            found.update(alias.name for alias in node.names)
+        elif isinstance(node, ast.ImportFrom) and node.module:
+            found.update([node.module, *(f"{node.module}.{alias.name}" for alias in node.names)])
+    return found
+
+
+def judges(module: Path, root: Path = TOP) -> list[Path]:
+    """The module, for its docstrings, and the tests that import it: in their package's folder first, then others."""
+    name, package = dotted(module, root), module.parent.name
+    names = {name, name.rpartition(".")[0]} - {"rtdvs"}
+    files = [path for path in sorted((root / "tests").rglob("test_*.py")) if names & imported(path)]
+    return [module, *sorted(files, key=lambda path: path.parent.name != package)]
+
+
+def survives(change: Change, root: Path, seconds: float) -> bool:
+    """Whether a change, planted in the folder for this long, passes its tests. No end is no survivor."""
+    module = root / change.module
+    text, tests = module.read_text(encoding="utf-8"), judges(module, root)
+    module.write_text(planted(text, change.node), encoding="utf-8")
+    words = [sys.executable, "-m", "pytest", "-q", "-x", *map(str, tests)]
+    try:
+        ran = subprocess.run(words, cwd=root, capture_output=True, timeout=seconds, env=os.environ | {
+            "PYTHONDONTWRITEBYTECODE": "1"})
+        return ran.returncode == 0
+    except subprocess.TimeoutExpired:
+        return False
+    finally:
+        module.write_text(text, encoding="utf-8")
+
+
+def drawn(folders: Iterable[Path], count: int, seed: int) -> list[Change]:
+    """That many changes of the modules in the folders, by the seed; all if there are fewer."""
+    modules = sorted({path for folder in folders
+                      for path in (folder.rglob("*.py") if folder.is_dir() else [folder])})
+    found = [change for module in modules for change in changes(module)]
+    return random.Random(seed).sample(found, min(count, len(found)))
+
+
+def main(words: Sequence[str] | None = None) -> int:
+    """Prints each survivor, and the numbers."""
+    parser = argparse.ArgumentParser(description=__doc__, formatter_class=argparse.RawDescriptionHelpFormatter)
+    parser.add_argument("folders", type=Path, nargs="+", help="modules, or folders of them, below python/")
+    parser.add_argument("--count", type=int, default=10)
+    parser.add_argument("--seed", type=int, default=1)
+    parser.add_argument("--seconds", type=float, default=600.0, help="the longest that the tests of a change may take")
+    args = parser.parse_args(words)
+    taken, survivors = drawn(args.folders, args.count, args.seed), 0
+    with TemporaryDirectory(prefix="mutants-") as folder:
+        copy = Path(folder, TOP.parent.name, TOP.name)
+        shutil.copytree(TOP, copy, ignore=shutil.ignore_patterns("__pycache__", ".mypy_cache", "out"))
+        for name in (path.name for path in TOP.parent.iterdir() if path.name != TOP.name):
+            (copy.parent / name).symlink_to(TOP.parent / name)
+        for change in taken:
+            if survives(change, copy, args.seconds):
+                survivors += 1
+                print(change.text(), flush=True)
+    print(f"{len(taken)} changes, {survivors} survivors")
+    return 1 if survivors else 0
+
+
+if __name__ == "__main__":
+    sys.exit(main())
