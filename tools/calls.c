@@ -4,13 +4,18 @@
  * call, with NULL and length 0 for both buffers, measures. Of each four calls one then has no room for the answer, one has
  * room for all but its last byte, and two have room for all of it and for the notes; what it leaves has to be the same
  * each time, and the bytes after it have to stay. All memory is as long as what it holds, so that a tool sees a read or a
- * write outside of it. It prints the status and both lengths, and ends with 1 where a call differs. */
+ * write outside of it. The threads have the stack that the header asks for, above a page that nothing may touch, and no
+ * call touches its last quarter. It prints the status and both lengths, and how many bytes of the stack were touched to
+ * standard error. It ends with 1 if a call differs. */
+#define _DEFAULT_SOURCE
 #include "../library/rtdvs.h"
 
 #include <pthread.h>
 #include <stdio.h>
 #include <stdlib.h>
 #include <string.h>
+#include <sys/mman.h>
+#include <unistd.h>
 
 struct bytes {
     uint8_t *at;
@@ -93,12 +98,57 @@ static void *calls(void *unused)
     return unused;
 }
 
+/* A thread's stack, and the same bytes at another place, where a tool that knows the stack lets them be read. */
+struct stack {
+    pthread_t thread;
+    uint8_t *at, *seen;
+};
+
+static uint8_t *mapped(FILE *file, size_t len)
+{
+    uint8_t *at = mmap(NULL, len, PROT_READ | PROT_WRITE, MAP_SHARED, fileno(file), 0);
+    if (at == MAP_FAILED)
+        fail("no memory");
+    return at;
+}
+
+/* Starts the calls on a stack that is painted. */
+static void start(struct stack *s, size_t page)
+{
+    pthread_attr_t attributes;
+    FILE *file = tmpfile();
+    if (file == NULL || ftruncate(fileno(file), page + RTDVS_STACK) != 0)
+        fail("no file");
+    s->at = mapped(file, page + RTDVS_STACK);
+    s->seen = mapped(file, page + RTDVS_STACK);
+    fclose(file);
+    memset(s->seen, 0xA5, page + RTDVS_STACK);
+    if (mprotect(s->at, page, PROT_NONE) != 0 || pthread_attr_init(&attributes) != 0 ||
+        pthread_attr_setstack(&attributes, s->at + page, RTDVS_STACK) != 0 ||
+        pthread_create(&s->thread, &attributes, calls, NULL) != 0)
+        fail("no thread");
+    pthread_attr_destroy(&attributes);
+}
+
+/* Waits for the calls. The result is how much of the stack was touched. */
+static size_t finish(struct stack *s, size_t page)
+{
+    size_t i = page;
+    pthread_join(s->thread, NULL);
+    while (i < page + RTDVS_STACK && s->seen[i] == 0xA5)
+        i++;
+    munmap(s->at, page + RTDVS_STACK);
+    munmap(s->seen, page + RTDVS_STACK);
+    return page + RTDVS_STACK - i;
+}
+
 int main(int argc, char **argv)
 {
     static const char *const names[] = { "tasks", "machine", "list" };
     struct rtdvs_lengths lengths;
     struct bytes none = { NULL, 0 };
-    pthread_t thread[64];
+    struct stack stack[64];
+    size_t page = (size_t)sysconf(_SC_PAGESIZE), most = 0;
     int at = 3, threads = argc > 3 ? atoi(argv[1]) : 0;
 
     if (threads < 1 || threads > 64)
@@ -119,10 +169,14 @@ int main(int argc, char **argv)
     notes = (struct bytes){ fresh(lengths.notes), lengths.notes };
     wanted = call(out, notes, &lengths);
     for (int i = 0; i < threads; i++)
-        if (pthread_create(&thread[i], NULL, calls, NULL) != 0)
-            fail("no thread");
-    for (int i = 0; i < threads; i++)
-        pthread_join(thread[i], NULL);
+        start(&stack[i], page);
+    for (int i = 0; i < threads; i++) {
+        size_t touched = finish(&stack[i], page);
+        most = touched > most ? touched : most;
+    }
+    fprintf(stderr, "stack: %zu bytes\n", most);
+    if (most > RTDVS_STACK / 4 * 3)
+        fail("more than three quarters of the stack");
     printf("status %d, %zu and %zu bytes\n", wanted, out.len, notes.len);
     free(words.at);
     for (int i = 0; i < 3; i++)

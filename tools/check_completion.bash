@@ -17,6 +17,21 @@ offers() {
     [ "$found" = "$wanted" ] || { echo "${COMP_WORDS[*]}: found" $found "wanted" $wanted; bad=$((bad + 1)); }
 }
 
+# The options of a command in the synopsis of the man page, sorted, and whether each one is explained there.
+synopsis() {
+    awk -v command="$1" '/^[.]Sh DESCRIPTION/ { exit }
+        /^[.]Nm/ { on = 0 }
+        /^[.]Cm / { on = index(" " $0 " ", " " command " ") }
+        on && match($0, /Fl -[a-z]+/) { print "-" substr($0, RSTART + 3, RLENGTH - 3) }' docs/rtdvs.1 | sort
+}
+in_man_page() {
+    cases=$((cases + 1))
+    local found
+    found=$(synopsis "$1")
+    shift
+    [ "$found" = "$(printf '%s\n' "$@" | sort)" ] || { echo "docs/rtdvs.1: found" $found "wanted $*"; bad=$((bad + 1)); }
+}
+
 [ "$(complete -p rtdvs)" = 'complete -F _rtdvs rtdvs' ] || { echo 'rtdvs has no completion'; bad=$((bad + 1)); }
 rows=$(sed -n '/^| Command | Options/,/^$/p' README.md | grep '^| `')
 [ "$(wc -l <<< "$rows")" -eq 9 ] || { echo 'README.md: not nine commands'; bad=$((bad + 1)); }
@@ -25,11 +40,12 @@ while read -r row; do
     command=$(cut -d '`' -f 2 <<< "$row")
     options=$(grep -o -e '--[a-z]*' <<< "$row")
     offers $command '' -- $options
+    in_man_page $command $options
     for option in $options; do
         case $option in --probes) before=($option) ;; *) before=($option 1) ;; esac
         offers $command "${before[@]}" '' -- $(grep -v -x -e $option <<< "$options")
         offers $command "${option%?}" -- $(grep -e "^${option%?}" <<< "$options")
-        grep -q "Fl -${option#--}" docs/rtdvs.1 || { echo "docs/rtdvs.1: no $option"; bad=$((bad + 1)); }
+        grep -q -E "^[.]It Fl -${option#--}( |\$)" docs/rtdvs.1 || { echo "docs/rtdvs.1: no $option"; bad=$((bad + 1)); }
     done
 done <<< "$rows"
 

@@ -3,6 +3,7 @@
 # in the file's order, and what is shown is whole: of a function each line of its signature and each clause; of a
 # definition each line; of a lemma its statement, and its proof wholly or not at all. Of a crate of which a page shows one
 # file whole, the page has to show each file, whole or a part.
+unset CDPATH
 cd "$(dirname "$0")/.." || exit 2
 exec awk '
 function fault(what) { print page ":" nr ": " what; faults++ }

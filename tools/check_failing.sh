@@ -1,26 +1,28 @@
 # check_failing.sh PROGRAM: what a call leaves where the system fails. The library fails.c, loaded before the C library,
 # lets the n-th allocation, opening, read or write fail: each one of a call of each command, in a run of its own.
-# What has to be left is worked out from FORMATS.md; each line is one write, and each file is opened once.
+# What has to be left is worked out from FORMATS.md; each line is one write, each file is opened once, and read once for
+# each 4096 bytes that it begins and once for its end.
 # The first allocations are those for the words and the probes, of which each takes at least one.
-[ -x "${1:?no program}" ] || { echo "no program: $1"; exit 2; }
-program=$1
+. "$(dirname "$0")/work.sh"
+case ${1:?no program} in
+/*) program=$1 ;;
+*) program=$PWD/$1 ;;
+esac
+[ -x "$program" ] || { echo "no program: $program"; exit 2; }
 cd "$(dirname "$0")/.." || exit 2
 [ -n "$(command -v cc)" ] || { echo 'failing: skipped, no cc'; exit 0; }
 [ "$(uname)" = Linux ] || { echo 'failing: skipped, no LD_PRELOAD'; exit 0; }
-work=$(mktemp -d) || exit 2
-trap 'rm -r "$work"' EXIT
-trap 'exit 2' HUP INT PIPE TERM
-cc -shared -fPIC -o "$work/fails.so" tools/fails.c || exit 2
-cd crates/example_runs/data || exit 2
+# The calls name their files, and the loader the library, without a path, in which there may be blanks.
+cc -shared -fPIC -o "$work/fails.so" tools/fails.c && cp -R crates/example_runs/data/* "$work" && cd "$work" || exit 2
 cases=0 bad=0
 
 # STATUS OUT ERR: whether the run left this, of its streams so many lines of the whole ones
-left() { [ $status = "$1" ] && head -n "$2" "$work/whole" | cmp -s - "$work/out" && head -n "$3" "$work/notes" | cmp -s - "$work/err"; }
+left() { [ $status = "$1" ] && head -n "$2" whole | cmp -s - out && head -n "$3" notes | cmp -s - err; }
 # STATUS PATTERN: whether the run left this status, no answer, and one line of this kind
-refused() { [ $status = "$1" ] && [ ! -s "$work/out" ] && [ "$(wc -l < "$work/err")" -eq 1 ] && grep -qxE "$2" "$work/err"; }
+refused() { [ $status = "$1" ] && [ ! -s out ] && [ "$(wc -l < err)" -eq 1 ] && grep -qxE "$2" err; }
 # whether it left status 9 alone, and so did each run before it
 silent() {
-    [ $status = 9 ] && [ ! -s "$work/out" ] && [ ! -s "$work/err" ] && [ $n = $((quiet + 1)) ] && quiet=$n
+    [ $status = 9 ] && [ ! -s out ] && [ ! -s err ] && [ $n = $((quiet + 1)) ] && quiet=$n
 }
 
 # whether the run left what it may, where call number n of this kind failed in this way
@@ -34,14 +36,14 @@ may() {
     esac
 }
 # whether the lines before line n are there, and the refusal
-unwritten() { [ $status = 8 ] && [ "$(cat "$work/err")" = 'write: out failed' ] && head -n $((n - 1)) "$work/whole" | cmp -s - "$work/out"; }
+unwritten() { [ $status = 8 ] && [ "$(cat err)" = 'write: out failed' ] && head -n $((n - 1)) whole | cmp -s - out; }
 
 # how many calls of this kind there have to be, as far as it is known: `some`, where there may be any number but 0
 calls() {
     case $kind in
     open) echo $# ;;
     write) echo $((lines + notes)) ;;
-    read) [ $# -eq 0 ] && echo 0 || echo some ;;
+    read) echo $reads ;;
     alloc) echo some ;;
     esac
 }
@@ -51,9 +53,9 @@ each() {
     kind=$1 how=$2 n=1 quiet=0
     shift 2
     while
-        FAILS=$kind HOW=$how AT=$n LD_PRELOAD=$work/fails.so "$program" "$@" > "$work/out" 2> "$work/err" 3> "$work/reached"
+        FAILS=$kind HOW=$how AT=$n LD_LIBRARY_PATH=$work LD_PRELOAD=fails.so "$program" "$@" > out 2> err 3> reached
         status=$?
-        [ -s "$work/reached" ]
+        [ -s reached ]
     do
         cases=$((cases + 1))
         may || { echo "$1, $kind $n $how: status $status"; bad=$((bad + 1)); }
@@ -68,13 +70,16 @@ each() {
 
 # Lines of more than 64 bytes.
 name=abcdefghijklmnopqrstuvwxyz_-6789
-printf '[[task]]\nname = "%s"\nperiod = 1099511627776\nworst = 1000000000000000000\n' $name > "$work/tasks"
-printf 'idle = 1000\n[[point]]\nspeed = 1000000\nmillivolts = 20000\n' > "$work/machine"
+printf '[[task]]\nname = "%s"\nperiod = 1099511627776\nworst = 1000000000000000000\n' $name > tasks
+printf 'idle = 1000\n[[point]]\nspeed = 1000000\nmillivolts = 20000\n' > machine
 
 while read -r words; do
     files=$(echo "$words" | awk '{ for (i = 1; i < NF; i++) if ($i ~ /^--(tasks|machine|demands|trace|deadlines|requests)$/) print substr($i, 3) }')
-    "$program" $words > "$work/whole" 2> "$work/notes" || { echo "$words: fails"; bad=$((bad + 1)); continue; }
-    lines=$(wc -l < "$work/whole") notes=$(wc -l < "$work/notes")
+    "$program" $words > whole 2> notes || { echo "$words: fails"; bad=$((bad + 1)); continue; }
+    lines=$(wc -l < whole) notes=$(wc -l < notes) reads=0
+    for file in $words; do
+        [ ! -f "$file" ] || reads=$((reads + ($(wc -c < "$file") + 4095) / 4096 + 1))
+    done
     while read -r way; do each $way $words; done << WAYS
 alloc refused
 open refused
@@ -96,7 +101,7 @@ constrain --tasks deadlines/tasks.toml --machine deadlines/machine.toml --deadli
 poll --tasks server/tasks.toml --machine server/machine.toml --requests server/requests.csv --server s --scheduler edf --governor none --ticks 15
 workload --seed 1
 least --machine controller/machine.toml --units 1000 --ticks 20
-run --tasks $work/tasks --machine $work/machine --scheduler edf --governor none --ticks 1099511627776 --format 2
+run --tasks tasks --machine machine --scheduler edf --governor none --ticks 1099511627776 --format 2
 CALLS
 echo "failing: $cases cases, $bad differ"
 [ $bad = 0 ]

@@ -1,33 +1,34 @@
 # check_library.sh PROGRAM: the library for C (tools/library.sh). It has the public names of its header and needs only the
-# C library; the example in the header's head compiles as C11 and as C++ and prints what it says. The program call.c over
-# the library answers each call of example_runs as is stored, also with the sanitizers; and refused words, absent files
-# and a full standard output as the program does. 1,000 calls in a process leave no memory and touch none outside, by the
-# sanitizers and by valgrind; four threads get the same answers.
-# It needs cc, and rt or the library that rt lib leaves; without valgrind its cases are left out.
+# C library; the example in the header's head compiles as C11 and as C++ and prints what it says, also by the lines of
+# LIBRARY.md; the statuses of the header are those of FORMATS.md. The program call.c over the library answers each call of
+# example_runs as is stored, also with the sanitizers; and refused words, absent files, files that are too long and a full
+# standard output as the program does. 1,000 calls in a process leave no memory and touch none outside, by the sanitizers
+# and by valgrind; four threads get the same answers; each command does with the stack that the header asks for.
+# It needs cc, and rt or a library that library.sh has made; without pkg-config, c++ or valgrind their cases are skipped.
+. "$(dirname "$0")/work.sh"
 case ${1:?no program} in
 /*) program=$1 ;;
 *) program=$PWD/$1 ;;
 esac
 [ -x "$program" ] || { echo "no program: $program"; exit 2; }
 cd "$(dirname "$0")/.." || exit 2
-devices=/dev top=$PWD data=$PWD/crates/example_runs/data cases=0 bad=0
+devices=/dev top=$PWD data=$PWD/crates/example_runs/data lib=$PWD/crates/rtdvs_c/out/lib cases=0 bad=0 skips=0 lacks=
 for tool in cc nm ld objcopy; do [ -n "$(command -v $tool)" ] || { echo "library: skipped, no $tool"; exit 0; }; done
-[ -n "$(command -v rt)" ] || { echo 'library: skipped, no rt'; exit 0; }
-work=$(mktemp -d) || exit 2
-trap 'rm -rf "$work"' EXIT
-trap 'exit 2' HUP INT PIPE TERM
-lib=$work/lib
-sh tools/library.sh "$lib" "$work" > "$work/made" 2>&1 || { tail -n 5 "$work/made"; echo 'library: not made'; exit 1; }
+[ -n "$(command -v rt)" ] || [ -f "$lib/librtdvs.so" ] || { echo 'library: skipped, no rt'; exit 0; }
+[ -z "$(command -v rt)" ] || sh tools/library.sh > "$work/made" 2>&1 || { tail -n 5 "$work/made"; echo 'library: not made'; exit 1; }
 LD_LIBRARY_PATH=$lib
 export LD_LIBRARY_PATH
 
-# WHAT COMMAND..: counts a case, and says what doesn't hold
+# WHAT COMMAND..: counts a case, and says what doesn't hold; with ONLY it makes the cases in whose names that is
 holds() {
     what=$1
     shift
+    case $what in *"${ONLY-}"* | call*.c*) ;; *) return ;; esac
     cases=$((cases + 1))
     "$@" > "$work/said" 2>&1 || { echo "library: $what"; head -n 5 "$work/said"; bad=$((bad + 1)); }
 }
+# TOOL CASES: counts cases as skipped
+skip() { lacks="$lacks no $1" skips=$((skips + $2)); }
 same() { [ "$1" = "$2" ] || { echo "found $1, wanted $2"; return 1; }; }
 compiles() { cc -O2 -Wall -Wextra -Werror -I "$top/library" "$@"; }
 
@@ -46,23 +47,49 @@ version=$(sed -n 's/^## \([0-9.]*\) (.*/\1/p' CHANGELOG.md | head -n 1)
 holds 'public names of the shared library' public
 holds 'public names of the static library' public_of_static
 holds 'what the shared library needs' needed
+at_once() { objdump -p "$lib/librtdvs.so" | grep -q 'FLAGS .*0x0*8$'; }
+on_the_page() {
+    same "$(grep -o 'librtdvs\.so[.0-9]*[0-9]' docs/LIBRARY.md | sort -u | tr '\n' ' ')" "librtdvs.so.${version%%.*} librtdvs.so.$version " &&
+        grep -q "no trace of a run is longer than $((1 << $(sed -n 's/^pub const LONGEST_TRACE: u64 = 1 << \(.*\);$/\1/p' crates/dvs_base/src/limits.rt) >> 20)) MiB" docs/LIBRARY.md
+}
 holds 'the number of the shared library' numbered
+holds 'names that are found when the library is loaded' at_once
+holds 'the numbers of LIBRARY.md' on_the_page
 
 # The header
 sed -n '/^ \*     #include/,/^ \* What/p' library/rtdvs.h | sed -n 's/^ \*     //p; s/^ \*$//p' > "$work/example.c"
 example() {
     compiles -std=c11 -pedantic "$work/example.c" "$lib/librtdvs.$1" -o "$work/example" && same "$("$work/example")" 'admitted edf 1/2 1'
 }
-flags() {
-    mkdir -p "$work/include" && cp library/rtdvs.h "$work/include" && same "$(PKG_CONFIG_PATH=$lib pkg-config --modversion rtdvs)" "$version" &&
-        cc -std=c11 $(PKG_CONFIG_PATH=$lib pkg-config --cflags rtdvs) "$work/example.c" -L"$lib" -lrtdvs -o "$work/flagged" &&
-        same "$(echo $(PKG_CONFIG_PATH=$lib pkg-config --libs rtdvs))" "-L$work/lib -lrtdvs" && same "$("$work/flagged")" 'admitted edf 1/2 1'
+# The lines of LIBRARY.md that install the library and compile the example. A folder with a blank is refused.
+installs() (
+    unset LD_LIBRARY_PATH
+    HOME=$work
+    case $work in *[!A-Za-z0-9/._+-]*) ! sh tools/library.sh "$HOME/.local"; exit ;; esac
+    sed -n '/^    sh tools\/library.sh "/,/^    cc /s/^    //p' docs/LIBRARY.md > "$work/lines"
+    same "$(wc -l < "$work/lines")" 3 && eval "$(sed -n 1,2p "$work/lines")" && cd "$work" && eval "$(sed -n 3p lines)" &&
+        same "$(./example)" 'admitted edf 1/2 1' && same "$(pkg-config --modversion rtdvs)" "$version"
+)
+# The statuses of the header are those of the table in FORMATS.md.
+statuses() {
+    sed -n 's/^| \([0-9]*\) | `\(RTDVS_[A-Z_]*\)` |.*/\2 \1/p' docs/FORMATS.md > "$work/rows"
+    { echo '#include <rtdvs.h>'; sed 's/\(.*\) \(.*\)/_Static_assert(\1 == \2, "\1");/' "$work/rows"; } > "$work/rows.c"
+    same "$(sed -n 's/^ *\(RTDVS_[A-Z_]*\) = .*/\1/p' library/rtdvs.h)" "$(cut -d ' ' -f 1 "$work/rows")" &&
+        same "$(wc -l < "$work/rows")" 11 && compiles -std=c11 -fsyntax-only "$work/rows.c"
 }
-as_cpp() { printf '#include <rtdvs.h>\nint main() { return RTDVS_DONE; }\n' > "$work/cpp.cc" && compiles -x c++ -std=c++17 -pedantic "$work/cpp.cc" -o "$work/cpp"; }
+as_cpp() {
+    echo '#include <rtdvs.h>
+int main()
+{
+    rtdvs_lengths lengths = { 0, 0 };
+    return rtdvs_call(nullptr, 0, nullptr, 0, nullptr, 0, nullptr, 0, nullptr, 0, nullptr, 0, &lengths) != RTDVS_WORDS;
+}' > "$work/cpp.cc" && c++ -std=c++17 -pedantic -Wall -Wextra -Werror -I "$top/library" "$work/cpp.cc" "$lib/librtdvs.so" -o "$work/cpp" && "$work/cpp"
+}
 holds 'the example of the header' example so
 holds 'the example with the static library' example a
-[ -z "$(command -v pkg-config)" ] || holds 'the flags of pkg-config' flags
-[ -z "$(command -v c++)" ] || holds 'the header as C++' as_cpp
+holds 'the statuses of FORMATS.md' statuses
+if [ -n "$(command -v pkg-config)" ]; then holds 'the lines of LIBRARY.md' installs; else skip pkg-config 1; fi
+if [ -n "$(command -v c++)" ]; then holds 'the header as C++' as_cpp; else skip c++ 1; fi
 
 # The calls of the examples, each by call.c
 checked='-fsanitize=address,undefined -fno-sanitize-recover=all'
@@ -77,6 +104,7 @@ by() {
 }
 cd "$data" || exit 2
 for name in call call_checked; do
+    [ -z "${ONLY-}" ] || continue
     by "$work/$name" > "$work/found"
     cases=$((cases + $(wc -l < calls.txt)))
     cmp -s "$work/found" ../stdout || { bad=$((bad + 1)); echo "library: $name:"; diff "$work/found" ../stdout | head -n 5; }
@@ -114,17 +142,23 @@ holds 'probes' as_program run --probes $files $pair
 holds 'version 2 and demands' as_program run $files --format 2 --demands paper/demands.csv $pair
 holds 'demands above the worst case' as_program run --tasks paper/tasks.toml --machine paper/machine.toml --demands server/demands.csv $pair
 holds 'the trace of other tasks' as_program replay $files --trace offsets/edf_la.trace
+# A file without an end: only the most bytes of one, and one more, are read, so that this much memory is enough.
+endless() { (ulimit -v 1500000 && "$work/call" "$@" > "$work/found.out" 2> "$work/found.err"); same "$? $(cat "$work/found.out" "$work/found.err")" "$wanted"; }
+wanted='4 tasks: too long'
+holds 'tasks without an end' endless admit --tasks $devices/zero --machine paper/machine.toml --scheduler edf
+wanted='4 trace: too long'
+holds 'a trace without an end' endless replay $files --trace $devices/zero
 full() {
     "$work/call_checked" run $files $pair > $devices/full 2> "$work/found.err"
     same $? 8 && same "$(cat "$work/found.err")" 'write: out failed'
 }
-[ ! -e $devices/full ] || holds 'a full standard output' full
+if [ -e $devices/full ]; then holds 'a full standard output' full; else skip 'full device' 1; fi
 
 # Each allocation fails, one by one: the call ends with 9, or answers as it does otherwise.
 fails() {
     cc -O2 -shared -fPIC "$top/tools/fails.c" -o "$work/fails.so" && "$work/call" run $files $pair > "$work/wanted.out" || return
     n=1
-    while : > "$work/hit" && FAILS=alloc AT=$n LD_PRELOAD=$work/fails.so "$work/call" run $files $pair > "$work/found.out" 2> "$work/found.err" 3> "$work/hit"; s=$?; [ -s "$work/hit" ]; do
+    while : > "$work/hit" && FAILS=alloc AT=$n LD_LIBRARY_PATH="$lib:$work" LD_PRELOAD=fails.so "$work/call" run $files $pair > "$work/found.out" 2> "$work/found.err" 3> "$work/hit"; s=$?; [ -s "$work/hit" ]; do
         case $s in
         0) cmp "$work/found.out" "$work/wanted.out" || return ;;
         *) same "$s$(cat "$work/found.out" "$work/found.err")" '9no memory' || return ;;
@@ -143,7 +177,7 @@ calls() {
     shift 2
     found=$($tool "$@") && same "$found" "$wanted"
 }
-posix='-std=c11 -D_POSIX_C_SOURCE=200809L -pthread'
+posix='-std=c11 -pthread'
 holds 'calls.c' compiles $posix "$top/tools/calls.c" "$lib/librtdvs.so" -o "$work/calls"
 holds 'calls.c with the sanitizers' compiles -g $checked $posix "$top/tools/calls.c" "$lib/librtdvs.a" -o "$work/calls_checked"
 # WORD..: what calls.c has to print of the program's answer
@@ -157,7 +191,7 @@ empty=$(left admit --tasks $devices/null --machine $devices/null --scheduler edf
 no_words=$(left)
 valgrind='valgrind -q --error-exitcode=9 --leak-check=full --show-leak-kinds=all --errors-for-leak-kinds=all'
 tools=run
-[ -z "$(command -v valgrind)" ] || tools='run valgrind'
+if [ -n "$(command -v valgrind)" ]; then tools='run valgrind'; else skip valgrind 4; fi
 for tool in $tools; do
     case $tool in
     run) with='' of=calls_checked ;;
@@ -170,5 +204,24 @@ for tool in $tools; do
 done
 holds 'four threads' calls '' "$grown" "$work/calls_checked" 4 250 $named -- run $words --demands demands $pair
 
-echo "library: $cases cases, $bad differ"
+# Each command with the stack that the header asks for. calls.c refuses one that takes more than three quarters of it.
+# FOLDER LIST COMMAND WORD..: the list is a file, which is named as the words name it
+fits() (
+    mkdir -p "$work/named" && cp "$1/tasks.toml" "$work/named/tasks" && cp "$1/machine.toml" "$work/named/machine" || exit
+    for kind in demands trace deadlines requests; do cp "$2" "$work/named/$kind"; done
+    shift 2
+    cd "$work/named" && wanted=$(left "$@") && same "${wanted%%,*}" 'status 0' &&
+        calls '' "$wanted" "$work/calls" 1 4 tasks tasks machine machine list trace -- "$@"
+)
+holds 'the stack of run' fits long long/demands.csv run $words --demands demands --scheduler edf --governor cc --ticks 16 --probes
+holds 'the stack of admit' fits long $devices/null admit $words --scheduler edf
+holds 'the stack of replay' fits controller controller/edf_cc_with_demands.trace replay $words --trace trace
+holds 'the stack of migrate' fits controller controller/edf_cc_with_demands.trace migrate $words --trace trace
+holds 'the stack of response' fits paper $devices/null response $words
+holds 'the stack of constrain' fits deadlines long/deadlines.csv constrain $words --deadlines deadlines
+holds 'the stack of poll' fits server long/requests.csv poll $words --requests requests --server s --scheduler edf --governor none --ticks 15
+holds 'the stack of workload' fits paper $devices/null workload --seed 1
+holds 'the stack of least' fits paper $devices/null least --machine machine --units 28 --ticks 16
+
+echo "library: $cases cases, $bad differ$([ $skips = 0 ] || echo ", $skips skipped (${lacks# })")"
 [ $bad = 0 ]

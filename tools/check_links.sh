@@ -1,9 +1,10 @@
 # check_links.sh: checks the pages, those at the top and in docs and examples.
 # Checked are: the file and the heading of each relative link; each path in backticks; each name of code in backticks,
-# which has to occur as a word in a crate or in python; and the lines of refusals in MESSAGES.md: each is printed by some
-# call of crates/stored_calls or by a test with large files or little memory (crates/call_tests/src/hostile), each refusal
-# that is stored is one of them, and they have each text of the code.
+# which has to occur as a word in a crate, in python or in the C header; and the lines of refusals in MESSAGES.md: each is
+# printed by some call of crates/stored_calls or by a test with large files or little memory (crates/call_tests/src/hostile),
+# each refusal that is stored is one of them, and they have each text of the code; and the number of calls in TESTING.md.
 # A path may be shortened from the left (`specs/Laws.antt`), and may have `*`. Folders that builds make aren't looked for.
+unset CDPATH
 cd "$(dirname "$0")/.." || exit 2
 exec awk '
 function fault(what) { print page ":" nr ": " what; faults++ }
@@ -158,6 +159,16 @@ function check_messages(    line, before, pattern, list) {
     if (!read) fault("no texts of refusals in the code")
 }
 
+# the number of stored calls in TESTING.md, rounded down to tens
+function check_calls(    line, count, wanted, some) {
+    while ((getline line < "crates/stored_calls/data/calls.txt") > 0) if (line ~ /^call /) count++
+    page = "docs/TESTING.md"
+    wanted = "some " int(count / 10) "0 calls"
+    for (nr = 1; (getline line < page) > 0; nr++) if (index(line, wanted)) some = 1
+    close(page)
+    if (!some) fault("doesn\047t say " wanted)
+}
+
 BEGIN {
     list = "find * .ci -name out -prune -o -print"
     while ((list | getline path) > 0) {
@@ -165,7 +176,7 @@ BEGIN {
         while (match(path, /\//)) { path = substr(path, RSTART + 1); ends[path] = 1 }
     }
     close(list)
-    code = "find crates examples python crates.txt -name out -prune -o -type f \\( -name \"*.py\" -o -name \"*.rt\" -o -name \"*.antt\" -o -name \"*.edit\" -o -name \"*.txt\" -o -name \"*.toml\" \\) -exec cat {} + | LC_ALL=C tr -cs \"A-Za-z0-9_-\" \"\\n\" | LC_ALL=C sort -u"
+    code = "find crates examples python library crates.txt -name out -prune -o -type f \\( -name \"*.py\" -o -name \"*.h\" -o -name \"*.rt\" -o -name \"*.antt\" -o -name \"*.edit\" -o -name \"*.txt\" -o -name \"*.toml\" \\) -exec cat {} + | LC_ALL=C tr -cs \"A-Za-z0-9_-\" \"\\n\" | LC_ALL=C sort -u"
     while ((code | getline word) > 0) {
         words[word] = 1
         n = split(word, parts, "-")
@@ -196,6 +207,7 @@ BEGIN {
         close(page)
     }
     check_messages()
+    check_calls()
     print "links: " count " pages, " faults + 0 " faults"
     exit faults > 0
 }'

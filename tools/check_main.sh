@@ -2,16 +2,15 @@
 # status, what it writes to which of the two streams, its three probes and their limit, words that are empty, no text or
 # too many, names of files, files of the most bytes and of many rows, streams that are full or closed, and memory that
 # runs out. What each case has to leave is worked out from FORMATS.md.
-# Cases over a full device, or under a limit of memory, are left out where there is none.
+# Cases over a full device, or under a limit of memory, are skipped where there is none.
+. "$(dirname "$0")/work.sh"
 case ${1:?no program} in
 /*) program=$1 ;;
 *) program=$PWD/$1 ;;
 esac
 [ -x "$program" ] || { echo "no program: $program"; exit 2; }
-devices=/dev cases=0 bad=0
-work=$(mktemp -d) && cd "$work" || exit 2
-trap 'rm -r "$work"' EXIT
-trap 'exit 2' HUP INT PIPE TERM
+devices=/dev cases=0 bad=0 skips=0 lacks=
+cd "$work" || exit 2
 
 # the lines of a text, none where it is empty
 lines() { [ -z "$1" ] || printf '%s\n' "$1"; }
@@ -166,6 +165,8 @@ check 'standard error is closed, with probes' 0 "$trace" ''
 read -r found < status
 check 'a reader that stops early' 8 'trace 1' 'write: out failed'
 
+# CASES WHY: counts cases as skipped
+skip() { skips=$((skips + $1)) lacks="${lacks:+$lacks, }$2"; }
 if [ -c $devices/full ]; then
     : > out
     "$program" $run --probes > $devices/full 2> err
@@ -178,6 +179,8 @@ if [ -c $devices/full ]; then
     "$program" admit --tasks much --machine machine --scheduler edf > out 2> $devices/full
     found=$?
     check 'standard error is full, denied' 1 '' ''
+else
+    skip 3 'no full device'
 fi
 
 # KILOBYTES WORDS..: calls the program with at most so much memory
@@ -199,6 +202,8 @@ if (ulimit -v 12000) 2> err; then
     check 'a file larger than the memory' 4 '' 'tasks: too long'
     call_within 900000 replay $two --trace endless
     check 'a trace larger than the memory' 4 '' 'trace: too long'
+else
+    skip 4 'no limit of memory'
 fi
 
 # A byte that no UTF-8 text has, in a word of its own, in a value, and in the last word.
@@ -246,5 +251,5 @@ speed 2 1 1/1
 idle 2:0 4:0 2 0
 end 4 1000000000 0' ''
 
-echo "main: $cases cases, $bad differ"
+echo "main: $cases cases, $bad differ$([ $skips = 0 ] || echo ", $skips skipped ($lacks)")"
 [ $bad = 0 ]

@@ -2,28 +2,36 @@
 # each call of the package's README runs in the folder of the examples and the first one leaves the stored trace; the man
 # page, the completion, the Python module and the examples are those of the repository; the module finds the program and
 # both scripts of the package run; each link of a page and each file of the man page leads to a file of the package; what
-# is only in the repository stays out. It needs dpkg-deb; calls by Python are made where there is Python 3.11 or later, and
-# lintian finds no fault where there is lintian.
+# is only in the repository stays out. It needs dpkg-deb; what needs Python 3.11, bash, cc, lintian or the library that
+# library.sh makes is skipped without.
+. "$(dirname "$0")/work.sh"
 cd "$(dirname "$0")/.." || exit 2
 [ -x "${1:?no program}" ] || { echo "no program: $1"; exit 2; }
 [ -n "$(command -v dpkg-deb)" ] || { echo 'package: skipped, no dpkg-deb'; exit 0; }
 unset PYTHONPATH RTDVS
 python=${PYTHON:-/usr/bin/python3}
-top=$PWD work=$(mktemp -d) shell=$(command -v sh) cases=0 bad=0
-trap 'rm -r "$work"' EXIT
-trap 'exit 2' HUP INT PIPE TERM
+top=$PWD shell=$(command -v sh) cases=0 bad=0 skips=0 lacks=
 mkdir "$work/first" "$work/second" "$work/root" || exit 2
 
-# WHAT COMMAND..: counts a case, and says what doesn't hold
+# WHAT COMMAND..: counts a case, and says what doesn't hold; with ONLY it makes the cases in whose names that is
 holds() {
     what=$1
     shift
+    case $what in *"${ONLY-}"* | 'not unpacked') ;; *) return ;; esac
     cases=$((cases + 1))
     "$@" > "$work/out" 2>&1 || { echo "package: $what"; head -n 5 "$work/out"; bad=$((bad + 1)); }
 }
+# CASES WHY: counts cases as skipped
+skip() { skips=$((skips + $1)) lacks="${lacks:+$lacks, }$2"; }
 field() { dpkg-deb -f "$package" "$1"; }
 same() { [ "$1" = "$2" ] || { echo "found $1, wanted $2"; return 1; }; }
-only_libc() { field Depends | grep -q -x 'libc6 (>= 2\.[0-9]*)'; }
+# The newest version of the C library whose symbols the program and the library name, and the Python of the wheel.
+only_libc() {
+    same "$(field Depends)" "libc6 (>= $(cat "$root/bin/rtdvs" "$root/lib"/librtdvs.so* 2>&- | tr -c 'A-Z_0-9.' '\n' | sed -n 's/^GLIBC_\(2\.[0-9.]*\)$/\1/p' | sort -V | tail -n 1))"
+}
+least_python() { sed -n 's/^requires-python = ">=\(.*\)"$/\1/p' python/pyproject.toml; }
+recommends() { same "$(field Recommends)" "python3 (>= $(least_python))"; }
+python_of_pages() { same "$(grep -oh 'Python 3\.[0-9]*' README.md docs/*.md examples/*.md tools/package/README.md tools/setup.sh | sort -u)" "Python $(least_python)"; }
 # The stripped program.
 program() {
     cp "$1" "$work/stripped" && { [ -z "$(command -v strip)" ] || strip --strip-unneeded -R .comment -R .note "$work/stripped"; } &&
@@ -80,7 +88,7 @@ call_from_python() (
     PYTHONPATH=$root/lib/python3/dist-packages "$python" -B -c 'from pathlib import Path
 from rtdvs import find_engine
 files = {name: Path(name + ending) for name, ending in (("tasks", ".toml"), ("machine", ".toml"), ("demands", ".csv"))}
-print(find_engine().run(**files, scheduler="edf", governor="cc", ticks=16, version=1), end="")' > "$work/trace" &&
+print(find_engine().run(**files, scheduler="edf", governor="cc", ticks=16, version=1).text(), end="")' > "$work/trace" &&
         cmp "$work/trace" edf_cc_with_demands.trace
 )
 # The scripts that dpkg runs, with stand-ins for what compiles a package's modules, and without.
@@ -110,8 +118,8 @@ links() {
     same "$(cat "$work/broken")" ''
 }
 
-package=$(sh tools/package.sh "$1" "$work/first") || { echo 'package: not made'; exit 1; }
-again=$(sh tools/package.sh "$1" "$work/second") || { echo 'package: not made'; exit 1; }
+package=$(sh tools/package.sh "$1" "$work/first" 2> "$work/notes") || { echo 'package: not made'; exit 1; }
+again=$(sh tools/package.sh "$1" "$work/second" 2> "$work/notes") || { echo 'package: not made'; exit 1; }
 root=$work/root/usr doc=$work/root/usr/share/doc/rtdvs data=$work/root/usr/share/rtdvs
 holds 'not unpacked' dpkg-deb -x "$package" "$work/root"
 PATH=$root/bin:$PATH
@@ -120,17 +128,31 @@ version=$(sed -n 's/^## \([0-9.]*\) (.*/\1/p' CHANGELOG.md | head -n 1)
 holds 'its version' same "$(field Version)" "$version"
 holds 'the version of the man page' same "$(sed -n 's/^This page is that of version \(.*\)\.$/\1/p' docs/rtdvs.1)" "$version"
 holds 'needs more than the C library' only_libc
+holds 'recommends another Python' recommends
+holds 'another Python on a page' python_of_pages
 holds 'the program' program "$1"
 holds 'the first call' first_call
 holds 'the examples' examples
 holds 'the man page' man_page
 holds 'the files of the man page' man_files
-[ -z "$(command -v bash)" ] || holds 'the completion' completion "$root/share/bash-completion/completions/rtdvs"
+if [ -n "$(command -v bash)" ]; then
+    holds 'the completion' completion "$root/share/bash-completion/completions/rtdvs"
+else
+    skip 1 'no bash'
+fi
 holds 'the Python module' module
-[ -z "$(command -v rt)" ] || [ -z "$(command -v cc)" ] || holds 'the library for C' library
-if "$python" -c 'import tomllib' 2>/dev/null; then
+if [ ! -f crates/rtdvs_c/out/lib/librtdvs.so ]; then
+    skip 1 'no library'
+elif [ -z "$(command -v cc)" ]; then
+    skip 1 'no cc'
+else
+    holds 'the library for C' library
+fi
+if "$python" -c 'import tomllib' 2>&-; then
     holds 'a call by the Python module' call_from_python
     holds 'the calls by Python' calls_by_python
+else
+    skip 2 'no Python 3.11'
 fi
 holds 'the scripts of the package' scripts
 holds 'the sums of the files' sums
@@ -138,7 +160,7 @@ holds 'the pages' pages
 holds 'links of pages' links
 holds 'what is only in the repository' only_repository
 holds 'the changelog or the copyright' papers
-[ -z "$(command -v lintian)" ] || holds 'lintian' lintian_finds_nothing
+if [ -n "$(command -v lintian)" ]; then holds 'lintian' lintian_finds_nothing; else skip 1 'no lintian'; fi
 
-echo "package: $cases cases, $bad differ"
+echo "package: $cases cases, $bad differ$([ $skips = 0 ] || echo ", $skips skipped ($lacks)")"
 [ $bad = 0 ]

@@ -3,14 +3,13 @@
 # installed into a fresh virtual environment and used there. PYTHON is the interpreter, the system's without it;
 # tools/setup.sh installs what this needs. With rt it makes the shared library first; without rt and without one in
 # crates/rtdvs_c/out/lib the tests of it are skipped, and counted so.
+. "$(dirname "$0")/work.sh"
 cd "$(dirname "$0")/.." || exit 2
 [ -x "${1:?no program}" ] || { echo "no program: $1"; exit 2; }
-RTDVS=$(cd "$(dirname "$1")" && pwd)/$(basename "$1") python=${PYTHON:-/usr/bin/python3} work=$(mktemp -d) bad=0
-trap 'rm -rf "$work"' EXIT
-trap 'exit 2' HUP INT PIPE TERM
-library=yes without=
+RTDVS=$(cd "$(dirname "$1")" && pwd)/$(basename "$1") python=${PYTHON:-/usr/bin/python3} bad=0
+library=yes
 [ -z "$(command -v rt)" ] || sh tools/library.sh > "$work/made" 2>&1 || { tail -n 5 "$work/made"; echo 'python: no library'; exit 1; }
-[ -f crates/rtdvs_c/out/lib/librtdvs.so ] || library='' without=' without librtdvs.so'
+[ -f crates/rtdvs_c/out/lib/librtdvs.so ] || library=
 export RTDVS PYTHONDONTWRITEBYTECODE=1
 unset PYTHONPATH
 skip() { echo "python: skipped, no $1"; exit 0; }
@@ -24,44 +23,46 @@ localedef -i de_DE -f UTF-8 "$work/locales/de_DE.UTF-8" > "$work/localedef" 2>&1
 comma=$(LOCPATH=$work/locales LC_ALL=de_DE.UTF-8 "$python" -c "import locale; locale.setlocale(locale.LC_ALL, ''); print(f'{0.5:n}')")
 [ "$comma" = 0,5 ] || { echo "python: no decimal comma in the locale made, but $comma"; exit 1; }
 
-types() { cd python && "$python" -m mypy --cache-dir "$work/mypy"; }
-tests() { cd python && "$python" -m pytest -q -r s; }
-plain() { export LC_ALL=C.UTF-8 && tests; }
-decimal_comma() { export LOCPATH="$work/locales" LC_ALL=de_DE.UTF-8 && tests; }
-# The example of the package's first lines, by the package that is installed, away from the repository: by the program, and
-# by the shared library that the wheel carries.
-wheel() {
-    (cd python && "$python" -m hatchling build -t wheel -d "$work/dist") && "$python" -m venv "$work/venv" &&
-        "$work/venv/bin/pip" install -q --no-index --disable-pip-version-check "$work"/dist/*.whl &&
-        cp crates/example_runs/data/paper/*.* "$work/dist" && cd "$work/dist" || return
-    installed Engine && "$work/venv/bin/python" -m rtdvs --help &&
-        "$work/venv/bin/python" -m rtdvs page edf_none.trace --tasks tasks.toml --machine machine.toml --output page.html || return
-    [ -z "$library" ] || { unset RTDVS && installed LibraryEngine; }
-}
-# ENGINE: the class that the installed package takes
-installed() {
-    "$work/venv/bin/python" -c 'import pathlib, sys, rtdvs
-assert rtdvs.__file__.startswith(sys.prefix), rtdvs.__file__
-tasks, machine = (kind.read(pathlib.Path(name)) for kind, name in
-                  ((rtdvs.TaskSet, "tasks.toml"), (rtdvs.Machine, "machine.toml")))
-engine = rtdvs.find_engine()
-assert sys.argv[1] == "Engine" or str(engine.program).startswith(sys.prefix), engine
-print(type(engine).__name__, engine.admit(tasks, machine, "edf"))' "$1" > used &&
-        grep -q -x "$1 Admitted(scheduler='edf', num=836, den=280, speed=3)" used
-}
-
-# All at a time; what failed is shown to its end.
-for part in types plain decimal_comma wheel; do
-    ($part > "$work/$part" 2>&1; echo $? > "$work/$part.status") &
+# All at a time, or the one in ONLY; what failed is shown to its end.
+parts=${ONLY:-collected types plain decimal_comma wheel}
+export work python library
+for part in $parts; do
+    "$python" tools/group.py sh tools/python_part.sh $part > "$work/$part" 2>&1 &
+    jobs="$jobs $!"
 done
-wait
-for part in types plain decimal_comma wheel; do
-    [ "$(cat "$work/$part.status")" = 0 ] || { echo "python: $part failed"; tail -n 40 "$work/$part"; bad=1; }
+set -- $jobs
+for part in $parts; do
+    wait "$1" || { echo "python: $part failed"; tail -n 40 "$work/$part"; bad=1; }
+    shift
 done
+jobs=
 [ $bad = 0 ] || exit 1
-skipped=$(sed -n 's/^SKIPPED [^:]*:[^:]*: /, skipped: /p' "$work/plain" | sort -u)
-# setup.sh installs all but the tools for fst files; the locale with a comma is the other run's.
-lacks=$(printf '%s\n' "$skipped" | grep -v -e vcd2fst -e 'decimal comma' -e '^$')
-[ "$TOOLS" != all ] || [ -z "$lacks" ] || { echo "python: failed$lacks"; exit 1; }
-echo "python: $(sed -n '$s/ in .*//p' "$work/plain")$without, the same with a decimal comma;" \
-    "types and a wheel${library:+ with the shared library} are right$(printf '%s' "$skipped" | tr -d '\n')"
+[ -z "${ONLY-}" ] || { echo "python: $ONLY"; exit 0; }
+
+# RUN: its tests that passed, together with those that no package of setup.sh lets run: the tools for fst files aren't
+# installed, and the locale with a comma is the other run's. Then those skipped for another reason, and the reasons.
+counts() {
+    awk '/^SKIPPED / {
+        number = substr($2, 2) + 0
+        reason = $0
+        sub(/^[^ ]* [^ ]* [^ ]*: /, "", reason)
+        if (reason ~ /vcd2fst|decimal comma/) free += number
+        else { lacks += number; if (!(reason in seen)) reasons = reasons (lacks > number ? "; " : " ") reason; seen[reason] = 1 }
+    }
+    { last = $0 }
+    END {
+        sub(/ in [0-9.]*s.*/, "", last)
+        n = split(last, parts, ", ")
+        for (i = 1; i <= n; i++) {
+            if (parts[i] ~ / passed$/) passed = parts[i] + 0
+            else if (parts[i] !~ /^[0-9]+ (skipped|warnings?)$/) { print "none", parts[i]; exit }
+        }
+        print passed + free, lacks + 0 reasons
+    }' "$work/$1"
+}
+found=$(counts plain)
+[ "${found#none}" = "$found" ] || { echo "python: $found"; exit 1; }
+[ "$found" = "$(counts decimal_comma)" ] || { echo "python: $found, with a decimal comma $(counts decimal_comma)"; exit 1; }
+lacks=${found#* } more=
+[ "${lacks%% *}" = 0 ] || more=", ${lacks%% *} skipped (${lacks#* })"
+echo "python: ${found%% *} tests, the same with a decimal comma; types and a wheel${library:+ with the shared library} are right$more"

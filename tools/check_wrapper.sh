@@ -2,12 +2,11 @@
 # its standard error. Each call is made by the built program, and by a stand-in for `rt try`, which as the kit's does
 # calls the program in another folder and adds two lines on standard error. It is called through symbolic links too, and on
 # a terminal where there is `script`. With `try` the kit's own makes README's call too, which takes a minute or two.
+. "$(dirname "$0")/work.sh"
 cd "$(dirname "$0")/.." || exit 2
 [ -x "${1:?no program}" ] || { echo "no program: $1"; exit 2; }
 program=$(cd "$(dirname "$1")" && pwd)/$(basename "$1")
-top=$PWD devices=/dev work=$(mktemp -d) cases=0 bad=0
-trap 'rm -r "$work"' EXIT
-trap 'exit 2' HUP INT PIPE TERM
+top=$PWD devices=/dev cases=0 bad=0 skipped=
 
 # Two trees: one with a built program, and one without. Beside them are the example and a folder with a blank.
 mkdir -p "$work/built/crates/rtdvs/out" "$work/bare/crates/rtdvs" "$work/tools" "$work/stand-in" "$work/away" "$work/a b" || exit 2
@@ -19,16 +18,17 @@ done
 cp crates/example_runs/data/paper/*.* "$work/a b"
 ln -s "$program" "$work/built/crates/rtdvs/out/rtdvs"
 for tool in sh dirname readlink mktemp sed cat rm env; do ln -s "$(command -v $tool)" "$work/tools/$tool"; done
-cat > "$work/stand-in/rt" << END
-#!$(command -v sh)
-[ "\$1 \$2 \$3 \$4" = 'try --seconds 3600 --' ] && [ -d ../../crates/rtdvs ] || exit 2
+own=$program
+export work own
+{ echo "#!$(command -v sh)"; cat; } > "$work/stand-in/rt" << 'END'
+[ "$1 $2 $3 $4" = 'try --seconds 3600 --' ] && [ -d ../../crates/rtdvs ] || exit 2
 shift 4
 cd "$work/away" || exit 2
-env -i "$program" "\$@"
-status=\$?
-echo "checked: ended status=\$status" >&2
-echo "run=ended status=\$status runners=1 proved=no" >&2
-exit \$status
+env -i "$own" "$@"
+status=$?
+echo "checked: ended status=$status" >&2
+echo "run=ended status=$status runners=1 proved=no" >&2
+exit $status
 END
 chmod +x "$work/stand-in/rt"
 first=$(sed -n 's/^    sh rtdvs\.sh //p' README.md | head -n 1)
@@ -100,9 +100,19 @@ for link in whole more/relative; do
     leaves link 0 "$(cat "$work/own.out")" ''
 done
 
+# From above, with a CDPATH that leads to another tree; and in a folder whose name begins like an option.
+mkdir -p "$work/decoy/built" "$work/decoy/bare" "$work/-n/crates/rtdvs/out" && cp "$top/rtdvs.sh" "$work/-n" && ln -s "$program" "$work/-n/crates/rtdvs/out/rtdvs" && cd "$work" || exit 2
+for tree in built bare; do
+    CDPATH=$work/decoy:. PATH=$work/stand-in:$work/tools call led sh $tree/rtdvs.sh admit --tasks 'a b/tasks.toml' \
+        --machine 'a b/machine.toml' --scheduler edf
+    leaves led 0 "$(cat "$work/own.out")" ''
+done
+PATH=$work/tools call option sh -- -n/rtdvs.sh admit --tasks 'a b/tasks.toml' --machine 'a b/machine.toml' --scheduler edf
+leaves option 0 "$(cat "$work/own.out")" ''
+
 # On a terminal a slow call says so before it, and after it how to get a faster program.
 if script -qec true "$work/typescript" > "$work/script" 2>&1; then
-    PATH=$work/stand-in:$work/tools:$PATH script -qec "sh '$work/bare/rtdvs.sh' least --units 1" "$work/typescript" > "$work/script" 2>&1
+    PATH=$work/stand-in:$work/tools:$PATH script -qec 'sh "$work/bare/rtdvs.sh" least --units 1' "$work/typescript" > "$work/script" 2>&1
     for said in 'no built program, so rt try compiles one; it takes a minute' \
         "for faster calls build the program once: cd $work/bare/crates/rtdvs && rt run -- workload --seed 1"; do
         cases=$((cases + 1))
@@ -110,6 +120,8 @@ if script -qec true "$work/typescript" > "$work/script" 2>&1; then
         echo "wrapper: not said on a terminal: $said" && cat "$work/script"
         bad=$((bad + 1))
     done
+else
+    skipped=', 2 skipped (no terminal by script)'
 fi
 
 # No program and no rt; then an rt that can't answer.
@@ -127,5 +139,5 @@ if [ "${2-}" = try ]; then
     eval "call try sh rtdvs.sh $first"
     leaves try 0 "$(cat "$top/$example/edf_cc_with_demands.trace")" ''
 fi
-echo "wrapper: $cases cases, $bad differ"
+echo "wrapper: $cases cases, $bad differ$skipped"
 [ $bad = 0 ]

@@ -3,7 +3,7 @@
 
     python3 tools/form.py [WORD]
 
-It ends with 1 where a count is above its limit: 90 for relations, 1 for idle (`known_names`, by docs/DECISIONS.md), 0 for
+It ends with 1 where a count is above its limit: 100 for relations, 1 for idle (`known_names`, by docs/DECISIONS.md), 0 for
 the others. WORD is one of the counts, and then its places are printed too:
 relations   definitions of the top call's specs (rtdvs_top, statuses, command_files) that are relations: their type ends
             in `Type 0`, or a record has parameters
@@ -116,6 +116,9 @@ def idle():
         if path.parts[1] not in TESTS:
             patterns.append(r"Ok\((\w+)\) => (?:return )?Ok\(\1\)")
         for m in (m for pattern in patterns for m in re.finditer(pattern, text)):
+            # An arm after one that takes an error apart hands on the others.
+            if m.group().startswith("Err") and re.search(r"\bErr\(\w+::", text[text.rfind("match ", 0, m.start()):m.start()]):
+                continue
             found.append(f"{place(path, text, m.start())} {' '.join(m.group().split())}")
     return found
 
@@ -154,7 +157,7 @@ def edges():
 def main():
     asked = sys.argv[1] if len(sys.argv) > 1 else None
     above = 0
-    for count, most in ((relations, 90), (positions, 0), (mutual, 0), (idle, 1), (limits, 0), (edges, 0)):
+    for count, most in ((relations, 100), (positions, 0), (mutual, 0), (idle, 1), (limits, 0), (edges, 0)):
         rows = count()
         above += len(rows) > most
         print(f"{count.__name__}: {len(rows)}, at most {most}")

@@ -7,6 +7,7 @@
 # `replay` and `migrate` have the same two, `trace`, and one record of words. A file names a kind or a version by its
 # variant. Looked at are `src` and `specs` of all crates but those of tests and of examples; for kinds, of all but those
 # of governors too. Comments and imports don't count; exports and lists of modules do.
+unset CDPATH
 cd "$(dirname "$0")/.." || exit 2
 export LC_ALL=C
 mode=$1

@@ -10,6 +10,7 @@
 # parenthesis or `, where`.
 # For --unreached the ghost members of a public trait count as clauses, and so does what an `impl Model` shows. A remark
 # says that private clauses, or the ghost members of an `impl`, reach the definition; without one only proofs use it.
+unset CDPATH
 cd "$(dirname "$0")/.." || exit 2
 mode=${1:-list}
 [ $# -eq 0 ] || shift
@@ -33,6 +34,7 @@ function read_sections() {
     section("headline", "The model", "sched_model")
     section("headline", "The text of a run", "trace_text trace_reader sched_model/RunNotes note_laws trace_writer trace_laws")
     section("headline", "The tests under RM", "rm_admit governor rm_response_laws rm_response")
+    section("headline", "Probes", "probes")
     section("headline", "The promise", "event_kernel statuses command_files rtdvs_top")
     section("others", "Writing and probes", "dvs_base sched_model energy probes trace_writer event_kernel")
     section("others", "Replay and migration", "trace_reader replay_laws replay " \
@@ -325,17 +327,28 @@ function reach(set, id,    stack, n, k) {
     }
 }
 
+# The headline is a field of what is promised: it needs that field, and what the clause says of words, files and outsides.
+function reach_headline(    needed, n, k) {
+    n = split("rtdvs_top/Promises:IsDoneOrDenied rtdvs_top/Asked:asked_of rtdvs_top/Asked:command_asked " \
+        "rtdvs_top/Promised:outside_of command_files/GivenFiles:MayHold dvs_base/Outside:Rose", needed, " ")
+    for (k = 1; k <= n; k++) {
+        if (!(needed[k] in kind)) fault("no definition " needed[k])
+        reach("headline", needed[k])
+    }
+}
+
 # The clauses of the top call and of its exit status; for --unreached all clauses.
 function reach_clauses(    i, top, headlines, codes) {
     reach("met", "sched_model/Ticks:IsMet")
     for (i = 1; i <= clauses; i++) {
         if (mode == "--unreached") reach(clause_class[i], "clause " i)
         top = clause_file[i] == "crates/rtdvs_top/src/top.rt" && clause_call[i] == "rtdvs"
-        if (top && clause_label[i] == "headline") { headlines++; reach("headline", "clause " i) }
+        if (top && clause_label[i] == "promised") headlines++
         if (clause_file[i] == "crates/statuses/src/status.rt" && clause_call[i] == "code") { codes++; top = 1 }
         if (top) reach("others", "clause " i)
     }
-    if (headlines != 1) fault("no clause headline of rtdvs")
+    reach_headline()
+    if (headlines != 1) fault("no clause promised of rtdvs")
     if (codes != 1) fault("no clause of the exit status")
     if (!("sched_model/Ticks:IsMet" in kind)) fault("no definition IsMet")
 }

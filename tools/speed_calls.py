@@ -23,8 +23,8 @@ sys.path.insert(0, str(TOP / "python" / "src"))
 
 import speed_inputs  # noqa: E402
 from rtdvs import Machine, Task, TaskSet, find_engine  # noqa: E402
-from rtdvs.compare import PAIRS  # noqa: E402
 from rtdvs.engine import Call, Engine, run_call  # noqa: E402
+from rtdvs.studies import PAIRS  # noqa: E402
 
 MACHINE = TOP / "crates" / "example_runs" / "data" / "paper" / "machine.toml"
 

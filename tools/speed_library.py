@@ -85,7 +85,7 @@ def main() -> None:
         os.chdir(folder)
         for name, text in speed_inputs.files():
             Path(name).write_text(text, encoding="utf-8")
-        calls = compiled(library, "calls", "-pthread", "-D_POSIX_C_SOURCE=200809L", TOOLS / "calls.c")
+        calls = compiled(library, "calls", "-pthread", TOOLS / "calls.c")
         call = compiled(library, "call", TOOLS.parent / "library" / "call.c")
         peer = compiled(library, "peer", TOOLS / "peer.c")
         print(f"a small call as a process, over one in process: {small_calls(program, calls):.1f}")
