@@ -9,8 +9,8 @@
 #include <string.h>
 #include <sys/mman.h>
 
-/* The most bytes of a trace of a run. */
-static const size_t longest = (size_t)1 << 28;
+/* The most bytes of a trace, also of one that a run prints, and of any other file. */
+static const size_t longest = (size_t)1 << 28, longest_file = (size_t)1 << 24;
 
 struct bytes {
     uint8_t *at;
@@ -24,6 +24,11 @@ static const struct option {
 } options[] = { { "--tasks", "tasks", 0 },         { "--machine", "machine", 1 },
                 { "--demands", "demands", 2 },     { "--trace", "trace", 2 },
                 { "--deadlines", "deadlines", 2 }, { "--requests", "requests", 2 } };
+
+static size_t most(const struct option *option)
+{
+    return strcmp(option->name, "trace") == 0 ? longest : longest_file;
+}
 
 struct call {
     struct bytes words, file[3], out, notes;
@@ -72,8 +77,8 @@ static void add_word(struct bytes *words, const char *word)
     add(words, word, strlen(word) + 1);
 }
 
-/* Whether the file could be read. */
-static int load(struct bytes *b, const char *name)
+/* Whether the file could be read. Of one that is too long a byte more than the most is read, which the call refuses. */
+static int load(struct bytes *b, const char *name, size_t most)
 {
     uint8_t piece[65536];
     size_t len;
@@ -84,8 +89,8 @@ static int load(struct bytes *b, const char *name)
     if (file == NULL)
         return 0;
     b->len = 0;
-    while ((len = fread(piece, 1, sizeof piece, file)) > 0)
-        add(b, piece, len);
+    while (b->len <= most && (len = fread(piece, 1, sizeof piece, file)) > 0)
+        add(b, piece, len > most + 1 - b->len ? most + 1 - b->len : len);
     loaded = !ferror(file);
     fclose(file);
     return loaded;
@@ -128,7 +133,7 @@ static void name_files(struct call *c, int argc, char **argv)
         if (option == NULL)
             add_word(&c->words, argv[i]);
         else
-            add_word(&c->words, load(&c->file[option->file], argv[i]) ? option->name : "absent");
+            add_word(&c->words, load(&c->file[option->file], argv[i], most(option)) ? option->name : "absent");
     }
 }
 

@@ -48,13 +48,16 @@
 extern "C" {
 #endif
 
+/* The least stack of a thread that calls, in bytes. A call takes less than three quarters of it. */
+#define RTDVS_STACK 262144
+
 /* The lengths of an answer and of its notes in bytes, also of those that the buffers have no room for. */
 struct rtdvs_lengths {
     size_t out;
     size_t notes;
 };
 
-/* What rtdvs_call returns: the program's exit status, or one of the last three, which differ from the program's. */
+/* What rtdvs_call returns: the program's exit status (docs/FORMATS.md); the last three differ from the program's. */
 enum rtdvs_status {
     RTDVS_DONE = 0,         /* the answer is in `out` */
     RTDVS_NOT_ADMITTED = 1, /* a test denies the tasks, or the units are too many */
@@ -86,8 +89,9 @@ enum rtdvs_status {
  * opened, nothing is printed, and nothing is kept between calls; threads may call at the same time. A call takes memory by
  * malloc and realloc, and gives all of it back by free.
  *
- * Nothing checks what is passed. `lengths` is not NULL. `out`, `notes` and `lengths` overlap neither each other nor the
- * other bytes, and no thread writes any of these bytes during the call. Do not call it from a signal handler, or in the
+ * Nothing checks what is passed, nor the stack: the thread has at least RTDVS_STACK bytes. `lengths` is not NULL. `out`,
+ * `notes` and `lengths` overlap neither each other nor the other bytes, and no thread writes any of these bytes during the
+ * call. Do not call it from a signal handler, or in the
  * forked child of a process with threads. */
 uint8_t rtdvs_call(const uint8_t *words, size_t words_len, const uint8_t *tasks, size_t tasks_len,
                    const uint8_t *machine, size_t machine_len, const uint8_t *list, size_t list_len,
