@@ -143,6 +143,13 @@ def test_functions_are_short(module: Path) -> None:
             assert node.end_lineno is not None and node.end_lineno - node.lineno < 40, node.name
 
 
+def test_each_case_has_a_name(request: pytest.FixtureRequest) -> None:
+    """No case of a table is named by its place only, such as `tasks0`: of all tests that are run with this one."""
+    for item in request.session.items:
+        if spec := getattr(item, "callspec", None):
+            assert not any(re.search(rf"(^|-){name}\d+($|-)", spec.id) for name in spec.params), item.nodeid
+
+
 def test_no_dependencies() -> None:
     """All modules are imported where matplotlib and pandas are missing."""
     names = [f"rtdvs.{dotted(module)}" for module in MODULES if module.stem not in FRONT]
