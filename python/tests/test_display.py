@@ -98,7 +98,8 @@ def test_a_trace_without_a_picture(monkeypatch: pytest.MonkeyPatch) -> None:
 
 
 @pytest.mark.parametrize(("table", "column", "values"), [
-    ("segments", "energy", [5000, 1000, 0]), ("jobs", "laxity", [0.5]), ("decisions", "speed", [3, 2])])
+    pytest.param("segments", "energy", [5000, 1000, 0], id="segments"),
+    pytest.param("jobs", "laxity", [0.5], id="jobs"), pytest.param("decisions", "speed", [3, 2], id="decisions")])
 def test_frames_of_a_trace(table: str, column: str, values: list[float]) -> None:
     pytest.importorskip("pandas")
     assert Trace.parse(SAMPLE).frame(table)[column].tolist() == values

@@ -13,7 +13,7 @@ from rtdvs.engine import Engine
 from rtdvs.errors import (
     BadRequest, BadValue, Crashed, DeadlineMissed, Denied, Differs, DrawFault, EngineError, FileRefused, LoadFailed,
     NoEngine, NoText, OutOfMemory, OverWorst, Refused, RtdvsError, SystemFault, TimedOut, TooManyJobs, TraceFault,
-    WordFault, WordsRefused, WriteFailed, Wrong, WrongDecision, WrongTrace, error_of,
+    WordFault, WordsRefused, WriteFailed, Wrong, WrongTrace, error_of,
 )
 from rtdvs.model import Demands, Machine, Task, TaskSet
 from rtdvs.rules import Plan, check
@@ -46,7 +46,6 @@ EXAMPLES: dict[type[RtdvsError], tuple[RtdvsError, str]] = {
     TraceFault: (TraceFault(3, reason="not a line of a trace"), "line 3: not a line of a trace"),
     WrongTrace: (WrongTrace(3, "wanted job 1"), "line 3: wanted job 1"),
     Wrong: (Wrong("wanted job 1"), "wanted job 1"),
-    WrongDecision: (WrongDecision("speed 4 is the lowest", demand=(4, 1)), "speed 4 is the lowest"),
     DeadlineMissed: (DeadlineMissed("b", 1, due=6, used=8),
                      "b job 1 was due at 6 and is not complete: it has had 8 units"),
 }

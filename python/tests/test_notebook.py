@@ -47,7 +47,8 @@ def test_other_outputs_are_a_fault() -> None:
     assert [fault.split(":")[0] for fault in faults(STORED, without)] == ["pairs-drawn"]
 
 
-@pytest.mark.parametrize(("place", "lines"), [(first, lines) for first, *lines in WORKED])
+@pytest.mark.parametrize(("place", "lines"), [
+    pytest.param(first, lines, id=first) for first, *lines in WORKED])
 def test_numbers_of_the_pages(place: str, lines: list[str]) -> None:
     cell, page = place.split()
     text = (TOP / "docs" / page).read_text(encoding="utf-8")

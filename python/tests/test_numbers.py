@@ -13,7 +13,7 @@ from rtdvs._numbers import decimal, significant
     (12345, 0, "12345"),
     (Fraction(1, 20000), 4, "0.0000"), (Fraction(3, 20000), 4, "0.0002"), (Fraction(-1, 20000), 4, "0.0000"),
     (Fraction(-3, 2), 1, "-1.5"), (Fraction(999999, 100000), 4, "10.0000"), (None, 4, "-"),
-])
+], ids=str)
 def test_by_hand(value: Fraction | int | None, places: int, shown: str) -> None:
     assert decimal(value, places) == shown
 

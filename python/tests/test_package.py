@@ -23,7 +23,6 @@ LAYERS = [{"_display", "_files", "_numbers", "_version", "errors"}, {"model"}, {
 NUMBERS_FIRST = {"_numbers": {"errors"}, "_display": {"_numbers"}}  # of one layer
 LATE = {"_display": {"plot"}}  # what is imported when a picture is shown
 FRONT = {"__init__", "__main__"}  # these may import all layers
-HIDING = {"model._csv", "rules.check"}  # these have names of others
 
 
 def dotted(module: Path) -> str:
@@ -80,7 +79,7 @@ def test_public_names() -> None:
         assert callable(getattr(rtdvs, name))
 
 
-@pytest.mark.parametrize("module", [module for module in MODULES if dotted(module) not in FRONT | HIDING], ids=dotted)
+@pytest.mark.parametrize("module", [module for module in MODULES if dotted(module) not in FRONT], ids=dotted)
 def test_no_module_hides_another(module: Path) -> None:
     """A module has no name that its package exports, and none of the standard library; a package may have one."""
     name = dotted(module).rpartition(".")[2]
@@ -121,11 +120,34 @@ def test_only_commands_read_words(module: Path) -> None:
     assert "argparse" not in imports(module)
 
 
+def attributes(kind: ast.ClassDef) -> set[str]:
+    """The fields of a dataclass, and what is assigned to `self`."""
+    fields = {ast.unparse(each.target) for each in kind.body
+              if isinstance(each, ast.AnnAssign) and "ClassVar" not in ast.unparse(each.annotation)}
+    stored = {each.attr for each in ast.walk(kind) if isinstance(each, ast.Attribute)
+              and isinstance(each.ctx, ast.Store) and ast.unparse(each.value) == "self"}
+    return fields | stored
+
+
+@pytest.mark.parametrize("module", MODULES, ids=dotted)
+def test_classes_have_fewer_than_ten_attributes(module: Path) -> None:
+    for kind in ast.walk(ast.parse(module.read_text())):
+        if isinstance(kind, ast.ClassDef):
+            assert len(attributes(kind)) < 10, f"{kind.name}: {sorted(attributes(kind))}"
+
+
 @pytest.mark.parametrize("module", [*MODULES, *TESTS], ids=lambda path: str(path.relative_to(TOP / "python")))
 def test_functions_are_short(module: Path) -> None:
     for node in ast.walk(ast.parse(module.read_text())):
         if isinstance(node, ast.FunctionDef):
             assert node.end_lineno is not None and node.end_lineno - node.lineno < 40, node.name
+
+
+def test_each_case_has_a_name(request: pytest.FixtureRequest) -> None:
+    """No case of a table is named by its place only, such as `tasks0`: of all tests that are run with this one."""
+    for item in request.session.items:
+        if spec := getattr(item, "callspec", None):
+            assert not any(re.search(rf"(^|-){name}\d+($|-)", spec.id) for name in spec.params), item.nodeid
 
 
 def test_no_dependencies() -> None:

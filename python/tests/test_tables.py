@@ -22,7 +22,7 @@ from rtdvs.studies import (
     PUBLISHED_TICKS, PUBLISHED_TOP, energy_of, paper_shares, runs,
 )
 from rtdvs.trace import Run, Trace
-from tests.shared.examples import BOARD, DATA, NUMBER, PAGES, PAPER, TOP, XSCALE, cases, files, value
+from tests.shared.examples import BOARD, DATA, NUMBER, PAGES, PAPER, TOP, XSCALE, rows, files, value
 
 TENTHS = [decimal(Fraction(tenth, 10), 1) for tenth in range(1, 11)]
 
@@ -210,7 +210,7 @@ SAID: dict[str, Callable[[Engine], Iterator[str]]] = {
     "README.md": readme, "docs/UNITS.md": units, "docs/LEAST.md": least, "docs/SERVERS.md": servers,
     "docs/EVALUATION.md": evaluation,
 }
-LIMITS = cases("limits")
+LIMITS = rows("limits")
 
 
 def assert_said(page: str, wanted: Iterable[str]) -> None:

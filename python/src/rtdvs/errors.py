@@ -7,7 +7,7 @@
         EngineError     the program has no answer
             WriteFailed, OutOfMemory, NoText, NoEngine, SystemFault, Crashed, TimedOut
         TraceFault      a line of a trace: WrongTrace; also a ValueError
-        Wrong           a note of a trace: WrongDecision
+        Wrong           a note of a trace
         DeadlineMissed  a job of a simulation; also a ValueError
 
 Each can be pickled and copied, and equals another one of its class with the same data.
@@ -330,19 +330,6 @@ class Wrong(RtdvsError):
 
     form = "{0.reason}"
     reason: str
-
-
-@dataclass(eq=False)
-class WrongDecision(Wrong):
-    """The demand of a decision isn't that of its governor, or the speed isn't the lowest that meets it.
-
-    In the second case `demand` is what the speed has to meet.
-
-    >>> WrongDecision("speed 4 is the lowest that meets 4/1", (4, 1)).demand
-    (4, 1)
-    """
-
-    demand: tuple[int, int] | None = None
 
 
 @dataclass(eq=False)

@@ -36,7 +36,7 @@ def test_files_of_the_page() -> None:
 @pytest.mark.parametrize(("periods", "tick"), [
     (("5", "40"), "0.5"), (("2.5", "33.3", "100"), "0.1"), (("3", "7"), "0.25"), (("5", "33.333"), "0.2"),
     (("1000",), "100"),
-])
+], ids=str)
 def test_tick(periods: tuple[str, ...], tick: str) -> None:
     tasks = tuple(BoardTask(f"t{place}", Fraction(period), Fraction(1000)) for place,
                   period in enumerate(periods))
@@ -171,8 +171,8 @@ def test_milliwatts_beside_a_device_tree() -> None:
 
 
 @pytest.mark.parametrize(("words", "points"), [
-    ([], [(500, 825), (747, 900), (1400, 1188)]),
-    (["--tick-ms", "0.1", "--unit-cycles", "10000"], [(5, 825), (7, 900), (14, 1188)]),
+    pytest.param([], [(500, 825), (747, 900), (1400, 1188)], id="megahertz"),
+    pytest.param(["--tick-ms", "0.1", "--unit-cycles", "10000"], [(5, 825), (7, 900), (14, 1188)], id="tens of them"),
 ])
 def test_machine_of_a_device_tree(
         words: list[str], points: list[tuple[int, int]], tmp_path: Path, capsys: Captured) -> None:

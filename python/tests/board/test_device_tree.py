@@ -14,7 +14,7 @@ from rtdvs.board import Choice, _blob, operating_points
 from rtdvs.cli.main import main
 from rtdvs.errors import BadValue
 from rtdvs.model import Machine, Point
-from tests.shared.examples import TEST_DATA, TOP, Captured, cases, printed
+from tests.shared.examples import TEST_DATA, TOP, Captured, rows, printed
 
 CHIPS, OLD, DA850, TURBO = (
     (TEST_DATA / f"{name}.dts").read_text() for name in ("chips", "old", "da850", "r8a77961"))
@@ -183,7 +183,7 @@ def test_a_board_enables_a_point() -> None:
 
 
 @pytest.mark.parametrize(("source", "choice", "reason"), [
-    *(pytest.param(text, Choice(), reason, id=reason) for text, reason in cases("refused_trees")),
+    *(pytest.param(text, Choice(), reason, id=reason) for text, reason in rows("refused_trees")),
     pytest.param(OLD + OLD.replace("cpu0", "cpu1").replace("cpus", "more"), Choice(),
                  "one table has to be chosen of these: cpu0, cpu1", id="two tables"),
     pytest.param(OLD, Choice("cpu2"), "no table cpu2; the tables are: cpu0", id="no table"),

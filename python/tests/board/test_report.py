@@ -104,7 +104,7 @@ def test_no_energy(tmp_path: Path, capsys: Captured) -> None:
     ([(5, 2), (5, 3)], [2, 5]),
     ([(5, 2), (5, 4)], [2, None]),
     ([(4, 4), (8, 1)], [4, None]),
-])
+], ids=str)
 def test_responses(tasks: list[tuple[int, int]], times: list[int | None]) -> None:
     loads = tuple(Load(f"t{place}", Fraction(period), Fraction(work)) for place, (period, work) in enumerate(tasks))
     asked = Asked(loads, Fraction(1))
@@ -114,7 +114,7 @@ def test_responses(tasks: list[tuple[int, int]], times: list[int | None]) -> Non
 @pytest.mark.parametrize(("tasks", "late"), [
     ([(4, 4)], ""), ([(4, 2), (8, 4)], ""), ([(4, 2), (8, 5)], "t1"), ([(8, 5), (4, 2)], "t0"),
     ([(4, 5), (8, 1)], "t0"),
-])
+], ids=str)
 def test_late_under_rm(tasks: list[tuple[int, int]], late: str) -> None:
     loads = tuple(Load(f"t{place}", Fraction(period), Fraction(work)) for place, (period, work) in enumerate(tasks))
     assert Asked(loads, Fraction(1)).late_under_rm() == late

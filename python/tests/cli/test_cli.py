@@ -72,7 +72,8 @@ def test_unknown_option_of_each_command(command: str, capsys: Captured) -> None:
     assert refusal(capsys, [command, "--foo"]).startswith("usage: python3 -m rtdvs ")
 
 
-@pytest.mark.parametrize("words", [[], ["--foo"], ["foo"], ["stub"], ["stub", "--tasks"], ["stub", "--foo"]])
+@pytest.mark.parametrize(
+    "words", [[], ["--foo"], ["foo"], ["stub"], ["stub", "--tasks"], ["stub", "--foo"]], ids=" ".join)
 def test_usage(words: list[str], stub: Stub, capsys: Captured) -> None:
     stub(lambda args: 0)
     assert "python3 -m rtdvs" in refusal(capsys, words)
@@ -191,7 +192,7 @@ def test_numbers_that_are_none(word: str) -> None:
 
 @pytest.mark.parametrize(("word", "value"), [
     ("0", Fraction(0)), ("0.10", Fraction(1, 10)), ("14/4", Fraction(7, 2)), ("007/070", Fraction(1, 10)),
-])
+], ids=str)
 def test_fractions(word: str, value: Fraction) -> None:
     assert commandline.exact_fraction(word) == value
 

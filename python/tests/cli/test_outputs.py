@@ -385,7 +385,7 @@ def test_the_program_and_its_time(words: str, tmp_path: Path, capsys: Captured,
 
 @pytest.mark.parametrize(("words", "wanted", "engine"), [
     ("serve", PORT, (None, LONGEST_CALL)), ("serve --port 0", 0, (None, LONGEST_CALL)),
-    ("serve --port 65535 --program a --timeout 3", 65535, (Path("a"), 3.0))])
+    ("serve --port 65535 --program a --timeout 3", 65535, (Path("a"), 3.0))], ids=str)
 def test_serve(words: str, wanted: int, engine: tuple[Path | None, float | None], capsys: Captured,
                asked: list[tuple[Path | None, float | None]], monkeypatch: pytest.MonkeyPatch) -> None:
     """It prints its address before it serves."""

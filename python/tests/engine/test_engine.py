@@ -23,7 +23,7 @@ from rtdvs.errors import (
     OverWorst, RtdvsError, TimedOut, TooManyJobs, WordsRefused, WriteFailed,
 )
 from rtdvs.model import Deadlines, Demands, Requests, Task, TaskSet
-from tests.shared.examples import BOARD, DATA, PAPER, SOURCE, TEST_DATA, cases, fake, files
+from tests.shared.examples import BOARD, DATA, PAPER, SOURCE, TEST_DATA, rows, fake, files
 
 
 @pytest.fixture(params=["program", "library"])
@@ -105,7 +105,7 @@ def test_a_price_below_nothing() -> None:
 
 # Statuses
 
-LINES = cases("errors")
+LINES = rows("errors")
 
 
 @pytest.mark.parametrize(("status", "line", "kind", "fields"), LINES, ids=[line for _, line, _, _ in LINES])

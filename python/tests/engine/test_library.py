@@ -6,7 +6,7 @@ import shutil
 import subprocess
 import sys
 import time
-from collections.abc import Sequence
+from collections.abc import Callable, Sequence
 from concurrent.futures import Executor, ProcessPoolExecutor, ThreadPoolExecutor
 from pathlib import Path
 
@@ -63,13 +63,13 @@ def test_files_longer_than_may_be(stand_in: Path) -> None:
 @pytest.mark.parametrize("words", [
     ["--tasks", ""], ["--units", "tasks.toml"], ["tasks.toml", "--tasks"], ["--probes", "--units", "--tasks", "x"],
     ["--tasks", os.fsdecode(b"\xff")],
-])
+], ids=ascii)
 def test_words_that_are_kept(words: list[str], stand_in: Path) -> None:
     """Those that are refused, and those that are no files' names."""
     assert given_words(stand_in, *words)[0].partition(" ")[2] == " ".join(["least", *words, ""])
 
 
-@pytest.mark.parametrize("words", [["workload", "--seed", "1\0"], ["admit", "--tasks", "\0"]])
+@pytest.mark.parametrize("words", [["workload", "--seed", "1\0"], ["admit", "--tasks", "\0"]], ids=ascii)
 def test_a_word_with_a_zero_byte(words: list[str], stand_in: Path, tmp_path: Path) -> None:
     call = Call[str](words[0], ((words[1], words[2]),))
     for engine in (LibraryEngine(stand_in), Engine(Path(sys.executable))):
@@ -134,7 +134,7 @@ def test_a_call_that_ends_in_time(stand_in: Path, monkeypatch: pytest.MonkeyPatc
     assert LibraryEngine(stand_in, 60).answer(long) == LibraryEngine(stand_in).answer(long)
 
 
-@pytest.mark.parametrize(("words", "status"), [(["workload", "--seed", "7"], 0), (["admit"], 9)])
+@pytest.mark.parametrize(("words", "status"), [(["workload", "--seed", "7"], 0), (["admit"], 9)], ids=str)
 def test_command_line(words: list[str], status: int, stand_in: Path,
                       capfdbinary: pytest.CaptureFixture[bytes]) -> None:
     assert main([str(stand_in), *words]) == status
@@ -189,6 +189,22 @@ def test_the_version_in_a_name(name: str, is_right: bool, stand_in: Path, tmp_pa
     else:
         with pytest.raises(NoEngine, match="librtdvs.so: it is of another version: build the library again"):
             find_engine(tmp_path / "librtdvs.so")
+
+
+def test_two_libraries_of_which_one_is_of_another_version(stand_in: Path, tmp_path: Path) -> None:
+    """It is refused, and the other one goes on with its calls."""
+    right, other = tmp_path / "right", tmp_path / "other"
+    for folder, name in ((right, "librtdvs.so.1.1"), (other, "librtdvs.so.1.0")):
+        folder.mkdir()
+        shutil.copy(stand_in, folder / name)
+        (folder / "librtdvs.so").symlink_to(name)
+    engine, call = find_engine(right / "librtdvs.so"), Call[str]("least")
+    before = engine.answer(call)
+    uses: list[Callable[[Path], object]] = [find_engine, lambda path: LibraryEngine(path).answer(call)]
+    for use in uses:
+        with pytest.raises(NoEngine, match=f"^{other}/librtdvs.so: it is of another version: build the library again"):
+            use(other / "librtdvs.so")
+    assert engine.answer(call) == before
 
 
 FOUND = "from rtdvs import find_engine; print(find_engine())"

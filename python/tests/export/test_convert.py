@@ -185,7 +185,7 @@ def test_any_time_is_rounded_once(tick: int, speed: int, data: st.DataObject) ->
     assert abs(millionths(Position(tick, offset), speed) - exact) <= Fraction(1, 2)
 
 
-@pytest.mark.parametrize(("words", "declared"), [([], 4), (["--charge", "1"], 6), (["--charge", "2"], 8)])
+@pytest.mark.parametrize(("words", "declared"), [([], 4), (["--charge", "1"], 6), (["--charge", "2"], 8)], ids=str)
 def test_charge_is_in_the_declared_units(words: list[str], declared: int, tmp_path: Path, capsys: Captured) -> None:
     (tmp_path / "a").write_text("trace 2\nplan edf mine 2\ntask a 2 0 4\nrelease 0 a 1\nspeed 0 4 1/1\n"
                                 "run 0:0 2:0 a 1 8 8\ndone 2:0 a 1 8\nenergy a 8\nend 2 8 0\n")

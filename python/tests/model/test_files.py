@@ -11,7 +11,7 @@ from hypothesis import strategies as st
 
 from rtdvs.engine import Engine
 from rtdvs.model import Deadlines, Demands, Machine, Point, Request, Requests, Task, TaskSet
-from tests.shared.examples import DATA, cases, entry, machines
+from tests.shared.examples import DATA, rows, entry, machines
 from tests.shared.refusals import CALLS, MACHINE, TASKS, line_of
 
 TABLES = {
@@ -58,7 +58,7 @@ def of_ranges() -> Iterator[tuple[str, str, str]]:
 # A kind of file, its text, and the refusal.
 BY_HAND = [
     *((kind, f"{TABLES[kind].splitlines()[0]}\n{text}" if reason.startswith("row ") else text, f"{kind}: {reason}")
-      for kind, text, reason in cases("refused_files")),
+      for kind, text, reason in rows("refused_files")),
     ("tasks", "a = " + "[" * 5000, "tasks: not TOML"),
     ("tasks", "".join(entry(name=f'"t{place}"') for place in range(65)), "tasks: 65 tasks, at most 64"),
     ("machine", "".join(entry("point", speed=str(speed)) for speed in range(1, 34)), "machine: 33 points, at most 32"),
@@ -183,7 +183,7 @@ REQUESTS = st.lists(st.builds(Request, st.integers(0, 2**64 - 1), st.integers(1,
     lambda requests: Requests(tuple(sorted(requests, key=lambda each: each.arrival))))
 
 
-@pytest.mark.parametrize("contents", [named_sets(), machines(), REQUESTS])
+@pytest.mark.parametrize("contents", [named_sets(), machines(), REQUESTS], ids=["tasks", "machine", "requests"])
 @given(st.data())
 def test_files_come_back(contents: st.SearchStrategy[TaskSet | Machine | Requests], data: st.DataObject) -> None:
     content = data.draw(contents)

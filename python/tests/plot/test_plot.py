@@ -189,7 +189,7 @@ def test_into_the_axes_of_a_caller() -> None:
     (View(first=16), "--from has to be below 16"),
     (View(first=3, last=3), "--from has to be below 3"),
     (View(top=2), "--top has to be at least 4, the fastest speed"),
-])
+], ids=str)
 def test_views(view: View, line: str) -> None:
     with pytest.raises(BadValue, match=line):
         settled(Trace.read(DATA / "paper" / "edf_none.trace"), view)

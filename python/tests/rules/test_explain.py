@@ -152,12 +152,12 @@ def assert_wrong(inputs: Inputs, lines: list[str], wanted: int, part: str, known
     assert refusal and refusal[0] == wanted and part in refusal[1], refusal
 
 
-def altered_by_hand() -> Iterator[tuple[str, int, str, str]]:
+def altered_by_hand() -> Iterator[object]:
     """The rows of altered.txt: a trace, a line's number, what is there instead, a part of the reason."""
     trace = ""
-    for line in (TEST_DATA / "altered.txt").read_text().splitlines():
+    for place, line in enumerate((TEST_DATA / "altered.txt").read_text().splitlines(), 1):
         if row := re.fullmatch(r"(\d+) (.*?) ?=> (.*)", line):
-            yield trace, int(row[1]), row[2], row[3]
+            yield pytest.param(trace, int(row[1]), row[2], row[3], id=f"altered.txt:{place}")
         elif not line.startswith("#"):
             trace = line
 
@@ -169,24 +169,31 @@ def test_altered_by_hand(trace: str, number: int, new: str, part: str) -> None:
 
 
 CC_TEXT, TEMPLATE_TEXT = WORKED.read_text(), TEMPLATE.read_text()
-UNKNOWN: list[tuple[str, list[str], int, str, bool]] = [  # without a demand file; the last entry is --any
+UNKNOWN = [  # without a demand file; the last entry is --any
     # t2 may need 11 units more at tick 3, and 15 fit up to tick 8.
-    ("paper", edited(CC_TEXT, {12: None}), 12, "gets 11 units", False),
-    ("paper", edited(CC_TEXT, {7: "run 0:0 4:1 t1 1 13 208000000000"}), 7, "has 12 units left", False),
-    ("paper", edited(CC_TEXT, {7: "run 0:0 0:0 t1 1 0 0"}), 7, "0 units: at speed 3", False),
-    ("paper", edited(CC_TEXT, {15: "done 6:0 t3 1 3"}), 15, "has had 4 units", False),
-    ("paper", edited(CC_TEXT, {6: f"speed 0 3 {8 * 10**249}/280"}), 6, "more than 255 bytes", False),
-    ("paper", [*edited(CC_TEXT, {33: None}), "end 16 364000000000 0"], 33, "line feed", False),
-    ("paper", LATE.splitlines(True), 13, "t2 job 1 was due at 10", True),
-    ("paper", LATE_END.splitlines(True), 13, "t2 job 1 was due at 10", True),
+    pytest.param("paper", edited(CC_TEXT, {12: None}), 12, "gets 11 units", False, id="a done line less"),
+    pytest.param("paper", edited(CC_TEXT, {7: "run 0:0 4:1 t1 1 13 208000000000"}), 7, "has 12 units left", False,
+                 id="more units than a job may need"),
+    pytest.param("paper", edited(CC_TEXT, {7: "run 0:0 0:0 t1 1 0 0"}), 7, "0 units: at speed 3", False,
+                 id="a run of no units"),
+    pytest.param("paper", edited(CC_TEXT, {15: "done 6:0 t3 1 3"}), 15, "has had 4 units", False,
+                 id="units of a done line"),
+    pytest.param("paper", edited(CC_TEXT, {6: f"speed 0 3 {8 * 10**249}/280"}), 6, "more than 255 bytes", False,
+                 id="a long line"),
+    pytest.param("paper", [*edited(CC_TEXT, {33: None}), "end 16 364000000000 0"], 33, "line feed", False,
+                 id="no line feed"),
+    pytest.param("paper", LATE.splitlines(True), 13, "t2 job 1 was due at 10", True, id="a missed deadline"),
+    pytest.param("paper", LATE_END.splitlines(True), 13, "t2 job 1 was due at 10", True, id="missed at the end"),
     # A job has at least the charge of 1, twice.
-    ("templates", edited(TEMPLATE_TEXT, {8: "run 0:0 0:1 control 1 1 1440000000", 9: "done 0:1 control 1 1"}),
-     9, "at least 2 units", False),
-    ("offsets", edited(SAW, {19: "idle 5:0 8:0 6 0"}), 19, "end at 6:2", True),
-    ("offsets", edited(SAW, {10: None}), 10, "end at 4:0", True),
-    ("offsets", edited(SAW, {10: "speed 2 5 4/1"}), 10, "the machine has no speed 5", True),
-    ("offsets", edited(SAW, {10: "speed 2 4 4/0"}), 10, "a fraction over 0", True),
-    ("offsets", SAW.splitlines(True), 2, "no scheduler and governor edf saw", False),
+    pytest.param("templates", edited(TEMPLATE_TEXT, {8: "run 0:0 0:1 control 1 1 1440000000",
+                                                     9: "done 0:1 control 1 1"}),
+                 9, "at least 2 units", False, id="less than the charge"),
+    pytest.param("offsets", edited(SAW, {19: "idle 5:0 8:0 6 0"}), 19, "end at 6:2", True, id="the end of idle time"),
+    pytest.param("offsets", edited(SAW, {10: None}), 10, "end at 4:0", True, id="no decision"),
+    pytest.param("offsets", edited(SAW, {10: "speed 2 5 4/1"}), 10, "the machine has no speed 5", True,
+                 id="no such speed"),
+    pytest.param("offsets", edited(SAW, {10: "speed 2 4 4/0"}), 10, "a fraction over 0", True, id="a fraction over 0"),
+    pytest.param("offsets", SAW.splitlines(True), 2, "no scheduler and governor edf saw", False, id="no pair"),
 ]
 
 

@@ -29,7 +29,7 @@ def cases(pair: tuple[str, str], most: int = 40) -> Iterator[tuple[Model, Trace]
                 plan.admit()
 
 
-@pytest.mark.parametrize("pair", PAIRS)
+@pytest.mark.parametrize("pair", PAIRS, ids="-".join)
 def test_schedule(pair: tuple[str, str]) -> None:
     for model, trace in cases(pair):
         found = [(note.tick, Fraction(note.num, note.den), note.speed) for note in trace.decisions]
@@ -132,7 +132,7 @@ def next_line(model: Model, tick: int) -> str:
     return f"{name} runs: of {1 + len(others)} open it {why} {keys[first]}{tie}"
 
 
-@pytest.mark.parametrize("pair", PAIRS)
+@pytest.mark.parametrize("pair", PAIRS, ids="-".join)
 def test_board(pair: tuple[str, str]) -> None:
     for model, trace in cases(pair):
         lines = trace.text().splitlines(True)

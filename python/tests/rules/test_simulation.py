@@ -70,7 +70,7 @@ def test_answers_that_are_no_demand(answer: Any) -> None:
 
 @pytest.mark.parametrize(("answer", "pair"), [
     (4, (4, 1)), (Fraction(7, 2), (7, 2)), ((14, 4), (14, 4)), (2**128 - 1, (2**128 - 1, 1)), ((0, 1), (0, 1)),
-    ((7, 2**128 - 1), (7, 2**128 - 1))])
+    ((7, 2**128 - 1), (7, 2**128 - 1))], ids=str)
 def test_answers_that_are_demands(answer: Any, pair: tuple[int, int]) -> None:
     demand: int = answer
     trace = simulate(TASKS, BOARD, "edf", 1, lambda view: demand)

@@ -47,14 +47,24 @@ def files(name: str | Path) -> tuple[TaskSet, Machine, Demands]:
     return tasks, Machine.read(folder / "machine.toml"), named
 
 
-def cases(name: str) -> list[tuple[str, ...]]:
-    r"""The rows of a table in the folder of data.
+def numbered(name: str) -> Iterator[tuple[int, tuple[str, ...]]]:
+    r"""The rows of a table in the folder of data, each with the number of its line.
 
     Their columns are apart by " => ", and have escapes such as \n. A line that begins with # is a comment.
     """
-    lines = (TEST_DATA / f"{name}.cases").read_text(encoding="utf-8").splitlines()
-    rows = (line.encode().decode("unicode_escape") for line in lines if line[:1] not in ("", "#"))
-    return [tuple(row.split(" => ")) for row in rows]
+    for number, line in enumerate((TEST_DATA / f"{name}.cases").read_text(encoding="utf-8").splitlines(), 1):
+        if line[:1] not in ("", "#"):
+            yield number, tuple(line.encode().decode("unicode_escape").split(" => "))
+
+
+def rows(name: str) -> list[tuple[str, ...]]:
+    """The rows of a table in the folder of data."""
+    return [row for _, row in numbered(name)]
+
+
+def cases(name: str) -> list[object]:
+    """The rows of such a table as parameters of a test: each one is named by its file and its line."""
+    return [pytest.param(*row, id=f"{name}.cases:{number}") for number, row in numbered(name)]
 
 
 def entry(kind: str = "task", **changes: str) -> str:

@@ -54,10 +54,10 @@ SMALL = alike("at_1", *2 * ["6050000000 1.0000 0.0000 0 0.5000 5.0000 0.0000 1.0
 
 
 @pytest.mark.parametrize(("tasks", "machine", "ticks", "wanted"), [
-    (TaskSet((Task("x", 2, 2), Task("y", 3, 3))), Machine((Point(2, 1000),)), 6, FULL),
-    (TaskSet((Task("x", 2, 3), Task("y", 3, 3))), Machine((Point(1, 1000),)), 6, DENIED),
-    (TaskSet((Task("x", 2, 999983),)), Machine((Point(999983, 19997),), idle=999), 2000, LARGE),
-    (TaskSet((Task("x", 10, 5),)), Machine((Point(1, 1100),)), 10, SMALL),
+    pytest.param(TaskSet((Task("x", 2, 2), Task("y", 3, 3))), Machine((Point(2, 1000),)), 6, FULL, id="full load"),
+    pytest.param(TaskSet((Task("x", 2, 3), Task("y", 3, 3))), Machine((Point(1, 1000),)), 6, DENIED, id="denied"),
+    pytest.param(TaskSet((Task("x", 2, 999983),)), Machine((Point(999983, 19997),), idle=999), 2000, LARGE, id="large"),
+    pytest.param(TaskSet((Task("x", 10, 5),)), Machine((Point(1, 1100),)), 10, SMALL, id="small"),
 ])
 def test_by_hand(engine: Engine, tasks: TaskSet, machine: Machine, ticks: int, wanted: str) -> None:
     assert words(table(compare(engine, tasks, machine, ticks))) == words(wanted)

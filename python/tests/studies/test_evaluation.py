@@ -55,10 +55,10 @@ def test_right_results_have_no_faults() -> None:
 
 
 @pytest.mark.parametrize(("wrong", "reason"), [
-    (records(edf_la=49), "8_7_1 table1_idle0 1: edf la: below the bound"),
-    (records(edf_cc=101), "8_7_1 table1_idle0 1: edf cc: above EDF with none"),
-    (records(edf_cc=None), "8_7_1 table1_idle0 1: edf cc: it is denied"),
-    (records()[1:], "8_7_1 table1_idle0 1: runs are missing"),
+    pytest.param(records(edf_la=49), "8_7_1 table1_idle0 1: edf la: below the bound", id="below the bound"),
+    pytest.param(records(edf_cc=101), "8_7_1 table1_idle0 1: edf cc: above EDF with none", id="above the highest speed"),
+    pytest.param(records(edf_cc=None), "8_7_1 table1_idle0 1: edf cc: it is denied", id="denied"),
+    pytest.param(records()[1:], "8_7_1 table1_idle0 1: runs are missing", id="missing"),
 ])
 def test_wrong_results(wrong: list[Record], reason: str) -> None:
     assert list(faults(wrong)) == [reason]

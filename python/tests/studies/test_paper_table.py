@@ -37,7 +37,7 @@ def test_by_hand(engine: Engine, times: int) -> None:
     assert paper_shares(engine, times) == tuple(energy / 700 for energy in energies)
 
 
-@pytest.mark.parametrize("pair", PAPER_PAIRS)
+@pytest.mark.parametrize("pair", PAPER_PAIRS, ids="-".join)
 def test_no_job_is_complete_inside_a_tick_if_there_are_3(engine: Engine, pair: tuple[str, str]) -> None:
     case = PAPER_EXAMPLE.finer(3)
     trace = engine.run(case.tasks, case.machine, *pair, case.ticks, case.demands)

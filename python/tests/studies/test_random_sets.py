@@ -66,7 +66,7 @@ SETS = [
 ]
 
 
-@pytest.mark.parametrize(("count", "thousandths", "seed", "top", "periods"), SETS)
+@pytest.mark.parametrize(("count", "thousandths", "seed", "top", "periods"), SETS, ids=str)
 def test_uunifast_by_the_rule(count: int, thousandths: int, seed: int, top: int,
                               periods: Listed | LogUniform) -> None:
     utilisation = Fraction(thousandths, 1000)
@@ -114,7 +114,7 @@ RIGHT: dict[str, Any] = {"count": 1, "utilisation": Fraction(1), "seed": 1}
     ({"utilisation": Fraction(1, 10**6), "periods": Listed((1,))},
      "no unit is left for the task with the longest period; a higher top may leave one"),
     ({"periods": LogUniform(11, 12, 7)}, "no period from low to high divides the multiple"),
-])
+], ids=str)
 def test_what_cannot_be_drawn(changes: dict[str, Any], reason: str) -> None:
     with pytest.raises(DrawFault) as fault:
         uunifast(**RIGHT | changes)
@@ -125,7 +125,7 @@ def test_what_cannot_be_drawn(changes: dict[str, Any], reason: str) -> None:
     (Listed, [()]), (Listed, [(0,)]), (Listed, [(2**40 + 1,)]), (Listed, [(2**25 - 39, 2**25 - 1)]),
     (LogUniform, [0, 10, 720720]), (LogUniform, [-5, 10, 720720]), (LogUniform, [11, 10, 720720]),
     (LogUniform, [1, 2**40 + 1, 1]), (LogUniform, [1, 2, 0]),
-])
+], ids=str)
 def test_periods_that_no_set_can_have(kind: type[Listed | LogUniform], values: list[Any]) -> None:
     with pytest.raises(DrawFault):
         kind(*values)

@@ -46,7 +46,9 @@ from tests.shared.examples import (
      Limits(None, (None, None), 5)),
     # The highest speed of a machine file does 10^6 units in the one tick.
     (TaskSet((Task("a", 1, 10**6 + 1),)), Machine((Point(7, 1),)), "edf", Limits(None, (7,), None)),
-])
+], ids=[
+    "the paper, edf", "the paper, rm", "the paper, response",
+    "rounded down", "a unit", "a charge", "all charge", "over the speed"])
 def test_by_hand(engine: Engine, tasks: TaskSet, machine: Machine, test: str, wanted: Limits) -> None:
     assert sensitivity(engine, tasks, machine, test) == wanted
 

@@ -2,6 +2,7 @@
 
 from collections.abc import Callable
 from dataclasses import replace
+from fractions import Fraction
 from pathlib import Path
 
 import pytest
@@ -9,10 +10,13 @@ import pytest
 from rtdvs.cli.main import main
 from rtdvs.errors import TraceFault
 from rtdvs.model import Machine, Point, Task, TaskSet
+from rtdvs.rules import simulate
 from rtdvs.studies import compare
 from rtdvs.trace import Trace, task_statistics
 from rtdvs.web import Shown, page_data
-from tests.shared.examples import BOARD, DATA, PAPER, TEMPLATE, TRACES, WORKED, Captured, files, path_id, refusal
+from tests.shared.examples import (
+    BOARD, DATA, PAPER, TEMPLATE, TRACES, WORKED, Captured, files, path_id, refusal, version_1,
+)
 
 CC = WORKED.read_text()
 
@@ -44,6 +48,16 @@ def test_another_set_in_version_1(tasks: TaskSet, line: int, reason: str) -> Non
         with pytest.raises(TraceFault) as found:
             read(tasks)
         assert found.value == TraceFault(line, reason)
+
+
+def test_a_laxity_of_another_period() -> None:
+    """At 4 units a tick a job of 11 has 2.75 ticks: 1.25 are left of a period of 4, and would be 9.25 of 12."""
+    own, other = (TaskSet((Task("t", period, 11),)) for period in (4, 12))
+    trace = Trace.parse(version_1(simulate(own, Machine((Point(4, 1000),)), "edf", 12, "none").text()))
+    assert task_statistics(trace, own)[0].least_laxity == Fraction(5, 4)
+    # Lines 3 to 6 release, choose, run and complete the first job, and 7 to 9 idle, with a decision at tick 3.
+    with pytest.raises(TraceFault, match="^line 10: t job 2 is released at tick 12$"):
+        task_statistics(trace, other)
 
 
 @pytest.mark.parametrize(("old", "new", "line", "reason"), [
@@ -131,6 +145,7 @@ def wrong(tmp_path: Path) -> Path:
 
 SET, IDLE = "line 18: t1 job 2 is released at tick 9", "line 17: the energy is 4 * 3000 * 3000 * 1 = 36000000"
 RIGHT = DATA / "paper/tasks.toml"
+DEAR = Machine(tuple(Point(speed, 20_000) for speed in (2, 3, 4)))  # its bound is above the example's energy
 
 
 @pytest.mark.parametrize("words", [
@@ -173,6 +188,7 @@ def no_call(*words: object) -> None:
 
 @pytest.mark.parametrize(("tasks", "machine", "line"), [
     pytest.param(others(period=9), BOARD, SET, id="a set"), pytest.param(PAPER, board(idle=1), IDLE, id="a machine"),
+    pytest.param(PAPER, DEAR, "line 7: the energy is 8 * 20000 * 20000 * 1000 = 3200000000000", id="a higher voltage"),
 ])
 def test_comparisons_refuse_it(tasks: TaskSet, machine: Machine, line: str, capsys: Captured, tmp_path: Path) -> None:
     """Before the program is called."""

@@ -2,6 +2,7 @@
 
 from collections.abc import Callable
 from fractions import Fraction
+from pathlib import Path
 
 import pytest
 from hypothesis import given
@@ -18,9 +19,10 @@ TEXTS = [path.read_text() for path in TRACES]
 # The number of the first wrong line, the text, and a part of the reason.
 REFUSED = [
     *cases("refused_traces"),
-    ("3", "trace 1\nplan edf mine 4\n" + "x" * 256 + "\n", "more than 255 bytes"),
-    ("3", "trace 1\nplan edf mine 4\n" + "x" * 10**6, "more than 255 bytes"),
-    ("800001", "trace 1\nplan edf mine 4\n" + "release 0 a 1\n" * 800_000, "at most 800000 lines"),
+    pytest.param("3", "trace 1\nplan edf mine 4\n" + "x" * 256 + "\n", "more than 255 bytes", id="256 bytes"),
+    pytest.param("3", "trace 1\nplan edf mine 4\n" + "x" * 10**6, "more than 255 bytes", id="10^6 bytes"),
+    pytest.param("800001", "trace 1\nplan edf mine 4\n" + "release 0 a 1\n" * 800_000, "at most 800000 lines",
+                 id="800001 lines"),
 ]
 
 
@@ -127,11 +129,23 @@ def test_text_of_a_trace(text: str) -> None:
     assert Trace.parse(text).text() == text
 
 
-@pytest.mark.parametrize(("line", "text", "part"), REFUSED, ids=range(len(REFUSED)))
+@pytest.mark.parametrize(("line", "text", "part"), REFUSED)
 def test_refused(line: str, text: str, part: str) -> None:
     with pytest.raises(TraceFault) as found:
         Trace.parse(text)
     assert found.value.line == int(line) and part in found.value.reason
+
+
+@pytest.mark.parametrize("path", [WORKED, TEMPLATE], ids=["version 1", "version 2"])
+def test_cut_at_each_byte(path: Path) -> None:
+    """A trace that ends in a line is refused at that line, and one that ends after a line at the next one."""
+    text = path.read_text()
+    for place in range(len("trace 1\n"), len(text)):
+        with pytest.raises(TraceFault) as found:
+            Trace.parse(text[:place])
+        is_whole = text[place - 1] == "\n" and text[:place].count("\n") > 1
+        reason = "the trace ends before its end line" if is_whole else "it doesn't end with a line feed"
+        assert found.value == TraceFault(text[:place].count("\n") + 1, reason), place
 
 
 @given(st.sampled_from(TEXTS), st.data())

@@ -24,7 +24,7 @@ from rtdvs.errors import FileRefused
 from rtdvs.model import Machine, TaskSet
 from rtdvs.studies import PAIRS
 from rtdvs.web import Example, PageServer, answer_of, examples, field_of, read_example, server as serve
-from tests.shared.examples import DATA, SOURCE, cases, fake, files, path_id, serving
+from tests.shared.examples import DATA, SOURCE, rows, fake, files, path_id, serving
 
 PAPER_FOLDER = DATA / "paper"
 
@@ -91,7 +91,7 @@ def test_example_without_the_repository(engine: Engine) -> None:
     assert answered(engine, serve.START["example"])[1]["data"]["sheets"][0]["title"] == "edf cc, 12 ticks"
 
 
-REFUSED = cases("refused_examples")
+REFUSED = rows("refused_examples")
 
 
 @pytest.mark.parametrize(("field", "line", "changes"), REFUSED, ids=[line for _, line, _ in REFUSED])
@@ -99,7 +99,7 @@ def test_refusal_names_its_field(field: str, line: str, changes: str, engine: En
     assert answered(engine, paper(**json.loads(changes))) == (200, {"refused": line, "field": field})
 
 
-@pytest.mark.parametrize("changes", [{"tasks_1_period": "8 ms"}, {"ticks": "0"}, {"ticks": "100000"}])
+@pytest.mark.parametrize("changes", [{"tasks_1_period": "8 ms"}, {"ticks": "0"}, {"ticks": "100000"}], ids=str)
 def test_refusal_of_a_comparison(changes: dict[str, str], engine: Engine) -> None:
     """It names the same field."""
     _, run = answered(engine, paper(**changes))

@@ -9,7 +9,7 @@ from typing import Any, Self
 from rtdvs._display import Cell
 from rtdvs.errors import FileRefused, OverWorst
 from rtdvs.model._checks import Fault, checked_count, checked_task, entries, made
-from rtdvs.model._csv import Row, read_rows, rows, table_text
+from rtdvs.model._csv_text import Row, read_rows, rows, table_text
 from rtdvs.model._file import File, load
 from rtdvs.model._frozen import Frozen
 from rtdvs.model.limits import LONGEST_TIME, MOST_REQUESTS, MOST_WORK

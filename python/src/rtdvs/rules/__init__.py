@@ -1,6 +1,6 @@
 """The rules of the schedulers and governors: a simulator, and a checker that explains."""
 
-from rtdvs.rules.check import Walk
+from rtdvs.rules.checker import Walk
 from rtdvs.rules.explanation import check, explain, last_line
 from rtdvs.rules.governors import GOVERNORS, Chooser
 from rtdvs.rules.plan import JobView, Plan, Priority

@@ -14,7 +14,7 @@ from collections import deque
 from collections.abc import Callable, Iterable, Sequence
 
 from rtdvs.model import Demands, Machine, TaskSet
-from rtdvs.rules.check import Walk
+from rtdvs.rules.checker import Walk
 from rtdvs.rules.governors import full, static
 from rtdvs.rules.state import State
 from rtdvs.rules.step import DECISION, DONE, RELEASE, Step, Summary, note_of

@@ -23,7 +23,7 @@ class Reasons:
     """
 
     def __init__(self, step: Step, version: int) -> None:
-        self.step, self.state, self.version = step, step.state, version
+        self.step, self.state, self.version, self.ticks = step, step.state, version, step.summary.ticks
         self.named = {job.task.name: job for job in step.state.jobs}
         self.points = {point.speed: point for point in step.state.plan.machine.points}
         self.of_kind: Mapping[type[Line], Callable[[Any], str]] = {
@@ -53,7 +53,7 @@ class Reasons:
 
     def _missing_release(self) -> str:
         due, place = self.state.deadlines[0]
-        if self.state.now != due or due >= self.step.ticks or self.state.behind:
+        if self.state.now != due or due >= self.ticks or self.state.behind:
             return ""
         job = self.state.jobs[place]
         return f"the release of {job.task.name} job {job.number + 1} at tick {due} is missing"
@@ -68,7 +68,7 @@ class Reasons:
         if fault := self._unknown(note.task) or self._is_elsewhere(note.tick):
             return fault
         state, job = self.state, self.named[note.task]
-        if job.due != state.now or state.now >= self.step.ticks:
+        if job.due != state.now or state.now >= self.ticks:
             return f"{note.task} is released next at tick {job.due}"
         first = state.jobs[state.deadlines[0][1]]
         if first is not job:
@@ -79,7 +79,7 @@ class Reasons:
         state = self.state
         if fault := self._is_elsewhere(note.tick) or self._missing_release():
             return fault
-        if state.now >= self.step.ticks or state.decided == state.now:
+        if state.now >= self.ticks or state.last.decided == state.now:
             return "no decision is made here"
         if note.speed not in self.points or not note.den:
             return f"the machine has no speed {note.speed}" if note.speed and note.den else NO_FRACTION
@@ -99,9 +99,9 @@ class Reasons:
         state = self.state
         if fault := self._missing_release():
             return fault
-        if state.now >= self.step.ticks:
-            return f"the run ends at tick {self.step.ticks}"
-        if state.point is None or state.decided != state.now and self.step.rule and state.is_decision:
+        if state.now >= self.ticks:
+            return f"the run ends at tick {self.ticks}"
+        if state.point is None or self.step.rule and state.is_decision:
             return f"the decision at tick {state.now} is missing"
         return ""
 
@@ -112,7 +112,7 @@ class Reasons:
             return f"the trace is at {state.position}"
         room, end = self.step.room()
         if not 1 <= units <= room:
-            events = {state.seen: "a decision", self.step.ticks: "the end", state.first_deadline: "a release"}
+            events = {state.last.seen: "a decision", self.ticks: "the end", state.first_deadline: "a release"}
             event = events.get(end, "another job's turn")
             return f"{units} units: at speed {speed} there are {room} up to {event} at tick {end}"
         after = state.after(units, speed)
@@ -130,7 +130,7 @@ class Reasons:
         if note.job < job.number or job.complete or first is None:
             return f"{note.task} job {note.job} is complete"
         why = f"due at {first.due}" if scheduler == "edf" else f"its period is {first.task.period}"
-        why = f"its priority is {first.key}" if callable(scheduler) else why
+        why = f"its priority is {self.state.open[0][0]}" if callable(scheduler) else why
         return f"{first} comes first: it is not complete, and {why}"
 
     def _run(self, note: Run) -> str:
@@ -167,17 +167,17 @@ class Reasons:
         return f"{job} needs at least {2 * self.state.plan.machine.charge} units"
 
     def _energy(self, note: TaskEnergy) -> str:
-        if self.state.now < self.step.ticks:
+        if self.state.now < self.ticks:
             return f"the energy lines are after the last tick, and the trace is at {self.state.position}"
         name = next(iter(self.step.closing), "")
         return closing_fault(note, self.version, name, self.step.energies.get(name, 0))
 
     def _end(self, note: End) -> str:
-        if fault := self._is_elsewhere(self.step.ticks):
+        if fault := self._is_elsewhere(self.ticks):
             return fault
         self.state.all_met()
-        if note.ticks != self.step.ticks:
-            return f"the run has {self.step.ticks} ticks"
+        if note.ticks != self.ticks:
+            return f"the run has {self.ticks} ticks"
         if fault := wrong_sums(note, self.step.summary.run_energy, self.step.summary.idle_energy):
             return fault
         return closing_fault(note, self.version, next(iter(self.step.closing), ""), 0)

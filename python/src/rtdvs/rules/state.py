@@ -44,8 +44,7 @@ class Latest:
     """The latest job of a task. Job 0 is complete without work, and due at the first release.
 
     `worst` has the charge. `used` are the work units that the job has had, and `left` those that it may still
-    need by its worst case; `need` are all that it needs, as far as that is known. `due` is a tick, and `key`
-    sorts the open jobs.
+    need by its worst case; `need` are all that it needs, as far as that is known. `due` is a tick.
 
     >>> print(State.begin(EXAMPLE).jobs[1])
     b job 0
@@ -60,7 +59,6 @@ class Latest:
     left: int = 0
     need: int = 0
     complete: bool = True
-    key: Any = 0
 
     def __str__(self) -> str:
         return f"{self.task.name} job {self.number}"
@@ -77,14 +75,26 @@ class Latest:
 
 
 @dataclass(slots=True)
+class Moments:
+    """The ticks of the last decision, of the last release, and at which a governor sees the last completion.
+
+    >>> Moments().released
+    -1
+    """
+
+    decided: int = -1
+    released: int = -1
+    seen: int = -1
+
+
+@dataclass(slots=True)
 class State:
     """What has happened in a run up to a position: a tick, and the units of it that have passed.
 
     The seven pairs' rules read it; a governor of your own gets a `view`. `jobs` are in the order of the
     file; `deadlines` and `open` are sorted, the next deadline and the job of the highest priority first, each
-    with the place of its task. `decided` and `released` are the ticks of the last decision and of the last
-    release, and `seen` the one at which a governor sees the last completion. `handed` are the last tick with
-    releases before a decision, the jobs that were open there, and what each might need.
+    with the place of its task. `handed` are the last tick with releases before a decision, the jobs that were
+    open there, and what each might need.
 
     >>> state = State.begin(EXAMPLE)
     >>> state.now, state.deadlines, state.open
@@ -98,9 +108,7 @@ class State:
     point: Point | None = None
     deadlines: list[tuple[int, int]] = field(default_factory=list)
     open: list[tuple[Any, int]] = field(default_factory=list)
-    decided: int = -1
-    released: int = -1
-    seen: int = -1
+    last: Moments = field(default_factory=Moments)
     handed: tuple[int, list[tuple[Latest, int]]] = (0, [])
 
     @classmethod
@@ -146,13 +154,13 @@ class State:
 
     @property
     def is_decision(self) -> bool:
-        """Whether a governor decides at this tick: at the start, a release, or after a completion.
+        """Whether a governor has to decide now: at the start, a release, or after a completion.
 
         >>> State.begin(EXAMPLE).is_decision
         True
         """
-        now = self.now
-        return self.behind == 0 and (now == self.released or now == self.seen or now == 0)
+        now, last = self.now, self.last
+        return self.behind == 0 and now != last.decided and (now == last.released or now == last.seen or now == 0)
 
     def all_met(self) -> None:
         """Raises DeadlineMissed if a job, whose deadline is now, isn't complete.
@@ -190,9 +198,7 @@ class State:
         >>> [place for _, place in state.open]
         [1, 0]
         """
-        for _, place in self.open:
-            self.jobs[place].key = self.rank(self.jobs[place], self.now)
-        self.open = sorted((self.jobs[place].key, place) for _, place in self.open)
+        self.open = sorted((self.rank(self.jobs[place], self.now), place) for _, place in self.open)
 
     def first_until(self, end: int, speed: int) -> int:
         """The tick up to `end` until which the first open job stays the first, if it runs at that speed.
@@ -236,9 +242,8 @@ class State:
         job.used, job.left, job.need, job.complete = 0, job.worst, job.worst, False
         self.deadlines.pop(0)
         insort(self.deadlines, (job.due, job.place))
-        job.key = self.rank(job, self.now)
-        insort(self.open, (job.key, job.place))
-        self.released = self.now
+        insort(self.open, (self.rank(job, self.now), job.place))
+        self.last.released = self.now
 
     def hand_out(self) -> None:
         """Notes what the open jobs may need, before the decision of a tick with releases.
@@ -249,7 +254,7 @@ class State:
         >>> [units for job, units in state.handed[1]]
         [4]
         """
-        if self.released == self.now:
+        if self.last.released == self.now:
             self.handed = self.now, [(self.jobs[place], self.jobs[place].left) for _, place in self.open]
 
     def after(self, units: int, speed: int) -> Position:
@@ -267,9 +272,9 @@ class State:
         >>> state = State.begin(EXAMPLE)
         >>> state.release(state.jobs[0])
         >>> state.complete(state.jobs[0])
-        >>> state.open, state.seen
+        >>> state.open, state.last.seen
         ([], 0)
         """
-        self.open.remove((job.key, job.place))
+        del self.open[[place for _, place in self.open].index(job.place)]
         job.left, job.complete = 0, True
-        self.seen = self.now + (self.behind > 0)
+        self.last.seen = self.now + (self.behind > 0)

@@ -74,14 +74,13 @@ class Step:
     """
 
     def __init__(self, state: State, ticks: int, rule: Rule | None, needs: Needs | None) -> None:
-        self.state, self.ticks, self.rule, self.needs = state, ticks, rule, needs
+        self.state, self.rule, self.needs = state, rule, needs
         self.summary = Summary(ticks)
         self.energies = {job.task.name: 0 for job in state.jobs}
         self.closing = [*self.energies]  # the tasks whose energy lines are to come, in version 2
         self.last: Latest | None = None  # released or run by the last line: its completion may be next
-        # Of the line that is right next: its job, the point that it chooses, and its units if nothing cuts it.
+        # Of the line that is right next: its job, and its units if nothing cuts it.
         self.job: Latest | None = None
-        self.point = state.plan.machine.points[-1]
         self.whole = 0
 
     def next(self, most: int = 0) -> tuple[str, Fields]:
@@ -96,14 +95,14 @@ class Step:
             self.job = job
             return DONE, (now, behind, job.task.name, job.number, job.used)
         if not behind:
-            if now == self.ticks:
+            if now == self.summary.ticks:
                 return self._close()
             due, place = state.deadlines[0]
             if due == now:
                 state.all_met()
                 self.job = job = state.jobs[place]
                 return RELEASE, (now, job.task.name, job.number + 1)
-            if self.rule and state.decided != now and state.is_decision:
+            if self.rule and state.is_decision:
                 return self._decision(self.rule)
         return (UNKNOWN, ()) if state.point is None else self._segment(state.point, most)
 
@@ -114,8 +113,7 @@ class Step:
         if rule is rm_cycle:
             state.hand_out()
         num, den = rule(state)
-        self.point = state.plan.lowest(num, den)
-        return DECISION, (state.now, self.point.speed, num, den)
+        return DECISION, (state.now, state.plan.lowest(num, den).speed, num, den)
 
     def _segment(self, point: Point, most: int) -> tuple[str, Fields]:
         """The units of one job, or the idle ones, up to the next event."""
@@ -139,9 +137,9 @@ class Step:
     def room(self) -> tuple[int, int]:
         """The units that there are for a segment, and the tick up to which."""
         state, speed = self.state, self.state.point.speed if self.state.point else 0
-        end = min(state.deadlines[0][0], self.ticks)
-        if self.rule and state.now < state.seen < end:
-            end = state.seen  # the decision after a completion
+        end = min(state.deadlines[0][0], self.summary.ticks)
+        if self.rule and state.now < state.last.seen < end:
+            end = state.last.seen  # the decision after a completion
         if len(state.open) > 1 and callable(state.plan.scheduler):
             end = state.first_until(end, speed)
         return (end - state.now) * speed - state.behind, end
@@ -150,7 +148,7 @@ class Step:
         if self.closing:
             return ENERGY, (self.closing[0], self.energies[self.closing[0]])
         self.state.all_met()
-        return END, (self.ticks, self.summary.run_energy, self.summary.idle_energy)
+        return END, (self.summary.ticks, self.summary.run_energy, self.summary.idle_energy)
 
     def take(self, form: str, fields: Fields) -> None:
         """Goes past the line that `next` said last."""
@@ -168,7 +166,7 @@ class Step:
             state.complete(job)
             summary.complete += 1
         elif form is DECISION:
-            self.decide(self.point)
+            self.decide(state.plan.lowest(*fields[2:]))
         elif form is RELEASE and job:
             self._release(job)
         elif form is IDLE:
@@ -179,7 +177,7 @@ class Step:
 
     def decide(self, point: Point) -> None:
         """Takes a decision for a point."""
-        self.state.point, self.state.decided, self.last = point, self.state.now, None
+        self.state.point, self.state.last.decided, self.last = point, self.state.now, None
         self.summary.decisions += 1
 
     def _release(self, job: Latest) -> None:

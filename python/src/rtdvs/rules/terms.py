@@ -17,15 +17,15 @@ def total(terms: Sequence[int]) -> str:
     return f"{' + '.join(map(str, terms))} = {sum(terms)}"
 
 
-def quotient(num: int, den: int, up: bool = False) -> tuple[int, str]:
-    """A quotient rounded down or up, and how it is written.
+def rounded(num: int, den: int, value: int) -> str:
+    """A quotient, and the whole number to which it is rounded.
 
-    >>> quotient(2184, 280), quotient(1120, 6, up=True), quotient(560, 280)
-    ((7, '2184/280, down to 7'), (187, '1120/6, up to 187'), (2, '560/280 = 2'))
+    >>> rounded(2184, 280, 7), rounded(1120, 6, 187), rounded(560, 280, 2)
+    ('2184/280, down to 7', '1120/6, up to 187', '560/280 = 2')
     """
-    value = ceiling(num, den) if up else num // den
-    rounded = f", {'up' if up else 'down'} to {value}"
-    return value, f"{num}/{den}" + (rounded if num % den else f" = {value}")
+    if num % den == 0:
+        return f"{num}/{den} = {value}"
+    return f"{num}/{den}, {'up' if value * den > num else 'down'} to {value}"
 
 
 def _rates(plan: Plan) -> list[str]:
@@ -112,14 +112,15 @@ def _put_off(job: Latest, kept: int, state: State) -> tuple[int, int, str]:
     if job.complete:
         return without, 0, f"{job}, due at {job.due}, is complete: {rates}"
     most = plan.machine.top_speed * hyper
-    room, how = quotient((most - without) * span, hyper)
+    spare = (most - without) * span
+    room = spare // hyper
     put_off = min(job.left, room)
-    need, why = quotient(put_off * hyper, span, up=True)
+    need = ceiling(put_off * hyper, span)
     return without + need, job.left - put_off, (
         f"{job}, due at {job.due}, may need {job.left} more: {rates}; "
-        f"room from {first} to {job.due}: ({most} - {without}) * {span} / {hyper} = {how}; "
+        f"room from {first} to {job.due}: ({most} - {without}) * {span} / {hyper} = {rounded(spare, hyper, room)}; "
         f"{put_off} of {job.left} put off, {job.left - put_off} before {first}; "
-        f"{name} then needs {put_off} * {hyper} / {span} = {why}: "
+        f"{name} then needs {put_off} * {hyper} / {span} = {rounded(put_off * hyper, span, need)}: "
         f"rates {without} + {need} = {without + need}")
 
 
