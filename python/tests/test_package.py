@@ -17,7 +17,7 @@ from tests.shared.examples import TOP
 SOURCE = Path(rtdvs.__file__).parent
 MODULES = sorted(SOURCE.rglob("*.py"))
 TESTS = sorted(path for folder in ("tests", "tools") for path in (TOP / "python" / folder).rglob("*.py"))
-LAYERS = [{"_display", "_files", "_numbers", "_version", "errors"}, {"model"}, {"trace"}, {"rules", "engine"}, {"studies", "board", "export"},
+LAYERS = [{"_display", "_files", "_numbers", "_version", "errors"}, {"model"}, {"hints", "trace"}, {"rules", "engine"}, {"studies", "board", "export"},
           {"plot", "web"}, {"cli"}]
 """The modules and packages at the top. Each imports from layers before its own, and from itself."""
 NUMBERS_FIRST = {"_numbers": {"errors"}, "_display": {"_numbers"}}  # of one layer
@@ -73,7 +73,7 @@ def test_version() -> None:
 
 
 def test_public_names() -> None:
-    assert sorted(rtdvs.__all__) == rtdvs.__all__ and len(rtdvs.__all__) == 45
+    assert sorted(rtdvs.__all__) == rtdvs.__all__ and len(rtdvs.__all__) == 46
     assert all(getattr(rtdvs, name).__doc__ for name in rtdvs.__all__)
     for name in ("simulate", "compare", "explain", "evaluate"):
         assert callable(getattr(rtdvs, name))

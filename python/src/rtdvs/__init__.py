@@ -12,6 +12,7 @@ from rtdvs.errors import (
     BadValue, DeadlineMissed, Denied, EngineError, FileRefused, NoEngine, OverWorst, Refused, RtdvsError,
     TimedOut, TooManyJobs, TraceFault, WrongTrace,
 )
+from rtdvs.hints import second_line
 from rtdvs.model import (
     PAIRS, Deadlines, Demands, Governor, Machine, Point, Request, Requests, Scheduler, Task, TaskSet,
 )
@@ -62,6 +63,7 @@ __all__ = [
     "response_call",
     "run_call",
     "save_trace",
+    "second_line",
     "sensitivity",
     "simulate",
     "task_statistics",

@@ -12,7 +12,7 @@ from rtdvs.model._file import load
 from rtdvs.model.demands import Deadlines, Demands, Request, Requests
 from rtdvs.model.limits import (
     GREATEST, LONGEST_FILE, LONGEST_HYPERPERIOD, LONGEST_LINE, LONGEST_TIME, LONGEST_TRACE, MOST_JOBS,
-    MOST_LINES, MOST_MILLIVOLTS, MOST_SPEED, MOST_TASKS, MOST_TICKS, MOST_WORK,
+    MOST_CHARGE, MOST_IDLE, MOST_LINES, MOST_MILLIVOLTS, MOST_SPEED, MOST_TASKS, MOST_TICKS, MOST_WORK, RANGES,
 )
 from rtdvs.model.machine import Machine, Point
 from rtdvs.model.policy import PAIRS, Governor, Pair, Scheduler, pair_of
@@ -28,6 +28,8 @@ __all__ = [
     "LONGEST_LINE",
     "LONGEST_TIME",
     "LONGEST_TRACE",
+    "MOST_CHARGE",
+    "MOST_IDLE",
     "MOST_JOBS",
     "MOST_LINES",
     "MOST_MILLIVOLTS",
@@ -39,6 +41,7 @@ __all__ = [
     "PAIRS",
     "Pair",
     "Point",
+    "RANGES",
     "Request",
     "Requests",
     "Scheduler",

@@ -1,0 +1,20 @@
+"""Second lines of refusals, and the table of the program's lines, of which docs/MESSAGES.md is made."""
+
+from rtdvs.hints.given import Given, Source, Word
+from rtdvs.hints.second import second_line
+from rtdvs.hints.table import SECTIONS, Row
+from rtdvs.hints.words import COMMANDS, FILES, FLAGS, VALUES, Usage
+
+__all__ = [
+    "COMMANDS",
+    "FILES",
+    "FLAGS",
+    "Given",
+    "Row",
+    "SECTIONS",
+    "Source",
+    "Usage",
+    "VALUES",
+    "Word",
+    "second_line",
+]
