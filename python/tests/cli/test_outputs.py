@@ -293,6 +293,44 @@ def test_the_files_of_an_exercise(tmp_path: Path, capsys: Captured) -> None:
         path.name: path.read_text() for path in wanted.iterdir()}
 
 
+# Grades
+
+GRADES = f"explain {NAMED} {TRACE} --grade OUT/handed --csv OUT/grades.csv"
+
+
+def test_grades_are_printed_and_written(tmp_path: Path, capsys: Captured) -> None:
+    """A line less is found in the line after it; what is no trace is named. The status is 1 if one is wrong."""
+    words, folder = GRADES.replace("OUT", str(tmp_path)).split(), tmp_path / "handed"
+    folder.mkdir()
+    assert refusal(capsys, words).endswith("handed: no file there has a name that ends with .trace\n")
+    (folder / "anna.trace").write_text(WORKED.read_text())
+    head = "file        lines    right  decisions    right  first fault\nanna.trace  33/33  100.0 %        8/8  100.0 %  none\n"
+    assert printed(capsys, words) == head
+    (folder / "ben.trace").write_text(WORKED.read_text().replace("speed 3 3 696/280\n", ""))
+    (folder / "notes.txt").touch()
+    assert (cli.main(words), *capsys.readouterr()) == (
+        1, f"{head}ben.trace   32/33   97.0 %        7/8   87.5 %  line 10: the decision at tick 3 is missing\n",
+        "note: these have no name that ends with .trace: notes.txt\n")
+    assert (tmp_path / "grades.csv").read_text().splitlines()[2] == (
+        "ben.trace,32,33,0.9697,7,8,0.8750,10,the decision at tick 3 is missing,")
+
+
+@pytest.mark.parametrize(("words", "line"), [
+    (SET, "give --trace or --grade"), (f"{SET} {TRACE} --csv OUT/a", "--csv needs --grade"),
+    (f"{SET} --grade OUT --any", "--grade takes neither --any nor --quiet"),
+    (f"{SET} --grade OUT --trace OUT/mine.trace", "--trace isn't a right trace: line 2: no scheduler and governor edf mine"),
+    (f"{SET} --grade OUT/absent", "absent: no such folder")])
+def test_what_isnt_graded(words: str, line: str, tmp_path: Path, capsys: Captured) -> None:
+    assert line in refusal(capsys, f"explain {words}".replace("OUT", str(tmp_path)).split())
+
+
+def test_a_misspelled_line_is_quoted(tmp_path: Path, capsys: Captured) -> None:
+    (tmp_path / "a.trace").write_text(WORKED.read_text().replace("done 2:2", "done 2.67"))
+    status = cli.main(f"explain {SET} --quiet --trace {tmp_path}/a.trace".split())
+    assert (status, *capsys.readouterr()) == (1, "", "line 8: not a line of a trace\n"
+        '  it is "done 2.67 t1 1 8", and not done TICK:UNITS TASK JOB UNITS in whole numbers\n')
+
+
 # The evaluation
 
 # A run of one job at one speed for all 720720 ticks: the voltages are 5, 4 and 3 V.
@@ -415,7 +453,7 @@ def test_serve(words: str, wanted: int, engine: tuple[Path | None, float | None]
 # What has to be given
 
 @pytest.mark.parametrize(("words", "missing"), [
-    ("explain", "--tasks, --machine, --trace"),
+    ("explain", "--tasks, --machine"),
     ("simulate", "--tasks, --machine, --scheduler, --governor, --ticks"),
     ("statistics", "--tasks, --trace"),
     ("compare", "--tasks, --machine, --ticks"),
@@ -455,7 +493,7 @@ def option_words(parser: argparse.ArgumentParser, path: tuple[str, ...] = ()) ->
 def test_each_option_is_in_a_row() -> None:
     """tests/board calls `design`."""
     called = [*(words for words, _ in PRINTED), *(f"{words} --output" for words, *_ in WRITTEN),
-              *(words for words, *_ in EVALUATIONS), "serve --port"]
+              *(words for words, *_ in EVALUATIONS), GRADES, "serve --port"]
     shared = {"--program", "--timeout"}
     for command, option in option_words(cli.parser()):
         assert command == "design" or option in shared or any(

@@ -9,31 +9,75 @@ Without the demand file a job needs what its `done` line says, or its worst case
 too early is then found one line later than `replay` finds it, at the line that is there instead of the `done`
 line.
 
-The status is 1 if the trace is wrong; standard error then names its first wrong line.
+The status is 1 if the trace is wrong; standard error then names its first wrong line, and the form that a
+misspelled one should have.
+
+With --grade all files of a folder whose names end with .trace are graded, those in its folders too: the share of
+right lines and of right decisions, and the first fault. CRLF, tabs, blanks and empty lines at ends are mended,
+which is said. --trace then is the right trace, whose plan line and demands hold for all; without it each has
+those of its own. The status is 1 if one of them is wrong.
 """
 
 import argparse
 import io
 import sys
+from collections.abc import Iterable, Iterator
+from pathlib import Path
 
-from rtdvs.cli.options import Commands, add_files, add_parser, open_input, read_files
-from rtdvs.errors import WrongTrace
+from rtdvs._files import write_whole
+from rtdvs.cli.options import Commands, add_files, add_parser, open_input, read_files, read_text
+from rtdvs.errors import BadValue, WrongTrace
 from rtdvs.rules import Walk, explain, last_line
-from rtdvs.trace import lines_of
+from rtdvs.studies import Asked, expected, grades, handed_in
+from rtdvs.trace import Trace, lines_of
 
 
 def _handle(args: argparse.Namespace) -> int:
+    if args.grade is not None:
+        return _graded(args)
+    if args.csv is not None:
+        raise BadValue("--csv needs --grade")
+    if args.trace is None:
+        raise BadValue("give --trace or --grade")
     tasks, machine, demands = read_files(args)
+    latest: list[str] = []
     with open_input(args.trace) as file:
-        lines = lines_of(io.TextIOWrapper(file, "latin-1", newline="\n"))
+        lines = _kept(lines_of(io.TextIOWrapper(file, "latin-1", newline="\n")), latest)
         try:
             summary = explain(Walk(tasks, machine, lines, demands, args.any), None if args.quiet else print)
         except WrongTrace as fault:
             sys.stdout.flush()
-            print(fault, file=sys.stderr)
+            form = expected(fault.line, latest[0]) if latest else ""
+            print(fault, *[f"  {form}"][:len(form)], sep="\n", file=sys.stderr)
             return 1
     print(last_line(summary, args.any, demands is not None))
     return 0
+
+
+def _kept(lines: Iterable[str], latest: list[str]) -> Iterator[str]:
+    """The lines; the one that was given last is kept."""
+    for line in lines:
+        latest[:] = [line]
+        yield line
+
+
+def _graded(args: argparse.Namespace) -> int:
+    if args.any or args.quiet:
+        raise BadValue("--grade takes neither --any nor --quiet")
+    tasks, machine, demands = read_files(args)
+    solution = None if args.trace is None else Trace.parse(read_text(args.trace, "trace"))
+    try:
+        asked = Asked.by(tasks, machine, demands, solution)
+    except WrongTrace as fault:
+        raise BadValue(f"--trace isn't a right trace: {fault}") from None
+    _, others = handed_in(args.grade)
+    if others:
+        print("note: these have no name that ends with .trace:", *(path.name for path in others), file=sys.stderr)
+    found = grades(asked, args.grade)
+    print(found.text(), end="")
+    if args.csv is not None:
+        write_whole(args.csv, found.csv())
+    return 0 if all(each.is_right for each in found) else 1
 
 
 def add_command(commands: Commands) -> None:
@@ -45,9 +89,13 @@ def add_command(commands: Commands) -> None:
     >>> parser.parse_args(words.split()).quiet
     True
     """
-    parser = add_parser(commands, "explain", _handle, "explain each decision of a trace, and check its lines",
-                        "explain --tasks tasks.toml --machine machine.toml --trace run.trace")
-    add_files(parser, ("tasks", "machine", "trace"), ("demands",))
+    parser = add_parser(commands, "explain", _handle, "explain each decision of a trace, check it, or grade many",
+                        "explain --tasks tasks.toml --machine machine.toml --trace run.trace\n"
+                        "explain --tasks seven/tasks.toml --machine seven/machine.toml --demands seven/demands.csv "
+                        "--trace seven/solution.trace --grade handed --csv grades.csv")
+    add_files(parser, ("tasks", "machine"), ("trace", "demands"))
     parser.add_argument("--any", action="store_true",
                         help="a trace of another governor: any demand, and any of the speeds at any tick")
     parser.add_argument("--quiet", action="store_true", help="the last line only")
+    parser.add_argument("--grade", type=Path, metavar="FOLDER", help="grades the traces of a folder")
+    parser.add_argument("--csv", type=Path, metavar="FILE", help="writes the grades there too, in CSV")

@@ -11,6 +11,7 @@ from rtdvs.studies.evaluation import (
     units_of_text,
 )
 from rtdvs.studies.exercises import BOARD, Exercise, exercise, small_sets
+from rtdvs.studies.grading import Asked, Grade, Grades, expected, grade, grades, handed_in, mended
 from rtdvs.studies.paper_table import (
     FINER, PAPER_EXAMPLE, PAPER_PAIRS, PUBLISHED, paper_line, paper_lines, paper_shares,
 )
@@ -28,6 +29,7 @@ from rtdvs.studies.margins import (
 )
 
 __all__ = [
+    "Asked",
     "BOARD",
     "CURVES",
     "Case",
@@ -36,6 +38,8 @@ __all__ = [
     "Exercise",
     "FIGURES",
     "FINER",
+    "Grade",
+    "Grades",
     "HEADING",
     "Limits",
     "Listed",
@@ -69,17 +73,22 @@ __all__ = [
     "energy_of",
     "evaluate",
     "exercise",
+    "expected",
     "faults",
     "figure_table",
     "finer_energies",
     "finer_table",
     "finished",
+    "grade",
+    "grades",
+    "handed_in",
     "last",
     "least_speed",
     "limits_of",
     "limits_table",
     "machine",
     "measure",
+    "mended",
     "most_thousandths",
     "most_worst",
     "nearest",
