@@ -766,7 +766,7 @@ def kit_lines(tree: Tree, reached: Reached) -> Iterator[str]:
         if crate not in tree.crates and not module.startswith("crates/"):
             found[kit_path(crate, inside)].append(name)
     for path in sorted(found):
-        yield f"- `{path}`: {', '.join(f'`{name}`' for name in found[path])}"
+        yield f"- {path}: {', '.join(f'`{name}`' for name in found[path])}"
 
 
 def page_lines(tree: Tree, uses: Uses) -> Iterator[str]:
@@ -798,7 +798,7 @@ def page_lines(tree: Tree, uses: Uses) -> Iterator[str]:
     yield from seen_lines(seen)
     yield from ("\nDefinitions that only these need:\n", *lister.lines("shown", shown))
     yield "\n## The library for C\n"
-    yield "The clauses of `rtdvs_call` stand in `rtdvs_c/src/lib.rt`. Beside the files above they need:\n"
+    yield "The clauses of `rtdvs_call` are in `rtdvs_c/src/lib.rt`. Beside the files above they need:\n"
     yield from lister.lines("library", library)
     yield "\n## Constants of the code\n"
     yield from constant_lines(constants_of(tree, everything))
@@ -806,8 +806,8 @@ def page_lines(tree: Tree, uses: Uses) -> Iterator[str]:
     yield "Structs and enums that definitions and clauses name, and those of their fields.\n"
     yield from type_lines(tree, everything)
     yield "\n## Definitions of the kit\n"
-    yield "Each path is within the kit's folder `rattle`. `std` passes on what `core` and `std_alloc` define: a file " \
-          "that it doesn't have is in `core`, and `Prelude` names the file of each of its names.\n"
+    yield "Each path is within the kit's folder `rattle`. What std doesn't define itself it passes on: a file that std " \
+          "doesn't have is in core, and its `Prelude` names the file of each name.\n"
     yield from kit_lines(tree, everything)
 
 
