@@ -64,7 +64,7 @@ enum rtdvs_status {
     RTDVS_WORDS = 2,        /* the words are not a command */
     RTDVS_LOAD = 3,         /* the words name a file that is none of the call's */
     RTDVS_TEXT = 4,         /* a file is refused */
-    RTDVS_LIMIT = 5,        /* the run releases too many jobs */
+    RTDVS_LIMIT = 5,        /* a run, or a hyperperiod, releases too many jobs */
     RTDVS_OVER_WORST = 6,   /* a job's demand is above its task's worst case */
     RTDVS_DIFFERS = 7,      /* the trace is not that of its run */
     RTDVS_NO_ROOM = 8,      /* the answer is longer than `out`, which has its first part */
@@ -81,18 +81,20 @@ enum rtdvs_status {
  * machine  the content of the file `machine`.
  * list     the content of the files `demands`, `trace`, `deadlines` and `requests`: a command reads at most one of them.
  * out      gets what the program prints to standard output, as far as there is room. Bytes after it stay as they are.
- * notes    gets what the program prints to standard error, likewise: at most three lines of 256 bytes.
+ * notes    gets what the program prints to standard error, likewise. It has at most three lines of 256 bytes (no clause
+ *          says so).
  * lengths  gets the whole length of both.
- * .._len   the size of the bytes before it. Where it is 0, the pointer may be NULL. An `out` of size 0 only measures.
+ * .._len   the size of the bytes before it. If it is 0, the pointer may be NULL (tested, not proved). A call with an
+ *          `out` of size 0 only measures.
  *
- * The result, both texts and both lengths depend on the words and the files only, unless memory runs out. No file is
- * opened, nothing is printed, and nothing is kept between calls; threads may call at the same time. A call takes memory by
- * malloc and realloc, and gives all of it back by free.
+ * If the call ends otherwise than with RTDVS_NO_MEMORY, both texts and both lengths depend on the words and the files
+ * only; the result also depends on out_len. No file is opened, nothing is printed, and nothing is kept between calls;
+ * threads may call at the same time. A call takes memory by malloc and realloc, and gives all of it back by free
+ * (tested, not proved).
  *
- * Nothing checks what is passed, nor the stack: the thread has at least RTDVS_STACK bytes. `lengths` is not NULL. `out`,
- * `notes` and `lengths` overlap neither each other nor the other bytes, and no thread writes any of these bytes during the
- * call. Do not call it from a signal handler, or in the
- * forked child of a process with threads. */
+ * Nothing checks what is passed, nor the stack: the thread has at least RTDVS_STACK bytes. `lengths` is not NULL.
+ * `out`, `notes` and `lengths` overlap neither each other nor the other bytes, and no thread writes any of these bytes
+ * during the call. Do not call it from a signal handler, or in the forked child of a process with threads. */
 uint8_t rtdvs_call(const uint8_t *words, size_t words_len, const uint8_t *tasks, size_t tasks_len,
                    const uint8_t *machine, size_t machine_len, const uint8_t *list, size_t list_len,
                    uint8_t *out, size_t out_len, uint8_t *notes, size_t notes_len, struct rtdvs_lengths *lengths);

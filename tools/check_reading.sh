@@ -1,4 +1,5 @@
-# check_reading.sh: whether the lists of READING.md are what reading.sh prints.
+# check_reading.sh: whether the lists of READING.md are what reading.py prints.
 unset CDPATH
 cd "$(dirname "$0")/.." || exit 2
-sh tools/reading.sh --check
+[ -n "$(command -v python3)" ] || { echo 'reading: skipped, no python3'; exit 0; }
+python3 tools/reading.py --check
