@@ -71,7 +71,7 @@ while read -r most words; do
     cases=$((cases + 1)) found=$(takes $words)
     [ "$found" -le "$most" ] && [ $((most * 100)) -le $((found * 103)) ] && continue
     echo "cost: $found, at most $most: $words"
-    bad=$((bad + 1))
+    differs
 done < "$top/tools/cost.txt"
 echo "cost: $cases calls, $bad differ$([ $skipped = 0 ] || echo ", $skipped skipped ($lacks)")"
 [ $bad = 0 ]

@@ -84,7 +84,7 @@ signals() {
     case $1 in *"${ONLY-}") ;; *) return ;; esac
     rm -rf "$work/into" && mkdir "$work/into"
     call TERM group before 0 "$@"
-    [ $status = 0 ] && [ -n "$(ls "$into")" ] || { echo "signals: $1 fails: $(tail -n 3 "$work/out")"; bad=$((bad + 1)); return; }
+    [ $status = 0 ] && [ -n "$(ls "$into")" ] || { echo "signals: $1 fails: $(tail -n 3 "$work/out")"; differs; return; }
     most=$(cat "$work/plain/count")
     wanted=$(sums "$into")
     # The last call takes the script's own files away.
@@ -102,7 +102,7 @@ signals() {
         call $signal $to $when $n "$@"
         [ $status != 0 ] && [ "$(sums "$into")" = "$wanted" ] && [ -z "$(ls -A "$work/temp")" ] && ended || {
             echo "signals: ${1##*/}, $signal to the $to $when call $n: status $status, running: $(running), left: $(ls -A "$work/temp") $(sums "$into" | tr '\n' ' ')"
-            bad=$((bad + 1))
+            differs
             rm -rf "$work/temp" && mkdir "$work/temp"
         }
     done
@@ -124,7 +124,7 @@ group() {
     status=$?
     [ $status = "$2" ] && ended && return
     echo "signals: group.py, $1: status $status, running: $(running)"
-    bad=$((bad + 1))
+    differs
 }
 case group.py in *"${ONLY-}") ;; *) echo "signals: $cases cases, $bad differ"; [ $bad = 0 ]; exit ;; esac
 if "$python" -c 'import tomllib' 2>&-; then
