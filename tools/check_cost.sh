@@ -1,8 +1,9 @@
 # check_cost.sh PROGRAM: what calls cost, in instructions by valgrind, which depend on nothing but the call. cost.txt has
 # the most for each call of example_runs, for those of stored_calls whose searches could take long, and for some by the
 # library. A call may not take more, nor so little that the most is more than 3 percent above it. What a call without words
-# takes isn't counted, so that the numbers hold over another C library.
+# takes isn't counted, so that the numbers hold over another C library. With ONLY it makes the calls that have this text.
 #     sh tools/check_cost.sh PROGRAM --write      makes cost.txt anew
+# It needs valgrind. Calls by the library need cc, and rt or a library that library.sh has made; without they are skipped.
 . "$(dirname "$0")/work.sh"
 case ${1:?no program} in
 /*) program=$1 ;;
@@ -11,8 +12,11 @@ esac
 [ -x "$program" ] || { echo "no program: $program"; exit 2; }
 cd "$(dirname "$0")/.." || exit 2
 [ -n "$(command -v valgrind)" ] || { echo 'cost: skipped, no valgrind'; exit 0; }
-top=$PWD lib=$PWD/crates/rtdvs_c/out/lib cases=0 bad=0 skipped=0
-[ -z "$(command -v rt)" ] || sh tools/library.sh > "$work/made" 2>&1 || { tail -n 5 "$work/made"; echo 'cost: no library'; exit 1; }
+top=$PWD lib=$PWD/crates/rtdvs_c/out/lib cases=0 bad=0 skipped=0 lacks=
+for tool in cc ar ld objcopy; do [ -n "$(command -v $tool)" ] || lacks="no $tool"; done
+[ -n "$lacks" ] || [ -z "$(command -v rt)" ] || sh tools/library.sh > "$work/made" 2>&1 ||
+    { tail -n 5 "$work/made"; echo 'cost: library not made'; exit 1; }
+[ -n "$lacks" ] || [ -f "$lib/librtdvs.so" ] || lacks='no library'
 cp -R crates/example_runs/data "$work/data" && cd "$work/data" || exit 2
 
 # NAME TITLE: the two files of the first case of stored_calls after this title
@@ -51,7 +55,7 @@ takes() {
 }
 
 program_none=$(count "$program") call_none=
-if [ -f "$lib/librtdvs.so" ] && [ -n "$(command -v cc)" ]; then
+if [ -z "$lacks" ]; then
     cc -O2 "$top/library/call.c" "$lib/librtdvs.so" -o "$work/call" || exit 2
     call_none=$(count "$work/call")
 fi
@@ -62,11 +66,12 @@ if [ "${2-}" = --write ]; then
 fi
 [ "$(calls)" = "$(cut -d ' ' -f 2- "$top/tools/cost.txt")" ] || { echo 'cost: other calls than in tools/cost.txt'; bad=1; }
 while read -r most words; do
+    case $words in *"${ONLY-}"*) ;; *) continue ;; esac
     case $words in library*) [ -n "$call_none" ] || { skipped=$((skipped + 1)); continue; } ;; esac
     cases=$((cases + 1)) found=$(takes $words)
     [ "$found" -le "$most" ] && [ $((most * 100)) -le $((found * 103)) ] && continue
     echo "cost: $found, at most $most: $words"
-    bad=$((bad + 1))
+    differs
 done < "$top/tools/cost.txt"
-echo "cost: $cases calls, $bad differ$([ $skipped = 0 ] || echo ", $skipped skipped (no library)")"
+echo "cost: $cases calls, $bad differ$([ $skipped = 0 ] || echo ", $skipped skipped ($lacks)")"
 [ $bad = 0 ]

@@ -2,6 +2,7 @@
 # lets the n-th allocation, opening, read or write fail: each one of a call of each command, in a run of its own.
 # What has to be left is worked out from FORMATS.md; each line is one write, each file is opened once, and read once for
 # each 4096 bytes that it begins and once for its end.
+# With ONLY it makes the calls that have this text.
 # The first allocations are those for the words and the probes, of which each takes at least one.
 . "$(dirname "$0")/work.sh"
 case ${1:?no program} in
@@ -58,14 +59,14 @@ each() {
         [ -s reached ]
     do
         cases=$((cases + 1))
-        may || { echo "$1, $kind $n $how: status $status"; bad=$((bad + 1)); }
+        may || { echo "$1, $kind $n $how: status $status"; differs; }
         n=$((n + 1))
     done
     wanted=$(calls $files)
     [ "$wanted" = $((n - 1)) ] || { [ "$wanted" = some ] && [ $n -gt 1 ]; } ||
-        { echo "$1, $kind $how: $((n - 1)) calls, wanted $wanted"; bad=$((bad + 1)); }
+        { echo "$1, $kind $how: $((n - 1)) calls, wanted $wanted"; differs; }
     [ $kind != alloc ] || [ $quiet -ge $(($# + 3)) ] ||
-        { echo "$1: $quiet allocations before the call, for $# words and 3 probes"; bad=$((bad + 1)); }
+        { echo "$1: $quiet allocations before the call, for $# words and 3 probes"; differs; }
 }
 
 # Lines of more than 64 bytes.
@@ -74,8 +75,9 @@ printf '[[task]]\nname = "%s"\nperiod = 1099511627776\nworst = 10000000000000000
 printf 'idle = 1000\n[[point]]\nspeed = 1000000\nmillivolts = 20000\n' > machine
 
 while read -r words; do
+    case $words in *"${ONLY-}"*) ;; *) continue ;; esac
     files=$(echo "$words" | awk '{ for (i = 1; i < NF; i++) if ($i ~ /^--(tasks|machine|demands|trace|deadlines|requests)$/) print substr($i, 3) }')
-    "$program" $words > whole 2> notes || { echo "$words: fails"; bad=$((bad + 1)); continue; }
+    "$program" $words > whole 2> notes || { echo "$words: fails"; differs; continue; }
     lines=$(wc -l < whole) notes=$(wc -l < notes) reads=0
     for file in $words; do
         [ ! -f "$file" ] || reads=$((reads + ($(wc -c < "$file") + 4095) / 4096 + 1))

@@ -2,8 +2,9 @@
 # C library; the example in the header's head compiles as C11 and as C++ and prints what it says, also by the lines of
 # LIBRARY.md; the statuses of the header are those of FORMATS.md. The program call.c over the library answers each call of
 # example_runs as is stored, also with the sanitizers; and refused words, absent files, files that are too long and a full
-# standard output as the program does. 1,000 calls in a process leave no memory and touch none outside, by the sanitizers
-# and by valgrind; four threads get the same answers; each command does with the stack that the header asks for.
+# standard output as the program does; and the longest run, also with too little room for its answer. 1,000
+# calls in a process leave no memory and touch none outside, by the sanitizers and by valgrind; four threads get the same
+# answers; each command does with the stack that the header asks for.
 # It needs cc, and rt or a library that library.sh has made; without pkg-config, c++ or valgrind their cases are skipped.
 . "$(dirname "$0")/work.sh"
 case ${1:?no program} in
@@ -25,7 +26,7 @@ holds() {
     shift
     case $what in *"${ONLY-}"* | call*.c*) ;; *) return ;; esac
     cases=$((cases + 1))
-    "$@" > "$work/said" 2>&1 || { echo "library: $what"; head -n 5 "$work/said"; bad=$((bad + 1)); }
+    "$@" > "$work/said" 2>&1 || { echo "library: $what"; head -n 5 "$work/said"; differs; }
 }
 # TOOL CASES: counts cases as skipped
 skip() { lacks="$lacks no $1" skips=$((skips + $2)); }
@@ -104,10 +105,10 @@ by() {
 }
 cd "$data" || exit 2
 for name in call call_checked; do
-    [ -z "${ONLY-}" ] || continue
+    case "the stored calls by $name" in *"${ONLY-}"*) ;; *) continue ;; esac
     by "$work/$name" > "$work/found"
     cases=$((cases + $(wc -l < calls.txt)))
-    cmp -s "$work/found" ../stdout || { bad=$((bad + 1)); echo "library: $name:"; diff "$work/found" ../stdout | head -n 5; }
+    cmp -s "$work/found" ../stdout || { echo "library: $name:"; diff "$work/found" ../stdout | head -n 5; differs; }
 done
 
 # WORD..: the call leaves what the program leaves, on both streams
@@ -202,6 +203,31 @@ for tool in $tools; do
     holds "NULL for all files, $tool" calls "$with" "$empty" "$work/$of" 1 20 -- admit $words --scheduler edf
     holds "NULL for the words, $tool" calls "$with" "$no_words" "$work/$of" 1 20 --
 done
+# The longest answer: 99489 jobs of five tasks with the longest names, by the governor that changes its speed the most.
+mkdir "$work/longest" || exit 2
+for row in 'a 5 900000 0' 'b 7 1200000 1' 'c 9 1500000 2' 'd 11 1700000 3' 'e 13 2000000 4'; do
+    set -- $row
+    printf '[[task]]\nname = "%s"\nperiod = %s\nworst = %s\noffset = %s\n' "$(printf '%32s' | tr ' ' "$1")" "$2" "$3" "$4"
+done > "$work/longest/tasks"
+printf 'idle = 1000\n' > "$work/longest/machine"
+for row in '250000 16000' '500000 17000' '750000 18000' '1000000 19000'; do
+    set -- $row
+    printf '[[point]]\nspeed = %s\nmillivolts = %s\n' "$1" "$2"
+done >> "$work/longest/machine"
+longest='--scheduler edf --governor la --ticks 160000'
+# call.c has room for the longest trace at once. calls.c has no room, room for all but a byte, and room for all.
+by_call() (
+    cd "$work/longest" && wanted=$(left run $words $longest) && same "${wanted%%,*}" 'status 0' || exit
+    [ "$(wc -c < "$work/wanted.out")" -gt $((1 << 25)) ] || { echo 'no more than 32 MiB'; exit 1; }
+    "$work/call" run $words $longest > "$work/found.out" 2> "$work/found.err" && cmp "$work/found.out" "$work/wanted.out" &&
+        cmp "$work/found.err" "$work/wanted.err"
+)
+by_calls() (
+    cd "$work/longest" && wanted=$(left run $words $longest) &&
+        calls '' "$wanted" "$work/calls" 1 3 tasks tasks machine machine -- run $words $longest
+)
+holds 'the longest run' by_call
+holds 'the longest run with too little room' by_calls
 holds 'four threads' calls '' "$grown" "$work/calls_checked" 4 250 $named -- run $words --demands demands $pair
 
 # Each command with the stack that the header asks for. calls.c refuses one that takes more than three quarters of it.

@@ -24,18 +24,18 @@ check() {
     cmp -s out wanted.out || same=no
     cmp -s err wanted.err || same=no
     [ $same = no ] || return 0
-    bad=$((bad + 1))
     echo "$1: status $found, wanted $2"
     diff wanted.out out | sed 's/^/    out /'
     diff wanted.err err | sed 's/^/    err /'
+    differs
 }
 
 # NAME STATUS OUT ERR: whether `check` sees that the last call didn't leave this
 sees() {
     cases=$((cases + 1))
-    (bad=0; check "$@" > said; [ $bad = 1 ]) && return
-    bad=$((bad + 1))
+    (FIRST= bad=0; check "$@" > said; [ $bad = 1 ]) && return
     echo "$1: the check doesn't see it"
+    differs
 }
 
 # WORDS..: calls the program

@@ -19,7 +19,7 @@ holds() {
     shift
     case $what in *"${ONLY-}"* | 'not unpacked') ;; *) return ;; esac
     cases=$((cases + 1))
-    "$@" > "$work/out" 2>&1 || { echo "package: $what"; head -n 5 "$work/out"; bad=$((bad + 1)); }
+    "$@" > "$work/out" 2>&1 || { echo "package: $what"; head -n 5 "$work/out"; differs; }
 }
 # CASES WHY: counts cases as skipped
 skip() { skips=$((skips + $1)) lacks="${lacks:+$lacks, }$2"; }

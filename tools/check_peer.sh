@@ -9,7 +9,7 @@ esac
 [ -n "$(command -v cc)" ] || { echo 'peer: skipped, no cc'; exit 0; }
 top=$(cd "$(dirname "$0")/.." && pwd)
 cc -O2 -o "$work/peer" "$top/tools/peer.c" || exit 1
-runs=0 differ=0
+runs=0 bad=0
 
 # compare WORDS: one run of both programs, if the program makes it
 compare() {
@@ -17,8 +17,8 @@ compare() {
     runs=$((runs + 1))
     "$work/peer" run "$@" > "$work/found" 2>&1
     cmp -s "$work/wanted" "$work/found" && return
-    differ=$((differ + 1))
     echo "differs: run $*"
+    differs
 }
 
 for folder in ahead controller deadlines offsets paper server templates; do
@@ -32,5 +32,5 @@ for folder in ahead controller deadlines offsets paper server templates; do
         done
     done
 done
-echo "peer: $runs runs, $differ differ"
-[ $differ = 0 ]
+echo "peer: $runs runs, $bad differ"
+[ $bad = 0 ]

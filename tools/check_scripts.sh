@@ -21,7 +21,7 @@ holds() {
     shift
     case $what in *"${ONLY-}"*) ;; *) return ;; esac
     cases=$((cases + 1))
-    "$@" > "$work/said" 2>&1 || { echo "scripts: $what"; head -n 5 "$work/said"; bad=$((bad + 1)); }
+    "$@" > "$work/said" 2>&1 || { echo "scripts: $what"; head -n 5 "$work/said"; differs; }
 }
 same() { [ "$1" = "$2" ] || { printf 'found %s\nwanted %s\n' "$1" "$2"; return 1; }; }
 # NAME: makes a program of the lines that it reads
@@ -92,7 +92,7 @@ holds 'no program' prints 2 "no program: $gate/none" sh "$gate/tools/check.sh" "
 mkdir -p "$away/gate/.ci" "$away/gate/tools"
 cp .ci/run "$away/gate/.ci"
 echo 'echo "check: TOOLS=$TOOLS, $(basename "$PWD")"; exit ${CHECK:-0}' > "$away/gate/tools/check.sh"
-echo 'echo "plants: $2 over $1"; exit ${PLANTS:-0}' > "$away/gate/tools/plants.sh"
+echo 'echo "plants: TOOLS=$TOOLS, $*"; exit ${PLANTS:-0}' > "$away/gate/tools/plants.sh"
 stand_in "$work/stand-in/rt" << 'END'
 [ "$*" = ci ] || exit 2
 echo "rt $* in $(basename "$PWD")"
@@ -108,13 +108,13 @@ runs() {
     echo "exit $3" > "$away/gate/tools/setup.sh"
     prints "$1" "$2" led_away env PATH="$work/stand-in:$PATH" RT="${4:-0}" sh gate/.ci/run
 }
-planted='plants: 3 over crates/rtdvs/out/rtdvs'
+planted='plants: TOOLS=all, crates/rtdvs/out/rtdvs 3'
 holds 'the gate with all tools' runs 0 "rt ci in gate
 check: TOOLS=all, gate
 $planted" 0
 holds 'the gate with some tools' runs 0 "rt ci in gate
 check: TOOLS=some, gate
-$planted" 1
+plants: TOOLS=some, crates/rtdvs/out/rtdvs 3" 1
 holds 'the gate after a failed proof' runs 3 'rt ci in gate' 0 3
 USER_ID=1000
 holds 'the gate of another user' runs 0 "rt ci in gate
@@ -226,9 +226,14 @@ for name in peer wrapper; do
     holds "check_$name.sh" passes
 done
 
-# The table of the stored faults
+# The table of the stored faults, and whether each can still be put in its place
 table() { same "$(sed -n '/^| Check | Faults |$/,/^$/p' docs/TESTING.md | grep '^| `')" "$("$python" tools/plants.py)"; }
-if "$python" -c 'import tomllib' 2>&-; then holds 'the table of TESTING.md' table; else skipped=', 1 skipped (no Python 3.11)'; fi
+if "$python" -c 'import tomllib' 2>&-; then
+    holds 'the table of TESTING.md' table
+    holds 'the places of the stored faults' "$python" "$away/top/tools/plants.py" "$work"
+else
+    skipped=', 2 skipped (no Python 3.11)'
+fi
 
 echo "scripts: $cases cases, $bad differ$skipped"
 [ $bad = 0 ]

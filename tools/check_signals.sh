@@ -3,7 +3,8 @@
 # before the tool does its work or when a part is written. Then no file of the script's own is left, no process of it runs, the status
 # isn't 0, and each file that it was to write is whole or as before. group.py, which runs the parts of check_python.sh,
 # ends what they started.
-# It needs setsid, which makes a group, and a compiler.
+# It needs setsid, which makes a group, an env that knows --default-signal, and a compiler. A script takes no signal that
+# its caller lets it ignore, as `nohup` and a shell in the background do, so each call gets the signals back.
 . "$(dirname "$0")/work.sh"
 case ${1:?no program} in
 /*) program=$1 ;;
@@ -12,6 +13,7 @@ esac
 [ -x "$program" ] || { echo "no program: $program"; exit 2; }
 cd "$(dirname "$0")/.." || exit 2
 for tool in setsid cc ar ld objcopy dpkg-deb; do [ -n "$(command -v $tool)" ] || { echo "signals: skipped, no $tool"; exit 0; }; done
+env --default-signal true 2>&- || { echo 'signals: skipped, no env --default-signal'; exit 0; }
 python=${PYTHON:-/usr/bin/python3} shell=$(command -v sh) path=$PATH processes=/proc cases=0 bad=0 skipped=
 mkdir "$work/tools" "$work/plain" "$work/into" "$work/temp" "$work/top" "$work/kit" "$work/kit/c" || exit 2
 tar cf - --exclude out --exclude .git --exclude __pycache__ --exclude crates . | tar xf - -C "$work/top"
@@ -58,7 +60,7 @@ call() {
     export SIGNAL TO WHEN AT
     shift 4
     echo 0 > "$work/plain/count"
-    PATH=$work/tools:$path TMPDIR=$work/temp setsid -w "$shell" -c 'echo $$ > "$SIGNALS/script"; exec sh "$@"' sh "$@" > "$work/out" 2>&1
+    PATH=$work/tools:$path TMPDIR=$work/temp env --default-signal setsid -w "$shell" -c 'echo $$ > "$SIGNALS/script"; exec sh "$@"' sh "$@" > "$work/out" 2>&1
     status=$?
 }
 # how many processes of the last call run; one that has ended may still have its number
@@ -82,7 +84,7 @@ signals() {
     case $1 in *"${ONLY-}") ;; *) return ;; esac
     rm -rf "$work/into" && mkdir "$work/into"
     call TERM group before 0 "$@"
-    [ $status = 0 ] && [ -n "$(ls "$into")" ] || { echo "signals: $1 fails: $(tail -n 3 "$work/out")"; bad=$((bad + 1)); return; }
+    [ $status = 0 ] && [ -n "$(ls "$into")" ] || { echo "signals: $1 fails: $(tail -n 3 "$work/out")"; differs; return; }
     most=$(cat "$work/plain/count")
     wanted=$(sums "$into")
     # The last call takes the script's own files away.
@@ -100,7 +102,7 @@ signals() {
         call $signal $to $when $n "$@"
         [ $status != 0 ] && [ "$(sums "$into")" = "$wanted" ] && [ -z "$(ls -A "$work/temp")" ] && ended || {
             echo "signals: ${1##*/}, $signal to the $to $when call $n: status $status, running: $(running), left: $(ls -A "$work/temp") $(sums "$into" | tr '\n' ' ')"
-            bad=$((bad + 1))
+            differs
             rm -rf "$work/temp" && mkdir "$work/temp"
         }
     done
@@ -113,7 +115,7 @@ signals "$work/into" "$work/top/tools/package.sh" "$program" "$work/into"
 # WORD..: calls it over a command that starts another one
 group() {
     cases=$((cases + 1))
-    "$python" tools/group.py "$shell" -c "echo \$\$ > '$work/plain/script'; sleep 60 & $1" > "$work/out" 2>&1 &
+    env --default-signal "$python" tools/group.py "$shell" -c "echo \$\$ > '$work/plain/script'; sleep 60 & $1" > "$work/out" 2>&1 &
     if [ "$1" = 'sleep 60' ]; then
         until [ "$(running)" = 3 ]; do sleep 0.1; done
         kill -TERM $!
@@ -122,7 +124,7 @@ group() {
     status=$?
     [ $status = "$2" ] && ended && return
     echo "signals: group.py, $1: status $status, running: $(running)"
-    bad=$((bad + 1))
+    differs
 }
 case group.py in *"${ONLY-}") ;; *) echo "signals: $cases cases, $bad differ"; [ $bad = 0 ]; exit ;; esac
 if "$python" -c 'import tomllib' 2>&-; then

@@ -56,7 +56,7 @@ compare() {
         cases=$((cases + 1))
         [ "$(left $tree)" = "$(left own)" ] && continue
         echo "wrapper: $tree: $*" && left $tree | head -n 5
-        bad=$((bad + 1))
+        differs
     done
 }
 # NAME STATUS OUT ERR: what a call has to leave, with a line of what is on standard error, or none
@@ -65,13 +65,13 @@ leaves() {
     [ "$(cat "$work/$1.status")" = "$2" ] && [ "$(cat "$work/$1.out")" = "$3" ] &&
         [ "$(head -n 1 "$work/$1.err")" = "$4" ] && return
     echo "wrapper: $1" && left "$1" | head -n 5
-    bad=$((bad + 1))
+    differs
 }
 
 cp "$example/tasks.toml" "$work/in"
 eval "compare . $first"
 cases=$((cases + 1))
-cmp "$work/built.out" "$top/$example/edf_cc_with_demands.trace" || bad=$((bad + 1))
+cmp "$work/built.out" "$top/$example/edf_cc_with_demands.trace" || differs
 compare $example run --probes --ticks 16 --governor cc --scheduler edf --machine ./machine.toml --tasks ../paper/tasks.toml
 compare crates admit --tasks "$work/a b/tasks.toml" --machine "../../a b/machine.toml" --scheduler rm
 compare "../a b" replay --tasks tasks.toml --machine machine.toml --trace edf_la_with_demands.trace
@@ -118,7 +118,7 @@ if script -qec true "$work/typescript" > "$work/script" 2>&1; then
         cases=$((cases + 1))
         tr -d '\r' < "$work/script" | grep -q -x -F "rtdvs.sh: $said" && continue
         echo "wrapper: not said on a terminal: $said" && cat "$work/script"
-        bad=$((bad + 1))
+        differs
     done
 else
     skipped=', 2 skipped (no terminal by script)'

@@ -2,6 +2,7 @@
 """Runs a command in a group of processes of its own, and leaves none of them running: python3 tools/group.py COMMAND..
 
 The status is the command's. A signal that ends this script interrupts the group, which has ten seconds to end by itself.
+A command of the group that is this script again has half of them, so that it ends before it is killed.
 """
 import contextlib
 import os
@@ -10,7 +11,8 @@ import subprocess
 import sys
 from types import FrameType
 
-PATIENCE = 10.0
+SECONDS = "RTDVS_GROUP_SECONDS"
+PATIENCE = float(os.environ.get(SECONDS, 10))
 """Seconds that an interrupted group has."""
 ENDING = (signal.SIGHUP, signal.SIGINT, signal.SIGQUIT, signal.SIGTERM)
 
@@ -33,7 +35,7 @@ def main() -> int:
     """The command's status."""
     for number in ENDING:
         signal.signal(number, leave)
-    child = subprocess.Popen(sys.argv[1:], process_group=0)
+    child = subprocess.Popen(sys.argv[1:], process_group=0, env=os.environ | {SECONDS: str(PATIENCE / 2)})
     try:
         return child.wait()
     finally:

@@ -7,24 +7,22 @@
 # `replay` and `migrate` have the same two, `trace`, and one record of words. A file names a kind or a version by its
 # variant. Looked at are `src` and `specs` of all crates but those of tests and of examples; for kinds, of all but those
 # of governors too. Comments and imports don't count; exports and lists of modules do.
-unset CDPATH
+. "$(dirname "$0")/work.sh"
 cd "$(dirname "$0")/.." || exit 2
 export LC_ALL=C
 mode=$1
 
-# what a file says beside its comments and imports
-said() {
-    sed -e '/^ *\/\//d' -e '/^ *--/d' -e '/^ *\(ghost \)*use .*{$/,/};$/d' -e '/^ *\(ghost \)*use /d' "$1"
-}
+# What each file says beside its comments and imports, in a file of its name.
+for crate in crates/*/src crates/*/specs; do
+    find "$crate" -type d -exec mkdir -p "$work/{}" \;
+    for file in $(find "$crate" -type f); do
+        sed -e '/^ *\/\//d' -e '/^ *--/d' -e '/^ *\(ghost \)*use .*{$/,/};$/d' -e '/^ *\(ghost \)*use /d' "$file" > "$work/$file"
+    done
+done
 
 # row NAME PATTERN FILES: the name, and those of the files in which a word is like the pattern
 row() {
-    list=
-    for file in $3; do
-        said "$file" | grep -Eq "(^|[^A-Za-z0-9_])($2)([^A-Za-z0-9_]|\$)" || continue
-        list="$list ${file#crates/}"
-    done
-    echo "$1$list"
+    echo "$1" $(cd "$work" && grep -El "(^|[^A-Za-z0-9_])($2)([^A-Za-z0-9_]|\$)" $3 | sed 's/^crates\///')
 }
 
 # command_row NAME VARIANTS RECORDS WORD MODULE [CODE SPECS]: the row of a command; WORD begins what specs say of its words,

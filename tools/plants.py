@@ -2,6 +2,7 @@
 """Puts faults into copies of the repository and looks whether a check sees each: plants.sh calls it.
 
     python3 tools/plants.py FOLDER PROGRAM [CHECK | NUMBER [SEED]]
+    python3 tools/plants.py FOLDER                      only looks whether each plant can be put into a copy
     python3 tools/plants.py                             prints the table of docs/TESTING.md
 
 A file of tools/planted has the plants of the check of its name. A blank line is between two. A plant begins with what
@@ -17,15 +18,18 @@ is wrong, in lines after `#`, which is also its name. Its other lines are, in an
     only: TEXT        the check is called with this in its variable ONLY, and makes only cases whose names have it
     test: WORDS       in place of the check these words of pytest, in the folder python
 
-A plant counts as seen if the check or the tests fail, and passed just before without the plant.
+A plant counts as seen if the check or the tests fail within five minutes, and passed just before without the plant. The
+check has the variable FIRST, with which it ends at the first case that differs. If the check lacks a tool, a plant that it
+doesn't see is skipped; with TOOLS=all that is a fault too, as in check.sh.
 """
 import os
 import random
+import re
 import shutil
 import subprocess
 import sys
 import time
-from collections.abc import Callable, Iterator
+from collections.abc import Callable, Iterable, Iterator
 from concurrent.futures import ThreadPoolExecutor
 from contextlib import contextmanager
 from dataclasses import dataclass
@@ -38,6 +42,9 @@ T = TypeVar("T")
 TOP = Path(__file__).resolve().parents[1]
 PATIENCE = 300.0
 """Seconds that a check has."""
+LATE = -1
+"""In place of a status: the check took longer."""
+LACKS = "not seen, since the check lacks a tool"
 LEFT_OUT = shutil.ignore_patterns(".git", "__pycache__", "rlib", "incremental", ".mypy_cache")
 
 
@@ -93,9 +100,8 @@ def changed(text: str, old: str, new: str, path: str) -> str:
     return text.replace(old, new)
 
 
-def put(plant: Plant, folder: Path) -> dict[Path, bytes]:
-    """Puts a plant into a copy; the result has what was there before."""
-    before: dict[Path, bytes] = {}
+def put(plant: Plant, folder: Path, before: dict[Path, bytes]) -> None:
+    """Puts a plant into a copy; `before` gets what was there."""
     path, old = "", ""
     for key, value in plant.changes:
         if key in {"file", "gone", "cut"}:
@@ -112,11 +118,30 @@ def put(plant: Plant, folder: Path) -> dict[Path, bytes]:
             (folder / path).write_bytes((folder / path).read_bytes()[:int(value.split(" ")[1])])
         elif key not in {"file", "program", "only", "test"}:
             raise NoPlant(f"no key {key}")
-    return before
 
 
-def passes(folder: Path, run: Run, program: Path, commands: tuple[str, ...] = ()) -> bool:
-    """Whether a check passes in a copy, over the program or over commands of the shell in its place."""
+@contextmanager
+def planted(plant: Plant, folder: Path) -> Iterator[None]:
+    """Has a plant in a copy for a time; raises NoPlant and OSError if it can't be put there."""
+    before: dict[Path, bytes] = {}
+    try:
+        put(plant, folder, before)
+        yield
+    finally:
+        for path, content in before.items():
+            path.write_bytes(content)
+
+
+@dataclass(frozen=True, slots=True)
+class Ending:
+    """The status of a check, or of a part of it, and whether it skipped a case."""
+
+    status: int
+    lacks: bool
+
+
+def ending(folder: Path, run: Run, program: Path, commands: tuple[str, ...] = ()) -> Ending:
+    """Runs a check in a copy, over the program or over commands of the shell in its place."""
     temporary = folder.with_suffix(".tmp")
     shutil.rmtree(temporary, ignore_errors=True)
     temporary.mkdir()
@@ -126,30 +151,51 @@ def passes(folder: Path, run: Run, program: Path, commands: tuple[str, ...] = ()
         stand_in.chmod(0o755)
         program = stand_in
     check, only, tests = run
-    environment = os.environ | {"TMPDIR": str(temporary), "RTDVS": str(program), "ONLY": only}
-    words = [sys.executable, "-m", "pytest", "-q", "-x", *tests.split()]
-    if not tests:
-        words = ["sh", f"tools/check_{check}.sh", str(program)]
-    with (temporary / "said").open("wb") as said:
+    environment = os.environ | {"TMPDIR": str(temporary), "RTDVS": str(program), "ONLY": only, "FIRST": "yes"}
+    words = ["-m", "pytest", "-q", "-x", *tests.split()] if tests else [f"tools/check_{check}.sh", str(program)]
+    words = [sys.executable, str(TOP / "tools" / "group.py"), sys.executable if tests else "sh", *words]
+    with (temporary / "said").open("wb") as said, \
+            subprocess.Popen(words, cwd=folder / "python" if tests else folder, env=environment,
+                             stdin=subprocess.DEVNULL, stdout=said, stderr=subprocess.STDOUT) as child:
         try:
-            ended = subprocess.run(words, cwd=folder / "python" if tests else folder, env=environment,
-                                   stdin=subprocess.DEVNULL, stdout=said, stderr=subprocess.STDOUT, timeout=PATIENCE)
+            status = child.wait(PATIENCE)
         except subprocess.TimeoutExpired:
-            return False
-    return ended.returncode == 0 and b"skipped, no" not in (temporary / "said").read_bytes()
+            child.terminate()
+            status = LATE
+    return Ending(status, re.search(rb"\bskipped\b", (temporary / "said").read_bytes()) is not None)
 
 
 def fault_of(plant: Plant, folder: Path, program: Path) -> str:
     """What is wrong with a plant: it can't be put, or isn't seen; nothing if it is seen."""
     try:
-        before = put(plant, folder)
+        with planted(plant, folder):
+            ended = ending(folder, plant.run(), program, plant.words("program"))
     except (NoPlant, OSError) as fault:
         return f"{plant.check}: can't be planted: {plant.name}: {fault}"
-    try:
-        return f"{plant.check}: not seen: {plant.name}" if passes(folder, plant.run(), program, plant.words("program")) else ""
-    finally:
-        for path, content in before.items():
-            path.write_bytes(content)
+    if ended.status == LATE:
+        return f"{plant.check}: longer than {PATIENCE:.0f} seconds: {plant.name}"
+    if ended.status != 0:
+        return ""
+    return f"{plant.check}: {LACKS if ended.lacks else 'not seen'}: {plant.name}"
+
+
+def fault_without(run: Run, folder: Path, program: Path) -> str:
+    """What is wrong with a check, or a part of it, that runs without a plant."""
+    ended = ending(folder, run, program)
+    if ended.status == 0:
+        return ""
+    how = f"longer than {PATIENCE:.0f} seconds" if ended.status == LATE else "fails"
+    return f"{run[0]}: {how} without a plant: {run[1] or run[2] or 'all of it'}"
+
+
+def unplantable(stored: Iterable[Plant], folder: Path) -> Iterator[str]:
+    """What is wrong with each plant that can't be put into a copy."""
+    for plant in stored:
+        try:
+            with planted(plant, folder):
+                pass
+        except (NoPlant, OSError) as fault:
+            yield f"{plant.check}: can't be planted: {plant.name}: {fault}"
 
 
 def chosen(all_plants: list[Plant], words: list[str]) -> list[Plant]:
@@ -196,26 +242,37 @@ def cancelling(pool: ThreadPoolExecutor) -> Iterator[None]:
         raise
 
 
+def faults_of(taken: list[Plant], folder: Path, program: Path) -> list[str]:
+    """Runs the checks without plants, and then with each one in turn; the result has what is wrong."""
+    # The last checks take the longest, so they begin.
+    runs = sorted({plant.run() for plant in taken}, reverse=True)
+    number = os.cpu_count() or 1
+    copies = Copies(folder, number)
+    with ThreadPoolExecutor(number) as pool, cancelling(pool):
+        without = pool.map(lambda run: copies.use(lambda copy: fault_without(run, copy, program)), runs)
+        sound = dict(zip(runs, without, strict=True))
+        judged = [plant for plant in reversed(taken) if not sound[plant.run()]]
+        found = pool.map(lambda plant: copies.use(lambda copy: fault_of(plant, copy, program)), judged)
+        return sorted(filter(None, [*sound.values(), *found]))
+
+
 def main() -> int:
     """Prints what wasn't seen, and how many plants there were."""
     stored = [plant for path in sorted((TOP / "tools" / "planted").glob("*.txt")) for plant in plants(path)]
     if len(sys.argv) == 1:
         print(*table(stored), sep="\n")
         return 0
-    folder, program = Path(sys.argv[1]), Path(sys.argv[2])
+    folder = Path(sys.argv[1])
+    if len(sys.argv) == 2:
+        faults = [*unplantable(stored, Copies(folder, 1).free.get())]
+        print(*faults, f"plants: {len(stored)} looked at, {len(faults)} faults", sep="\n")
+        return 1 if faults else 0
     taken = chosen(stored, sys.argv[3:])
-    runs = sorted({plant.run() for plant in taken})
-    copies = Copies(folder, max(1, (os.cpu_count() or 2) - 1))
-    with ThreadPoolExecutor() as pool, cancelling(pool):
-        sound = dict(zip(runs, pool.map(lambda run: copies.use(lambda copy: passes(copy, run, program)), runs), strict=True))
-        faults = [f"{' '.join(filter(None, run))}: fails, or lacks a tool, without a plant" for run in runs if not sound[run]]
-        judged = [plant for plant in taken if sound[plant.run()]]
-        found = pool.map(lambda plant: copies.use(lambda copy: fault_of(plant, copy, program)), judged)
-        faults += filter(None, found)
-    for fault in faults:
-        print(fault)
-    print(f"plants: {len(taken)} planted, {len(faults)} faults")
-    return 1 if faults else 0
+    found = faults_of(taken, folder, Path(sys.argv[2]))
+    lacking = [] if os.environ.get("TOOLS") == "all" else [fault for fault in found if f": {LACKS}: " in fault]
+    skipped = f", {len(lacking)} skipped" if lacking else ""
+    print(*found, f"plants: {len(taken)} planted, {len(found) - len(lacking)} faults{skipped}", sep="\n")
+    return 1 if len(found) > len(lacking) else 0
 
 
 if __name__ == "__main__":

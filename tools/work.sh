@@ -18,6 +18,12 @@ leave() {
     done
 }
 
+# counts a case of a check that differs; with FIRST, which plants.py sets, the check ends there
+differs() {
+    bad=$((bad + 1))
+    [ -z "${FIRST-}" ] || exit 1
+}
+
 # The name is known before the folder is, so that a signal finds one or none.
 work=$(mktemp -d -u) || exit 2
 trap 'exit 2' HUP INT PIPE QUIT TERM

@@ -180,13 +180,16 @@ SIGNALS = {"Ctrl-C": [signal.SIGINT], "Ctrl-C twice": [signal.SIGINT] * 2, "term
 
 
 def ended(command: str, signals: list[signal.Signals], wait: float, folder: Path) -> int:
-    """Starts a command, sends the signals that many seconds after its first call, and returns its status."""
+    """Starts a command, sends the signals that many seconds after its first call, and returns its status.
+
+    A number of seconds below 0 is that after its start.
+    """
     words = [sys.executable, "-m", "rtdvs", command, *COMMANDS[command], "--program", str(fake(folder, LONG))]
     words += ["--folder", str(folder / "sweep")] if command == "evaluate" else []
     with subprocess.Popen(words, stdout=subprocess.PIPE, stderr=subprocess.DEVNULL, env=environment(folder),
                           text=True) as process:
         try:
-            page = asked(process) if command == "serve" else None
+            page = asked(process) if command == "serve" and wait >= 0 else None
             if wait >= 0:
                 started(folder)
             time.sleep(abs(wait))
@@ -223,12 +226,16 @@ def test_signals_end_a_command(command: str, signals: list[signal.Signals], tmp_
     assert left(tmp_path) == []
 
 
-@pytest.mark.parametrize("command", ["compare", "evaluate", "sensitivity"])
-def test_a_signal_at_any_moment(command: str, tmp_path: Path) -> None:
-    """Also before the command handles signals, and while it starts its programs."""
-    moments = random.Random(command)
-    for number in (signal.SIGINT, signal.SIGTERM, signal.SIGHUP):
-        ended(command, [number], -moments.random(), tmp_path)
+@pytest.mark.parametrize("number", [
+    pytest.param(signal.SIGINT, id="Ctrl-C"),
+    pytest.param(signal.SIGTERM, id="terminated"),
+    pytest.param(signal.SIGHUP, id="hung up")])
+@pytest.mark.parametrize("command", COMMANDS)
+def test_a_signal_at_any_moment(command: str, number: signal.Signals, tmp_path: Path) -> None:
+    """Also before the command handles signals, and while it starts its programs; RTDVS_TIMES asks for more times."""
+    moments = random.Random(f"{command}{number}")
+    for place in range(int(os.environ.get("RTDVS_TIMES", 1))):
+        ended(command, [number], -moments.random() if place % 2 == 0 else moments.random() / 4, tmp_path)
         assert left(tmp_path) == []
 
 

@@ -1,12 +1,13 @@
 """The page in Chromium, headless: clicks, keys, zoom, and how fast it is on a run of 100,000 jobs.
 
-Skipped where there is no Chromium with its driver, or no selenium.
+Each test is skipped where there is no Chromium with its driver, or no selenium; so their number is the same everywhere.
 """
 
 import os
 import shutil
 from collections.abc import Iterator
 from importlib import import_module
+from importlib.util import find_spec
 from pathlib import Path
 from time import monotonic, sleep
 from typing import Any
@@ -19,10 +20,9 @@ from rtdvs.rules import simulate
 from rtdvs.web import Shown, in_one_file, page_data
 from tests.shared.examples import BOARD, DATA, PAPER, TEST_DATA, explained, files, serving
 
-selenium = pytest.importorskip("selenium.webdriver", reason="no selenium")
 CHROMIUM, DRIVER = shutil.which("chromium"), shutil.which("chromedriver")
-if not CHROMIUM or not DRIVER:
-    pytest.skip("no chromium with chromedriver", allow_module_level=True)
+pytestmark = [pytest.mark.skipif(find_spec("selenium") is None, reason="no selenium"),
+              pytest.mark.skipif(not CHROMIUM or not DRIVER, reason="no chromium with chromedriver")]
 Browser = Any
 WAIT = 120      # seconds that anything may take on a busy machine
 ALL_READ = "return document.body.classList.contains('whole')"
@@ -31,6 +31,7 @@ CLICK, MOVES, TOUCH = ((TEST_DATA / f"{name}.js").read_text() for name in ("clic
 
 def chromium() -> Browser:
     """Chromium without a window; as root it needs to be without its sandbox."""
+    selenium = import_module("selenium.webdriver")
     options = selenium.ChromeOptions()
     options.binary_location = CHROMIUM
     for word in ("--headless=new", "--no-sandbox", "--disable-dev-shm-usage", "--window-size=1280,1000"):
@@ -151,7 +152,7 @@ def test_keys_zoom_and_move(browser: Browser, tmp_path: Path) -> None:
 
 def test_drag_and_wheel(browser: Browser, tmp_path: Path) -> None:
     paper(browser, tmp_path, "edf_cc_with_demands")
-    actions = selenium.ActionChains(browser)
+    actions = import_module("selenium.webdriver").ActionChains(browser)
     picture = browser.find_element("css selector", "#sheets svg")
     browser.execute_script("zoom(0.25)")
     from_before = browser.execute_script("return state.from")
