@@ -81,7 +81,7 @@ def edf_ahead(state: State) -> Demand:
         if not left:
             continue
         span = due - first
-        put_off = spare * span // hyper
+        put_off = max(0, spare * span // hyper)  # 0 only if the set isn't admitted
         if put_off < left:
             before += left - put_off
             left = put_off

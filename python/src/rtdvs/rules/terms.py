@@ -113,7 +113,7 @@ def _put_off(job: Latest, kept: int, state: State) -> tuple[int, int, str]:
         return without, 0, f"{job}, due at {job.due}, is complete: {rates}"
     most = plan.machine.top_speed * hyper
     room, how = quotient((most - without) * span, hyper)
-    put_off = min(job.left, room)
+    put_off = max(0, min(job.left, room))
     need, why = quotient(put_off * hyper, span, up=True)
     return without + need, job.left - put_off, (
         f"{job}, due at {job.due}, may need {job.left} more: {rates}; "
