@@ -8,7 +8,7 @@ import pytest
 from hypothesis import given
 from hypothesis import strategies as st
 
-from rtdvs.board import Board, BoardPoint, Scale, Spent, check_trace, design, nanojoules, spent
+from rtdvs.board import Board, BoardPoint, Scale, Spent, Units, check_trace, design, nanojoules
 from rtdvs.cli.main import main
 from rtdvs.errors import BadValue, Refused, TraceFault
 from rtdvs.model import Demands, Machine, TaskSet
@@ -98,7 +98,7 @@ def test_idle_energy_by_the_share_of_the_board() -> None:
              "idle 3:0 8:0 50 6680000000000"]
     trace = Trace.parse("\n".join(["trace 1", "plan edf mine 8", *lines, "end 8 12000000000000 6680000000000", ""]))
     check_trace(files, trace)
-    assert spent(board, files, trace) == Spent((60 + 100 * Fraction("0.3333")) / 10**9, Fraction("0.08"))
+    assert Units(board, files).spent(trace) == Spent((60 + 100 * Fraction("0.3333")) / 10**9, Fraction("0.08"))
 
 
 @given(st.lists(st.tuples(st.integers(1, 10**4), st.integers(1, 10**6)), min_size=1, max_size=6,

@@ -110,10 +110,10 @@ def page(*names: str, most: int = 8, demands: bool = False) -> str:
 # The responses of the first jobs are 8/3, 4 and 6 ticks. Those of the second ones, of 4 units each, are 4/3 at speed 3
 # and twice 2 at speed 2. The energies are those of the lines.
 STATISTICS = """\
-task  jobs  complete  mean_response  greatest_response  jitter  least_laxity  preemptions        energy
-t1       2         2         2.0000             2.6667  1.3333        5.3333            0  {}
-t2       2         2         3.0000             4.0000  2.0000        6.0000            0  {}
-t3       2         2         4.0000             6.0000  4.0000        8.0000            0  {}
+task  jobs  complete  missed  mean_response  greatest_response  jitter  least_laxity  preemptions        energy
+t1       2         2       0         2.0000             2.6667  1.3333        5.3333            0  {}
+t2       2         2       0         3.0000             4.0000  2.0000        6.0000            0  {}
+t3       2         2       0         4.0000             6.0000  4.0000        8.0000            0  {}
 """
 
 

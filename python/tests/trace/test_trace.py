@@ -68,8 +68,8 @@ def test_preemption() -> None:
         Job("a", 2, 2, 4, Fraction(2), 2 + quarter, 1, 0, 5),
     )
     first, second = task_statistics(trace, tasks)
-    assert first.row() == ("a", "2", "2", "0.3750", "0.5000", "0.2500", "1.5000", "0", "10")
-    assert second.row(2) == ("b", "1", "1", "2.75", "2.75", "0.00", "5.25", "1", "35")
+    assert first.row() == ("a", "2", "2", "0", "0.3750", "0.5000", "0.2500", "1.5000", "0", "10")
+    assert second.row(2) == ("b", "1", "1", "0", "2.75", "2.75", "0.00", "5.25", "1", "35")
 
 
 @pytest.mark.parametrize(("ticks", "rest", "preemptions"), [
@@ -121,7 +121,7 @@ def test_jobs_that_are_not_complete() -> None:
     cut = Trace.parse("".join(lines) + "end 4 192000000000 0\n")
     assert [job.completion for job in cut.jobs(PAPER)] == [third(2, 2), 4, None]
     waiting = task_statistics(cut, PAPER)[2]
-    assert waiting.row() == ("t3", "1", "0", "-", "-", "-", "-", "0", "0")
+    assert waiting.row() == ("t3", "1", "0", "0", "-", "-", "-", "-", "0", "0")
 
 
 @pytest.mark.parametrize("text", TEXTS)
@@ -176,9 +176,9 @@ def test_statistics_command(capsys: Captured) -> None:
     words = ["statistics", "--tasks", DATA / "paper/tasks.toml", "--trace"]
     # t1: (8/3 + 4/3)/2; t2: (4 + 2)/2; t3: (6 + 2)/2
     assert printed(capsys, [*words, WORKED]).split() == (
-        "task jobs complete mean_response greatest_response jitter least_laxity preemptions energy "
-        "t1 2 2 2.0000 2.6667 1.3333 5.3333 0 192000000000 t2 2 2 3.0000 4.0000 2.0000 6.0000 0 100000000000 "
-        "t3 2 2 4.0000 6.0000 4.0000 8.0000 0 72000000000").split()
+        "task jobs complete missed mean_response greatest_response jitter least_laxity preemptions energy "
+        "t1 2 2 0 2.0000 2.6667 1.3333 5.3333 0 192000000000 t2 2 2 0 3.0000 4.0000 2.0000 6.0000 0 100000000000 "
+        "t3 2 2 0 4.0000 6.0000 4.0000 8.0000 0 72000000000").split()
     assert refusal(capsys, [*words, TEMPLATE]) == (
         "rtdvs: line 3: its tasks aren't those of the task file\n")
     assert refusal(capsys, [*words, DATA / "templates/tasks.toml"]) == "rtdvs: line 1: neither trace 1 nor trace 2\n"

@@ -2,12 +2,13 @@
 
 from rtdvs.board.description import Board, BoardPoint, BoardTask, board_fault, is_measured, points_of
 from rtdvs.board.device_tree import Choice, OperatingPoint, OperatingTable, operating_points
-from rtdvs.board.energy import Spent, check_trace, nanojoules, spent
+from rtdvs.board.energy import Spent, check_trace, nanojoules
 from rtdvs.board.files import machine_text, read_design, write_design
 from rtdvs.board.reporting import Asked, Load, report, run_ticks, unserved
 from rtdvs.board.scale import (
     Design, Rounding, Scale, choose_scale, choose_tick, choose_unit, design, machine_of, settle, usual_demands,
 )
+from rtdvs.board.units import Units
 
 __all__ = [
     "Asked",
@@ -22,6 +23,7 @@ __all__ = [
     "Rounding",
     "Scale",
     "Spent",
+    "Units",
     "board_fault",
     "check_trace",
     "choose_scale",
@@ -38,7 +40,6 @@ __all__ = [
     "report",
     "run_ticks",
     "settle",
-    "spent",
     "unserved",
     "usual_demands",
     "write_design",

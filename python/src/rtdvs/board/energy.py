@@ -5,8 +5,8 @@ from fractions import Fraction
 
 from rtdvs.board.description import Board, board_fault, is_measured
 from rtdvs.board.scale import Design
-from rtdvs.rules import check
-from rtdvs.trace import Idle, Run, Trace
+from rtdvs.rules import Walk, explain
+from rtdvs.trace import Trace
 
 
 @dataclass(frozen=True, slots=True)
@@ -52,31 +52,6 @@ def nanojoules(board: Board) -> tuple[Fraction, ...]:
     return tuple(((point.volts or 0) / top.volts)**2 * top.milliwatts / top.megahertz for point in board.rising)
 
 
-def spent(board: Board, made: Design, trace: Trace) -> Spent:
-    """What a run of a board's files takes: each cycle counts as at the point that is in force there.
-
-    An idle cycle counts as the board's share of a running one. The trace isn't checked. Raises BadValue if no
-    power was measured.
-
-    >>> from rtdvs.board.scale import Scale, design
-    >>> board = Board.parse('''
-    ... task = [{name = "a", period_ms = 2, worst_cycles = 4000}]
-    ... point = [{mhz = 4, volts = 1, milliwatts = 8}]''')
-    >>> made = design(board, Scale(Fraction(1), Fraction(1000)))
-    >>> run = "speed 0 4 4/1\\nrun 0:0 1:0 a 1 4 4000000\\nend 1 4000000 0\\n"
-    >>> spent(board, made, Trace.parse(f"trace 1\\nplan edf mine 1\\n{run}")).joules  # 4000 cycles of 2 nJ
-    Fraction(1, 125000)
-    """
-    of_speed = {point.speed: cost for point, cost in zip(made.machine.points, nanojoules(board), strict=True)}
-    units = Fraction(0)
-    for note, speed in trace.at_speeds():
-        if isinstance(note, Run):
-            units += note.units * of_speed[speed]
-        elif isinstance(note, Idle):
-            units += note.units * of_speed[speed] * board.idle_share
-    return Spent(units * made.scale.unit / 10**9, made.milliseconds(trace.ticks))
-
-
 def check_trace(made: Design, trace: Trace) -> None:
     """Raises TraceFault, with the line, if a trace isn't a legal one of these files under any governor."""
-    check(made.tasks, made.machine, trace.text().splitlines(keepends=True), any_governor=True)
+    explain(Walk(made.tasks, made.machine, trace.text().splitlines(keepends=True), any_governor=True))

@@ -7,8 +7,9 @@ from math import ceil, floor
 
 from rtdvs._numbers import aligned, plain, rounded
 from rtdvs.board.description import Board
-from rtdvs.board.energy import nanojoules, spent
+from rtdvs.board.energy import nanojoules
 from rtdvs.board.scale import Design, usual_demands
+from rtdvs.board.units import Units
 from rtdvs.errors import BadValue, Denied
 from rtdvs.model import PAIRS, Demands
 from rtdvs.rules import Plan, simulate
@@ -180,7 +181,7 @@ def _costs(board: Board, made: Design, ticks: int) -> Iterator[tuple[str, ...]]:
             continue
         row = [f"{scheduler} {governor}"]
         for named in demands.values():
-            run = spent(board, made, simulate(made.tasks, made.machine, scheduler, ticks, governor, named))
+            run = Units(board, made).spent(simulate(made.tasks, made.machine, scheduler, ticks, governor, named))
             row.append(rounded(run.milliwatts))
             if board.battery is not None:
                 lasts = run.hours(board.battery)

@@ -34,8 +34,8 @@ from pathlib import Path
 from rtdvs._numbers import plain, rounded
 from rtdvs.board import (
     Board, Choice, Design, OperatingTable, Scale, Spent, board_fault, check_trace, choose_scale, design,
-    machine_of, machine_text, operating_points, points_of, read_design, report, run_ticks, settle, spent,
-    unserved, usual_demands, write_design,
+    machine_of, machine_text, operating_points, points_of, read_design, report, run_ticks, settle,
+    Units, unserved, usual_demands, write_design,
 )
 from rtdvs.cli.options import (
     Commands, add_engine_options, add_output, add_pair, add_parser, engine_of, exact_fraction, input_path,
@@ -159,7 +159,7 @@ def _run(board: Board, made: Design, args: argparse.Namespace) -> Spent:
     ticks = made.ticks_of(args.settle_ms)
     demands = usual_demands(board, made, ticks)
     trace = engine_of(args).run(made.tasks, made.machine, args.scheduler, args.governor, ticks, demands)
-    return spent(board, made, trace)
+    return Units(board, made).spent(trace)
 
 
 def _energy_lines(board: Board, args: argparse.Namespace) -> Iterator[str]:
@@ -174,9 +174,4 @@ def _energy_lines(board: Board, args: argparse.Namespace) -> Iterator[str]:
         check_trace(made, trace)
     except TraceFault as fault:
         raise board_fault(f"the trace is of no run of the files in {args.folder}: {fault}") from None
-    run = spent(board, made, trace)
-    yield f"{rounded(run.joules)} joules in {plain(run.milliseconds)} ms"
-    yield f"{rounded(run.milliwatts)} milliwatts on average"
-    if board.battery is not None:
-        hours, of = run.hours(board.battery), f"from {plain(board.battery)} milliwatt hours"
-        yield f"no energy was used {of}" if hours is None else f"{rounded(hours)} hours {of}"
+    yield from Units(board, made).lines(trace)

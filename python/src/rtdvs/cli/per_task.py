@@ -2,6 +2,7 @@
 
     task               its name
     jobs, complete     the jobs that were released, and those that were complete within the run
+    missed             those that weren't complete at a deadline within the run
     mean_response      from a job's release to its completion, over the complete jobs, in ticks
     greatest_response  the greatest of these
     jitter             the greatest response less the least one

@@ -2,19 +2,26 @@
 
 The command has the program's schedulers and governors; `rtdvs.rules.simulate` takes any function. The trace
 is drawn, compared and checked as any other.
+
+With --missed the set needn't be admitted. Standard error then has a note for each missed deadline.
 """
 
 import argparse
+import sys
 
 from rtdvs.cli.options import Commands, add_files, add_pair, add_parser, add_ticks, read_files
-from rtdvs.rules import Plan, simulate
+from rtdvs.rules import simulate
+from rtdvs.trace import Missed
 
 
 def _handle(args: argparse.Namespace) -> int:
     tasks, machine, demands = read_files(args)
-    Plan(tasks, machine, args.scheduler).admit()
-    trace = simulate(tasks, machine, args.scheduler, args.ticks, args.governor, demands)
+    trace = simulate(tasks, machine, args.scheduler, args.ticks, args.governor, demands,
+                     admitted=args.missed is None, missed=args.missed)
     print(trace.text(), end="")
+    if args.missed is not None:
+        print("\n".join(["note: not a run of the program", *(f"note: {miss.text()}" for miss in trace.misses())]),
+              file=sys.stderr)
     return 0
 
 
@@ -33,3 +40,6 @@ def add_command(commands: Commands) -> None:
     add_files(parser, ("tasks", "machine"), ("demands",))
     add_pair(parser)
     add_ticks(parser)
+    parser.add_argument("--missed", choices=[*map(str, Missed)],
+                        help="takes a set that isn't admitted; a job that misses its deadline goes on or is dropped, "
+                             "or the run stops there")

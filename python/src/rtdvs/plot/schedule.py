@@ -6,22 +6,23 @@ background, and colours that can be read on white and on dark.
 
 import math
 from collections.abc import Iterable, Sequence
-from dataclasses import dataclass
+from dataclasses import dataclass, replace
 from fractions import Fraction
 from functools import cached_property, partial
 from pathlib import Path
 from typing import TYPE_CHECKING, Any
 
-from rtdvs._numbers import readable, short
+from rtdvs.board import Units
 from rtdvs.errors import BadValue
+from rtdvs.plot._labels import Labels, labels_of, late_parts, title_parts
 from rtdvs.plot._style import (
     INK, PIXEL, POINT, SMALL, TEXT, TITLE, bare, beside, drawn, legend, new_figure, patch, save, settings, sign,
     words,
 )
 from rtdvs.plot._thinning import (
-    Bar, Completion, bars, by_task, completions, join_narrow, round_step, steps, thin,
+    Bar, Completion, bars, by_task, completions, join_narrow, steps, thin,
 )
-from rtdvs.trace import Decision, Trace
+from rtdvs.trace import Decision, Miss, Trace
 
 if TYPE_CHECKING:
     from matplotlib.axes import Axes
@@ -31,6 +32,7 @@ if TYPE_CHECKING:
 ROW = 58            # a task's row
 BAR = 36            # a run at full height
 SPEED = 72          # the speed row up to full height
+DUE = 28            # a deadline's arrow
 LINE = 16           # a line of the energies
 TICKS = 5           # the ticks' lines go on below the speed row
 DEMANDS = 28        # the row of the demands' values
@@ -43,6 +45,7 @@ LETTER = 6.4        # room for a letter of small text
 NAME_LETTER = 7.8   # room for a letter of a name
 DEMAND = "#c04aa8"
 DEADLINE = "#e0434b"
+MISS = "#b00020"
 RIM = "#555555"
 COLOURS = ("#3f83c8", "#d07a1f", "#2f9e74", "#9a6dd0", "#a08a00", "#2a9fb5", "#9c7350", "#6f7fd8")
 DOTS = (0, (1, 1.6))
@@ -55,7 +58,7 @@ class View:
 
     The ticks from `first` to `last` (the end of the run by default); `top`, the speed of full height (by
     default the fastest of the trace, and pictures to be compared need the same one); `charge`, the machine's,
-    which each worst case has twice.
+    which each worst case has twice; `units`, those of a board, for milliseconds and joules.
 
     >>> View(first=10, last=20).charge
     0
@@ -65,6 +68,7 @@ class View:
     last: int | None = None
     top: int | None = None
     charge: int = 0
+    units: Units | None = None
 
 
 def settled(trace: Trace, view: View) -> View:
@@ -72,7 +76,7 @@ def settled(trace: Trace, view: View) -> View:
 
     >>> from rtdvs.trace import SAMPLE
     >>> settled(Trace.parse(SAMPLE), View())
-    View(first=0, last=2, top=3, charge=0)
+    View(first=0, last=2, top=3, charge=0, units=None)
     """
     fastest = max((decision.speed for decision in trace.decisions), default=0)
     last = trace.ticks if view.last is None else view.last
@@ -84,7 +88,7 @@ def settled(trace: Trace, view: View) -> View:
             (top < fastest, f"--top has to be at least {fastest}, the fastest speed")):
         if is_wrong:
             raise BadValue(reason)
-    return View(view.first, last, top, view.charge)
+    return replace(view, last=last, top=top)
 
 
 # The picture of a trace
@@ -104,6 +108,14 @@ class _Frame:
     @cached_property
     def names(self) -> tuple[str, ...]:
         return self.trace.names
+
+    @cached_property
+    def labels(self) -> Labels:
+        return labels_of(self.view.units)
+
+    @cached_property
+    def misses(self) -> tuple[Miss, ...]:
+        return self.trace.misses()
 
     @cached_property
     def width(self) -> float:
@@ -218,13 +230,14 @@ def svg_text(trace: Trace, view: View = View(), width: int = 1000, background: s
 
 def _figure(trace: Trace, view: View, width: int) -> "Figure":
     names = trace.names
-    facts = [_facts(trace, name, view.charge) for name in names]
+    facts = [_facts(trace, name, view) for name in names]
     left = max([100, *(18 + NAME_LETTER * len(name) for name in names),
                 *(18 + LETTER * len(fact) for fact in facts)])
     if width < left + 220:
         raise BadValue(f"--width has to be at least {math.ceil(left + 220)}")
     high = trace_height(trace, view) + TICKS
-    above = 30 + LINE * len(_energy_lines(trace, width - left - 20))
+    above = 12 + 18 * len(_title_lines(trace, view, width - left - 20)) + LINE * len(
+        _head_lines(trace, view, width - left - 20))
     figure = new_figure(width, above + high + 26)
     axes = figure.add_axes((left / width, 0, 1 - (left + 20) / width, 1))
     plot_trace(trace, axes, view)
@@ -240,40 +253,45 @@ def _draw_axes(frame: _Frame) -> None:
     axes, first, last = frame.axes, frame.first, frame.last
     bare(axes, "x")
     axes.set(xlim=(first, last), ylim=(-TICKS, frame.floor(0) + ROW), yticks=[])
-    step = round_step(last - first, max(1, int(frame.width / (12 + 7 * len(str(last))))))
-    ticks = range(-(-first // step) * step, last + 1, step)
-    axes.set_xticks(list(ticks), [str(tick) for tick in ticks], fontsize=SMALL)
+    marks = [*frame.labels.marks(first, last, frame.width)]
+    axes.set_xticks([*map(float, marks)], [*map(frame.labels.time, marks)], fontsize=SMALL)
     axes.grid(axis="x", color=INK, alpha=0.4, linewidth=0.5 * POINT)
 
 
 def _draw_head(frame: _Frame) -> None:
-    """The title and the energies."""
-    axes, trace, first, last = frame.axes, frame.trace, frame.first, frame.last
-    is_whole = (first, last) == (0, trace.ticks)
-    ticks = f"{last} ticks" if is_whole else f"ticks {first} to {last} of {trace.ticks}"
-    lines = _energy_lines(trace, frame.width)
-    axes.set_title(f"{trace.scheduler}, {trace.governor}: {ticks}", loc="left", fontsize=TITLE, color=INK,
-                   pad=(8 + LINE * len(lines)) * POINT)
+    """The title, what is said of missed deadlines, and the energies."""
+    axes, lines = frame.axes, _head_lines(frame.trace, frame.view, frame.width)
+    axes.set_title("\n".join(_title_lines(frame.trace, frame.view, frame.width)), loc="left", fontsize=TITLE,
+                   color=INK, pad=(8 + LINE * len(lines)) * POINT)
     beside(axes, (0, 1), (0, 5), "\n".join(lines), xycoords="axes fraction", va="bottom", fontsize=TEXT)
 
 
-def _energy_lines(trace: Trace, width: float) -> list[str]:
-    lines = ["energy of the run:"]
-    for part in (f"{readable(trace.run_energy)} running,", f"{readable(trace.idle_energy)} idle,",
-                 "in units × mV² × 1000"):
-        if (len(lines[-1]) + 1 + len(part)) * 6.9 > width:
+def _title_lines(trace: Trace, view: View, width: float) -> list[str]:
+    view = settled(trace, view)
+    assert view.last is not None
+    return _wrapped(title_parts(trace, labels_of(view.units).span(view.first, view.last, trace.ticks)), width / 9)
+
+
+def _head_lines(trace: Trace, view: View, width: float) -> list[str]:
+    late = late_parts(trace)
+    return [*(_wrapped(late, width / 6.9) if late else []),
+            *_wrapped(labels_of(view.units).energy(trace), width / 6.9)]
+
+
+def _wrapped(parts: Sequence[str], letters: float) -> list[str]:
+    """Parts in lines of about so many letters; a part is never cut."""
+    lines = [*parts[:1]]
+    for part in parts[1:]:
+        if len(lines[-1]) + 1 + len(part) > letters:
             lines.append(part)
         else:
             lines[-1] += f" {part}"
     return lines
 
 
-def _facts(trace: Trace, name: str, charge: int) -> str:
+def _facts(trace: Trace, name: str, view: View) -> str:
     task = next((task for task in trace.tasks if task.name == name), None)
-    if task is None:
-        return ""
-    offset = f", offset {task.offset}" if task.offset else ""
-    return f"period {task.period}{offset}, worst {task.worst}" + (f"+{2 * charge}" if charge else "")
+    return "" if task is None else labels_of(view.units).facts(task, view.charge)
 
 
 def _beside(frame: _Frame, y: float, text: str, margin: float = 8, **style: Any) -> None:
@@ -283,11 +301,11 @@ def _beside(frame: _Frame, y: float, text: str, margin: float = 8, **style: Any)
 
 def _draw_rows(frame: _Frame) -> None:
     """The rows of the tasks, but for their bars."""
-    trace, charge = frame.trace, frame.view.charge
+    trace, charge, work = frame.trace, frame.view.charge, frame.labels.work
     jobs, complete = by_task(trace), completions(trace)
-    worst = {task.name: f"/{task.worst + 2 * charge}" for task in trace.tasks}
+    worst = {task.name: f"/{work(task.worst + 2 * charge)}" for task in trace.tasks}
     for row, name in enumerate(frame.names):
-        floor, facts = frame.floor(row), _facts(trace, name, charge)
+        floor, facts = frame.floor(row), _facts(trace, name, frame.view)
         frame.axes.hlines(floor, frame.first, frame.last, color=INK, linewidth=POINT)
         _beside(frame, floor + (24 if facts else 16), name, fontsize=TEXT, family="monospace")
         _beside(frame, floor + 10, facts)
@@ -295,16 +313,17 @@ def _draw_rows(frame: _Frame) -> None:
         due = [job.deadline for job in jobs[name] if job.deadline is not None]
         _draw_arrows(frame, row, due, is_due=True)
         shown = [done for done in complete[name] if frame.is_shown(done.at)]
+        _draw_misses(frame, row, [miss.due for miss in frame.misses if miss.task == name])
         places = set(thin((done.at for done in shown), NEAR / frame.scale))
         kept = [done for done in shown if done.at in places]
         _draw_completions(frame, row, kept)
         for done in kept:
-            _label_completion(frame, floor, done, f"{done.used}{worst.get(name, '')}")
+            _label_completion(frame, floor, done, f"{work(done.used)}{worst.get(name, '')}")
 
 
 def _draw_arrows(frame: _Frame, row: int, ticks: Sequence[int], is_due: bool) -> None:
     """Draws a task's releases, or its deadlines."""
-    floor, high = frame.floor(row), 28 if is_due else 48
+    floor, high = frame.floor(row), DUE if is_due else 48
     style: dict[str, Any] = {"color": DEADLINE if is_due else INK, "zorder": 2.2, "clip_on": False}
     kept = thin(filter(frame.is_shown, ticks), NEAR / frame.scale)
     frame.axes.vlines(kept, floor, floor + high, linewidth=1.6 * POINT, **style)
@@ -312,6 +331,15 @@ def _draw_arrows(frame: _Frame, row: int, ticks: Sequence[int], is_due: bool) ->
                     marker=TIP_BELOW if is_due else TIP_ABOVE, markersize=6 * POINT,
                     markeredgewidth=1.6 * POINT,
                     gid=f"{'deadline' if is_due else 'release'}-{frame.names[row]}", **style)
+
+
+def _draw_misses(frame: _Frame, row: int, ticks: Sequence[int]) -> None:
+    """Draws a cross at each deadline that a task's jobs miss, at the height of a deadline's arrow."""
+    kept = thin(filter(frame.is_shown, ticks), NEAR / frame.scale)
+    if kept:
+        frame.axes.plot(kept, [frame.floor(row) + DUE] * len(kept), linestyle="none", marker="X", color=MISS,
+                        markersize=10 * POINT, markeredgecolor="white", markeredgewidth=0.8 * POINT, zorder=2.8,
+                        clip_on=False, gid=f"miss-{frame.names[row]}")
 
 
 def _draw_bars(frame: _Frame, shown: Iterable[Bar], floor: float, unit: float, name: str,
@@ -360,12 +388,12 @@ def _draw_scale(frame: _Frame) -> None:
         if all(abs(height - other) >= 11 for other in heights):
             heights.append(height)
             line(height, alpha=0.4, linewidth=0.5 * POINT)
-            _beside(frame, height, str(speed), va="center")
-    margin = LETTER * len(str(frame.top)) + 14
+            _beside(frame, height, frame.labels.speed(speed), va="center")
+    margin = LETTER * len(frame.labels.speed(frame.top)) + 14
     _beside(frame, 36, "speed", margin, fontsize=TEXT)
-    _beside(frame, 22, "units/tick", margin)
+    _beside(frame, 22, frame.labels.speed_unit, margin)
     _beside(frame, frame.speed_row + 11, "demand", color=DEMAND)
-    _beside(frame, -TICKS, "ticks", va="top")
+    _beside(frame, -TICKS, frame.labels.time_unit, va="top")
 
 
 def _draw_speeds(frame: _Frame) -> None:
@@ -389,8 +417,9 @@ def _draw_decisions(frame: _Frame) -> None:
             continue
         latest[int(y / NEAR)] = begin
         places["over" if value > Fraction(CAP) * frame.top else "decision"].append((begin, y))
-        if (end - begin) * frame.scale >= LETTER * len(short(value)) + 6:
-            words(frame.axes, begin + 2 / frame.scale, frame.speed_row + 11, short(value), color=DEMAND)
+        text = frame.labels.speed(value)
+        if (end - begin) * frame.scale >= LETTER * len(text) + 6:
+            words(frame.axes, begin + 2 / frame.scale, frame.speed_row + 11, text, color=DEMAND)
     for name, marker, size in (("decision", "o", 4.4), ("over", "^", 7)):
         frame.axes.plot([x for x, _ in places[name]], [y for _, y in places[name]], linestyle="none",
                         marker=marker, color=DEMAND, markersize=size * POINT, markeredgewidth=0, zorder=2.7,
@@ -398,13 +427,15 @@ def _draw_decisions(frame: _Frame) -> None:
 
 
 def _draw_legend(frame: _Frame, has_idle: bool) -> None:
-    what = "used/worst case" if frame.trace.tasks else "used"
+    what = ("used/worst case" if frame.trace.tasks else "used") + frame.labels.work_unit
     handles = [
         _sign("release", INK, TIP_ABOVE), _sign("deadline", DEADLINE, TIP_BELOW),
-        patch(f"run (full height: {frame.top})", COLOURS[0]),
+        patch(f"run (full height: {frame.labels.speed(frame.top)})", COLOURS[0]),
         _sign(f"done: {what}" + (", with the charge" if frame.view.charge else ""), "white", "o",
               markeredgecolor=RIM),
         _sign("speed", INK, "", linestyle="-"), _sign("demand (dot: decision)", DEMAND, "o", linestyle=DOTS)]
+    if frame.misses:
+        handles.append(_sign("missed deadline", MISS, "X", fillstyle="full", markersize=9 * POINT, markeredgewidth=0))
     if has_idle:
         handles.append(patch("idle", INK, 0.3))
     if any(each.num > Fraction(CAP) * frame.top * each.den for _, _, each in frame.spans):

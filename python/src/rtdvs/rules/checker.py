@@ -10,7 +10,7 @@ from rtdvs.rules.plan import Plan, Priority
 from rtdvs.rules.reasons import Reasons
 from rtdvs.rules.state import State
 from rtdvs.rules.step import DECISION, DONE, END, RUN, Fields, Step
-from rtdvs.trace import Decision, Head, Line, Reader, Release, task_text
+from rtdvs.trace import Decision, Head, Line, Reader, Release, split_governor, task_text
 
 
 class Checker:
@@ -116,6 +116,8 @@ class Walk:
                 if number > MOST_LINES or not checker.passes(line):
                     checker.judge(reader.spelled(line))
                 reader.has_ended = checker.form is END
+                if reader.has_ended and checker.step.summary.ticks != reader.head.ticks:
+                    raise Wrong(f"the run stops at a missed deadline, and the plan line says {reader.head.ticks} ticks")
                 yield number, checker
         except TraceFault as fault:
             raise WrongTrace(fault.line, f"wanted {wanted[-1]}" if wanted else fault.reason) from None
@@ -123,7 +125,8 @@ class Walk:
             raise WrongTrace(number, f"wanted {wanted[-1]}" if wanted else str(wrong)) from None
 
     def _checker(self, head: Head) -> Checker:
-        pair, rule = (head.scheduler, head.governor), None
+        governor, missed = split_governor(head.governor)
+        pair, rule = (head.scheduler, governor), None
         if self.scheduler is None and head.scheduler not in [*Scheduler]:
             raise Wrong(f"no scheduler {head.scheduler}")
         plan = Plan(self.tasks, self.machine, self.scheduler or head.scheduler)
@@ -131,6 +134,7 @@ class Walk:
             if pair not in GOVERNORS:
                 raise Wrong(f"no scheduler and governor {' '.join(pair)}")
             rule = GOVERNORS[pair]
-            plan.admit()
+            if missed is None:
+                plan.admit()
         needs = None if self.demands is None else plan.needs(self.demands)
-        return Checker(Step(State.begin(plan), head.ticks, rule, needs), head.version)
+        return Checker(Step(State.begin(plan, missed), head.ticks, rule, needs), head.version)

@@ -56,11 +56,11 @@ def _next_job(state: State) -> str:
     """Which job runs after a decision, and why."""
     if not state.open:
         return "no job is open: idle units follow"
-    key, place = state.open[0]
+    key = state.open[0][0]
     others = [state.jobs[other].task.name for value, other in state.open[1:] if value == key]
     why = "is due first, at" if state.plan.scheduler == "edf" else "has the shortest period,"
     tie = f", and is before {_listed(others)} in the file" if others else ""
-    return f"{state.jobs[place]} runs: of {len(state.open)} open it {why} {key}{tie}"
+    return f"{state.first} runs: of {len(state.open) + state.late.waiting} open it {why} {key}{tie}"
 
 
 def board(number: int, decision: Decision, events: Sequence[Release | Done], step: Step) -> str:
@@ -79,7 +79,8 @@ def board(number: int, decision: Decision, events: Sequence[Release | Done], ste
         lines = TERMS[rule](state) + speeds(state.plan.machine.points, decision.num, decision.den)
     place, why = f"line {number}, tick {decision.tick}", cause(decision.tick, events)
     head = f"{place}, {why}: {decision.num}/{decision.den}, speed {decision.speed}"
-    return "\n    ".join([head, *lines, _next_job(state)])
+    late = [miss.text() for miss in state.late.misses if miss.due == decision.tick]
+    return "\n    ".join([head, *late, *lines, _next_job(state)])
 
 
 def explain(walk: Walk, show: Callable[[str], object] | None = None) -> Summary:
@@ -136,4 +137,5 @@ def last_line(summary: Summary, any_governor: bool, named: bool) -> str:
     'legal, with its own demands'
     """
     verdict = "legal" if any_governor else "all as the rules say"
-    return f"{summary.text()}: {verdict}, with {'the demands of the file' if named else 'its own demands'}"
+    own = "; not a run of the program" if summary.missed else ""
+    return f"{summary.text()}: {verdict}, with {'the demands of the file' if named else 'its own demands'}{own}"

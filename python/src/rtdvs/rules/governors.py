@@ -54,7 +54,7 @@ def rm_cycle(state: State) -> Demand:
     (13, 4)
     """
     end = state.first_deadline
-    start, handed = state.handed
+    start, handed = state.last.handed
     room, total = (end - start) * state.plan.static_speed, 0
     for job, might in handed:
         if room == 0:
@@ -81,7 +81,7 @@ def edf_ahead(state: State) -> Demand:
         if not left:
             continue
         span = due - first
-        put_off = spare * span // hyper
+        put_off = max(0, spare * span // hyper)  # 0 only if the set isn't admitted
         if put_off < left:
             before += left - put_off
             left = put_off

@@ -8,7 +8,7 @@ from rtdvs.rules.state import Latest, State
 from rtdvs.rules.step import DECISION, Fields, Step
 from rtdvs.rules.terms import TERMS, speeds
 from rtdvs.trace import (
-    NO_FRACTION, Decision, Done, End, Idle, Line, Release, Run, TaskEnergy, closing_fault, wrong_energy,
+    NO_FRACTION, Decision, Done, End, Idle, Line, Missed, Release, Run, TaskEnergy, closing_fault, wrong_energy,
     wrong_sums,
 )
 
@@ -47,6 +47,8 @@ class Reasons:
     # Why a line isn't the right one
 
     def _is_elsewhere(self, tick: int) -> str:
+        if self.state.late.has_stopped:
+            return f"the run stops at {self.state.position}: {self.state.late.misses[0].text()}"
         if self.state.now != tick or self.state.behind:
             return f"the trace is at {self.state.position}"
         return ""
@@ -57,6 +59,12 @@ class Reasons:
             return ""
         job = self.state.jobs[place]
         return f"the release of {job.task.name} job {job.number + 1} at tick {due} is missing"
+
+    def _job(self, note: Run | Done) -> Latest:
+        """The job of a note if it is late and goes on; otherwise the latest of its task."""
+        latest = self.named[note.task]
+        late = self.state.late.jobs.get(latest.place, [])
+        return next((job for job in late if job.number == note.job), latest)
 
     def _unknown(self, task: str) -> str:
         return "" if task in self.named else f"no task {task}"
@@ -127,6 +135,10 @@ class Reasons:
         if note.job > job.number:
             tick = job.task.offset + (note.job - 1) * job.task.period
             return f"{note.task} job {note.job} is released at tick {tick}"
+        late = self.state.late
+        if dropped := [miss for miss in late.misses if (miss.task, miss.job) == (note.task, note.job)]:
+            if late.missed is Missed.DROP:
+                return f"{note.task} job {note.job} was dropped at {dropped[0].due}"
         if note.job < job.number or job.complete or first is None:
             return f"{note.task} job {note.job} is complete"
         why = f"due at {first.due}" if scheduler == "edf" else f"its period is {first.task.period}"
@@ -136,7 +148,7 @@ class Reasons:
     def _run(self, note: Run) -> str:
         if fault := self._not_running() or self._unknown(note.task):
             return fault
-        job = self.named[note.task]
+        job = self._job(note)
         if job is not self.state.first or note.job != job.number:
             return self._not_next(note, job)
         if note.units > job.need - job.used:
@@ -157,7 +169,7 @@ class Reasons:
     def _done(self, note: Done) -> str:
         if fault := self._unknown(note.task):
             return fault
-        state, job = self.state, self.named[note.task]
+        state, job = self.state, self._job(note)
         if self.step.last is not job or job.complete:
             return f"the line before isn't the last one of {note.task} job {note.job}"
         if note.at != (state.now, state.behind) or note.job != job.number or note.used != job.used:

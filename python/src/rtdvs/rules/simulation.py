@@ -7,27 +7,32 @@ trace is drawn, compared and checked as any other.
 
 import re
 
-from rtdvs.errors import NAME
+from rtdvs.errors import NAME, BadValue
 from rtdvs.model import Demands, Machine, Scheduler, TaskSet, checked_name, checked_number
 from rtdvs.rules.governors import Chooser, rule_of
 from rtdvs.rules.plan import Plan, Priority
 from rtdvs.rules.state import State
 from rtdvs.rules.step import END, Step, note_of
-from rtdvs.trace import Note, Trace
+from rtdvs.trace import Missed, Note, Trace, split_governor
 
 
-def simulate(tasks: TaskSet, machine: Machine, scheduler: str | Priority, ticks: int,
-             governor: str | Chooser, demands: Demands | None = None, name: str = "") -> Trace:
+def simulate(tasks: TaskSet, machine: Machine, scheduler: str | Priority, ticks: int, governor: str | Chooser,
+             demands: Demands | None = None, name: str = "", *, admitted: bool = False,
+             missed: str | None = None) -> Trace:
     """The trace, in version 2, of a run of that many ticks.
 
     The scheduler is "edf", "rm" or a function, the priority of a job: the open job with the least value runs,
     of equal ones the first in the file. It is asked at each tick. The governor is "none", "static", "cc",
     "la" or a function of a View, which returns an int, a Fraction or a pair of ints. `name` is the governor's
     in the trace, which is "mine" for a function without one; a scheduler's is its own. A job whose demand
-    isn't named needs its worst case. No admission test is made.
+    isn't named needs its worst case.
 
-    Raises DeadlineMissed, FileRefused and OverWorst for demands that aren't of the tasks, and BadValue for
-    another wrong value, also if it is a governor's.
+    No admission test is made, unless the set has to be `admitted`. At a deadline that is `missed` the job goes on
+    ("continue") or ends ("drop"), or the run ends ("stop"). A task's jobs run in their order; a governor of the
+    program counts the latest ones. The word is at the end of the governor's in the trace, which is none of the program.
+
+    Raises DeadlineMissed without such a word, Denied, FileRefused and OverWorst for demands that aren't of the
+    tasks, and BadValue for another wrong value, also if it is a governor's.
 
     >>> from fractions import Fraction
     >>> from rtdvs.model import Point, Task
@@ -39,13 +44,30 @@ def simulate(tasks: TaskSet, machine: Machine, scheduler: str | Priority, ticks:
     >>> simulate(tasks, machine, "EDF", 4, "none")
     Traceback (most recent call last):
     rtdvs.errors.BadValue: a scheduler is edf or rm, not EDF
+    >>> simulate(TaskSet((Task("t", 4, 20),)), machine, "edf", 8, "none", missed="stop").misses()
+    (Miss(task='t', job=1, due=4, used=16),)
     """
-    plan, called = Plan(tasks, machine, scheduler), name or (str(governor) if isinstance(governor, str) else "mine")
-    length, demands = checked_number("ticks", ticks), demands or Demands({})
+    plan, length, demands = Plan(tasks, machine, scheduler), checked_number("ticks", ticks), demands or Demands({})
     demands.belong_to(tasks)
-    rule = rule_of(plan, governor, checked_name(called))
-    step = Step(State.begin(plan), length, rule, plan.needs(demands))
-    return Trace(2, scheduler_name(scheduler), called, length, tuple(tasks), notes(step))
+    policy = None if missed is None else Missed(missed)
+    called = governor_name(governor, name, policy)
+    if admitted:
+        plan.admit()
+    step = Step(State.begin(plan, policy), length, rule_of(plan, governor, called), plan.needs(demands))
+    found = notes(step)
+    return Trace(2, scheduler_name(scheduler), called, step.summary.ticks, tuple(tasks), found)
+
+
+def governor_name(governor: str | Chooser, name: str, missed: Missed | None) -> str:
+    """What a trace calls a governor, and what is done at a missed deadline; raises BadValue for no name of a trace.
+
+    >>> governor_name("cc", "", None), governor_name(lambda view: 0, "", Missed.DROP)
+    ('cc', 'mine-drop')
+    """
+    called = checked_name(name or (str(governor) if isinstance(governor, str) else "mine"))
+    if word := split_governor(called)[1]:
+        raise BadValue(f"a governor's name doesn't end with -{word}")
+    return called if missed is None else checked_name(f"{called}-{missed}")
 
 
 def notes(step: Step) -> tuple[Note, ...]:

@@ -1,13 +1,13 @@
 """What has happened in a run up to a position, and what a governor sees of it."""
 
 from bisect import insort
-from dataclasses import dataclass, field
+from dataclasses import dataclass, field, replace
 from typing import Any
 
 from rtdvs.errors import DeadlineMissed
-from rtdvs.model import Point, Task
+from rtdvs.model import MOST_TASKS, Point, Task
 from rtdvs.rules.plan import EXAMPLE, JobView, Plan
-from rtdvs.trace import Position
+from rtdvs.trace import Miss, Missed, Position
 
 
 @dataclass(frozen=True, slots=True)
@@ -78,6 +78,9 @@ class Latest:
 class Moments:
     """The ticks of the last decision, of the last release, and at which a governor sees the last completion.
 
+    `handed` are the last tick with releases before a decision, the jobs that were open there, and what each
+    might need.
+
     >>> Moments().released
     -1
     """
@@ -85,6 +88,41 @@ class Moments:
     decided: int = -1
     released: int = -1
     seen: int = -1
+    handed: tuple[int, list[tuple[Latest, int]]] = (0, [])
+
+
+@dataclass(slots=True)
+class Late:
+    """The jobs of a run that have missed their deadlines; without `missed` the first one is a DeadlineMissed.
+
+    `jobs` are those that continue, by the places of their tasks, the oldest first. `misses` are all so far.
+
+    >>> Late(Missed.STOP).has_stopped
+    False
+    """
+
+    missed: Missed | None = None
+    jobs: dict[int, list[Latest]] = field(default_factory=dict)
+    misses: list[Miss] = field(default_factory=list)
+
+    @property
+    def waiting(self) -> int:
+        """How many jobs wait for an older one of their task."""
+        return sum(map(len, self.jobs.values()))
+
+    @property
+    def has_stopped(self) -> bool:
+        """Whether the run ends here."""
+        return self.missed is Missed.STOP and bool(self.misses)
+
+    def take(self, job: Latest) -> bool:
+        """Whether a job that isn't complete now, at its deadline, is to be dropped; raises DeadlineMissed."""
+        miss = Miss(job.task.name, job.number, job.due, job.used)
+        if self.missed is None:
+            raise DeadlineMissed(miss.task, miss.job, miss.due, miss.used)
+        if miss not in self.misses[-MOST_TASKS:]:
+            self.misses.append(miss)
+        return self.missed is Missed.DROP
 
 
 @dataclass(slots=True)
@@ -93,8 +131,7 @@ class State:
 
     The seven pairs' rules read it; a governor of your own gets a `view`. `jobs` are in the order of the
     file; `deadlines` and `open` are sorted, the next deadline and the job of the highest priority first, each
-    with the place of its task. `handed` are the last tick with releases before a decision, the jobs that were
-    open there, and what each might need.
+    with the place of its task, whose jobs run in their order.
 
     >>> state = State.begin(EXAMPLE)
     >>> state.now, state.deadlines, state.open
@@ -109,11 +146,11 @@ class State:
     deadlines: list[tuple[int, int]] = field(default_factory=list)
     open: list[tuple[Any, int]] = field(default_factory=list)
     last: Moments = field(default_factory=Moments)
-    handed: tuple[int, list[tuple[Latest, int]]] = (0, [])
+    late: Late = field(default_factory=Late)
 
     @classmethod
-    def begin(cls, plan: Plan) -> "State":
-        """The state before a run.
+    def begin(cls, plan: Plan, missed: Missed | None = None) -> "State":
+        """The state before a run, and what is done at a missed deadline.
 
         >>> from rtdvs.model import Machine, TaskSet
         >>> plan = Plan(TaskSet((Task("a", 4, 4, offset=3),)), Machine((Point(2, 3000),)), "edf")
@@ -123,7 +160,7 @@ class State:
         worsts = plan.worsts
         jobs = [Latest(task, place, worsts[place], task.offset) for place, task in enumerate(plan.tasks)]
         deadlines = sorted((job.due, job.place) for job in jobs)
-        return cls(plan, jobs, deadlines=deadlines)
+        return cls(plan, jobs, deadlines=deadlines, late=Late(missed))
 
     @property
     def position(self) -> Position:
@@ -150,7 +187,16 @@ class State:
         >>> State.begin(EXAMPLE).first is None
         True
         """
-        return self.jobs[self.open[0][1]] if self.open else None
+        return self.oldest(self.open[0][1]) if self.open else None
+
+    def oldest(self, place: int) -> Latest:
+        """The job of a task that runs first: the oldest one that is late, or the latest.
+
+        >>> print(State.begin(EXAMPLE).oldest(1))
+        b job 0
+        """
+        late = self.late.jobs.get(place)
+        return late[0] if late else self.jobs[place]
 
     @property
     def is_decision(self) -> bool:
@@ -163,7 +209,7 @@ class State:
         return self.behind == 0 and now != last.decided and (now == last.released or now == last.seen or now == 0)
 
     def all_met(self) -> None:
-        """Raises DeadlineMissed if a job, whose deadline is now, isn't complete.
+        """Marks or drops the jobs that aren't complete though their deadline is now, or raises DeadlineMissed.
 
         >>> job = Latest(Task("a", 4, 4), 0, worst=4, due=4, number=1, used=3, left=1, complete=False)
         >>> State(EXAMPLE, [job], now=4, deadlines=[(4, 0)]).all_met()
@@ -174,8 +220,8 @@ class State:
             job = self.jobs[place]
             if due > self.now:
                 break
-            if not job.complete:
-                raise DeadlineMissed(job.task.name, job.number, due, job.used)
+            if not job.complete and self.late.take(job):
+                self.complete(job)
 
     def rank(self, job: Latest, tick: int, ran: int = 0) -> Any:
         """What sorts the open jobs, before the place: the deadline under EDF, the period under RM, or the
@@ -198,7 +244,7 @@ class State:
         >>> [place for _, place in state.open]
         [1, 0]
         """
-        self.open = sorted((self.rank(self.jobs[place], self.now), place) for _, place in self.open)
+        self.open = sorted((self.rank(self.oldest(place), self.now), place) for _, place in self.open)
 
     def first_until(self, end: int, speed: int) -> int:
         """The tick up to `end` until which the first open job stays the first, if it runs at that speed.
@@ -208,13 +254,13 @@ class State:
         1
         """
         (_, first), *others = self.open
-        job = self.jobs[first]
+        job = self.oldest(first)
         for tick in range(self.now + 1, end):
             ran = (tick - self.now) * speed - self.behind
             if job.used + ran >= job.need:
                 break
             own = self.rank(job, tick, ran), first
-            if any((self.rank(self.jobs[place], tick), place) < own for _, place in others):
+            if any((self.rank(self.oldest(place), tick), place) < own for _, place in others):
                 return tick
         return end
 
@@ -227,7 +273,8 @@ class State:
         [('b', 9, 6)]
         """
         jobs = tuple(job.view(self.now) for job in self.jobs)
-        ready = tuple(jobs[place] for _, place in self.open)
+        late = {place: tuple(job.view(self.now) for job in old) for place, old in self.late.jobs.items()}
+        ready = tuple(job for _, place in self.open for job in (*late.get(place, ()), jobs[place]))
         return View(self.plan, self.now, self.point.speed if self.point else 0, jobs, ready)
 
     def release(self, job: Latest) -> None:
@@ -238,12 +285,18 @@ class State:
         >>> state.deadlines, state.open
         ([(0, 1), (4, 0)], [(4, 0)])
         """
+        if not job.complete:
+            self.late.jobs.setdefault(job.place, []).append(replace(job))
         job.number, job.due = job.number + 1, job.due + job.task.period
         job.used, job.left, job.need, job.complete = 0, job.worst, job.worst, False
         self.deadlines.pop(0)
         insort(self.deadlines, (job.due, job.place))
-        insort(self.open, (self.rank(job, self.now), job.place))
         self.last.released = self.now
+        if self.oldest(job.place) is job:
+            self._open(job)
+
+    def _open(self, job: Latest) -> None:
+        insort(self.open, (self.rank(job, self.now), job.place))
 
     def hand_out(self) -> None:
         """Notes what the open jobs may need, before the decision of a tick with releases.
@@ -251,11 +304,11 @@ class State:
         >>> state = State.begin(EXAMPLE)
         >>> state.release(state.jobs[0])
         >>> state.hand_out()
-        >>> [units for job, units in state.handed[1]]
+        >>> [units for job, units in state.last.handed[1]]
         [4]
         """
         if self.last.released == self.now:
-            self.handed = self.now, [(self.jobs[place], self.jobs[place].left) for _, place in self.open]
+            self.last.handed = self.now, [(self.jobs[place], self.jobs[place].left) for _, place in self.open]
 
     def after(self, units: int, speed: int) -> Position:
         """The position after some more work units at the speed in force.
@@ -266,8 +319,10 @@ class State:
         ticks, behind = divmod(self.behind + units, speed)
         return Position(self.now + ticks, behind)
 
-    def complete(self, job: Latest) -> None:
+    def complete(self, job: Latest) -> Latest | None:
         """Marks an open job as complete; a governor sees it at this tick, or at the next one.
+
+        Gives the next job of its task, if one has waited for it.
 
         >>> state = State.begin(EXAMPLE)
         >>> state.release(state.jobs[0])
@@ -278,3 +333,10 @@ class State:
         del self.open[[place for _, place in self.open].index(job.place)]
         job.left, job.complete = 0, True
         self.last.seen = self.now + (self.behind > 0)
+        late = self.late.jobs.get(job.place)
+        if not late:
+            return None
+        late.pop(0)
+        waiting = self.oldest(job.place)
+        self._open(waiting)
+        return waiting

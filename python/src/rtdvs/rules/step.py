@@ -45,6 +45,7 @@ class Summary:
     decisions: int = 0
     run_energy: int = 0
     idle_energy: int = 0
+    missed: int = 0
 
     def text(self) -> str:
         """The numbers on one line.
@@ -53,6 +54,7 @@ class Summary:
         '2 ticks, 1 jobs released, 1 complete, 2 decisions, energy 6000 running and 0 idle'
         """
         jobs = f"{self.released} jobs released, {self.complete} complete, {self.decisions} decisions"
+        jobs += f", {self.missed} deadlines missed" if self.missed else ""
         return f"{self.ticks} ticks, {jobs}, energy {self.run_energy} running and {self.idle_energy} idle"
 
 
@@ -100,6 +102,9 @@ class Step:
             due, place = state.deadlines[0]
             if due == now:
                 state.all_met()
+                if state.late.has_stopped:
+                    self.summary.ticks = now
+                    return self._close()
                 self.job = job = state.jobs[place]
                 return RELEASE, (now, job.task.name, job.number + 1)
             if self.rule and state.is_decision:
@@ -148,6 +153,7 @@ class Step:
         if self.closing:
             return ENERGY, (self.closing[0], self.energies[self.closing[0]])
         self.state.all_met()
+        self.summary.missed = len(self.state.late.misses)
         return END, (self.summary.ticks, self.summary.run_energy, self.summary.idle_energy)
 
     def take(self, form: str, fields: Fields) -> None:
@@ -163,7 +169,7 @@ class Step:
             return
         self.last = None
         if form is DONE and job:
-            state.complete(job)
+            self.last = state.complete(job)
             summary.complete += 1
         elif form is DECISION:
             self.decide(state.plan.lowest(*fields[2:]))
@@ -183,6 +189,6 @@ class Step:
     def _release(self, job: Latest) -> None:
         self.state.release(job)
         self.summary.released += 1
-        self.last = job
+        self.last = job if self.state.oldest(job.place) is job else None
         if self.needs is not None:
             job.need = self.needs.get((job.task.name, job.number), job.worst)

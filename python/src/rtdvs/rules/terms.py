@@ -69,7 +69,7 @@ def _edf_cycle(state: State) -> list[str]:
 
 
 def _rm_cycle(state: State) -> list[str]:
-    (start, handed), end, speed = state.handed, state.first_deadline, state.plan.static_speed
+    (start, handed), end, speed = state.last.handed, state.first_deadline, state.plan.static_speed
     room = (end - start) * speed
     lines = [f"handed out at tick {start}, up to the earliest deadline {end}, at the static speed {speed}: "
              f"{end - start} * {speed} = {room}"]
@@ -114,7 +114,7 @@ def _put_off(job: Latest, kept: int, state: State) -> tuple[int, int, str]:
     most = plan.machine.top_speed * hyper
     spare = (most - without) * span
     room = spare // hyper
-    put_off = min(job.left, room)
+    put_off = max(0, min(job.left, room))
     need = ceiling(put_off * hyper, span)
     return without + need, job.left - put_off, (
         f"{job}, due at {job.due}, may need {job.left} more: {rates}; "

@@ -6,7 +6,8 @@ have passed; as a time it is an exact fraction of ticks, the units over the spee
 """
 
 from rtdvs.trace._belongs import wrong_energy, wrong_sums
-from rtdvs.trace.jobs import Job
+from rtdvs.trace.jobs import Job, Ran, ran_at
+from rtdvs.trace.misses import Miss, Missed, split_governor
 from rtdvs.trace.notes import (
     Decision, Done, End, Head, Idle, Line, Note, Position, Release, Run, TaskEnergy, task_text,
 )
@@ -24,10 +25,13 @@ __all__ = [
     "Idle",
     "Job",
     "Line",
+    "Miss",
+    "Missed",
     "NO_FRACTION",
     "Note",
     "Position",
     "REALS",
+    "Ran",
     "Reader",
     "Release",
     "Run",
@@ -42,7 +46,9 @@ __all__ = [
     "frame",
     "lines_of",
     "parse_lines",
+    "ran_at",
     "rows",
+    "split_governor",
     "task_statistics",
     "task_text",
     "ticks",

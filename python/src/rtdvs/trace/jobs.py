@@ -3,9 +3,10 @@
 from collections.abc import Iterable, Mapping
 from dataclasses import dataclass
 from fractions import Fraction
+from typing import NamedTuple
 
 from rtdvs.errors import TraceFault
-from rtdvs.trace.notes import Done, Note, Release, Run
+from rtdvs.trace.notes import Done, Idle, Note, Position, Release, Run
 
 Placed = tuple[int, Note, int]
 """A note with the number of its line, and with the speed in force there, in work units per tick."""
@@ -54,6 +55,28 @@ class Job:
         return self.deadline - self.completion
 
 
+class Ran(NamedTuple):
+    """Work units at a speed: those of runs, and those in which no job ran."""
+
+    units: int = 0
+    idle: int = 0
+
+
+def ran_at(notes: Iterable[tuple[Note, int]]) -> dict[int, Ran]:
+    """The units at each speed, of notes with the speed in force.
+
+    >>> ran_at([(Idle(Position(0, 0), Position(2, 0), units=4, energy=0), 2)])
+    {2: Ran(units=0, idle=4)}
+    """
+    found: dict[int, Ran] = {}
+    for note, speed in notes:
+        if isinstance(note, Run | Idle):
+            before = found.get(speed, Ran())
+            found[speed] = (before._replace(units=before.units + note.units) if isinstance(note, Run)
+                            else before._replace(idle=before.idle + note.units))
+    return found
+
+
 def periods_of(notes: Iterable[Note]) -> dict[str, int]:
     """Each task's period in ticks, as version 1 says it: the distance of its first two releases, if it has two.
 
@@ -80,8 +103,10 @@ class _Begun:
     energy: int = 0
 
 
-def rebuilt(notes: Iterable[Placed], periods: Mapping[str, int]) -> tuple[Job, ...]:
+def rebuilt(notes: Iterable[Placed], periods: Mapping[str, int], is_dropped: bool = False) -> tuple[Job, ...]:
     """The jobs in the order of their release lines. Raises TraceFault for a note that no job can have.
+
+    A job that is dropped at its deadline isn't interrupted there.
 
     >>> rebuilt([(3, Release(0, "a", 1), 1), (4, Release(0, "a", 1), 1)], {})
     Traceback (most recent call last):
@@ -105,7 +130,8 @@ def rebuilt(notes: Iterable[Placed], periods: Mapping[str, int]) -> tuple[Job, .
         if isinstance(note, Done):
             job.completion = note.at.time(speed)
             continue
-        if last and last is not job and last.completion is None:
+        if last and last is not job and last.completion is None and not (
+                is_dropped and last.deadline is not None and last.deadline <= note.begin.tick):
             last.preemptions += 1
         last = job
         job.units, job.energy = job.units + note.units, job.energy + note.energy

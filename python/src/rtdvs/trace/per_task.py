@@ -1,7 +1,8 @@
 """Statistics of a trace: a line for each task."""
 
+from collections import Counter
 from collections.abc import Iterator, Mapping, Sequence
-from dataclasses import astuple, dataclass
+from dataclasses import dataclass
 from fractions import Fraction
 
 from rtdvs._display import Cell, Shown
@@ -15,46 +16,66 @@ from rtdvs.trace.whole import Trace
 class TaskStatistics:
     """What a task's jobs did. Times are exact, in ticks, and None without a complete job.
 
-    >>> statistics_of("t", [Job("t", 1, 0, 4, completion=Fraction(5, 2))]).row(1)
-    ('t', '1', '1', '2.5', '2.5', '0.0', '1.5', '0', '0')
+    `complete` are the jobs that are complete within the run, and `missed` those that weren't at their deadlines.
+
+    >>> statistics_of("t", [Job("t", 1, 0, 4, completion=Fraction(5, 2))], missed=0).row(1)
+    ('t', '1', '1', '0', '2.5', '2.5', '0.0', '1.5', '0', '0')
     """
 
     task: str
     jobs: int
-    complete: int
-    mean_response: Fraction | None
-    greatest_response: Fraction | None
-    jitter: Fraction | None
+    missed: int
+    responses: tuple[Fraction, ...]
     least_laxity: Fraction | None
     preemptions: int
     energy: int
 
+    @property
+    def complete(self) -> int:
+        """The jobs that are complete."""
+        return len(self.responses)
+
+    @property
+    def mean_response(self) -> Fraction | None:
+        """The mean of the responses."""
+        return sum(self.responses, Fraction(0)) / len(self.responses) if self.responses else None
+
+    @property
+    def greatest_response(self) -> Fraction | None:
+        """The greatest of the responses."""
+        return max(self.responses, default=None)
+
+    @property
+    def jitter(self) -> Fraction | None:
+        """The greatest response less the least one."""
+        return max(self.responses) - min(self.responses) if self.responses else None
+
+    def cells(self) -> tuple[Cell, ...]:
+        """The values in the order of COLUMNS."""
+        return tuple(getattr(self, column) for column in COLUMNS)
+
     def row(self, places: int = 4) -> tuple[str, ...]:
         """The values as text, in the order of COLUMNS; times with this many decimal places."""
-        values = (getattr(self, column) for column in COLUMNS)
-        return tuple(str(each) if isinstance(each, str | int) else decimal(each, places) for each in values)
+        return tuple(str(each) if isinstance(each, str | int) else decimal(each, places) for each in self.cells())
 
 
-KINDS = {"task": "object", "jobs": "int64", "complete": "int64", "mean_response": "float64",
+KINDS = {"task": "object", "jobs": "int64", "complete": "int64", "missed": "int64", "mean_response": "float64",
          "greatest_response": "float64", "jitter": "float64", "least_laxity": "float64", "preemptions": "int64",
          "energy": "object"}
 COLUMNS = tuple(KINDS)
 
 
-def statistics_of(task: str, jobs: Sequence[Job]) -> TaskStatistics:
-    """The statistics of some jobs of a task.
+def statistics_of(task: str, jobs: Sequence[Job], missed: int) -> TaskStatistics:
+    """The statistics of some jobs of a task, of which so many weren't complete at their deadlines.
 
-    >>> statistics_of("t", [Job("t", 1, 0, 4, completion=Fraction(5, 2)), Job("t", 2, 4, 8)]).mean_response
+    >>> statistics_of("t", [Job("t", 1, 0, 4, completion=Fraction(5, 2)), Job("t", 2, 4, 8)], 0).mean_response
     Fraction(5, 2)
     """
-    responses = [job.response for job in jobs if job.response is not None]
     return TaskStatistics(
         task=task,
         jobs=len(jobs),
-        complete=len(responses),
-        mean_response=sum(responses, Fraction(0)) / len(responses) if responses else None,
-        greatest_response=max(responses, default=None),
-        jitter=max(responses) - min(responses) if responses else None,
+        missed=missed,
+        responses=tuple(job.response for job in jobs if job.response is not None),
         least_laxity=min((job.laxity for job in jobs if job.laxity is not None), default=None),
         preemptions=sum(job.preemptions for job in jobs),
         energy=sum(job.energy for job in jobs),
@@ -64,8 +85,8 @@ def statistics_of(task: str, jobs: Sequence[Job]) -> TaskStatistics:
 class Statistics(tuple[TaskStatistics, ...], Shown):
     """The statistics of each task, as a tuple that a notebook shows as a table.
 
-    >>> Statistics([statistics_of("t", [Job("t", 1, 0, 4, completion=Fraction(5, 2))])]).frame()["least_laxity"].tolist()
-    [1.5]
+    >>> Statistics([statistics_of("t", [Job("t", 1, 0, 4)], 0)]).frame()["jobs"].tolist()
+    [1]
     """
 
     __slots__ = ()
@@ -74,7 +95,7 @@ class Statistics(tuple[TaskStatistics, ...], Shown):
         return KINDS
 
     def _rows(self) -> Iterator[tuple[Cell, ...]]:
-        return (astuple(each) for each in self)
+        return (each.cells() for each in self)
 
 
 def task_statistics(trace: Trace, tasks: TaskSet) -> Statistics:
@@ -83,9 +104,10 @@ def task_statistics(trace: Trace, tasks: TaskSet) -> Statistics:
     >>> from rtdvs.model import Task
     >>> from rtdvs.trace import SAMPLE
     >>> task_statistics(Trace.parse(SAMPLE), TaskSet((Task("t", 2, 4),)))[0].row(2)
-    ('t', '1', '1', '1.50', '1.50', '0.00', '0.50', '0', '6000')
+    ('t', '1', '1', '0', '1.50', '1.50', '0.00', '0.50', '0', '6000')
     """
     jobs: dict[str, list[Job]] = {task.name: [] for task in tasks}
     for job in trace.jobs(tasks):
         jobs[job.task].append(job)
-    return Statistics(statistics_of(name, own) for name, own in jobs.items())
+    missed = Counter(miss.task for miss in trace.misses(tasks))
+    return Statistics(statistics_of(name, own, missed[name]) for name, own in jobs.items())

@@ -12,7 +12,8 @@ from rtdvs._display import html_of, picture
 from rtdvs.errors import TraceFault
 from rtdvs.model import Machine, Task, TaskSet
 from rtdvs.trace._belongs import OnMachine, not_of_tasks
-from rtdvs.trace.jobs import Job, periods_of, rebuilt
+from rtdvs.trace.jobs import Job, Ran, periods_of, ran_at, rebuilt
+from rtdvs.trace.misses import Miss, Missed, late_jobs, split_governor
 from rtdvs.trace.notes import Decision, Done, End, Head, Idle, Note, Release, Run, task_text
 from rtdvs.trace.reader import lines_of, parse_lines
 from rtdvs.trace.tables import TABLES, frame, rows
@@ -168,6 +169,14 @@ class Trace(Head):
         idle = ((note.units, speed) for note, speed in self.at_speeds() if isinstance(note, Idle))
         return sum((Fraction(units, speed) for units, speed in idle), Fraction(0))
 
+    def ran(self) -> dict[int, Ran]:
+        """The units at each speed that was chosen: of runs, and idle ones.
+
+        >>> Trace.parse(SAMPLE).ran()
+        {3: Ran(units=3, idle=0), 2: Ran(units=1, idle=1)}
+        """
+        return ran_at(self.at_speeds())
+
     def at_speeds(self) -> Iterator[tuple[Note, int]]:
         """Each note with the speed in force there, in work units per tick; 1 before the first decision.
 
@@ -233,7 +242,24 @@ class Trace(Head):
         if tasks is not None:
             self.belongs_to(tasks)
         periods = {task.name: task.period for task in tasks or self.tasks} or periods_of(self.notes)
-        return rebuilt(self.numbered(), periods)
+        return rebuilt(self.numbered(), periods, self.missed is Missed.DROP)
+
+    @property
+    def missed(self) -> Missed | None:
+        """What is done at a missed deadline, by the governor's word; None for a run in which none may be missed.
+
+        >>> Trace(1, "rm", "static-drop", 2, (), (End(2, 0, 0),)).missed
+        <Missed.DROP: 'drop'>
+        """
+        return split_governor(self.governor)[1]
+
+    def misses(self, tasks: TaskSet | None = None) -> tuple[Miss, ...]:
+        """The jobs that aren't complete at their deadlines, by rising deadlines; a set as for `jobs`.
+
+        >>> Trace.parse(SAMPLE).misses()
+        ()
+        """
+        return late_jobs(self.numbered(), self.jobs(tasks), self.ticks)
 
     def frame(self, table: str = "segments", joule: Fraction | None = None, charge: int = 0) -> "pandas.DataFrame":
         """A table of the trace as a pandas frame, as rtdvs.trace.frame makes it; ImportError without pandas.
@@ -245,8 +271,9 @@ class Trace(Head):
 
     def __repr__(self) -> str:
         jobs = sum(isinstance(note, Release) for note in self.notes)
+        late = f", {len(self.misses())} missed, not a run of the program" if self.missed else ""
         return (f"<Trace: {self.scheduler} {self.governor}, {self.ticks} ticks, {jobs} job{'s'[:jobs != 1]}, "
-                f"energy {self.energy}>")
+                f"energy {self.energy}{late}>")
 
     def _repr_svg_(self) -> str | None:
         return picture(self)

@@ -1,0 +1,86 @@
+"""A board's units for its files and their traces: milliseconds, megahertz, cycles and joules. The one place for it."""
+
+from collections.abc import Iterator, Mapping
+from dataclasses import dataclass
+from fractions import Fraction
+from functools import cached_property
+
+from rtdvs._numbers import plain, rounded
+from rtdvs.board.description import Board, board_fault
+from rtdvs.board.energy import Spent, nanojoules
+from rtdvs.board.scale import Design
+from rtdvs.errors import BadValue, TraceFault
+from rtdvs.trace import Ran, Trace
+
+
+@dataclass(frozen=True)
+class Units:
+    """The units of a board whose files are made.
+
+    >>> from rtdvs.board.scale import Scale, design
+    >>> board = Board.parse('''
+    ... task = [{name = "a", period_ms = 2, worst_cycles = 4000}]
+    ... point = [{mhz = 4, volts = 1, milliwatts = 8}]''')
+    >>> units = Units(board, design(board, Scale(Fraction(1, 2), Fraction(1000))))
+    >>> units.milliseconds(3), units.megahertz(Fraction(1, 2)), units.cycles(4)
+    (Fraction(3, 2), Fraction(1, 1), Fraction(4000, 1))
+    """
+
+    board: Board
+    made: Design
+
+    def milliseconds(self, ticks: Fraction | int) -> Fraction:
+        """The milliseconds of some ticks."""
+        return ticks * self.made.scale.tick
+
+    def cycles(self, units: Fraction | int) -> Fraction:
+        """The cycles of some work units."""
+        return units * self.made.scale.unit
+
+    def megahertz(self, speed: Fraction | int) -> Fraction:
+        """The megahertz of a speed or a demand, in units per tick, as the files have it after rounding."""
+        return self.cycles(speed) / self.milliseconds(1) / 1000
+
+    @cached_property
+    def _costs(self) -> Mapping[int, Fraction]:
+        """The nanojoules of a running cycle at each speed."""
+        points = zip(self.made.machine.points, nanojoules(self.board), strict=True)
+        return {point.speed: cost for point, cost in points}
+
+    def joules(self, ran: Mapping[int, Ran]) -> Fraction:
+        """The joules of running and idle units, by their speeds; raises BadValue if no power was measured.
+
+        An idle cycle counts as the board's share of a running one.
+        """
+        cost = sum((self._costs[speed] * (each.units + each.idle * self.board.idle_share)
+                    for speed, each in ran.items()), Fraction(0))
+        return self.cycles(cost) / 10**9
+
+    def spent(self, trace: Trace) -> Spent:
+        """What a run of the board's files takes; the trace isn't checked. Raises BadValue as `joules` does."""
+        return Spent(self.joules(trace.ran()), self.milliseconds(trace.ticks))
+
+    def lines(self, trace: Trace) -> Iterator[str]:
+        """What a run takes, in lines: joules, milliwatts, and the hours of a battery; raises BadValue as `joules`."""
+        run, battery = self.spent(trace), self.board.battery
+        yield f"{rounded(run.joules)} joules in {plain(run.milliseconds)} ms"
+        yield f"{rounded(run.milliwatts)} milliwatts on average"
+        if battery is not None:
+            hours, of = run.hours(battery), f"from {plain(battery)} milliwatt hours"
+            yield f"no energy was used {of}" if hours is None else f"{rounded(hours)} hours {of}"
+
+    def no_power(self) -> str:
+        """Why there are no joules; empty if there are."""
+        try:
+            nanojoules(self.board)
+        except BadValue as fault:
+            return str(fault).removeprefix("board: ")
+        return ""
+
+    def check(self, trace: Trace) -> None:
+        """Raises BadValue if a trace can't be of the board's files in this tick and unit."""
+        try:
+            trace.belongs_to(self.made.tasks, self.made.machine)
+        except TraceFault as fault:
+            raise board_fault(f"the trace isn't of this board where {self.made.scale.text()}: {fault}; "
+                              "--folder names the files that were run") from None
