@@ -6,13 +6,15 @@ have passed; as a time it is an exact fraction of ticks, the units over the spee
 """
 
 from rtdvs.trace._belongs import wrong_energy, wrong_sums
+from rtdvs.trace._noted import Noted
+from rtdvs.trace.file import TraceFile
 from rtdvs.trace.jobs import Job
 from rtdvs.trace.notes import (
     Decision, Done, End, Head, Idle, Line, Note, Position, Release, Run, TaskEnergy, task_text,
 )
 from rtdvs.trace.reader import NO_FRACTION, Reader, closing_fault, lines_of, parse_lines
 from rtdvs.trace.per_task import COLUMNS, Statistics, TaskStatistics, task_statistics
-from rtdvs.trace.tables import REALS, TABLES, csv_text, frame, rows, ticks
+from rtdvs.trace.tables import REALS, TABLES, csv_lines, csv_text, frame, rows, ticks
 from rtdvs.trace.whole import SAMPLE, Trace
 
 __all__ = [
@@ -26,6 +28,7 @@ __all__ = [
     "Line",
     "NO_FRACTION",
     "Note",
+    "Noted",
     "Position",
     "REALS",
     "Reader",
@@ -37,7 +40,9 @@ __all__ = [
     "TaskEnergy",
     "TaskStatistics",
     "Trace",
+    "TraceFile",
     "closing_fault",
+    "csv_lines",
     "csv_text",
     "frame",
     "lines_of",

@@ -1,6 +1,6 @@
 """Statistics of a trace: a line for each task."""
 
-from collections.abc import Iterator, Mapping, Sequence
+from collections.abc import Iterable, Iterator, Mapping
 from dataclasses import astuple, dataclass
 from fractions import Fraction
 
@@ -8,7 +8,7 @@ from rtdvs._display import Cell, Shown
 from rtdvs._numbers import decimal
 from rtdvs.model import TaskSet
 from rtdvs.trace.jobs import Job
-from rtdvs.trace.whole import Trace
+from rtdvs.trace._noted import Noted
 
 
 @dataclass(frozen=True, slots=True)
@@ -41,24 +41,54 @@ KINDS = {"task": "object", "jobs": "int64", "complete": "int64", "mean_response"
 COLUMNS = tuple(KINDS)
 
 
-def statistics_of(task: str, jobs: Sequence[Job]) -> TaskStatistics:
+def statistics_of(task: str, jobs: Iterable[Job]) -> TaskStatistics:
     """The statistics of some jobs of a task.
 
     >>> statistics_of("t", [Job("t", 1, 0, 4, completion=Fraction(5, 2)), Job("t", 2, 4, 8)]).mean_response
     Fraction(5, 2)
     """
-    responses = [job.response for job in jobs if job.response is not None]
-    return TaskStatistics(
-        task=task,
-        jobs=len(jobs),
-        complete=len(responses),
-        mean_response=sum(responses, Fraction(0)) / len(responses) if responses else None,
-        greatest_response=max(responses, default=None),
-        jitter=max(responses) - min(responses) if responses else None,
-        least_laxity=min((job.laxity for job in jobs if job.laxity is not None), default=None),
-        preemptions=sum(job.preemptions for job in jobs),
-        energy=sum(job.energy for job in jobs),
-    )
+    sums = _Sums()
+    for job in jobs:
+        sums.add(job)
+    return sums.of(task)
+
+
+@dataclass(slots=True)
+class _Sums:
+    """What some jobs of a task add up to."""
+
+    jobs: int = 0
+    complete: int = 0
+    response: Fraction = Fraction(0)
+    least: Fraction | None = None
+    greatest: Fraction | None = None
+    laxity: Fraction | None = None
+    preemptions: int = 0
+    energy: int = 0
+
+    def add(self, job: Job) -> None:
+        self.jobs, self.preemptions, self.energy = (
+            self.jobs + 1, self.preemptions + job.preemptions, self.energy + job.energy)
+        response, laxity = job.response, job.laxity
+        if response is not None:
+            self.complete, self.response = self.complete + 1, self.response + response
+            self.least = response if self.least is None else min(self.least, response)
+            self.greatest = response if self.greatest is None else max(self.greatest, response)
+        if laxity is not None:
+            self.laxity = laxity if self.laxity is None else min(self.laxity, laxity)
+
+    def of(self, task: str) -> TaskStatistics:
+        return TaskStatistics(
+            task=task,
+            jobs=self.jobs,
+            complete=self.complete,
+            mean_response=self.response / self.complete if self.complete else None,
+            greatest_response=self.greatest,
+            jitter=None if self.greatest is None or self.least is None else self.greatest - self.least,
+            least_laxity=self.laxity,
+            preemptions=self.preemptions,
+            energy=self.energy,
+        )
 
 
 class Statistics(tuple[TaskStatistics, ...], Shown):
@@ -77,15 +107,17 @@ class Statistics(tuple[TaskStatistics, ...], Shown):
         return (astuple(each) for each in self)
 
 
-def task_statistics(trace: Trace, tasks: TaskSet) -> Statistics:
-    """A record for each task, in the order of the task set. Raises TraceFault if a job isn't of the set.
+def task_statistics(trace: Noted, tasks: TaskSet) -> Statistics:
+    """A record for each task, in the order of the task set, by one pass over the notes.
+
+    Raises TraceFault if a job isn't of the set.
 
     >>> from rtdvs.model import Task
-    >>> from rtdvs.trace import SAMPLE
+    >>> from rtdvs.trace import SAMPLE, Trace
     >>> task_statistics(Trace.parse(SAMPLE), TaskSet((Task("t", 2, 4),)))[0].row(2)
     ('t', '1', '1', '1.50', '1.50', '0.00', '0.50', '0', '6000')
     """
-    jobs: dict[str, list[Job]] = {task.name: [] for task in tasks}
-    for job in trace.jobs(tasks):
-        jobs[job.task].append(job)
-    return Statistics(statistics_of(name, own) for name, own in jobs.items())
+    sums = {task.name: _Sums() for task in tasks}
+    for job in trace.each_job(tasks):
+        sums[job.task].add(job)
+    return Statistics(each.of(name) for name, each in sums.items())
