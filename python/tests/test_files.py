@@ -3,6 +3,7 @@
 import os
 import subprocess
 import sys
+from collections.abc import Iterator
 from pathlib import Path
 
 import pytest
@@ -28,6 +29,22 @@ def test_what_is_written(content: str | bytes, tmp_path: Path) -> None:
     os.umask(mask)
     assert (new.stat().st_mode & 0o777, kept.stat().st_mode & 0o777) == (0o666 & ~mask, 0o640)
     assert link.is_symlink() and sorted(tmp_path.iterdir()) == sorted([new, kept, link])
+
+
+def test_texts_come_one_after_the_other(tmp_path: Path) -> None:
+    """What fails while they come leaves the file as it was."""
+    def texts(last: int) -> Iterator[str]:
+        for number in range(last):
+            yield f"{number}\n"
+        if last < 3:
+            raise ValueError("a fault of the texts")
+
+    (file := tmp_path / "file").write_bytes(OLD)
+    with pytest.raises(ValueError, match="a fault of the texts"):
+        write_whole(file, texts(2))
+    assert file.read_bytes() == OLD and [*tmp_path.iterdir()] == [file]
+    write_whole(file, texts(3))
+    assert file.read_bytes() == b"0\n1\n2\n"
 
 
 def test_what_is_no_file(tmp_path: Path) -> None:
@@ -64,9 +81,9 @@ runpy.run_module("rtdvs", run_name="__main__", alter_sys=True)
 TRACE = DATA / "paper" / "edf_cc_with_demands.trace"
 FILES = [f"--tasks={DATA}/paper/tasks.toml", f"--machine={DATA}/paper/machine.toml"]
 WRITERS = {
-    "convert": (["convert", "--to", "csv", "--trace", str(TRACE), "--output", "OUT"], "OUT"),
+    "convert": (["convert", "--to", "csv", "--trace", str(TRACE), *FILES, "--output", "OUT"], "OUT"),
     "page": (["page", str(TRACE), *FILES, "--output", "OUT"], "OUT"),
-    "plot": (["plot", "trace", "--trace", str(TRACE), "--output", "OUT.svg"], "OUT.svg"),
+    "plot": (["plot", "trace", "--trace", str(TRACE), *FILES, "--output", "OUT.svg"], "OUT.svg"),
     "evaluate": (["evaluate", "--program", "/bin/true", "--sets", "1", "--folder", "OUT"], "OUT/sweep"),
 }
 

@@ -72,6 +72,17 @@ def test_version() -> None:
     assert found is not None and project["version"] == rtdvs.__version__ == found[1]
 
 
+def test_citation() -> None:
+    """It has the version and the date of CHANGELOG.md, the project as its author, and two papers."""
+    text = (TOP / "CITATION.cff").read_text()
+    said = dict(re.findall(r'^(\S+): "?([^"\n]*)"?$', text, re.MULTILINE))
+    first = re.search(r"^## ([0-9.]+) \(([0-9-]+)\)", (TOP / "CHANGELOG.md").read_text(), re.MULTILINE)
+    assert first is not None and (said["version"], said["date-released"], said["title"]) == (*first.groups(), "rtdvs")
+    assert re.search(r"^authors:\n  - name: The rtdvs project\nreferences:\n", text, re.MULTILINE)
+    assert re.findall(r"^    year: (\d+)$", text, re.MULTILINE) == ["1973", "2001"]
+    assert re.findall(r"family-names: (\S+)", text) == ["Liu", "Layland", "Pillai", "Shin"]
+
+
 def test_public_names() -> None:
     assert sorted(rtdvs.__all__) == rtdvs.__all__ and len(rtdvs.__all__) == 46
     assert all(getattr(rtdvs, name).__doc__ for name in rtdvs.__all__)

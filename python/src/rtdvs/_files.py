@@ -2,35 +2,38 @@
 
 import os
 import secrets
+from collections.abc import Iterable
 from contextlib import suppress
 from pathlib import Path
 
 
-def write_whole(path: Path, content: str | bytes) -> None:
+def write_whole(path: Path, content: str | bytes | Iterable[str]) -> None:
     """Writes a file, or leaves it as it was; raises an OSError that names it.
 
     The content is on the disk, in a file beside it, before it gets the name. What is no file, such as a pipe, is
-    written as it is.
+    written as it is. Texts are written one after the other, so that they needn't all be in memory.
 
     >>> write_whole(Path("/absent/cc.svg"), "<svg/>")
     Traceback (most recent call last):
     FileNotFoundError: [Errno 2] No such file or directory: '/absent/cc.svg'
     """
-    data = content.encode("utf-8") if isinstance(content, str) else content
+    data = [content] if isinstance(content, str | bytes) else content
+    parts = (part.encode("utf-8") if isinstance(part, str) else part for part in data)
     try:
         if path.exists() and not path.is_file():
-            path.write_bytes(data)
+            with path.open("wb") as file:
+                file.writelines(parts)
         else:
-            _replace(path.resolve(), data)
+            _replace(path.resolve(), parts)
     except OSError as error:
         raise OSError(error.errno, error.strerror, str(path)) from None
 
 
-def _replace(path: Path, data: bytes) -> None:
+def _replace(path: Path, parts: Iterable[bytes]) -> None:
     part = path.with_name(f".{secrets.token_hex(8)}.part")
     try:
         with part.open("xb") as file:
-            file.write(data)
+            file.writelines(parts)
             file.flush()
             if path.exists():
                 part.chmod(path.stat().st_mode)

@@ -5,8 +5,10 @@ simulator. What is wanted is worked out by hand, or by functions that other test
 """
 
 import argparse
+import os
 import re
 from collections.abc import Callable, Iterator
+from concurrent.futures import ThreadPoolExecutor
 from fractions import Fraction
 from pathlib import Path
 from typing import Any
@@ -17,6 +19,7 @@ import pytest
 from rtdvs.cli import main as cli, options as commandline, serve
 from rtdvs.engine import Answer, Call
 from rtdvs.export import events_text, vcd_text
+from rtdvs.model import Demands, Machine, Point, Task, TaskSet
 from rtdvs.plot import View, parse_means, save_compare, save_means, save_trace
 from rtdvs.rules import simulate
 from rtdvs.studies import (
@@ -35,6 +38,7 @@ SIMULATED = Simulated(Path("simulated"))
 SET = "--tasks tasks.toml --machine machine.toml"
 NAMED = f"{SET} --demands demands.csv"
 TRACE = "--trace edf_cc_with_demands.trace"
+CHECKED = f"{SET} {TRACE}"
 CC, NONE = (Trace.read(path) for path in (WORKED, WORKED.with_name("edf_none.trace")))
 MY_SET = "[[task]]\nname = 'x'\nperiod = 2\nworst = 4\n"
 MY_MACHINE = "idle = 10\n[[point]]\nspeed = 2\nmillivolts = 2\n[[point]]\nspeed = 3\nmillivolts = 3\n"
@@ -145,7 +149,7 @@ PRINTED: list[tuple[str, Callable[[], str]]] = [
     (f"simulate {SET} --scheduler edf --governor cc --ticks 9", lambda: of_ticks("edf", "cc", 9)),
     (f"simulate {NAMED} --scheduler rm --governor cc --ticks 16",
      lambda: simulate(PAPER, BOARD, "rm", 16, "cc", CASE.demands).text()),
-    (f"statistics --tasks tasks.toml {TRACE}", statistics),
+    (f"statistics {CHECKED}", statistics),
     (f"compare {SET} --ticks 16", compared),
     (f"compare {SET} --ticks 30 --jobs 2", lambda: compared(30)),
     (f"compare {NAMED} --ticks 16", lambda: compared(16, True)),
@@ -178,12 +182,13 @@ PRINTED: list[tuple[str, Callable[[], str]]] = [
     ("generate exercise --folder OUT --seed 7 --governor la", lambda: seven(governor="la")),
     ("paper-table", lambda: lines_of_the_paper(*FINER)),
     ("paper-table --finer 3 5 --jobs 2", lambda: lines_of_the_paper(3, 5)),
-    (f"convert --to chrome {TRACE}", lambda: events_text(CC)),
-    (f"convert --to vcd {TRACE}", lambda: vcd_text(CC)),
-    (f"convert --to csv {TRACE}", lambda: csv_text(CC, "segments")),
-    *((f"convert --to csv {TRACE} --table {name}", lambda name=name: csv_text(CC, name))
+    (f"convert --to chrome {CHECKED}", lambda: events_text(CC)),
+    (f"convert --to vcd {CHECKED}", lambda: vcd_text(CC)),
+    (f"convert --to csv {CHECKED}", lambda: csv_text(CC, "segments")),
+    *((f"convert --to csv {CHECKED} --table {name}", lambda name=name: csv_text(CC, name))
       for name in ("segments", "jobs", "decisions")),
-    (f"convert --to csv --table jobs --charge 5 --trace {TEMPLATES}edf_cc_with_demands.trace",
+    (f"convert --to csv --table jobs --charge 5 --trace {TEMPLATES}edf_cc_with_demands.trace "
+     f"--machine {TEMPLATES}machine.toml",
      lambda: csv_text(template(), "jobs", 5)),
     (f"convert --to csv --table jobs --trace {TEMPLATES}edf_cc_with_demands.trace --tasks {TEMPLATES}tasks.toml "
      f"--machine {TEMPLATES}machine.toml", lambda: csv_text(template(), "jobs", 1)),
@@ -243,18 +248,17 @@ def text(made: Callable[[], str]) -> Callable[[Path], None]:
     return write
 
 
-PLOT = f"plot trace {TRACE}"
+PLOT = f"plot trace {CHECKED}"
 WRITTEN: list[tuple[str, str, Callable[[], Callable[[Path], None]]]] = [
     (PLOT, "a.svg", pictured),
     (PLOT, "a.pdf", pictured),
     (PLOT, "a.PNG", pictured),
-    (f"{PLOT} {SET}", "a.svg", pictured),
     (f"{PLOT} --from 3", "a.svg", lambda: pictured(View(first=3))),
     (f"{PLOT} --to 9", "a.svg", lambda: pictured(View(last=9))),
     (f"{PLOT} --top 8", "a.svg", lambda: pictured(View(top=8))),
     (f"{PLOT} --width 500", "a.svg", lambda: pictured(width=500)),
     (f"{PLOT} --background #123456", "a.svg", lambda: pictured(background="#123456")),
-    ("plot trace --trace OUT/mine.trace --charge 2", "a.svg",
+    (f"plot trace {MINE_FILES} --trace OUT/mine.trace --charge 2", "a.svg",
      lambda: lambda path: save_trace(Trace.parse(MINE), path, View(charge=2))),
     (f"plot compare {SET} --ticks 16", "a.svg", pairs),
     (f"plot compare {SET} --ticks 31", "a.svg", lambda: pairs(31)),
@@ -263,7 +267,7 @@ WRITTEN: list[tuple[str, str, Callable[[], Callable[[Path], None]]]] = [
     ("plot evaluation --table OUT/means.tsv", "a.svg", means),
     ("plot evaluation --table OUT/means.tsv --columns 2", "a.svg", lambda: means(columns=2)),
     ("plot evaluation --table OUT/means.tsv --background red", "a.svg", lambda: means(background="red")),
-    (f"convert --to vcd {TRACE}", "a.vcd", lambda: text(lambda: vcd_text(CC))),
+    (f"convert --to vcd {CHECKED}", "a.vcd", lambda: text(lambda: vcd_text(CC))),
     (U, "a.toml", lambda: text(u)),
     (P, "a.toml", lambda: text(published)),
     ("generate demands --tasks tasks.toml --ticks 30 --seed 4", "a.csv",
@@ -283,6 +287,60 @@ def test_all_that_a_command_writes(words: str, name: str, made: Callable[[], Cal
     assert printed(capsys, [*words.replace("OUT", str(tmp_path)).split(), "--output", found]) == ""
     made()(wanted)
     assert found.read_bytes() == wanted.read_bytes()
+
+
+# Traces that aren't checked
+
+UNCHECKED = [f"statistics --tasks tasks.toml {TRACE} --unchecked", f"convert --to csv {TRACE} --unchecked",
+             f"plot trace {TRACE} --output OUT/a.svg --unchecked", f"compare {SET} --ticks 16 {TRACE} --unchecked"]
+
+
+@pytest.mark.parametrize("words", UNCHECKED)
+def test_what_is_not_checked_is_said(words: str, tmp_path: Path, capsys: Captured) -> None:
+    """Without that option the commands that have no machine refuse it."""
+    if words.startswith("plot"):
+        pytest.importorskip("matplotlib")
+    words = words.replace("OUT", str(tmp_path))
+    assert cli.main(words.split()) == 0
+    assert capsys.readouterr().err == "note: the trace is not checked\n"
+    if "--machine" not in words:
+        files = "--machine" if "--tasks" in words else "--tasks and --machine"
+        line = f"rtdvs: give {files}, by which the trace is checked, or --unchecked\n"
+        assert refusal(capsys, words.replace(" --unchecked", "").split()) == line
+
+
+@pytest.mark.parametrize("command", [
+    "statistics", "convert --to csv", "convert --to vcd --output OUT/a", "plot trace --output OUT/a.svg",
+    "compare --ticks 16"])
+def test_no_number_of_a_wrong_trace(command: str, tmp_path: Path, capsys: Captured) -> None:
+    """The first decision has another demand: all energies are right, and so is the machine."""
+    if command.startswith("plot"):
+        pytest.importorskip("matplotlib")
+    wrong = tmp_path / "wrong.trace"
+    wrong.write_text(WORKED.read_text().replace("836/280", "835/280"))
+    words = f"{command} {SET} --trace {wrong}".replace("OUT", str(tmp_path)).split()
+    assert "line 6: the demand is 836/280" in refusal(capsys, words)
+    assert not (tmp_path / "a").exists() and not (tmp_path / "a.svg").exists()
+    assert cli.main([*words, "--unchecked"]) == 0
+
+
+def test_a_pipe_is_read_once(tmp_path: Path, capsys: Captured) -> None:
+    pipe = tmp_path / "pipe"
+    os.mkfifo(pipe)
+    with ThreadPoolExecutor(1) as writer:
+        writer.submit(pipe.write_text, WORKED.read_text())
+        assert printed(capsys, f"statistics {SET} --trace {pipe}".split()) == statistics()
+
+
+def test_a_set_that_is_denied_is_checked(tmp_path: Path, capsys: Captured) -> None:
+    """EDF denies the set, and no job is late in the trace of another governor's name or of its own."""
+    tasks, machine = TaskSet((Task("a", 4, 9),)), Machine((Point(2, 1000),))
+    tasks.write(tmp_path / "tasks.toml")
+    machine.write(tmp_path / "machine.toml")
+    trace = simulate(tasks, machine, "edf", 4, "none", Demands({("a", 1): 8}))
+    (tmp_path / "a.trace").write_text(trace.text())
+    words = [f"--{kind}={tmp_path}/{kind}.toml" for kind in ("tasks", "machine")]
+    assert "a        1         1         4.0000" in printed(capsys, ["statistics", *words, f"--trace={tmp_path}/a.trace"])
 
 
 def test_the_files_of_an_exercise(tmp_path: Path, capsys: Captured) -> None:
@@ -493,7 +551,7 @@ def option_words(parser: argparse.ArgumentParser, path: tuple[str, ...] = ()) ->
 def test_each_option_is_in_a_row() -> None:
     """tests/board calls `design`."""
     called = [*(words for words, _ in PRINTED), *(f"{words} --output" for words, *_ in WRITTEN),
-              *(words for words, *_ in EVALUATIONS), GRADES, "serve --port"]
+              *(words for words, *_ in EVALUATIONS), GRADES, *UNCHECKED, "serve --port"]
     shared = {"--program", "--timeout"}
     for command, option in option_words(cli.parser()):
         assert command == "design" or option in shared or any(

@@ -26,13 +26,13 @@ USAGE = {
         ("--board examples/board.dts --tick-ms 0", "--tick-ms has to be above 0"),
     ],
     "plot": [
-        ("trace --trace PAPER/edf_none.trace --output OUT/picture.svg --width 200", "--width has to be at least 320"),
-        ("trace --trace PAPER/edf_none.trace --output a.gif", "a picture is a file .svg, .pdf or .png"),
-        ("trace --trace PAPER/edf_none.trace --output OUT/picture.svg --background no", "no colour: no"),
+        ("trace FILES --output OUT/picture.svg --width 200", "--width has to be at least 320"),
+        ("trace FILES --output a.gif", "a picture is a file .svg, .pdf or .png"),
+        ("trace FILES --output OUT/picture.svg --background no", "no colour: no"),
         ("trace --output OUT/picture.svg --trace absent", "absent: No such file or directory"),
         ("trace --output OUT/picture.svg --trace README.md", "line 1: neither trace 1 nor trace 2"),
-        ("trace --trace PAPER/edf_none.trace --output OUT/picture.svg --from x", "a whole number from 0 on"),
-        ("trace --trace PAPER/edf_none.trace --output /absent/a.svg", "/absent/a.svg: No such file or directory"),
+        ("trace FILES --output OUT/picture.svg --from x", "a whole number from 0 on"),
+        ("trace FILES --output /absent/a.svg", "/absent/a.svg: No such file or directory"),
     ],
     "generate": [
         ("uunifast --count 0 --utilisation 1 --seed 1", "argument --count: a whole number from 1 to 64, not 0"),

@@ -5,7 +5,8 @@ import json
 import locale
 import shutil
 import subprocess
-from collections.abc import Iterator
+import tracemalloc
+from collections.abc import Callable, Iterator
 from decimal import Context, Decimal
 from fractions import Fraction
 from functools import partial
@@ -20,11 +21,11 @@ from hypothesis import strategies as st
 from rtdvs.cli.main import main
 from rtdvs.engine import Engine
 from rtdvs.errors import DeadlineMissed
-from rtdvs.export import events_text, millionths, vcd_text
+from rtdvs.export import event_lines, events_text, millionths, vcd_text, wave_lines
 from rtdvs.rules import GOVERNORS, simulate
-from rtdvs.trace import Position, Trace, csv_text, frame
+from rtdvs.trace import Position, Trace, TraceFile, csv_lines, csv_text, frame, task_statistics
 from tests.shared.examples import (
-    DATA, SHORT, TEMPLATE, TRACES, WORKED, Captured, Lines, path_id, refusal, version_1,
+    BOARD, DATA, PAPER, SHORT, TEMPLATE, TRACES, WORKED, Captured, Lines, path_id, refusal, version_1,
 )
 from tests.shared.model import random_case
 
@@ -189,11 +190,12 @@ def test_any_time_is_rounded_once(tick: int, speed: int, data: st.DataObject) ->
 def test_charge_is_in_the_declared_units(words: list[str], declared: int, tmp_path: Path, capsys: Captured) -> None:
     (tmp_path / "a").write_text("trace 2\nplan edf mine 2\ntask a 2 0 4\nrelease 0 a 1\nspeed 0 4 1/1\n"
                                 "run 0:0 2:0 a 1 8 8\ndone 2:0 a 1 8\nenergy a 8\nend 2 8 0\n")
-    assert main(["convert", "--to", "csv", "--table", "jobs", "--trace", str(tmp_path / "a"), *words]) == 0
-    note = (f"note: a job 1 used 8 of {declared} declared units: give the machine's charge by --charge\n"
-            if declared < 8 else "")
+    call = ["convert", "--to", "csv", "--table", "jobs", "--unchecked", "--trace", str(tmp_path / "a")]
+    assert main([*call, *words]) == 0
+    note = f"note: a job 1 used 8 of {declared} declared units: give the machine's charge by --charge\n"
     out, err = capsys.readouterr()
-    assert out.endswith(f",8,{declared}\n") and err == note
+    assert out.endswith(f",8,{declared}\n")
+    assert err == "note: the trace is not checked\n" + note * (declared < 8)
 
 
 @pytest.mark.parametrize("change", ["cut", "no plan", "more"])
@@ -204,6 +206,41 @@ def test_what_is_no_whole_trace_is_refused(change: str, tmp_path: Path, capsys: 
     words = ["convert", "--to", "vcd", "--trace", tmp_path / "broken", "--output", tmp_path / "out"]
     assert refusal(capsys, words).count("\n") == 1
     assert not (tmp_path / "out").exists()
+
+
+@pytest.mark.parametrize(("units", "text"), [(2**53, 2**53), (2**53 + 1, f"{2**53 + 1}")])
+def test_units_that_a_reader_would_round_are_text(units: int, text: object) -> None:
+    lines = ["trace 2", "plan edf mine 1", f"task a 1 0 {2**53}", "release 0 a 1", f"speed 0 {units} 1/1",
+             f"run 0:0 1:0 a 1 {units} 7", f"done 1:0 a 1 {units}", "energy a 7", "end 1 7 0", ""]
+    events = json.loads(events_text(Trace.parse("\n".join(lines))))["traceEvents"]
+    assert [event["args"]["units"] for event in events if event["ph"] == "X"] == [text]
+    assert [event["args"]["used"] for event in events if event["name"] == "done 1"] == [text]
+
+
+@pytest.mark.parametrize("made", [
+    pytest.param(lambda trace: task_statistics(trace, PAPER), id="statistics"),
+    pytest.param(lambda trace: sum(map(len, csv_lines(trace, "jobs"))), id="jobs"),
+    pytest.param(lambda trace: sum(map(len, csv_lines(trace, "segments"))), id="segments"),
+    pytest.param(lambda trace: sum(map(len, event_lines(trace))), id="events"),
+    pytest.param(lambda trace: sum(map(len, wave_lines(trace))), id="waves"),
+])
+def test_a_file_takes_no_more_memory_if_it_is_longer(made: Callable[[TraceFile], object], tmp_path: Path) -> None:
+    """A trace eight times as long, the whole of which takes five times as much or more."""
+    peaks = []
+    for ticks in (280, 2240):
+        (tmp_path / "a").write_text(simulate(PAPER, BOARD, "edf", ticks, "cc").text())
+        trace = TraceFile.of(lambda: lines_of_file(tmp_path / "a"))
+        made(trace)
+        tracemalloc.start()
+        made(trace)
+        peaks.append(tracemalloc.get_traced_memory()[1])
+        tracemalloc.stop()
+    assert peaks[1] < 1.5 * peaks[0] + 20_000, peaks
+
+
+def lines_of_file(path: Path) -> Iterator[str]:
+    with path.open() as file:
+        yield from file
 
 
 def test_frames() -> None:

@@ -3,20 +3,25 @@
 from collections.abc import Callable
 from dataclasses import replace
 from fractions import Fraction
+from itertools import cycle
 from math import ceil
 from pathlib import Path
+from typing import Any
 
 import pytest
 from hypothesis import given, settings
 from hypothesis import strategies as st
 
-from rtdvs.engine import Engine
+from rtdvs.engine import Answer, Call, Engine
 from rtdvs.errors import Denied
 from rtdvs.model import Machine, Point, Task, TaskSet
-from rtdvs.studies import Limits, sensitivity
+from rtdvs.studies import Limits, Listed, LogUniform, confirmed, sensitivity, uunifast
 from tests.shared.examples import (
     BOARD, PAPER, Captured, entry, machines, options, printed, refusal, task_sets,
 )
+from tests.shared.simulated import Simulated
+
+SIMULATED = Simulated(Path("simulated"))
 
 
 @pytest.mark.parametrize(("tasks", "machine", "test", "wanted"), [
@@ -97,6 +102,50 @@ def test_each_limit_is_right(engine: Engine, tasks: TaskSet, machine: Machine, t
         assert not alone(place, (most or 0) + 1)
     assert limits.speed is not None and admitted(tasks, charge, limits.speed, test)
     assert limits.speed == 1 or not admitted(tasks, charge, limits.speed - 1, test)
+
+
+class Counting(Simulated):
+    """The package's simulator as a program, whose calls are counted."""
+
+    calls = 0
+
+    def answer(self, call: Call[Any]) -> Answer:
+        type(self).calls += 1
+        return super().answer(call)
+
+
+@pytest.mark.parametrize(("test", "periods"), [
+    pytest.param("edf", LogUniform(), id="edf"), pytest.param("rm", LogUniform(), id="rm"),
+    pytest.param("response", Listed((10, 20, 25, 40)), id="response"),
+])
+def test_two_calls_a_limit(test: str, periods: Listed | LogUniform, monkeypatch: pytest.MonkeyPatch) -> None:
+    """A bisection of 64 tasks would take more than two thousand."""
+    monkeypatch.setattr(Counting, "calls", 0)
+    tasks, machine = uunifast(64, Fraction(6, 10), 1, periods, 100_000), Machine((Point(100_000, 1),))
+    sensitivity(Counting(Path("counting")), tasks, machine, test)
+    assert Counting.calls == 1 + 2 * (64 + 2)
+
+
+@settings(max_examples=20)
+@given(tasks=task_sets(3, st.integers(1, 12), st.integers(1, 30)), machine=machines(1, 9, 2))
+@pytest.mark.parametrize("test", ["edf", "rm", "response"])
+def test_each_limit_by_the_simulator(tasks: TaskSet, machine: Machine, test: str) -> None:
+    test_each_limit_is_right.hypothesis.inner_test(SIMULATED, tasks, machine, test)  # type: ignore[attr-defined]
+
+
+@given(st.integers(1, 200).flatmap(lambda above: st.tuples(st.just(above), st.integers(0, above - 1))),
+       st.lists(st.integers(-5, 250), min_size=1, max_size=12))
+def test_any_guess_ends_at_the_limit(bounds: tuple[int, int], guesses: list[int]) -> None:
+    """If the first one is right there are at most two calls."""
+    (above, limit), asked, given_ones = bounds, list[int](), cycle(guesses)
+
+    def holds(number: int) -> bool:
+        assert 0 < number < above and number not in asked
+        asked.append(number)
+        return number <= limit
+
+    assert confirmed(above, holds, lambda: next(given_ones)) == (limit or None)
+    assert guesses[0] != limit or len(asked) <= 2
 
 
 def test_an_offset_has_no_response(engine: Engine) -> None:

@@ -149,11 +149,12 @@ DEAR = Machine(tuple(Point(speed, 20_000) for speed in (2, 3, 4)))  # its bound 
 
 
 @pytest.mark.parametrize("words", [
-    ("statistics", "--tasks", "{}/tasks.toml", "--trace", WORKED),
-    ("convert", "--to", "csv", "--tasks", "{}/tasks.toml", "--trace", WORKED),
+    ("statistics", "--tasks", "{}/tasks.toml", "--unchecked", "--trace", WORKED),
+    ("statistics", "--tasks", "{}/tasks.toml", "--machine", DATA / "paper/machine.toml", "--trace", WORKED),
+    ("convert", "--to", "csv", "--tasks", "{}/tasks.toml", "--unchecked", "--trace", WORKED),
     ("convert", "--to", "vcd", "--tasks", "{}/tasks.toml", "--machine", DATA / "paper/machine.toml",
      "--trace", WORKED),
-], ids=["statistics", "a table", "waves"])
+], ids=["statistics unchecked", "statistics", "a table", "waves"])
 def test_commands_refuse_another_set(words: tuple[str, ...], wrong: Path, capsys: Captured) -> None:
     assert refusal(capsys, [str(word).format(wrong) for word in words]) == f"rtdvs: {SET}\n"
 
@@ -169,7 +170,7 @@ def test_commands_refuse_another_machine(wrong: Path, capsys: Captured) -> None:
 
 
 def test_a_machine_s_charge_is_that_of_the_table(capsys: Captured) -> None:
-    words = ["convert", "--to", "csv", "--table", "jobs", "--trace", str(TEMPLATE)]
+    words = ["convert", "--to", "csv", "--table", "jobs", "--unchecked", "--trace", str(TEMPLATE)]
     for charge in ("--charge=1", f"--machine={DATA / 'templates/machine.toml'}"):
         assert main([*words, charge]) == 0
         assert [line.split(",")[-1] for line in capsys.readouterr().out.splitlines()[1:]] == ["5", "8", "5"]
@@ -177,7 +178,7 @@ def test_a_machine_s_charge_is_that_of_the_table(capsys: Captured) -> None:
 
 def test_pictures_refuse_another_set(wrong: Path, capsys: Captured) -> None:
     pytest.importorskip("matplotlib")
-    words = ["plot", "trace", "--trace", WORKED, "--output", wrong / "a.svg", "--tasks", wrong / "tasks.toml"]
+    words = ["plot", "trace", "--trace", WORKED, "--output", wrong / "a.svg", "--tasks", wrong / "tasks.toml", "--unchecked"]
     assert refusal(capsys, words) == f"rtdvs: {SET}\n"
     assert not (wrong / "a.svg").exists()
 

@@ -173,7 +173,7 @@ def test_widest_numbers(one: int, two: int, energy: int) -> None:
 
 
 def test_statistics_command(capsys: Captured) -> None:
-    words = ["statistics", "--tasks", DATA / "paper/tasks.toml", "--trace"]
+    words = ["statistics", "--tasks", DATA / "paper/tasks.toml", "--machine", DATA / "paper/machine.toml", "--trace"]
     # t1: (8/3 + 4/3)/2; t2: (4 + 2)/2; t3: (6 + 2)/2
     assert printed(capsys, [*words, WORKED]).split() == (
         "task jobs complete missed mean_response greatest_response jitter least_laxity preemptions energy "

@@ -5,7 +5,7 @@ from fractions import Fraction
 
 from rtdvs.board.description import Board, board_fault, is_measured
 from rtdvs.board.scale import Design
-from rtdvs.rules import Walk, explain
+from rtdvs.rules import check
 from rtdvs.trace import Trace
 
 
@@ -54,4 +54,4 @@ def nanojoules(board: Board) -> tuple[Fraction, ...]:
 
 def check_trace(made: Design, trace: Trace) -> None:
     """Raises TraceFault, with the line, if a trace isn't a legal one of these files under any governor."""
-    explain(Walk(made.tasks, made.machine, trace.text().splitlines(keepends=True), any_governor=True))
+    check(made.tasks, made.machine, trace.text().splitlines(keepends=True), any_governor=True)

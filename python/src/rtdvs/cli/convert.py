@@ -3,18 +3,21 @@ GTKWave.
 
 Times are exact decimals of ticks with six places, rounded half to even, and whole ticks without a point.
 Energies are whole numbers. In events and waves a tick is a microsecond.
+
+The trace is checked first, by --machine and, in version 1, by --tasks. It is read twice, in little memory.
 """
 
 import argparse
 
 from rtdvs.cli.options import (
-    Commands, add_files, add_output, add_parser, note_charge, read_trace, whole_number, write_output,
+    Commands, add_files, add_output, add_parser, add_unchecked, note_charge, trace_file, whole_number,
+    write_output,
 )
 from rtdvs.errors import BadValue
-from rtdvs.export import events_text, vcd_text
-from rtdvs.trace import TABLES, csv_text
+from rtdvs.export import event_lines, wave_lines
+from rtdvs.trace import TABLES, csv_lines
 
-WRITERS = {"chrome": events_text, "vcd": vcd_text}
+WRITERS = {"chrome": event_lines, "vcd": wave_lines}
 
 
 def add_command(commands: Commands) -> None:
@@ -26,24 +29,25 @@ def add_command(commands: Commands) -> None:
     PosixPath('a.trace')
     """
     parser = add_parser(commands, "convert", _handle, "a trace as CSV, trace events or waves",
-                        "convert --to csv --table jobs --trace paper.trace --output jobs.csv\n"
-                        "convert --to vcd --trace paper.trace --output paper.vcd")
+                        "convert --to csv --table jobs --trace paper.trace --machine machine.toml --output jobs.csv\n"
+                        "convert --to vcd --trace paper.trace --machine machine.toml --output paper.vcd")
     parser.add_argument("--to", choices=("csv", *WRITERS), required=True,
                         help="a table, trace events in JSON (Perfetto), or a value change dump (GTKWave)")
     parser.add_argument("--table", choices=tuple(TABLES), help="the table for csv; segments by default")
     parser.add_argument("--charge", type=whole_number(0), metavar="UNITS",
                         help="the machine's charge, which each declared worst case in jobs then has twice")
     add_files(parser, ("trace",), ("tasks", "machine"))
+    add_unchecked(parser)
     add_output(parser)
 
 
 def _handle(args: argparse.Namespace) -> int:
     if args.to in WRITERS and (args.table or args.charge is not None):
         raise BadValue(f"--table and --charge are for csv only, and not for {args.to}")
-    trace, charge = read_trace(args)
+    trace, charge = trace_file(args)
     table = args.table or "segments"
-    text = WRITERS[args.to](trace) if args.to in WRITERS else csv_text(trace, table, charge)
     if args.table == "jobs":
         note_charge(trace, charge)
-    write_output(args, text)
+    lines = WRITERS[args.to](trace) if args.to in WRITERS else csv_lines(trace, table, charge)
+    write_output(args, lines)
     return 0

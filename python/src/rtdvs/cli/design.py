@@ -33,13 +33,13 @@ from pathlib import Path
 
 from rtdvs._numbers import plain, rounded
 from rtdvs.board import (
-    Board, Choice, Design, OperatingTable, Scale, Spent, board_fault, check_trace, choose_scale, design,
+    Board, Choice, Design, OperatingTable, Scale, Spent, board_fault, choose_scale, design,
     machine_of, machine_text, operating_points, points_of, read_design, report, run_ticks, settle,
     Units, unserved, usual_demands, write_design,
 )
 from rtdvs.cli.options import (
-    Commands, add_engine_options, add_output, add_pair, add_parser, engine_of, exact_fraction, input_path,
-    open_input, read_text, whole_number, write_output,
+    Commands, add_engine_options, add_output, add_pair, add_parser, add_unchecked, check_first, engine_of,
+    exact_fraction, input_path, open_input, read_text, whole_number, write_output,
 )
 from rtdvs.errors import TraceFault
 from rtdvs.trace import Trace
@@ -67,6 +67,7 @@ def add_command(commands: Commands) -> None:
                         help="the work unit, likewise")
     parser.add_argument("--trace", type=input_path, metavar="FILE",
                         help="prints joules, mean power and battery hours of a run of the files in --folder")
+    add_unchecked(parser)
     parser.add_argument("--report", action="store_true",
                         help="prints admission, responses, and power and hours of each pair")
     parser.add_argument("--ms", type=exact_fraction, metavar="MS",
@@ -171,7 +172,7 @@ def _energy_lines(board: Board, args: argparse.Namespace) -> Iterator[str]:
             raise board_fault(f"in the files of {args.folder} {made.scale.text()}, not {plain(given)}")
     trace = Trace.parse(read_text(args.trace, "trace"))
     try:
-        check_trace(made, trace)
+        check_first(args, trace, made.tasks, made.machine)
     except TraceFault as fault:
         raise board_fault(f"the trace is of no run of the files in {args.folder}: {fault}") from None
     yield from Units(board, made).lines(trace)

@@ -10,8 +10,9 @@ import signal
 import sys
 from collections.abc import Callable, Iterable, Iterator, Sequence
 from concurrent.futures import Executor, ProcessPoolExecutor, ThreadPoolExecutor
-from contextlib import AbstractContextManager, contextmanager
+from contextlib import AbstractContextManager, contextmanager, suppress
 from fractions import Fraction
+from functools import partial
 from pathlib import Path
 from threading import Thread
 from time import monotonic
@@ -20,9 +21,10 @@ from typing import BinaryIO, TypeAlias, TypeVar
 from rtdvs._files import write_whole
 from rtdvs._numbers import whole
 from rtdvs.engine import Engine, TryEngine, find_engine, stop_calls
-from rtdvs.errors import BadValue, WordFault
+from rtdvs.errors import BadValue, Denied, TraceFault, WordFault
 from rtdvs.model import MOST_TICKS, Demands, Machine, TaskSet, load
-from rtdvs.trace import Done, Trace
+from rtdvs.rules import GOVERNORS, check
+from rtdvs.trace import Done, Noted, Trace, TraceFile, lines_of
 
 Commands: TypeAlias = "argparse._SubParsersAction[argparse.ArgumentParser]"
 Item = TypeVar("Item")
@@ -124,6 +126,18 @@ def add_engine_options(parser: argparse.ArgumentParser, jobs: bool = False) -> N
     if jobs:
         parser.add_argument("--jobs", type=whole_number(1, 1024), default=1, metavar="N",
                             help="calls of the program at a time (default: 1)")
+
+
+def add_unchecked(parser: argparse.ArgumentParser) -> None:
+    """Adds `--unchecked`, by which a trace is taken without a look at its lines.
+
+    >>> parser = argparse.ArgumentParser()
+    >>> add_unchecked(parser)
+    >>> parser.parse_args([]).unchecked
+    False
+    """
+    parser.add_argument("--unchecked", action="store_true",
+                        help="takes the trace without a check of its lines, and says so")
 
 
 def whole_number(least: int = 0, most: int | None = None) -> Callable[[str], int]:
@@ -255,27 +269,89 @@ def read_text(source: Input, kind: str) -> str:
 def read_trace(args: argparse.Namespace) -> tuple[Trace, int]:
     """The trace of `--trace`, and the charge of `--charge` or `--machine`, or 0; raises OSError.
 
-    Raises TraceFault if the trace isn't one of the files of `--tasks` and `--machine`, if these are given, and
-    BadValue for a machine without any tasks.
+    It is checked first: raises TraceFault if it isn't a right one of the files of `--tasks` and `--machine`, and
+    BadValue if these aren't given. With `--unchecked` it has to belong to those that are given.
 
     >>> from rtdvs.trace import SAMPLE
     >>> tasks = b'task = [{ name = "t", period = 3, worst = 4 }]'
-    >>> read_trace(argparse.Namespace(trace=SAMPLE.encode(), tasks=tasks, machine=None, charge=1))
+    >>> read_trace(argparse.Namespace(trace=SAMPLE.encode(), tasks=tasks, machine=None, charge=1, unchecked=True))
     Traceback (most recent call last):
     rtdvs.errors.TraceFault: line 3: its tasks aren't those of the task file
     """
     trace = Trace.parse(read_text(args.trace, "trace"))
+    return trace, _believed(args, trace)
+
+
+def trace_file(args: argparse.Namespace) -> tuple[TraceFile, int]:
+    """The same of a trace that stays in its file; what can't be read twice, such as a pipe, is kept in memory.
+
+    >>> from rtdvs.trace import SAMPLE
+    >>> trace_file(argparse.Namespace(trace=SAMPLE.encode(), tasks=None, machine=None, unchecked=False))
+    Traceback (most recent call last):
+    rtdvs.errors.BadValue: give --machine, by which the trace is checked, or --unchecked
+    """
+    source: Input = args.trace
+    if isinstance(source, Path) and not source.is_file():
+        source = source.read_bytes()
+    trace = TraceFile.of(partial(_lines_of, source))
+    return trace, _believed(args, trace)
+
+
+def _lines_of(source: Input) -> Iterator[str]:
+    with open_input(source) as file:
+        yield from lines_of(io.TextIOWrapper(file, "latin-1", newline="\n"))
+
+
+def _all_lines(trace: Trace | TraceFile) -> Iterable[str]:
+    return trace.lines() if isinstance(trace, TraceFile) else trace.text().splitlines(keepends=True)
+
+
+def _believed(args: argparse.Namespace, trace: Trace | TraceFile) -> int:
+    """Checks a trace by the files that are given, and returns the charge."""
     machine = None if args.machine is None else read_machine(args)
-    if args.tasks is not None:
-        trace.belongs_to(read_tasks(args), machine)
-    elif machine is not None and not trace.tasks:
+    tasks = TaskSet(trace.tasks) if trace.tasks else None
+    tasks = tasks if args.tasks is None else read_tasks(args)
+    if machine is not None and tasks is None:
         raise BadValue("--machine needs --tasks: a trace of version 1 doesn't name its tasks")
-    elif machine is not None:
-        trace.belongs_to(TaskSet(trace.tasks), machine)
-    return trace, args.charge if args.charge is not None else machine.charge if machine else 0
+    check_first(args, trace, tasks, machine)
+    charge: int | None = getattr(args, "charge", None)
+    return charge if charge is not None else machine.charge if machine else 0
 
 
-def note_charge(trace: Trace, charge: int) -> None:
+def check_first(args: argparse.Namespace, trace: Trace | TraceFile, tasks: TaskSet | None,
+                machine: Machine | None) -> None:
+    """Checks the lines of a trace before a number of it is printed. With `--unchecked` says that it isn't checked.
+
+    A trace of one of the seven pairs is checked by its rules, any other one for what holds under each governor;
+    an unchecked one has to belong to the files that are given. Raises TraceFault, and BadValue without files.
+
+    >>> from rtdvs.model import Point, Task
+    >>> from rtdvs.trace import SAMPLE
+    >>> trace, machine = Trace.parse(SAMPLE), Machine((Point(2, 1000), Point(3, 1500)))
+    >>> check_first(argparse.Namespace(unchecked=False), trace, TaskSet(trace.tasks), machine)
+    Traceback (most recent call last):
+    rtdvs.errors.TraceFault: line 6: the energy is 3 * 1500 * 1500 * 1000 = 6750000000
+    """
+    if args.unchecked:
+        if tasks is not None:
+            trace.belongs_to(tasks, machine)
+        print("note: the trace is not checked", file=sys.stderr)
+        return
+    if machine is None or tasks is None:
+        files = "--machine" if tasks else "--tasks and --machine"
+        raise BadValue(f"give {files}, by which the trace is checked, or --unchecked")
+    is_known = (trace.scheduler, trace.governor) in GOVERNORS
+    try:
+        with suppress(Denied):
+            check(tasks, machine, _all_lines(trace), any_governor=not is_known)
+            return
+        check(tasks, machine, _all_lines(trace), any_governor=True)
+    except TraceFault:
+        trace.belongs_to(tasks, machine)
+        raise
+
+
+def note_charge(trace: Noted, charge: int) -> None:
     """Prints a note on standard error if a job used more units than declared: then the machine's charge differs.
 
     >>> tasks = "trace 2\\nplan edf none 2\\ntask a 2 0 1\\n"
@@ -290,8 +366,10 @@ def note_charge(trace: Trace, charge: int) -> None:
             return
 
 
-def write_output(args: argparse.Namespace, text: str | bytes) -> None:
+def write_output(args: argparse.Namespace, text: str | bytes | Iterable[str]) -> None:
     """Writes the file of `--output`, which is as before if that fails, or to standard output; raises OSError.
+
+    Several texts are written one after the other.
 
     >>> write_output(argparse.Namespace(output=Path("/dev/null")), "trace 2\\n")
     """
@@ -299,7 +377,8 @@ def write_output(args: argparse.Namespace, text: str | bytes) -> None:
         write_whole(args.output, text)
         return
     sys.stdout.flush()
-    sys.stdout.buffer.write(text.encode("utf-8") if isinstance(text, str) else text)
+    parts = [text] if isinstance(text, str | bytes) else text
+    sys.stdout.buffer.writelines(part.encode("utf-8") if isinstance(part, str) else part for part in parts)
 
 
 # Calls

@@ -9,20 +9,20 @@
     least_laxity       the least time from a completion to its deadline, in ticks
     preemptions        how often a job was interrupted by another one
     energy             of all its runs
+
+The trace is checked first, by the machine. It is read twice, in little memory.
 """
 
 import argparse
 
 from rtdvs._numbers import aligned
-from rtdvs.cli.options import Commands, add_files, add_parser, open_input, read_tasks
-from rtdvs.trace import COLUMNS, Trace, task_statistics
+from rtdvs.cli.options import Commands, add_files, add_parser, add_unchecked, read_tasks, trace_file
+from rtdvs.trace import COLUMNS, task_statistics
 
 
 def _handle(args: argparse.Namespace) -> int:
-    tasks = read_tasks(args)
-    with open_input(args.trace) as file:
-        trace = Trace.parse(file.read().decode("latin-1"))
-    print(aligned([COLUMNS, *(each.row() for each in task_statistics(trace, tasks))]), end="")
+    trace, _ = trace_file(args)
+    print(aligned([COLUMNS, *(each.row() for each in task_statistics(trace, read_tasks(args)))]), end="")
     return 0
 
 
@@ -35,5 +35,6 @@ def add_command(commands: Commands) -> None:
     ['statistics']
     """
     parser = add_parser(commands, "statistics", _handle, "print times, preemptions and energy of each task",
-                        "statistics --tasks tasks.toml --trace run.trace")
-    add_files(parser, ("tasks", "trace"))
+                        "statistics --tasks tasks.toml --machine machine.toml --trace run.trace")
+    add_files(parser, ("tasks", "trace"), ("machine",))
+    add_unchecked(parser)

@@ -10,7 +10,7 @@ from collections.abc import Callable
 from pathlib import Path
 
 from rtdvs.cli.options import (
-    Commands, add_engine_options, add_files, add_parser, add_ticks, engine_of, input_path, note_charge,
+    Commands, add_engine_options, add_files, add_parser, add_ticks, add_unchecked, engine_of, input_path, note_charge,
     read_demands, read_machine, read_tasks, read_text, read_trace, whole_number,
 )
 from rtdvs.errors import BadValue
@@ -27,7 +27,7 @@ def add_command(commands: Commands) -> None:
     ['plot']
     """
     parser = add_parser(commands, "plot", _handle, "pictures of traces, of comparisons and of the evaluation",
-                        "plot trace --trace paper.trace --top 4 --output paper.svg\n"
+                        "plot trace --trace paper.trace --machine machine.toml --top 4 --output paper.svg\n"
                         "plot compare --tasks tasks.toml --machine machine.toml --ticks 99 --output a.pdf\n"
                         "plot evaluation --table examples/evaluation/tasks.tsv --output tasks.svg")
     kinds = parser.add_subparsers(metavar="PICTURE", required=True)
@@ -38,6 +38,7 @@ def add_command(commands: Commands) -> None:
                                 ("--charge", 0, "the machine's charge, which a trace doesn't name"),
                                 ("--width", 1, "pixels; 1000 by default")):
         trace.add_argument(option, type=whole_number(least), metavar="N", help=text)
+    add_unchecked(trace)
     _add_file(trace, _run_trace)
     pairs = kinds.add_parser("compare", help="the energy of each pair, and its time at each speed")
     add_files(pairs, ("tasks", "machine"), ("demands",))

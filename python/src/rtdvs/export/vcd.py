@@ -1,15 +1,15 @@
 """Traces as waves, for GTKWave."""
 
 from collections.abc import Iterator, Sequence
-from itertools import chain, groupby
+from itertools import groupby
 from operator import itemgetter
 
 from rtdvs._numbers import significant
 from rtdvs.export._time import MILLION, millionths
-from rtdvs.trace import REALS, Decision, Done, Idle, Release, Run, Trace
+from rtdvs.trace import REALS, Decision, Done, Idle, Noted, Release, Run
 
 
-def vcd_text(trace: Trace) -> str:
+def vcd_text(trace: Noted) -> str:
     """A trace as a value change dump, for GTKWave, PulseView and sigrok, in picoseconds.
 
     A task `t1` has the wires `t1`, which is 1 while it runs, and `t1/open`, from a job's release until its
@@ -17,13 +17,24 @@ def vcd_text(trace: Trace) -> str:
     demand and the energy so far, to 15 digits. These numbers are reals: libsigrok reads no further than a
     vector of several bits.
 
-    >>> from rtdvs.trace import SAMPLE
+    >>> from rtdvs.trace import SAMPLE, Trace
     >>> vcd_text(Trace.parse(SAMPLE)).splitlines()[-3:]
     ['1r0', '#2000000', 'r6000 e']
     """
-    moments = groupby(_changes(trace), itemgetter(0))
-    changes = ([f"#{time}", *(line for _, line in moment)] for time, moment in moments)
-    return "".join(f"{line}\n" for line in chain(_definitions(trace.names), *changes))
+    return "".join(wave_lines(trace))
+
+
+def wave_lines(trace: Noted) -> Iterator[str]:
+    r"""The lines of that text, one after the other.
+
+    >>> from rtdvs.trace import SAMPLE, Trace
+    >>> next(wave_lines(Trace.parse(SAMPLE)))
+    '$timescale 1 ps $end\n'
+    """
+    yield from (f"{line}\n" for line in _definitions(trace.names))
+    for time, moment in groupby(_changes(trace), itemgetter(0)):
+        yield f"#{time}\n"
+        yield from (f"{line}\n" for _, line in moment)
 
 
 def _definitions(names: Sequence[str]) -> Iterator[str]:
@@ -43,7 +54,7 @@ def _initial(tasks: int) -> Iterator[str]:
     yield "$end"
 
 
-def _changes(trace: Trace) -> Iterator[tuple[int, str]]:
+def _changes(trace: Noted) -> Iterator[tuple[int, str]]:
     """The changes of the wires, each with its time."""
     wires = {name: number for number, name in enumerate(("", *trace.names))}
     running = spent = 0

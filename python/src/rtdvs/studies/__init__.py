@@ -24,7 +24,7 @@ from rtdvs.studies.random_sets import (
     states, taken, taken_uniform, unrelated_states, uunifast, uunifast_shares,
 )
 from rtdvs.studies.margins import (
-    TESTS, Limits, Question, last, least_speed, limits_of, limits_table, most_thousandths, most_worst,
+    TESTS, Limits, Question, confirmed, last, least_speed, limits_of, limits_table, most_thousandths, most_worst,
     sensitivity,
 )
 
@@ -67,6 +67,7 @@ __all__ = [
     "broken",
     "cells",
     "compare",
+    "confirmed",
     "demands_of",
     "divisors",
     "drawn",

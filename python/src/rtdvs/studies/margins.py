@@ -1,9 +1,15 @@
-"""How far a task set is from the limit of a test: how worst cases can grow, how slow a machine can be."""
+"""How far a task set is from the limit of a test: how worst cases can grow, how slow a machine can be.
 
-from collections.abc import Callable, Iterator
+A limit is computed, and then the program is asked for it and for the next number, so that it is the program's.
+"""
+
+from collections.abc import Callable, Collection, Iterable, Iterator, Mapping, Sequence
 from concurrent.futures import Executor
 from dataclasses import dataclass, replace
 from functools import partial
+from math import lcm
+from operator import mul
+from typing import Self
 
 from rtdvs._numbers import decimal
 from rtdvs.engine import Engine, admit_call, response_call
@@ -47,15 +53,19 @@ class Question:
 
     def admits(self) -> bool:
         """Whether the program's test admits the set; raises its other refusals, and Denied for an offset."""
-        asked = (response_call(self.tasks, self.machine) if self.test == "response"
-                 else admit_call(self.tasks, self.machine, self.test))
+        return self.answer() is not None
+
+    def answer(self) -> Mapping[str, int] | None:
+        """None if the set is denied, otherwise each task's response if the test finds it; raises as `admits`."""
         try:
-            self.engine.answer(asked).text()
+            if self.test == "response":
+                return self.engine.value(response_call(self.tasks, self.machine))
+            self.engine.answer(admit_call(self.tasks, self.machine, self.test)).text()
         except Denied as denied:
             if denied.test == "offset":
                 raise
-            return False
-        return True
+            return None
+        return {}
 
     def with_worsts(self, worsts: list[int]) -> "Question":
         """The same with other worst cases, in work units, in the order of the tasks."""
@@ -63,15 +73,168 @@ class Question:
         return replace(self, tasks=TaskSet(tasks))
 
 
-def last(above: int, holds: Callable[[int], bool]) -> int | None:
+# Guesses by formula
+
+@dataclass(frozen=True, slots=True)
+class Demand:
+    """What is asked for within `time` ticks: so many jobs of each task.
+
+    >>> Demand(14, (2, 2, 1)).units([12, 12, 4])
+    52
+    """
+
+    time: int
+    jobs: tuple[int, ...]
+
+    def units(self, worsts: Sequence[int]) -> int:
+        """The work units, for the worst case of each task with its charge."""
+        return sum(map(mul, self.jobs, worsts))
+
+    @classmethod
+    def by(cls, time: int, periods: Sequence[int], level: Collection[int]) -> Self:
+        """That of the tasks at some places, all released at tick 0.
+
+        >>> Demand.by(14, [8, 10, 14], [0, 1, 2]).jobs
+        (2, 2, 1)
+        """
+        return cls(time, tuple(-(-time // period) * (place in level) for place, period in enumerate(periods)))
+
+
+def demands_by_level(periods: Sequence[int], test: str) -> list[list[Demand]]:
+    """The demands of a test, level by level; a set is admitted if one of each level fits into its time.
+
+    For `response` these are some, by which a limit can be too low: those up to the last release of each task
+    before the period of the level (Bini, Di Natale and Buttazzo 2008).
+
+    >>> [[demand.time for demand in level] for level in demands_by_level([8, 10, 14], "response")]
+    [[8], [8, 10], [8, 10, 14]]
+    """
+    if test == "edf":
+        time = lcm(*periods)
+        return [[Demand(time, tuple(time // period for period in periods))]]
+    order = sorted(range(len(periods)), key=lambda place: periods[place])
+    levels = []
+    for rank, place in enumerate(order):
+        level, end = order[:rank + 1], periods[place]
+        times = {end // periods[other] * periods[other] for other in level} if test == "response" else {end}
+        levels.append([Demand.by(time, periods, level) for time in sorted(times)])
+    return levels
+
+
+class Guess:
+    """A limit by formula: for each level the best of its demands, and of these the one that decides.
+
+    `of` gives the last number that a demand allows. `learn` takes the responses of a set that was admitted, by
+    which a limit that was too low rises.
+
+    >>> from rtdvs import Point, Task, find_engine
+    >>> tasks = TaskSet((Task("a", 8, 12), Task("b", 10, 12), Task("c", 14, 4)))
+    >>> question = Question(find_engine(), tasks, Machine((Point(4, 1000),)), "response")
+    >>> Guess(question, demands_by_level([8, 10, 14], "response"), partial(worst_within, question, 0)).number()
+    16
+    """
+
+    def __init__(self, question: Question, levels: Sequence[Sequence[Demand]], of: Callable[[Demand], int | None],
+                 is_slow: bool = False) -> None:
+        self.periods = [task.period for task in question.tasks]
+        self.ranks = {question.tasks[place].name: rank for rank, place in enumerate(self._order())}
+        self.of, self.within, self.across = of, *((min, max) if is_slow else (max, min))
+        self.best = [self._of_level(level) for level in levels]
+
+    def _order(self) -> list[int]:
+        return sorted(range(len(self.periods)), key=lambda place: self.periods[place])
+
+    def _of_level(self, level: Iterable[Demand]) -> int | None:
+        """The number that one of the demands allows; None if each allows any number."""
+        numbers = [number for demand in level if (number := self.of(demand)) is not None]
+        return self.within(numbers, default=None)
+
+    def number(self) -> int:
+        """The last number that all levels allow."""
+        return self.across((number for number in self.best if number is not None), default=0)
+
+    def learn(self, responses: Mapping[str, int]) -> None:
+        """Takes the demands up to the responses of a set that was admitted."""
+        order = self._order()
+        for task, time in responses.items():
+            rank = self.ranks[task]
+            found = self.of(Demand.by(time, self.periods, order[:rank + 1]))
+            both = [number for number in (self.best[rank], found) if number is not None]
+            self.best[rank] = self.within(both, default=None)
+
+
+def charged(question: Question) -> list[int]:
+    """The worst cases of a question's tasks, with the charge twice.
+
+    >>> from rtdvs import Point, Task, find_engine
+    >>> charged(Question(find_engine(), TaskSet((Task("a", 10, 6),)), Machine((Point(2, 1000),), charge=3), "edf"))
+    [12]
+    """
+    return [task.worst + 2 * question.machine.charge for task in question.tasks]
+
+
+def worst_within(question: Question, place: int, demand: Demand) -> int | None:
+    """The most units of the task at a place with which a demand fits; None if none of its jobs is asked for.
+
+    >>> from rtdvs import Point, Task, find_engine
+    >>> one = Question(find_engine(), TaskSet((Task("a", 10, 6),)), Machine((Point(2, 1000),)), "edf")
+    >>> worst_within(one, 0, Demand(10, (1,)))
+    20
+    """
+    jobs, worsts = demand.jobs[place], charged(question)
+    if not jobs:
+        return None
+    free = question.machine.top_speed * demand.time - demand.units(worsts)
+    return free // jobs + question.tasks[place].worst
+
+
+def slow_within(question: Question, demand: Demand) -> int:
+    """The last speed at which a demand doesn't fit.
+
+    >>> from rtdvs import Point, Task, find_engine
+    >>> one = Question(find_engine(), TaskSet((Task("a", 10, 36),)), Machine((Point(2, 1000),)), "edf")
+    >>> slow_within(one, Demand(10, (1,)))
+    3
+    """
+    return -(-demand.units(charged(question)) // demand.time) - 1
+
+
+def thousandths_within(question: Question, demand: Demand) -> int:
+    """The most thousandths of all worst cases with which a demand fits.
+
+    >>> from rtdvs import Point, Task, find_engine
+    >>> one = Question(find_engine(), TaskSet((Task("a", 10, 6),)), Machine((Point(2, 1000),)), "edf")
+    >>> thousandths_within(one, Demand(10, (1,)))
+    3333
+    """
+    worsts, charge = [task.worst for task in question.tasks], 2 * question.machine.charge
+    room = question.machine.top_speed * demand.time - charge * sum(demand.jobs)
+    most = 1000 * max(room, 0) // demand.units(worsts)
+    return last(most + 1, lambda number: demand.units(scaled(worsts, number)) <= room) or 0
+
+
+def scaled(worsts: Sequence[int], thousandths: int) -> list[int]:
+    """Worst cases times thousandths, rounded up.
+
+    >>> scaled([12, 4], 1250)
+    [15, 5]
+    """
+    return [-(-worst * thousandths // 1000) for worst in worsts]
+
+
+# Searches
+
+MOST_GUESSES = 8  # before a bisection
+
+
+def last(above: int, holds: Callable[[int], bool], found: int = 0) -> int | None:
     """The last number from 1 up to below `above` for which the condition holds, None if it holds for none.
 
-    The condition holds up to some number, and for no greater one.
+    The condition holds up to some number, which is at least `found`, and for no greater one.
 
     >>> last(1000, lambda number: number**2 < 50), last(1000, lambda number: False)
     (7, None)
     """
-    found = 0
     while above - found > 1:
         middle = (found + above) // 2
         if holds(middle):
@@ -81,7 +244,34 @@ def last(above: int, holds: Callable[[int], bool]) -> int | None:
     return found or None
 
 
-def most_thousandths(question: Question) -> int | None:
+def confirmed(above: int, holds: Callable[[int], bool], guess: Callable[[], int]) -> int | None:
+    """The same by two calls, of the guess and of the next number, if the guess is right.
+
+    A guess may learn from each call. One that stays wrong is followed by a bisection.
+
+    >>> asked = []
+    >>> confirmed(1000, lambda number: asked.append(number) or number**2 < 50, lambda: 7), asked
+    (7, [7, 8])
+    >>> confirmed(1000, lambda number: number**2 < 50, lambda: 90)
+    7
+    """
+    seen = {0: True, above: False}
+
+    def known(number: int) -> bool:
+        if number not in seen:
+            seen[number] = holds(number)
+        return seen[number]
+
+    tried = set[int]()
+    while (found := min(max(guess(), 0), above - 1)) not in tried and len(tried) < MOST_GUESSES:
+        tried.add(found)
+        if known(found) and not known(found + 1):
+            return found or None
+    held = max(number for number, does in seen.items() if does)
+    return last(min(number for number, does in seen.items() if not does), known, held)
+
+
+def most_thousandths(question: Question, levels: Sequence[Sequence[Demand]] | None = None) -> int | None:
     """The most thousandths that all worst cases can be multiplied by; raises as `admits`.
 
     >>> from rtdvs import Task, find_engine
@@ -90,16 +280,17 @@ def most_thousandths(question: Question) -> int | None:
     >>> most_thousandths(question)
     3333
     """
+    guess = Guess(question, levels or levels_of(question), partial(thousandths_within, question))
+
     def holds(thousandths: int) -> bool:
-        worsts = [-(-task.worst * thousandths // 1000) for task in question.tasks]
-        return question.with_worsts(worsts).admits()
+        return _asked(question.with_worsts(scaled([task.worst for task in question.tasks], thousandths)), guess)
 
     # A task that needs more than the highest speed does in its period is admitted by no test.
     room = min(question.machine.top_speed * task.period * 1000 // task.worst for task in question.tasks)
-    return last(room + 1, holds)
+    return confirmed(room + 1, holds, guess.number)
 
 
-def most_worst(question: Question, place: int) -> int | None:
+def most_worst(question: Question, place: int, levels: Sequence[Sequence[Demand]] | None = None) -> int | None:
     """The most work units that the task at this place, from 0, can have; raises as `admits`.
 
     >>> from rtdvs import Task, find_engine
@@ -108,14 +299,16 @@ def most_worst(question: Question, place: int) -> int | None:
     >>> most_worst(question, 0)
     20
     """
+    guess = Guess(question, levels or levels_of(question), partial(worst_within, question, place))
+    worsts = [task.worst for task in question.tasks]
+
     def holds(units: int) -> bool:
-        worsts = [task.worst for task in question.tasks]
-        return question.with_worsts([*worsts[:place], units, *worsts[place + 1:]]).admits()
+        return _asked(question.with_worsts([*worsts[:place], units, *worsts[place + 1:]]), guess)
 
-    return last(question.machine.top_speed * question.tasks.tasks[place].period + 1, holds)
+    return confirmed(question.machine.top_speed * question.tasks[place].period + 1, holds, guess.number)
 
 
-def least_speed(question: Question) -> int | None:
+def least_speed(question: Question, levels: Sequence[Sequence[Demand]] | None = None) -> int | None:
     """The lowest whole speed, in work units per tick, with which the set is admitted if it is the only one.
 
     Raises as `admits`.
@@ -126,11 +319,31 @@ def least_speed(question: Question) -> int | None:
     >>> least_speed(question)
     1
     """
-    def too_slow(speed: int) -> bool:
-        return not replace(question, machine=Machine((Point(speed, 1),), 0, question.machine.charge)).admits()
+    guess = Guess(question, levels or levels_of(question), partial(slow_within, question), is_slow=True)
 
-    slowest = (last(MOST_SPEED + 1, too_slow) or 0) + 1
+    def too_slow(speed: int) -> bool:
+        alone = Machine((Point(speed, 1),), 0, question.machine.charge)
+        return not _asked(replace(question, machine=alone), guess)
+
+    slowest = (confirmed(MOST_SPEED + 1, too_slow, guess.number) or 0) + 1
     return slowest if slowest <= MOST_SPEED else None
+
+
+def levels_of(question: Question) -> list[list[Demand]]:
+    """The demands of a question's test.
+
+    >>> from rtdvs import Task, find_engine
+    >>> levels_of(Question(find_engine(), TaskSet((Task("a", 10, 6),)), Machine((Point(2, 1000),)), "rm"))
+    [[Demand(time=10, jobs=(1,))]]
+    """
+    return demands_by_level([task.period for task in question.tasks], question.test)
+
+
+def _asked(question: Question, guess: Guess) -> bool:
+    """Whether the set is admitted; the guess learns from its responses."""
+    found = question.answer()
+    guess.learn(found or {})
+    return found is not None
 
 
 def limits_of(question: Question, executor: Executor | None = None) -> Iterator[int | None]:
@@ -145,9 +358,10 @@ def limits_of(question: Question, executor: Executor | None = None) -> Iterator[
     [3333, 1, 20]
     """
     question.admits()
+    levels = levels_of(question)
     searches: list[Callable[[], int | None]] = [
-        partial(most_thousandths, question), partial(least_speed, question),
-        *(partial(most_worst, question, place) for place in range(len(question.tasks)))]
+        partial(most_thousandths, question, levels), partial(least_speed, question, levels),
+        *(partial(most_worst, question, place, levels) for place in range(len(question.tasks)))]
     return map(_found, searches) if executor is None else executor.map(_found, searches)
 
 
@@ -157,7 +371,7 @@ def _found(search: Callable[[], int | None]) -> int | None:
 
 def sensitivity(engine: Engine, tasks: TaskSet, machine: Machine, test: str,
                 executor: Executor | None = None) -> Limits:
-    """The limits of a test (edf, rm or response), each by bisection over calls of the program.
+    """The limits of a test (edf, rm or response), each computed and then confirmed by two calls of the program.
 
     A set that is denied has limits below its own numbers: it has to shrink to them. Raises Denied if
     `response` meets an offset, and what else the program raises.

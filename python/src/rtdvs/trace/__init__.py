@@ -6,6 +6,8 @@ have passed; as a time it is an exact fraction of ticks, the units over the spee
 """
 
 from rtdvs.trace._belongs import wrong_energy, wrong_sums
+from rtdvs.trace._noted import Noted
+from rtdvs.trace.file import TraceFile
 from rtdvs.trace.jobs import Job, Ran, ran_at
 from rtdvs.trace.misses import Miss, Missed, split_governor
 from rtdvs.trace.notes import (
@@ -13,7 +15,7 @@ from rtdvs.trace.notes import (
 )
 from rtdvs.trace.reader import NO_FRACTION, Reader, closing_fault, lines_of, parse_lines
 from rtdvs.trace.per_task import COLUMNS, Statistics, TaskStatistics, task_statistics
-from rtdvs.trace.tables import REALS, TABLES, csv_text, frame, rows, ticks
+from rtdvs.trace.tables import REALS, TABLES, csv_lines, csv_text, frame, rows, ticks
 from rtdvs.trace.whole import SAMPLE, Trace
 
 __all__ = [
@@ -29,6 +31,7 @@ __all__ = [
     "Missed",
     "NO_FRACTION",
     "Note",
+    "Noted",
     "Position",
     "REALS",
     "Ran",
@@ -41,7 +44,9 @@ __all__ = [
     "TaskEnergy",
     "TaskStatistics",
     "Trace",
+    "TraceFile",
     "closing_fault",
+    "csv_lines",
     "csv_text",
     "frame",
     "lines_of",

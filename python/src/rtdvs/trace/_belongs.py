@@ -82,6 +82,7 @@ class OnMachine:
             self.idle_energy += note.energy
             return wrong_energy(note, self.points[speed].millivolts, self.machine.idle)
         if isinstance(note, Done):
+            self.used.pop((note.task, note.job), None)
             return self._wrong_units(note, 2 * self.machine.charge, note.used)
         return wrong_sums(note, self.run_energy, self.idle_energy) if isinstance(note, End) else ""
 

@@ -1,6 +1,6 @@
 """The jobs of a trace: the one place where they are rebuilt from its notes."""
 
-from collections.abc import Iterable, Mapping
+from collections.abc import Iterable, Iterator, Mapping
 from dataclasses import dataclass
 from fractions import Fraction
 from typing import NamedTuple
@@ -83,17 +83,19 @@ def periods_of(notes: Iterable[Note]) -> dict[str, int]:
     >>> periods_of([Release(3, "a", 1), Release(3, "b", 1), Release(7, "a", 2)])
     {'a': 4}
     """
-    ticks: dict[str, list[int]] = {}
+    first: dict[str, int] = {}
+    periods: dict[str, int] = {}
     for note in notes:
-        if isinstance(note, Release):
-            ticks.setdefault(note.task, []).append(note.tick)
-    return {task: at[1] - at[0] for task, at in ticks.items() if len(at) > 1}
+        if isinstance(note, Release) and note.tick != first.setdefault(note.task, note.tick):
+            periods.setdefault(note.task, note.tick - first[note.task])
+    return periods
 
 
 @dataclass(slots=True)
 class _Begun:
-    """A job while its notes are read."""
+    """A job while its notes are read, with its place among the release lines."""
 
+    place: int
     release: int
     deadline: int | None
     start: Fraction | None = None
@@ -102,39 +104,63 @@ class _Begun:
     preemptions: int = 0
     energy: int = 0
 
+    def named(self, task: str, number: int) -> tuple[int, Job]:
+        return self.place, Job(task, number, self.release, self.deadline, self.start, self.completion, self.units,
+                               self.preemptions, self.energy)
 
-def rebuilt(notes: Iterable[Placed], periods: Mapping[str, int], is_dropped: bool = False) -> tuple[Job, ...]:
-    """The jobs in the order of their release lines. Raises TraceFault for a note that no job can have.
 
-    A job that is dropped at its deadline isn't interrupted there.
+def ended(notes: Iterable[Placed], periods: Mapping[str, int], is_dropped: bool = False) -> Iterator[tuple[int, Job]]:
+    """Each job when it is complete, and at the end those that aren't, with its place among the release lines.
 
-    >>> rebuilt([(3, Release(0, "a", 1), 1), (4, Release(0, "a", 1), 1)], {})
+    Only jobs that aren't complete are kept. A job that is dropped at its deadline isn't interrupted there. Raises
+    TraceFault for a note that no job can have.
+
+    >>> [*ended([(3, Release(0, "a", 1), 1), (4, Release(0, "a", 1), 1)], {})]
     Traceback (most recent call last):
     rtdvs.errors.TraceFault: line 4: a job 1 is released twice
     """
+    latest: dict[str, int] = {}  # the number of each task's latest job
     jobs: dict[tuple[str, int], _Begun] = {}
     last: _Begun | None = None  # the job that ran last
+    released = 0
     for line, note, speed in notes:
-        if not isinstance(note, Release | Run | Done):
-            continue
-        job = jobs.get((note.task, note.job))
         if isinstance(note, Release):
-            if job:
-                raise TraceFault(line, f"{note.task} job {note.job} is released twice")
+            before = latest.get(note.task, 0)
+            if note.job <= before:
+                why = "released twice" if note.job == before else f"released after job {before}"
+                raise TraceFault(line, f"{note.task} job {note.job} is {why}")
             period = periods.get(note.task)
-            jobs[note.task, note.job] = _Begun(note.tick, None if period is None else note.tick + period)
-            continue
-        if job is None or job.completion is not None:
-            why = "is not released" if job is None else "is complete"
-            raise TraceFault(line, f"{note.task} job {note.job} {why}")
-        if isinstance(note, Done):
-            job.completion = note.at.time(speed)
-            continue
-        if last and last is not job and last.completion is None and not (
-                is_dropped and last.deadline is not None and last.deadline <= note.begin.tick):
-            last.preemptions += 1
-        last = job
-        job.units, job.energy = job.units + note.units, job.energy + note.energy
-        job.start = note.begin.time(speed) if job.start is None else job.start
-    return tuple(Job(*key, job.release, job.deadline, job.start, job.completion, job.units, job.preemptions,
-                     job.energy) for key, job in jobs.items())
+            due = None if period is None else note.tick + period
+            jobs[note.task, note.job] = _Begun(released, note.tick, due)
+            latest[note.task], released = note.job, released + 1
+        elif isinstance(note, Run | Done):
+            job = jobs.get((note.task, note.job))
+            if job is None:
+                why = "is not released" if note.job > latest.get(note.task, 0) else "is complete"
+                raise TraceFault(line, f"{note.task} job {note.job} {why}")
+            if isinstance(note, Done):
+                job.completion = note.at.time(speed)
+                yield jobs.pop((note.task, note.job)).named(note.task, note.job)
+                continue
+            if last and last is not job and last.completion is None and not (
+                    is_dropped and last.deadline is not None and last.deadline <= note.begin.tick):
+                last.preemptions += 1
+            last = job
+            job.units, job.energy = job.units + note.units, job.energy + note.energy
+            job.start = note.begin.time(speed) if job.start is None else job.start
+    yield from (job.named(*key) for key, job in jobs.items())
+
+
+def in_order(pairs: Iterable[tuple[int, Job]]) -> Iterator[Job]:
+    """The jobs of `ended` in the order of their release lines; those that end before an earlier one wait for it.
+
+    >>> [job.task for job in in_order([(1, Job("b", 1, 0, None)), (0, Job("a", 1, 0, None))])]
+    ['a', 'b']
+    """
+    waiting: dict[int, Job] = {}
+    place = 0
+    for found, job in pairs:
+        waiting[found] = job
+        while place in waiting:
+            yield waiting.pop(place)
+            place += 1

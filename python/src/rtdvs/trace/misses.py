@@ -67,6 +67,16 @@ def split_governor(word: str) -> tuple[str, Missed | None]:
     return (name, Missed(last)) if name and last in [*Missed] else (word, None)
 
 
+def is_late(job: Job, ticks: int) -> bool:
+    """Whether a job of a run of these ticks isn't complete at its deadline.
+
+    >>> is_late(Job("a", 1, 0, deadline=4), ticks=4), is_late(Job("a", 2, 4, deadline=8), ticks=4)
+    (True, False)
+    """
+    due, done = job.deadline, job.completion
+    return due is not None and due <= ticks and (done is None or done > due)
+
+
 def late_jobs(notes: Iterable[Placed], jobs: Iterable[Job], ticks: int) -> tuple[Miss, ...]:
     """The jobs of a run of these ticks that aren't complete at their deadlines, by rising deadlines.
 
@@ -74,8 +84,7 @@ def late_jobs(notes: Iterable[Placed], jobs: Iterable[Job], ticks: int) -> tuple
     (Miss(task='a', job=1, due=4, used=0),)
     """
     due = {(job.task, job.number): job.deadline for job in jobs
-           if job.deadline is not None and job.deadline <= ticks
-           and (job.completion is None or job.completion > job.deadline)}
+           if job.deadline is not None and is_late(job, ticks)}
     used = dict.fromkeys(due, 0)
     for _, note, _ in notes:
         if isinstance(note, Run) and (note.task, note.job) in due and note.end <= (due[note.task, note.job], 0):

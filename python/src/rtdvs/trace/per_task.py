@@ -1,15 +1,35 @@
 """Statistics of a trace: a line for each task."""
 
-from collections import Counter
-from collections.abc import Iterator, Mapping, Sequence
+from collections.abc import Iterable, Iterator, Mapping
 from dataclasses import dataclass
 from fractions import Fraction
 
 from rtdvs._display import Cell, Shown
 from rtdvs._numbers import decimal
 from rtdvs.model import TaskSet
+from rtdvs.trace._noted import Noted
 from rtdvs.trace.jobs import Job
-from rtdvs.trace.whole import Trace
+from rtdvs.trace.misses import is_late
+
+
+@dataclass(frozen=True, slots=True)
+class Responses:
+    """How many jobs are complete, and the sum, the least and the greatest of their responses, in ticks.
+
+    >>> Responses().plus(Fraction(5, 2)).plus(Fraction(3))
+    Responses(complete=2, total=Fraction(11, 2), least=Fraction(5, 2), greatest=Fraction(3, 1))
+    """
+
+    complete: int = 0
+    total: Fraction = Fraction(0)
+    least: Fraction | None = None
+    greatest: Fraction | None = None
+
+    def plus(self, response: Fraction) -> "Responses":
+        """With one more complete job."""
+        return Responses(self.complete + 1, self.total + response,
+                         response if self.least is None else min(self.least, response),
+                         response if self.greatest is None else max(self.greatest, response))
 
 
 @dataclass(frozen=True, slots=True)
@@ -18,37 +38,48 @@ class TaskStatistics:
 
     `complete` are the jobs that are complete within the run, and `missed` those that weren't at their deadlines.
 
-    >>> statistics_of("t", [Job("t", 1, 0, 4, completion=Fraction(5, 2))], missed=0).row(1)
+    >>> statistics_of("t", [Job("t", 1, 0, 4, completion=Fraction(5, 2))], ticks=4).row(1)
     ('t', '1', '1', '0', '2.5', '2.5', '0.0', '1.5', '0', '0')
     """
 
     task: str
-    jobs: int
-    missed: int
-    responses: tuple[Fraction, ...]
-    least_laxity: Fraction | None
-    preemptions: int
-    energy: int
+    jobs: int = 0
+    missed: int = 0
+    responses: Responses = Responses()
+    least_laxity: Fraction | None = None
+    preemptions: int = 0
+    energy: int = 0
+
+    def plus(self, job: Job, ticks: int) -> "TaskStatistics":
+        """With one more job, of a run of these ticks."""
+        response, laxity, least = job.response, job.laxity, self.least_laxity
+        return TaskStatistics(
+            self.task, self.jobs + 1, self.missed + is_late(job, ticks),
+            self.responses if response is None else self.responses.plus(response),
+            least if laxity is None else laxity if least is None else min(least, laxity),
+            self.preemptions + job.preemptions, self.energy + job.energy,
+        )
 
     @property
     def complete(self) -> int:
         """The jobs that are complete."""
-        return len(self.responses)
+        return self.responses.complete
 
     @property
     def mean_response(self) -> Fraction | None:
         """The mean of the responses."""
-        return sum(self.responses, Fraction(0)) / len(self.responses) if self.responses else None
+        return self.responses.total / self.complete if self.complete else None
 
     @property
     def greatest_response(self) -> Fraction | None:
         """The greatest of the responses."""
-        return max(self.responses, default=None)
+        return self.responses.greatest
 
     @property
     def jitter(self) -> Fraction | None:
         """The greatest response less the least one."""
-        return max(self.responses) - min(self.responses) if self.responses else None
+        least, greatest = self.responses.least, self.responses.greatest
+        return None if greatest is None or least is None else greatest - least
 
     def cells(self) -> tuple[Cell, ...]:
         """The values in the order of COLUMNS."""
@@ -65,21 +96,16 @@ KINDS = {"task": "object", "jobs": "int64", "complete": "int64", "missed": "int6
 COLUMNS = tuple(KINDS)
 
 
-def statistics_of(task: str, jobs: Sequence[Job], missed: int) -> TaskStatistics:
-    """The statistics of some jobs of a task, of which so many weren't complete at their deadlines.
+def statistics_of(task: str, jobs: Iterable[Job], ticks: int) -> TaskStatistics:
+    """The statistics of some jobs of a task, of a run of these ticks.
 
-    >>> statistics_of("t", [Job("t", 1, 0, 4, completion=Fraction(5, 2)), Job("t", 2, 4, 8)], 0).mean_response
+    >>> statistics_of("t", [Job("t", 1, 0, 4, completion=Fraction(5, 2)), Job("t", 2, 4, 8)], 6).mean_response
     Fraction(5, 2)
     """
-    return TaskStatistics(
-        task=task,
-        jobs=len(jobs),
-        missed=missed,
-        responses=tuple(job.response for job in jobs if job.response is not None),
-        least_laxity=min((job.laxity for job in jobs if job.laxity is not None), default=None),
-        preemptions=sum(job.preemptions for job in jobs),
-        energy=sum(job.energy for job in jobs),
-    )
+    found = TaskStatistics(task)
+    for job in jobs:
+        found = found.plus(job, ticks)
+    return found
 
 
 class Statistics(tuple[TaskStatistics, ...], Shown):
@@ -98,16 +124,17 @@ class Statistics(tuple[TaskStatistics, ...], Shown):
         return (each.cells() for each in self)
 
 
-def task_statistics(trace: Trace, tasks: TaskSet) -> Statistics:
-    """A record for each task, in the order of the task set. Raises TraceFault if a job isn't of the set.
+def task_statistics(trace: Noted, tasks: TaskSet) -> Statistics:
+    """A record for each task, in the order of the task set, by one pass over the notes.
+
+    Raises TraceFault if a job isn't of the set.
 
     >>> from rtdvs.model import Task
-    >>> from rtdvs.trace import SAMPLE
+    >>> from rtdvs.trace import SAMPLE, Trace
     >>> task_statistics(Trace.parse(SAMPLE), TaskSet((Task("t", 2, 4),)))[0].row(2)
     ('t', '1', '1', '0', '1.50', '1.50', '0.00', '0.50', '0', '6000')
     """
-    jobs: dict[str, list[Job]] = {task.name: [] for task in tasks}
-    for job in trace.jobs(tasks):
-        jobs[job.task].append(job)
-    missed = Counter(miss.task for miss in trace.misses(tasks))
-    return Statistics(statistics_of(name, own, missed[name]) for name, own in jobs.items())
+    found = {task.name: TaskStatistics(task.name) for task in tasks}
+    for job in trace.each_job(tasks):
+        found[job.task] = found[job.task].plus(job, trace.ticks)
+    return Statistics(found.values())

@@ -10,12 +10,11 @@ from typing import TYPE_CHECKING
 
 from rtdvs._display import Cell, frame_of
 from rtdvs._numbers import decimal, significant
-from rtdvs.trace.notes import Idle, Run
+from rtdvs.trace._noted import Noted
+from rtdvs.trace.notes import Decision, Idle, Run
 
 if TYPE_CHECKING:
     import pandas
-
-    from rtdvs.trace.whole import Trace
 
 REALS = {"j": "job", "s": "speed", "d": "demand", "e": "energy"}
 
@@ -39,7 +38,7 @@ TABLES = {  # the columns, and the kind that pandas has of each
 }
 
 
-def rows(trace: "Trace", table: str = "segments", charge: int = 0) -> Iterator[tuple[Cell, ...]]:
+def rows(trace: Noted, table: str = "segments", charge: int = 0) -> Iterator[tuple[Cell, ...]]:
     """The rows of a table: segments, jobs or decisions; times in ticks, and None for what isn't known.
 
     `declared` has the machine's charge twice. Raises KeyError for another table, and TraceFault as
@@ -55,12 +54,12 @@ def rows(trace: "Trace", table: str = "segments", charge: int = 0) -> Iterator[t
     return makers[table]()
 
 
-def _decisions(trace: "Trace") -> Iterator[tuple[Cell, ...]]:
+def _decisions(trace: Noted) -> Iterator[tuple[Cell, ...]]:
     return ((note.tick, note.speed, note.num, note.den, Fraction(note.num, note.den))
-            for note in trace.decisions)
+            for note in trace.notes if isinstance(note, Decision))
 
 
-def _segments(trace: "Trace") -> Iterator[tuple[Cell, ...]]:
+def _segments(trace: Noted) -> Iterator[tuple[Cell, ...]]:
     for note, speed in trace.at_speeds():
         if isinstance(note, Run | Idle):
             whose = ("run", note.task, note.job) if isinstance(note, Run) else ("idle", "", None)
@@ -68,15 +67,15 @@ def _segments(trace: "Trace") -> Iterator[tuple[Cell, ...]]:
                    speed, note.units, note.energy)
 
 
-def _jobs(trace: "Trace", charge: int) -> Iterator[tuple[Cell, ...]]:
+def _jobs(trace: Noted, charge: int) -> Iterator[tuple[Cell, ...]]:
     declared = {task.name: task.worst + 2 * charge for task in trace.tasks}
-    for job in trace.jobs():
+    for job in trace.each_job():
         used = None if job.completion is None else job.units
         yield (job.task, job.number, job.release, job.deadline, job.completion, job.response, job.laxity, used,
                declared.get(job.task))
 
 
-def csv_text(trace: "Trace", table: str = "segments", charge: int = 0) -> str:
+def csv_text(trace: Noted, table: str = "segments", charge: int = 0) -> str:
     """A table of a trace in CSV: segments, jobs or decisions; the charge is for `declared`.
 
     >>> from rtdvs.trace import SAMPLE, Trace
@@ -84,8 +83,19 @@ def csv_text(trace: "Trace", table: str = "segments", charge: int = 0) -> str:
     task,job,release,deadline,done,response,laxity,used,declared
     t,1,0,2,1.500000,1.500000,0.500000,4,4
     """
-    texts = ([_cell_text(cell, table) for cell in row] for row in rows(trace, table, charge))
-    return "".join(f"{','.join(row)}\n" for row in (TABLES[table], *texts))
+    return "".join(csv_lines(trace, table, charge))
+
+
+def csv_lines(trace: Noted, table: str = "segments", charge: int = 0) -> Iterator[str]:
+    r"""The lines of that text, one after the other.
+
+    >>> from rtdvs.trace import SAMPLE, Trace
+    >>> next(csv_lines(Trace.parse(SAMPLE), "decisions"))
+    'tick,speed,num,den,quotient\n'
+    """
+    yield f"{','.join(TABLES[table])}\n"
+    for row in rows(trace, table, charge):
+        yield f"{','.join(_cell_text(cell, table) for cell in row)}\n"
 
 
 def _cell_text(cell: Cell, table: str) -> str:
@@ -94,7 +104,7 @@ def _cell_text(cell: Cell, table: str) -> str:
     return "" if cell is None else str(cell)
 
 
-def frame(trace: "Trace", table: str = "segments", joule: Fraction | None = None,
+def frame(trace: Noted, table: str = "segments", joule: Fraction | None = None,
           charge: int = 0) -> "pandas.DataFrame":
     """A table of a trace as a pandas frame; ImportError without pandas.
 

@@ -4,17 +4,15 @@ import io
 from collections.abc import Iterator
 from dataclasses import asdict, dataclass
 from fractions import Fraction
-from itertools import pairwise, takewhile
+from itertools import pairwise
 from pathlib import Path
 from typing import TYPE_CHECKING, Self, TextIO
 
 from rtdvs._display import html_of, picture
-from rtdvs.errors import TraceFault
-from rtdvs.model import Machine, Task, TaskSet
-from rtdvs.trace._belongs import OnMachine, not_of_tasks
-from rtdvs.trace.jobs import Job, Ran, periods_of, ran_at, rebuilt
-from rtdvs.trace.misses import Miss, Missed, late_jobs, split_governor
-from rtdvs.trace.notes import Decision, Done, End, Head, Idle, Note, Release, Run, task_text
+from rtdvs.model import Task, TaskSet
+from rtdvs.trace._noted import Noted
+from rtdvs.trace.jobs import Job
+from rtdvs.trace.notes import Decision, End, Head, Idle, Note, Release, task_text
 from rtdvs.trace.reader import lines_of, parse_lines
 from rtdvs.trace.tables import TABLES, frame, rows
 
@@ -23,7 +21,7 @@ if TYPE_CHECKING:
 
 
 @dataclass(frozen=True, slots=True, repr=False)
-class Trace(Head):
+class Trace(Head, Noted):
     """A whole trace: its head, tasks and notes. Its tasks, with declared worst cases, are those of version 2.
 
     >>> trace = Trace.parse(SAMPLE)
@@ -83,16 +81,6 @@ class Trace(Head):
         last = self.notes[-1]
         assert isinstance(last, End)
         return last
-
-    @property
-    def names(self) -> tuple[str, ...]:
-        """The tasks in file order; in version 1 in the order of the notes that name them.
-
-        >>> Trace.parse(SAMPLE).names
-        ('t',)
-        """
-        seen = (note.task for note in self.notes if isinstance(note, Release | Run | Done))
-        return tuple(dict.fromkeys([*(task.name for task in self.tasks), *seen]))
 
     @property
     def run_energy(self) -> int:
@@ -169,60 +157,6 @@ class Trace(Head):
         idle = ((note.units, speed) for note, speed in self.at_speeds() if isinstance(note, Idle))
         return sum((Fraction(units, speed) for units, speed in idle), Fraction(0))
 
-    def ran(self) -> dict[int, Ran]:
-        """The units at each speed that was chosen: of runs, and idle ones.
-
-        >>> Trace.parse(SAMPLE).ran()
-        {3: Ran(units=3, idle=0), 2: Ran(units=1, idle=1)}
-        """
-        return ran_at(self.at_speeds())
-
-    def at_speeds(self) -> Iterator[tuple[Note, int]]:
-        """Each note with the speed in force there, in work units per tick; 1 before the first decision.
-
-        >>> [speed for note, speed in Trace.parse(SAMPLE).at_speeds() if isinstance(note, Run)]
-        [3, 2]
-        """
-        speed = 1
-        for note in self.notes:
-            if isinstance(note, Decision):
-                speed = note.speed
-            yield note, speed
-
-    def numbered(self) -> Iterator[tuple[int, Note, int]]:
-        """Each note with the number of its line, and with the speed in force, as in `at_speeds`.
-
-        >>> next(Trace.parse(SAMPLE).numbered())
-        (4, Release(tick=0, task='t', job=1), 1)
-        """
-        return ((line, note, speed) for line, (note, speed) in enumerate(self.at_speeds(), len(self.tasks) + 3))
-
-    def belongs_to(self, tasks: TaskSet, machine: Machine | None = None) -> None:
-        """Raises TraceFault, with the line, if the trace can't be one of this set, or not of this machine.
-
-        Version 2 has just these tasks. Releases are of these tasks, each at the offset and whole periods. The
-        machine has each speed, the energies are those of its points and of its idle share, and each job has
-        at least its charge twice, and at most its worst case with it. The order of the notes isn't checked.
-
-        >>> from rtdvs.model import Point
-        >>> trace = Trace.parse(SAMPLE)
-        >>> trace.belongs_to(TaskSet((Task("t", 3, 4),)))
-        Traceback (most recent call last):
-        rtdvs.errors.TraceFault: line 3: its tasks aren't those of the task file
-        >>> trace.belongs_to(TaskSet((Task("t", 2, 4),)), Machine((Point(2, 1000),)))
-        Traceback (most recent call last):
-        rtdvs.errors.TraceFault: line 5: the machine has no speed 3
-        """
-        if self.version == 2:
-            same = sum(1 for _ in takewhile(lambda pair: pair[0] == pair[1], zip(self.tasks, tasks)))
-            if same < max(len(self.tasks), len(tasks)):
-                raise TraceFault(same + 3, "its tasks aren't those of the task file")
-        named = {task.name: task for task in tasks}
-        on = None if machine is None else OnMachine(machine, named)
-        for line, note, speed in self.numbered():
-            if fault := not_of_tasks(note, named) or (on.fault(note, speed) if on else ""):
-                raise TraceFault(line, fault)
-
     def jobs(self, tasks: TaskSet | None = None) -> tuple[Job, ...]:
         """The jobs in the order of their release lines; of a task set, if it is given.
 
@@ -239,27 +173,7 @@ class Trace(Head):
         Traceback (most recent call last):
         rtdvs.errors.TraceFault: line 4: a job 1 is not released
         """
-        if tasks is not None:
-            self.belongs_to(tasks)
-        periods = {task.name: task.period for task in tasks or self.tasks} or periods_of(self.notes)
-        return rebuilt(self.numbered(), periods, self.missed is Missed.DROP)
-
-    @property
-    def missed(self) -> Missed | None:
-        """What is done at a missed deadline, by the governor's word; None for a run in which none may be missed.
-
-        >>> Trace(1, "rm", "static-drop", 2, (), (End(2, 0, 0),)).missed
-        <Missed.DROP: 'drop'>
-        """
-        return split_governor(self.governor)[1]
-
-    def misses(self, tasks: TaskSet | None = None) -> tuple[Miss, ...]:
-        """The jobs that aren't complete at their deadlines, by rising deadlines; a set as for `jobs`.
-
-        >>> Trace.parse(SAMPLE).misses()
-        ()
-        """
-        return late_jobs(self.numbered(), self.jobs(tasks), self.ticks)
+        return tuple(self.each_job(tasks))
 
     def frame(self, table: str = "segments", joule: Fraction | None = None, charge: int = 0) -> "pandas.DataFrame":
         """A table of the trace as a pandas frame, as rtdvs.trace.frame makes it; ImportError without pandas.
@@ -270,8 +184,8 @@ class Trace(Head):
         return frame(self, table, joule, charge)
 
     def __repr__(self) -> str:
-        jobs = sum(isinstance(note, Release) for note in self.notes)
         late = f", {len(self.misses())} missed, not a run of the program" if self.missed else ""
+        jobs = sum(isinstance(note, Release) for note in self.notes)
         return (f"<Trace: {self.scheduler} {self.governor}, {self.ticks} ticks, {jobs} job{'s'[:jobs != 1]}, "
                 f"energy {self.energy}{late}>")
 
