@@ -118,12 +118,12 @@ links() {
     same "$(cat "$work/broken")" ''
 }
 
+same_again() { again=$(sh tools/package.sh "$1" "$work/second") && cmp "$package" "$again"; }
 package=$(sh tools/package.sh "$1" "$work/first" 2> "$work/notes") || { echo 'package: not made'; exit 1; }
-again=$(sh tools/package.sh "$1" "$work/second" 2> "$work/notes") || { echo 'package: not made'; exit 1; }
 root=$work/root/usr doc=$work/root/usr/share/doc/rtdvs data=$work/root/usr/share/rtdvs
 holds 'not unpacked' dpkg-deb -x "$package" "$work/root"
 PATH=$root/bin:$PATH
-holds 'a second package differs' cmp "$package" "$again"
+holds 'a second package differs' same_again "$1"
 version=$(sed -n 's/^## \([0-9.]*\) (.*/\1/p' CHANGELOG.md | head -n 1)
 holds 'its version' same "$(field Version)" "$version"
 holds 'the version of the man page' same "$(sed -n 's/^This page is that of version \(.*\)\.$/\1/p' docs/rtdvs.1)" "$version"

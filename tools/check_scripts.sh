@@ -88,6 +88,13 @@ absent() { ! sh "$gate/tools/check.sh" "$program"; }
 holds 'a check that is gone' absent
 holds 'no program' prints 2 "no program: $gate/none" sh "$gate/tools/check.sh" "$gate/none"
 
+# A script of a user whose home can't be written, and of one whose home can
+printf '. "$(dirname "$0")/work.sh"\n[ ! -d "$work/home" ] || HOME=${HOME#"$work"}\necho "$HOME"\n' > "$gate/tools/home.sh"
+cp tools/work.sh "$gate/tools"
+holds 'a home of its own' prints 0 /home env HOME="$gate/none" sh "$gate/tools/home.sh"
+holds 'no home' prints 0 /home env -u HOME sh "$gate/tools/home.sh"
+holds 'the home of a user' prints 0 "$gate" env HOME="$gate" sh "$gate/tools/home.sh"
+
 # .ci/run, over stand-ins for rt, setup.sh and check.sh
 mkdir -p "$away/gate/.ci" "$away/gate/tools"
 cp .ci/run "$away/gate/.ci"

@@ -25,6 +25,7 @@ doesn't see is skipped; with TOOLS=all that is a fault too, as in check.sh.
 import os
 import random
 import re
+import shlex
 import shutil
 import subprocess
 import sys
@@ -152,7 +153,7 @@ def ending(folder: Path, run: Run, program: Path, commands: tuple[str, ...] = ()
         program = stand_in
     check, only, tests = run
     environment = os.environ | {"TMPDIR": str(temporary), "RTDVS": str(program), "ONLY": only, "FIRST": "yes"}
-    words = ["-m", "pytest", "-q", "-x", *tests.split()] if tests else [f"tools/check_{check}.sh", str(program)]
+    words = ["-m", "pytest", "-q", "-x", *shlex.split(tests)] if tests else [f"tools/check_{check}.sh", str(program)]
     words = [sys.executable, str(TOP / "tools" / "group.py"), sys.executable if tests else "sh", *words]
     with (temporary / "said").open("wb") as said, \
             subprocess.Popen(words, cwd=folder / "python" if tests else folder, env=environment,

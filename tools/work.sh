@@ -2,7 +2,7 @@
 #     . "$(dirname "$0")/work.sh"
 # It makes the folder $work, and lets the calls of the script take it for their own files. When the script ends, also by a
 # signal, the folder goes, and so do the file $part, if one is named, and the processes $jobs, which are ended.
-# An exported CDPATH would lead `cd` elsewhere.
+# An exported CDPATH would lead `cd` elsewhere. A user whose HOME can't be written gets one in $work.
 unset CDPATH
 part= jobs=
 
@@ -31,3 +31,4 @@ trap leave EXIT
 mkdir -m 700 "$work" || { work=; exit 2; }
 TMPDIR=$work
 export TMPDIR
+[ -w "${HOME:-none}" ] || { HOME=$work/home && mkdir "$HOME" && export HOME; }

@@ -44,19 +44,23 @@ def calls(tmp_path: Path, monkeypatch: pytest.MonkeyPatch) -> Iterator[Path]:
 
 
 def left(folder: Path) -> list[str]:
-    """The processes that have the mark of this folder, and files of calls, once both had a minute to go."""
-    mark = f"{MARK}={folder}\0".encode()
+    """The processes that have the mark of this folder after a minute, and files of calls that none of them removes."""
     for _ in range(1200):
-        found = [str(path) for path in (folder / "calls").iterdir()]
-        for path in Path("/proc").glob("[0-9]*"):
-            with suppress(OSError):
-                state = (path / "stat").read_text().rpartition(") ")[2][0]
-                if state != "Z" and mark in (path / "environ").read_bytes() and int(path.name) != os.getpid():
-                    found.append((path / "cmdline").read_bytes().decode().replace("\0", " "))
-        if not found:
-            return []
+        processes = [*marked(f"{MARK}={folder}\0".encode())]
+        files = [str(path) for path in (folder / "calls").iterdir()]
+        if not processes:
+            return files
         time.sleep(0.05)
-    return found
+    return processes + files
+
+
+def marked(mark: bytes) -> Iterator[str]:
+    """The command lines of other processes that have this in their environment."""
+    for path in Path("/proc").glob("[0-9]*"):
+        with suppress(OSError):
+            state = (path / "stat").read_text().rpartition(") ")[2][0]
+            if state != "Z" and mark in (path / "environ").read_bytes() and int(path.name) != os.getpid():
+                yield (path / "cmdline").read_bytes().decode().replace("\0", " ")
 
 
 def started(folder: Path) -> None:
