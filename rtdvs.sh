@@ -2,6 +2,8 @@
 # It calls crates/rtdvs/out/rtdvs if that is built. Otherwise it calls `rt try`, which compiles for a minute, proves nothing
 # and is hundreds of times slower. Both ways leave the program's own output, errors and exit status; `rt try` writes them
 # when the program has ended. If it has no answer (as for more than 1 MiB) or is missing, the status is 125.
+# With Python 3.11 it has the commands of the Python package too, and a second line below each refusal, which says in plain
+# words what is wrong: python/src/rtdvs/hints has these.
 unset CDPATH
 script=$0
 while [ -L "$script" ]; do
@@ -13,7 +15,59 @@ while [ -L "$script" ]; do
 done
 here=$(cd -- "$(dirname -- "$script")" && pwd) || exit 125
 program=$here/crates/rtdvs/out/rtdvs
-[ -f "$program" ] && [ -x "$program" ] && exec "$program" "$@"
+package=$here/python/src
+tools='explain, simulate, statistics, compare, sensitivity, generate, evaluate, paper-table, design, plot, convert, page, serve'
+
+# CODE WORDS..: calls Python with the package, and without the modules of the folder of the call
+with_package() { PYTHONPATH=$package${PYTHONPATH:+:$PYTHONPATH} python3 -P -c "$@"; }
+has_package() { [ -d "$package/rtdvs" ] && [ -n "$(command -v python3)" ]; }
+# STATUS LINES WORDS..: leaves the program's lines on standard error, a second line below a refusal, and the status
+leave() {
+    status=$1 notes=$2
+    shift 2
+    [ -z "$notes" ] || printf '%s\n' "$notes" >&2
+    if has_package; then
+        [ "$status" = 0 ] || with_package 'import sys
+from rtdvs.hints import second_line
+second = second_line(sys.argv[1], sys.argv[2:])
+if second:
+    print(" ", second)' "$notes" "$@" >&2 2>&-
+    elif [ $# = 0 ]; then
+        echo '  `sh rtdvs.sh --help` has the commands.' >&2
+    fi
+    exit "$status"
+}
+
+case ${1-} in
+-h | --help | help | --version | explain | simulate | statistics | compare | sensitivity | generate | evaluate | \
+    paper-table | design | plot | convert | page | serve)
+    if has_package && with_package '' 2>&-; then
+        [ "$1" != help ] || set -- --help
+        PYTHONPATH=$package${PYTHONPATH:+:$PYTHONPATH}
+        export PYTHONPATH
+        exec python3 -P -c 'from rtdvs.cli.main import entry
+entry("sh rtdvs.sh")' "$@"
+    fi
+    case $1 in
+    --version) sed -n 's/^## \([0-9.]*\) (.*/rtdvs \1/p' "$here/CHANGELOG.md" | head -n 1 ;;
+    -h | --help | help)
+        echo 'usage: sh rtdvs.sh COMMAND OPTIONS..'
+        echo 'commands: run, admit, response, constrain, poll, replay, migrate, workload, least'
+        echo "with Python 3.11: $tools"
+        echo 'README.md has the options, docs/COMMANDS.md an example of each command.'
+        ;;
+    *) echo "rtdvs.sh: $1 needs Python 3.11" >&2 && exit 125 ;;
+    esac
+    exit
+    ;;
+esac
+
+if [ -f "$program" ] && [ -x "$program" ]; then
+    { has_package || [ $# = 0 ]; } && (exec 3>&1) 2>&- || exec "$program" "$@"
+    exec 3>&1
+    notes=$("$program" "$@" 2>&1 >&3 3>&-)
+    leave $? "$notes" "$@"
+fi
 [ -n "$(command -v rt)" ] || { echo "rtdvs.sh: no $program, and no rt on the path" >&2; exit 125; }
 [ ! -t 2 ] || echo 'rtdvs.sh: no built program, so rt try compiles one; it takes a minute' >&2
 
@@ -43,6 +97,5 @@ trap 'exit 125' HUP INT PIPE QUIT TERM
 cd "$here/crates/rtdvs" && rt try --seconds 3600 -- "$@" 2> "$notes"
 status=$(LC_ALL=C sed -n '$s/^run=ended status=\([0-9]*\) .*/\1/p' "$notes")
 [ -n "$status" ] || { cat "$notes" >&2; exit 125; }
-LC_ALL=C sed -e '/^checked: /d' -e '$d' "$notes" >&2
 [ ! -t 2 ] || echo "rtdvs.sh: for faster calls build the program once: cd $here/crates/rtdvs && rt run -- workload --seed 1" >&2
-exit "$status"
+leave "$status" "$(LC_ALL=C sed -e '/^checked: /d' -e '$d' "$notes")" "$@"

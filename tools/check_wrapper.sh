@@ -1,7 +1,8 @@
 # check_wrapper.sh PROGRAM [try]: whether rtdvs.sh leaves what the program leaves: its exit status, its standard output and
 # its standard error. Each call is made by the built program, and by a stand-in for `rt try`, which as the kit's does
 # calls the program in another folder and adds two lines on standard error. It is called through symbolic links too, and on
-# a terminal where there is `script`. With `try` the kit's own makes README's call too, which takes a minute or two.
+# a terminal where there is `script`. Where there is Python 3.11, a second line comes below each refusal, and the commands
+# of the Python package are called. With `try` the kit's own makes README's call too, which takes a minute or two.
 . "$(dirname "$0")/work.sh"
 cd "$(dirname "$0")/.." || exit 2
 [ -x "${1:?no program}" ] || { echo "no program: $1"; exit 2; }
@@ -89,7 +90,59 @@ compare . admit --tasks --machine --scheduler edf
 compare . run --ticks 0
 compare . run tasks.toml --tasks
 compare . 'a "quoted" $word' '*'
-compare .
+
+# Without Python: no word, and what the script says itself.
+for tree in built bare; do
+    PATH=$work/stand-in:$work/tools call bare sh "$work/$tree/rtdvs.sh"
+    leaves bare 2 '' 'words: no command'
+done
+PATH=$work/tools call help sh "$work/built/rtdvs.sh" --help
+leaves help 0 "$(cat "$work/help.out")" ''
+cases=$((cases + 1))
+[ "$(sed -n 's/^usage: //p' "$work/help.out")" = 'sh rtdvs.sh COMMAND OPTIONS..' ] || { echo 'wrapper: no help'; bad=$((bad + 1)); }
+PATH=$work/tools call tool sh "$work/built/rtdvs.sh" compare
+leaves tool 125 '' 'rtdvs.sh: compare needs Python 3.11'
+
+# With Python: what ends with 0 is as before, and what is refused has one line more, with two blanks before it.
+# second WORDS..: the same call by the program, and by rtdvs.sh of each tree with Python
+second() {
+    cd "$work/a b" || exit 2
+    call own "$program" "$@"
+    for tree in built bare; do
+        PATH=$work/stand-in:$work/with-python:$work/tools call $tree sh "$work/$tree/rtdvs.sh" "$@"
+        grep '^  [^ ]' "$work/$tree.err" > "$work/seconds"
+        sed -i '/^  [^ ]/d' "$work/$tree.err"
+        cases=$((cases + 1))
+        [ "$(left $tree)" = "$(left own)" ] && case $(cat "$work/own.status"):$(wc -l < "$work/seconds") in
+        0:0 | [1-9]:1) ;;
+        *) false ;;
+        esac && continue
+        echo "wrapper: $tree with Python: $*" && left $tree | cat - "$work/seconds" | head -n 5
+        bad=$((bad + 1))
+    done
+}
+if python3 -P -c 'import tomllib' 2>&-; then
+    mkdir "$work/with-python" && ln -s "$(python3 -c 'import sys; print(sys.executable)')" "$work/with-python/python3" || exit 2
+    for tree in built bare; do ln -s "$top/python" "$work/$tree/python"; done
+    second admit --tasks tasks.toml --machine machine.toml --scheduler edf
+    second admit --tasks task.toml --machine machine.toml --scheduler edf
+    second admit --tasks machine.toml --machine machine.toml --scheduler edf
+    second replay --tasks tasks.toml --machine machine.toml --trace demands.csv
+    second run --ticks 16ms
+    second
+    PATH=$work/with-python:$work/tools call tool sh "$work/built/rtdvs.sh" explain --quiet --tasks tasks.toml --machine machine.toml \
+        --trace edf_none.trace
+    leaves tool 0 "$(cat "$work/tool.out")" ''
+    PATH=$work/with-python:$work/tools call tool sh "$work/built/rtdvs.sh" --version
+    leaves tool 0 "rtdvs $(sed -n 's/^## \([0-9.]*\) (.*/\1/p' "$top/CHANGELOG.md" | head -n 1)" ''
+    PATH=$work/with-python:$work/tools call tool sh "$work/built/rtdvs.sh" --help
+    leaves tool 0 "$(cat "$work/tool.out")" ''
+    cases=$((cases + 1))
+    grep -q '^usage: sh rtdvs.sh' "$work/tool.out" || { echo 'wrapper: no help by Python'; bad=$((bad + 1)); }
+    for tree in built bare; do rm "$work/$tree/python"; done
+else
+    skipped=", 16 skipped (no Python 3.11)"
+fi
 
 # Through links, by the run bit, as a shell calls a file that names none: one with the whole path, one to that with a relative one.
 mkdir "$work/links" "$work/links/more" && cd "$work/a b" || exit 2
@@ -121,7 +174,7 @@ if script -qec true "$work/typescript" > "$work/script" 2>&1; then
         differs
     done
 else
-    skipped=', 2 skipped (no terminal by script)'
+    skipped="$skipped, 2 skipped (no terminal by script)"
 fi
 
 # No program and no rt; then an rt that can't answer.

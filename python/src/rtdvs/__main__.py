@@ -1,3 +1,3 @@
-from rtdvs.cli.main import entry
+from rtdvs.cli.main import MODULE, entry
 
-entry()
+entry(MODULE)

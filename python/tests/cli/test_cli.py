@@ -13,9 +13,11 @@ from unittest.mock import Mock
 
 import pytest
 
+from rtdvs._version import __version__
 from rtdvs.cli import main as cli, options as commandline
 from rtdvs.engine import Engine
 from rtdvs.errors import Crashed, FileRefused, NoEngine, OverWorst
+from rtdvs.hints import COMMANDS as PROGRAM
 from rtdvs.model import Demands, TaskSet
 from tests.shared.examples import BOARD, DATA, PAPER, SOURCE, Captured, options, printed, refusal
 
@@ -72,8 +74,27 @@ def test_unknown_option_of_each_command(command: str, capsys: Captured) -> None:
     assert refusal(capsys, [command, "--foo"]).startswith("usage: python3 -m rtdvs ")
 
 
+def test_no_word(capsys: Captured) -> None:
+    """It leads on to all commands: the package's, and the program's."""
+    out = printed(capsys, [])
+    assert out == printed(capsys, ["--help"]) and f"\n  {', '.join(PROGRAM)}\n" in out
+
+
+def test_version_of_the_package(capsys: Captured) -> None:
+    assert printed(capsys, ["--version"]) == f"rtdvs {__version__}\n"
+
+
+@pytest.mark.parametrize("name", ["rtdvs-tools", "sh rtdvs.sh"])
+def test_another_name(name: str, capsys: Captured) -> None:
+    """Usage and examples have the name by which the commands were called."""
+    assert cli.main(["generate", "uunifast", "--help"], name) == 0
+    out = capsys.readouterr().out
+    assert out.startswith(f"usage: {name} generate uunifast") and f"\n  {name} generate uunifast --count" in out
+    assert "python3" not in out
+
+
 @pytest.mark.parametrize(
-    "words", [[], ["--foo"], ["foo"], ["stub"], ["stub", "--tasks"], ["stub", "--foo"]], ids=" ".join)
+    "words", [["--foo"], ["foo"], ["stub"], ["stub", "--tasks"], ["stub", "--foo"]], ids=" ".join)
 def test_usage(words: list[str], stub: Stub, capsys: Captured) -> None:
     stub(lambda args: 0)
     assert "python3 -m rtdvs" in refusal(capsys, words)
@@ -92,8 +113,9 @@ def test_status(status: int, stub: Stub) -> None:
 
 
 FAULTS = [
-    (FileRefused("tasks", "no tasks"), "tasks: no tasks"),
-    (OverWorst("a", 1, 3, 2), "over worst: a 1 3 2"),
+    (FileRefused("tasks", "no tasks"), "tasks: no tasks\n  The file has a table `[[task]]` for each task."),
+    (OverWorst("a", 1, 3, 2), "over worst: a 1 3 2\n  Job 1 of `a` has 3 units, and the worst case is 2. "
+     "Lower the units, or raise `worst`."),
     (NoEngine("no program"), "no program"),
     (Crashed("signal 9"), "signal 9"),
     (FileNotFoundError(2, "No such file or directory", "a.toml"), "a.toml: No such file or directory"),
@@ -106,6 +128,15 @@ FAULTS = [
 def test_faults(fault: Exception, line: str, stub: Stub, capsys: Captured) -> None:
     stub(Mock(side_effect=fault))
     assert refusal(capsys, ["stub", "--tasks", "x"]) == f"rtdvs: {line}\n"
+
+
+def test_second_line_of_a_file(stub: Stub, capsys: Captured, tmp_path: Path) -> None:
+    """A refusal by a command has what is in the file that its options name."""
+    (tmp_path / "tasks.toml").write_text('[[task]]\nname = "a"\nperiod = 8\nworst = 0\n')
+    stub(lambda args: len(commandline.read_tasks(args)))
+    said = refusal(capsys, ["stub", "--tasks", tmp_path / "tasks.toml"])
+    assert said == ("rtdvs: tasks: task 1: worst out of range\n  Line 4: `worst` is a whole number from 1 to "
+                    "1152921504606846976, without quotes. It is `0`.\n")
 
 
 def test_interrupted(stub: Stub, capsys: Captured) -> None:

@@ -1,5 +1,6 @@
 """Words of commands that are refused, and files that a command can't read: a line each, with status 2."""
 
+import re
 from pathlib import Path
 
 import pytest
@@ -144,7 +145,7 @@ def bad_file(request: pytest.FixtureRequest, tmp_path: Path) -> Path:
     "convert --to vcd --trace BAD",
 ])
 def test_bad_files(words: str, bad_file: Path, capsys: Captured, monkeypatch: pytest.MonkeyPatch) -> None:
-    """Each is refused in one line, with status 2."""
+    """Each is refused in a line, with status 2, and at most one more that says what is right."""
     monkeypatch.chdir(DATA / "paper")
     said = refusal(capsys, [bad_file if word == "BAD" else word for word in words.split()])
-    assert said.startswith("rtdvs: ") and said.count("\n") == 1, said
+    assert re.fullmatch(r"rtdvs: .*\n(  [A-Z`].*\n)?", said), said

@@ -89,9 +89,9 @@ def machine(old: str, new: str, line: str, second: str) -> Mistake:
 
 MISTAKES = {
     # The words of a call
-    "no word": words("", "words: no command", f"The commands are {COMMANDS}."),
-    "help": words("--help", "words: 1: unknown command --help", f"The commands are {COMMANDS}."),
-    "capital letter": words("Run", "words: 1: unknown command Run", f"The commands are {COMMANDS}. Near it is `run`."),
+    "no word": words("", "words: no command", f"The commands are {COMMANDS}. `--help` has more."),
+    "help": words("--help", "words: 1: unknown command --help", f"The commands are {COMMANDS}. `--help` has more."),
+    "capital letter": words("Run", "words: 1: unknown command Run", f"The commands are {COMMANDS}. Near it is `run`. `--help` has more."),
     "sign of equality": words(f"run {SET} --scheduler edf --governor cc --ticks=16", "words: 10: unexpected --ticks?16",
                               f"Write `--ticks 16`. The options of `run` are {OF_RUN}."),
     "misspelled option": words("run --task tasks.toml", "words: 2: unexpected --task",
@@ -131,7 +131,7 @@ MISTAKES = {
     # TOML
     "one bracket": tasks("[[task]]", "[task]", "not TOML", "Line 6, column 6: two `[task]`: write `[[task]]`, with two "
                          "brackets, for each. The line is `[task]`."),
-    "no quotes": tasks('"t2"', "t2", "not TOML", "Line 7, column 8: this is no value: a text has quotes, a number only "
+    "no quotes": tasks('"t2"', "t2", "not TOML", "Line 7, column 8: this isn't a value: a text has quotes, a number only "
                        "digits. The line is `name = t2`."),
     "unit in a file": tasks("period = 8", "period = 8 ms", "not TOML",
                             "Line 3, column 12: the value ends before this: a number has no unit, no leading zero and "
@@ -195,7 +195,7 @@ MISTAKES = {
     # Sets that aren't admitted: 40 units each 8 ticks are 5, 75 each 10 are 7.5, and 4 each 14 are 2/7
     "too much under EDF": Mistake(
         ADMIT, {"tasks.toml": ("period = 10\nworst = 12", "period = 10\nworst = 75")}, 1, "denied edf 2600 1120",
-        f"The tasks ask for 9.29 units a tick, and the highest speed is 4. That is 2.32 times what it does. {FASTER}"),
+        f"The tasks ask for 9.29 units a tick, and the highest speed is 4. This is 2.32 times the work of the highest speed. {FASTER}"),
     "too much under RM": Mistake(
         ADMIT.replace("edf", "rm"), {"tasks.toml": ("worst = 12", "worst = 40")}, 1, "denied rm t1 40 32",
         "In a period of `t1`, it and the tasks with shorter periods ask for 40 units; the highest speed does 32. "

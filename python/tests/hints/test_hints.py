@@ -26,7 +26,7 @@ ROWS = [row for rows in SECTIONS.values() for row in rows]
     ("[task]]\n", 1, 7, "the heading has fewer brackets at its beginning"),
     ("a = 1\nb = 2\na = 3\n", 3, 6, "this key is given twice"),
     ("# a\n= 3\n", 2, 1, "a line is a key with its value, or a heading such as `[[task]]`"),
-    ("name = “t1”\n", 1, 8, "this is no value: a text has quotes, a number only digits"),
+    ("name = “t1”\n", 1, 8, "this isn't a value: a text has quotes, a number only digits"),
     ("a = 1\nb = 9223372036854775808\n", 2, 5, "9223372036854775808 is past 64 bits"),
     ("a = 1\rb = 2\n", 1, 6, "a carriage return without a line feed"),
 ])
@@ -67,14 +67,14 @@ def test_words_of_a_call() -> None:
     tasks = TaskSet([Task("a", 4, 17)])
     call = run_call(tasks, BOARD, "edf", "cc", 16)
     said = second_line(Denied("edf", 17, 16), call.words())
-    assert said.startswith("The tasks ask for 4.25 units a tick, and the highest speed is 4. That is 1.06 times")
+    assert said.startswith("The tasks ask for 4.25 units a tick, and the highest speed is 4. This is 1.06 times")
     assert second_line("tasks: task 1: period out of range", ["run", "--tasks", b"[[task]]\nperiod = 0\n"]).endswith("It is `0`.")
 
 
 def test_little_above_the_highest_speed() -> None:
     """Digits are added until a number is above: 4.00001 of 4, and 1.0000025, rounded half to even."""
     said = second_line(Denied("edf", 400_001, 400_000), files={"machine": BOARD})
-    assert said.startswith("The tasks ask for 4.00001 units a tick, and the highest speed is 4. That is 1.000002 times")
+    assert said.startswith("The tasks ask for 4.00001 units a tick, and the highest speed is 4. This is 1.000002 times")
 
 
 def test_first_of_three_lines() -> None:

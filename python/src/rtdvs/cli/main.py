@@ -6,14 +6,19 @@ import signal
 import sys
 from collections.abc import Iterator, Sequence
 from contextlib import contextmanager
+from pathlib import Path
 from types import ModuleType
 
+from rtdvs._version import __version__
 from rtdvs.cli import (
     compare, convert, design, evaluate, explain, generate, page, paper_table, per_task, plot, sensitivity,
     serve, simulate,
 )
+from rtdvs.cli.options import engine_of
+from rtdvs.cli.program import hand_on
 from rtdvs.engine import end_calls, wait_for_calls
 from rtdvs.errors import RtdvsError
+from rtdvs.hints import COMMANDS as PROGRAM, FILES, second_line
 
 SIGNALS = (signal.SIGINT, signal.SIGTERM, signal.SIGHUP)
 PERIOD = 0.25  # seconds after which a process that waits looks for signals again
@@ -24,33 +29,43 @@ COMMANDS: tuple[ModuleType, ...] = (
 )
 
 
-def parser() -> argparse.ArgumentParser:
-    """The parser of all commands.
+MODULE = "python3 -m rtdvs"
+EPILOG = f"""commands of the program, with its options, output and exit status:
+  {", ".join(PROGRAM)}
+
+docs/COMMANDS.md has an example of each of these, docs/FORMATS.md the files. simulate needs no program."""
+
+
+def parser(name: str = MODULE) -> argparse.ArgumentParser:
+    """The parser of all commands of the package, for a command line that begins with this name.
 
     >>> parser().parse_args("generate published --count 5 --tenths 2 --number 1".split()).tenths
     2
     """
-    top = argparse.ArgumentParser(prog="python3 -m rtdvs", description=__doc__)
+    top = argparse.ArgumentParser(prog=name, description=__doc__, epilog=EPILOG,
+                                  formatter_class=argparse.RawDescriptionHelpFormatter)
+    top.add_argument("--version", action="version", version=f"rtdvs {__version__}")
     commands = top.add_subparsers(title="commands", metavar="COMMAND", required=True)
     for module in COMMANDS:
         module.add_command(commands)
     return top
 
 
-def main(words: Sequence[str] | None = None) -> int:
+def main(words: Sequence[str] | None = None, name: str = MODULE) -> int:
     """Runs a command and returns its exit status: 1 only for a wrong trace, 2 for any other failure.
 
-    After an interrupt it is 128 and the signal's number.
+    The program's commands have its own. After an interrupt it is 128 and the signal's number.
 
     >>> main(["--foo"])
     2
     """
+    words, args = sys.argv[1:] if words is None else words, argparse.Namespace()
     if sys.stderr is None:
         sys.stderr = open(os.devnull, "w")
     if sys.stdout is None:
         return _refused("standard output is closed")
     try:
-        status = _handled(words)
+        status = _handled(words, name, args)
         sys.stdout.flush()
         return status
     except BrokenPipeError:
@@ -62,14 +77,16 @@ def main(words: Sequence[str] | None = None) -> int:
     except MemoryError:
         return _refused("no memory")
     except (RtdvsError, ValueError) as fault:
-        return _refused(str(fault))
+        return _refused(str(fault), _second(fault, args))
 
 
-def _handled(words: Sequence[str] | None) -> int:
-    """The exit status of a command, or of argparse's own answer."""
+def _handled(words: Sequence[str], name: str, args: argparse.Namespace) -> int:
+    """The exit status of a command, whose arguments are put into `args`, or of argparse's own answer."""
     try:
-        top = parser()
-        args = top.parse_args(words)
+        if words and words[0] in PROGRAM:
+            return hand_on(words, engine_of(argparse.Namespace(program=None, timeout=None)))
+        top = parser(name)
+        top.parse_args(words or ["--help"], args)
         lists = (value if isinstance(value, list) else [value] for value in vars(args).values())
         if sum(isinstance(value, bytes) for values in lists for value in values) > 1:
             top.error("only one file can be standard input")
@@ -78,8 +95,14 @@ def _handled(words: Sequence[str] | None) -> int:
         return end.code if isinstance(end.code, int) else 0
 
 
-def _refused(line: str) -> int:
-    print(f"rtdvs: {line}", file=sys.stderr)
+def _second(fault: Exception, args: argparse.Namespace) -> str:
+    """The second line of a refusal, of which the arguments name the files."""
+    return second_line(fault, files={kind: source for kind, source in vars(args).items()
+                                     if kind in FILES and isinstance(source, Path | bytes)})
+
+
+def _refused(line: str, second: str = "") -> int:
+    print(f"rtdvs: {line}", *([f"  {second}"] if second else []), sep="\n", file=sys.stderr)
     return 2
 
 
@@ -122,8 +145,8 @@ def _leave(status: int, grace: float) -> None:
     os._exit(status)
 
 
-def entry() -> None:
-    """Ends the process with the status of its command line.
+def entry(name: str = "rtdvs-tools") -> None:
+    """Ends the process with the status of its command line, which begins with this name.
 
     >>> from unittest.mock import patch
     >>> with patch("sys.argv", ["rtdvs", "--foo"]):
@@ -132,7 +155,7 @@ def entry() -> None:
     SystemExit: 2
     """
     with ended_by_signals():
-        status = main()
+        status = main(name=name)
         try:
             sys.stdout.flush()
         except (AttributeError, OSError):

@@ -52,10 +52,10 @@ def add_parser(commands: Commands, name: str, handler: Callable[[argparse.Namesp
     >>> commands = argparse.ArgumentParser(prog="rtdvs").add_subparsers()
     >>> parser = add_parser(commands, "shout", lambda args: 0, "prints loudly", "shout --ticks 3")
     >>> parser.epilog
-    'example:\\n  python3 -m rtdvs shout --ticks 3'
+    'example:\\n  %(prog)s --ticks 3'
     """
     described = inspect.getdoc(handler) or sys.modules[handler.__module__].__doc__
-    calls = "".join(f"\n  python3 -m rtdvs {words}" for words in example.split("\n"))
+    calls = "".join(f"\n  %(prog)s{words.partition(name)[2]}" for words in example.split("\n"))
     parser = commands.add_parser(name, help=about, description=described, epilog=f"example:{calls}",
                                  formatter_class=argparse.RawDescriptionHelpFormatter)
     parser.set_defaults(handler=handler)

@@ -187,7 +187,12 @@ def _cause(found: Found) -> str | None:
 
 def _path(found: Found) -> str | None:
     path = found.given.path(found.kind)
-    return None if path is None else str(path)
+    return None if path is None else _from_here(path)
+
+
+def _from_here(path: Path) -> str:
+    """A path, without the folder of the call."""
+    return str(path.relative_to(Path.cwd())) if path.is_relative_to(Path.cwd()) else str(path)
 
 
 def _neighbour(path: Path) -> str | None:
@@ -197,7 +202,7 @@ def _neighbour(path: Path) -> str | None:
     except OSError:
         return None
     other = next(iter(get_close_matches(path.name, names, 1, 0.7)), None)
-    return None if other in (None, path.name) else str(path.with_name(other or ""))
+    return None if other in (None, path.name) else _from_here(path.with_name(other or ""))
 
 
 def _fault(found: Found) -> Place | None:

@@ -36,7 +36,7 @@ class Row:
         object.__setattr__(self, "patterns", tuple(re.compile(_pattern(line), re.DOTALL) for line in self.lines))
 
     def match(self, line: str) -> dict[str, str] | None:
-        """The parts of a line by their names; None if it is no line of this row."""
+        """The parts of a line by their names; None if it isn't a line of this row."""
         found = (pattern.fullmatch(line) for pattern in self.patterns)
         return next((match.groupdict() for match in found if match), None)
 
@@ -61,7 +61,7 @@ ALL_FILES = "tasks machine demands deadlines requests trace"
 DENIED = (
     Row(("denied edf <num> <cap>",), "The EDF test fails: in one hyperperiod, each job at its worst case.",
         ("The tasks ask for <asked> units a tick, and the highest speed is <top>.",
-         "That is <ratio> times what it does.", FASTER)),
+         "This is <ratio> times the work of the highest speed.", FASTER)),
     Row(("denied rm <task> <num> <cap>",),
         "The RM test fails, first for this task: by it and those before it in RM order, in its period.",
         ("In a period of `<task>`, it and the tasks with shorter periods ask for <num> units; the highest speed does <cap>.",
@@ -80,9 +80,9 @@ DENIED = (
 )
 
 WORDS = (
-    Row(("words: no command",), "No word is given.", ("The commands are <commands>.",)),
+    Row(("words: no command",), "No word is given.", ("The commands are <commands>.", "`--help` has more.")),
     Row(("words: 1: unknown command <word>",), "The first word is not a command.",
-        ("The commands are <commands>.", NEAR),
+        ("The commands are <commands>.", NEAR, "`--help` has more."),
         "A capital letter, `--help`, `--version`, an option first."),
     Row(("words: <place>: unexpected <word>",), "A word is not an option of the command.",
         ("Write `<split>`.", NEAR, "The options of `<command>` are <options>."),

@@ -10,7 +10,7 @@ PLAIN = (
     ("Cannot mutate immutable namespace|Cannot overwrite a value", "this key is given twice"),
     ("Expected newline or end of document after a statement",
      "the value ends before this: a number has no unit, no leading zero and one point"),
-    ("Invalid value", "this is no value: a text has quotes, a number only digits"),
+    ("Invalid value", "this isn't a value: a text has quotes, a number only digits"),
     ("Expected '=' after a key", "a key is followed by `=` and its value"),
     ("Invalid statement", "a line is a key with its value, or a heading such as `[[task]]`"),
     (r"Expected '\]+' at the end of", "the heading has fewer brackets at its end"),
@@ -33,7 +33,7 @@ def toml_fault(content: bytes) -> Place | None:
     r"""The first place of a text that isn't TOML; None if it is TOML.
 
     >>> toml_fault(b"[[task]]\nname = t1\n")
-    Place(line=2, column=8, fault='this is no value: a text has quotes, a number only digits')
+    Place(line=2, column=8, fault='this isn't a value: a text has quotes, a number only digits')
     >>> toml_fault(b"idle = 1\n") is None
     True
     """
