@@ -109,7 +109,8 @@ def test_refusals(old: str, new: str, line: str, tmp_path: Path, capsys: Capture
     assert old in VOLTS
     (tmp_path / "board.toml").write_text(VOLTS.replace(old, new, 1))
     said = refusal(capsys, ["design", "--board", tmp_path / "board.toml"])
-    assert line in said and said.count("\n") == 1
+    first, *second = said.splitlines()
+    assert line in first and len(second) <= 1
 
 
 def test_command_writes_files(tmp_path: Path, capsys: Captured) -> None:

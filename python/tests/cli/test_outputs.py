@@ -340,7 +340,7 @@ def test_a_set_that_is_denied_is_checked(tmp_path: Path, capsys: Captured) -> No
     trace = simulate(tasks, machine, "edf", 4, "none", Demands({("a", 1): 8}))
     (tmp_path / "a.trace").write_text(trace.text())
     words = [f"--{kind}={tmp_path}/{kind}.toml" for kind in ("tasks", "machine")]
-    assert "a        1         1         4.0000" in printed(capsys, ["statistics", *words, f"--trace={tmp_path}/a.trace"])
+    assert "a        1         1       0         4.0000" in printed(capsys, ["statistics", *words, f"--trace={tmp_path}/a.trace"])
 
 
 def test_the_files_of_an_exercise(tmp_path: Path, capsys: Captured) -> None:
@@ -552,7 +552,7 @@ def test_each_option_is_in_a_row() -> None:
     """tests/board calls `design`."""
     called = [*(words for words, _ in PRINTED), *(f"{words} --output" for words, *_ in WRITTEN),
               *(words for words, *_ in EVALUATIONS), GRADES, *UNCHECKED, "serve --port"]
-    shared = {"--program", "--timeout"}
+    shared = {"--program", "--timeout", "--version"}
     for command, option in option_words(cli.parser()):
         assert command == "design" or option in shared or any(
             re.match(f"{command} ", words) and option in words.split() for words in called), (command, option)

@@ -442,7 +442,9 @@ def test_a_wrong_trace_has_status_1(call: Run, tmp_path: Path) -> None:
 def test_denied(call: Run, tmp_path: Path) -> None:
     path = tmp_path / "file"
     TaskSet((Task("t1", 8, 33),)).write(path)
-    assert call(tasks=path, demands=None) == (2, [], "rtdvs: denied edf 33 32\n")
+    status, lines, said = call(tasks=path, demands=None)
+    assert (status, lines) == (2, [])
+    assert said.startswith("rtdvs: denied edf 33 32\n  The tasks ask for 4.12 units a tick, and the highest speed is 4.")
     assert call("--any", tasks=path, demands=None)[0] == 1  # no test is made; the trace has other tasks
 
 
