@@ -93,6 +93,7 @@ mkdir -p "$away/gate/.ci" "$away/gate/tools"
 cp .ci/run "$away/gate/.ci"
 echo 'echo "check: TOOLS=$TOOLS, $(basename "$PWD")"; exit ${CHECK:-0}' > "$away/gate/tools/check.sh"
 echo 'echo "plants: $2 over $1"; exit ${PLANTS:-0}' > "$away/gate/tools/plants.sh"
+echo 'import sys; print("said:", open(sys.argv[1]).read().strip())' > "$away/gate/tools/gate_output.py"
 stand_in "$work/stand-in/rt" << 'END'
 [ "$*" = ci ] || exit 2
 echo "rt $* in $(basename "$PWD")"
@@ -110,24 +111,29 @@ runs() {
 }
 planted='plants: 3 over crates/rtdvs/out/rtdvs'
 holds 'the gate with all tools' runs 0 "rt ci in gate
+said: rt ci in gate
 check: TOOLS=all, gate
 $planted" 0
 holds 'the gate with some tools' runs 0 "rt ci in gate
+said: rt ci in gate
 check: TOOLS=some, gate
 $planted" 1
 holds 'the gate after a failed proof' runs 3 'rt ci in gate' 0 3
 USER_ID=1000
 holds 'the gate of another user' runs 0 "rt ci in gate
+said: rt ci in gate
 check: TOOLS=all, gate
 $planted" 0
 CHECK=1
 export CHECK
 holds 'the gate after a failed check' runs 1 'rt ci in gate
+said: rt ci in gate
 check: TOOLS=all, gate' 0
 unset CHECK
 PLANTS=1
 export PLANTS
 holds 'the gate with a fault that is not seen' runs 1 "rt ci in gate
+said: rt ci in gate
 check: TOOLS=all, gate
 $planted" 0
 unset PLANTS
