@@ -1,5 +1,6 @@
 """The server of the page: its answers, the fields of refusals, foreign requests, and faults of all kinds."""
 
+import base64
 import http.client
 import json
 import os
@@ -8,6 +9,7 @@ import socket
 import subprocess
 import sys
 import tempfile
+import zlib
 from collections.abc import Iterator
 from concurrent.futures import ThreadPoolExecutor
 from contextlib import contextmanager
@@ -22,11 +24,15 @@ from rtdvs.cli.main import main
 from rtdvs.engine import Engine
 from rtdvs.errors import FileRefused
 from rtdvs.model import Machine, TaskSet
+from rtdvs.rules import simulate
 from rtdvs.studies import PAIRS
-from rtdvs.web import Example, PageServer, answer_of, examples, field_of, read_example, server as serve
+from rtdvs.web import NOTE, SCRIPTS, Example, PageServer, answer_of, examples, field_of, read_example, server as serve
+from rtdvs.web.menu import MENU
 from tests.shared.examples import DATA, SOURCE, rows, fake, files, path_id, serving
+from tests.shared.simulated import Simulated
 
 PAPER_FOLDER = DATA / "paper"
+SIMULATED = Simulated(Path("simulated"))
 
 
 def paper(**changes: str) -> dict[str, Any]:
@@ -71,20 +77,56 @@ def test_compare(engine: Engine) -> None:
     assert [row[2] for row in answer["rows"]][:4] == [f"{energy}000000000" for energy in (700, 448, 364, 315)]
 
 
-@pytest.mark.parametrize("path", sorted(DATA.glob("*/tasks.toml")), ids=path_id)
-def test_examples_of_the_menu(path: Path, engine: Engine) -> None:
-    """Each folder whose files are right is in the menu, and runs."""
-    found = {str(each["name"]): each["example"] for each in examples()}
-    try:
-        tasks, machine = TaskSet.read(path), Machine.read(path.with_name("machine.toml"))
-    except FileRefused:
-        assert path.parent.name not in found
-        return
-    example = Example.of(found[path.parent.name])
-    assert TaskSet.parse(example.files()["tasks"]) == tasks
-    assert Machine.parse(example.files()["machine"]) == machine
-    refused = answered(engine, found[path.parent.name])[1].get("refused")
-    assert refused is None or refused.startswith("denied")
+@pytest.mark.parametrize("name", MENU)
+def test_examples_of_the_menu(name: str) -> None:
+    """Each is that of its folder, runs, and has a sentence."""
+    found = {str(each["name"]): each for each in examples()}[name]
+    example = Example.of(found["example"])
+    assert TaskSet.parse(example.files()["tasks"]) == TaskSet.read(DATA / name / "tasks.toml")
+    assert Machine.parse(example.files()["machine"]) == Machine.read(DATA / name / "machine.toml")
+    assert "refused" not in answered(SIMULATED, found["example"])[1]
+    assert str(found["about"]).endswith(".")
+
+
+def test_the_menu_has_no_file_of_a_test() -> None:
+    assert [each["name"] for each in examples()] == [*MENU] and MENU.keys() <= {path.name for path in DATA.iterdir()}
+    assert not MENU.keys() & {"long", "templates", "deadlines", "server"}
+
+
+def test_two_pairs(tmp_path: Path) -> None:
+    """The first trace is the one that can be taken along."""
+    tasks, machine, demands = files("paper")
+    _, answer = answered(SIMULATED, paper() | {"beside": "rm static"})
+    assert [sheet["title"] for sheet in answer["data"]["sheets"]] == ["A: edf cc, 16 ticks", "B: rm static, 16 ticks"]
+    assert answer["files"]["trace"] == simulate(tasks, machine, "edf", 16, "cc", demands).text()
+
+
+@pytest.mark.parametrize(("field", "point"), [pytest.param("millivolts", {"points_1_millivolts": "2000"}, id="volts"),
+                                              pytest.param("speed", {"points_1_speed": "2"}, id="speed")])
+def test_what_does_not_rise_is_marked(field: str, point: dict[str, str]) -> None:
+    answer = answered(SIMULATED, paper(**point))[1]
+    assert (answer["refused"], answer["field"]) == ("machine: point 2: not rising", f"points.1.{field}")
+
+
+def test_a_denial_says_what_it_means(tmp_path: Path) -> None:
+    """12/8 + 12/10 + 40/14 is 5.557 units a tick. Under EDF t1 and t2 have speed 4 for 6 ticks, so t3 has 32 of its
+    40 units at its deadline, 14: there the package's run ends.
+    """
+    example = paper(tasks_2_worst="40") | {"demands": []}
+    answer = answered(SIMULATED, example)[1]
+    assert answer["refused"] == "denied edf 1556 1120" and answer["offer"] is True
+    assert answer["meaning"] == "The tasks ask for 5.56 units a tick, and the fastest speed is 4."
+    shown = answered(stand_in(tmp_path, "exit 9"), example | {"admission": "none"})[1]
+    (sheet,) = shown["data"]["sheets"]
+    jobs = [row for piece in sheet["pieces"] for row in json.loads(zlib.decompress(base64.b64decode(piece)))["jobs"]]
+    assert [(row[0], row[3], row[4], row[7]) for row in jobs if row[-1]] == [(2, 14, None, 32)]
+    assert sheet["ticks"] == 14 and sheet["note"] == NOTE
+
+
+@pytest.mark.parametrize(("share", "units"), [("50%", "6"), ("1 %", "1"), ("12.5%", "2"), ("x%", "x%"), ("7", "7")])
+def test_demands_as_shares(share: str, units: str) -> None:
+    """Of t1's 12 units, rounded up."""
+    assert f"t1,1,{units}\n" in Example.of(paper(demands_0_units=share)).files()["demands"]
 
 
 def test_example_without_the_repository(engine: Engine) -> None:
@@ -96,7 +138,11 @@ REFUSED = rows("refused_examples")
 
 @pytest.mark.parametrize(("field", "line", "changes"), REFUSED, ids=[line for _, line, _ in REFUSED])
 def test_refusal_names_its_field(field: str, line: str, changes: str, engine: Engine) -> None:
-    assert answered(engine, paper(**json.loads(changes))) == (200, {"refused": line, "field": field})
+    """With the files of the fields."""
+    example = paper(**json.loads(changes))
+    status, answer = answered(engine, example)
+    assert (status, answer["refused"], answer["field"]) == (200, line, field)
+    assert answer["files"] == Example.of(example).files()
 
 
 @pytest.mark.parametrize("changes", [{"tasks_1_period": "8 ms"}, {"ticks": "0"}, {"ticks": "100000"}], ids=str)
@@ -224,8 +270,8 @@ def test_listens_here_only(server: PageServer) -> None:
     assert server.server_address[0] == "127.0.0.1"
 
 
-@pytest.mark.parametrize(("path", "kind"), [("/", "text/html"), ("/page.js", "text/javascript"),
-                                            ("/page.css", "text/css")])
+@pytest.mark.parametrize(("path", "kind"), [("/", "text/html"), ("/page.css", "text/css"),
+                                            *((f"/{name}", "text/javascript") for name in SCRIPTS)])
 def test_files_and_their_policy(server: PageServer, path: str, kind: str) -> None:
     connection = http.client.HTTPConnection("127.0.0.1", server.port, timeout=60)
     connection.request("GET", path)

@@ -6,8 +6,10 @@ import socket
 import socketserver
 from collections.abc import Callable, Iterator, Mapping, Sequence
 from dataclasses import dataclass
+from fractions import Fraction
 from http import HTTPStatus
 from http.server import BaseHTTPRequestHandler, ThreadingHTTPServer
+from math import ceil
 from pathlib import Path
 from threading import BoundedSemaphore
 from typing import Any
@@ -19,8 +21,11 @@ from rtdvs.errors import (
     WordsRefused,
 )
 from rtdvs.model import Demands, Machine, TaskSet
+from rtdvs.rules import run_until_missed
 from rtdvs.studies import HEADING, cells, compare
-from rtdvs.web.data import WEB, Shown, page_data, with_data
+from rtdvs.web.data import SCRIPTS, WEB, Shown, page_data, with_data
+from rtdvs.web.menu import MENU
+from rtdvs.web.unadmitted import NOTE, meaning_of
 
 HOST = "127.0.0.1"
 PORT = 8017
@@ -35,13 +40,15 @@ LONGEST_TRY = 300.0     # seconds, where `rt try` has to compile first
 MOST_SERVED_TEXT = 2           # mebibytes of explanations
 POLICY = ("default-src 'none'; script-src 'self'; style-src 'self'; connect-src 'self'; base-uri 'none'; "
           "form-action 'none'; frame-ancestors 'none'")
-STATIC = {"/page.js": "text/javascript", "/page.css": "text/css"}
+STATIC = {"/page.css": "text/css"} | {f"/{name}": "text/javascript" for name in SCRIPTS}
 TABLES = {"tasks": ("name", "period", "worst", "offset"), "points": ("speed", "millivolts"),
           "demands": ("task", "job", "units")}
 SINGLE = ("scheduler", "governor", "ticks", "idle", "charge")
+MORE = ("beside", "admission")
+"""Fields that an example may have: a second pair, and `none` for the package's run of a set that isn't admitted."""
 EXAMPLE_DATA = ("crates", "example_runs", "data")
 Rows = Sequence[Mapping[str, str]]
-START: dict[str, object] = {"name": "small", "example": {
+START: dict[str, object] = {"name": "small", "about": "Two tasks on a machine with two speeds.", "example": {
     "tasks": [{"name": "a", "period": "4", "worst": "4"}, {"name": "b", "period": "6", "worst": "6"}],
     "points": [{"speed": "1", "millivolts": "1000"}, {"speed": "2", "millivolts": "2000"}], "demands": [],
     "scheduler": "edf", "governor": "cc", "ticks": "12", "idle": "0", "charge": "0"}}
@@ -71,7 +78,8 @@ class Example:
         try:
             tables = {kind: [{name: _text(row.get(name, "")) for name in names} for row in found[kind]]
                       for kind, names in TABLES.items()}
-            return cls(**tables, single={name: _text(found[name]) for name in SINGLE})
+            more = {name: _text(found.get(name, "")) for name in MORE}
+            return cls(**tables, single={name: _text(found[name]) for name in SINGLE} | more)
         except (AttributeError, KeyError, TypeError, ValueError):
             raise BadRequest("not an example") from None
 
@@ -81,13 +89,29 @@ class Example:
         files = {"tasks": _tables("task", self.tasks),
                  "machine": "\n".join([*settings, _tables("point", self.points)])}
         if self.demands:
-            rows = [",".join(_quoted(row[name]) for name in TABLES["demands"]) for row in self.demands]
+            worsts = {task["name"]: task["worst"] for task in self.tasks}
+            rows = [",".join(map(_quoted, (row["task"], row["job"], _units(row["units"], worsts.get(row["task"], "")))))
+                    for row in self.demands]
             files["demands"] = "\n".join(["task,job,units", *rows, ""])
         return files
 
-    def call(self) -> Call[str]:
-        """The call of `run`."""
-        options = [(f"--{name}", self.single[name]) for name in ("scheduler", "governor", "ticks")]
+    def pairs(self) -> dict[str, tuple[str, str]]:
+        """The pairs of a scheduler and a governor that are drawn, by their labels.
+
+        >>> Example((), (), (), {"scheduler": "edf", "governor": "cc", "beside": "rm static"}).pairs()
+        {'A': ('edf', 'cc'), 'B': ('rm', 'static')}
+        """
+        first, (scheduler, _, governor) = (self.single["scheduler"], self.single["governor"]), self.beside()
+        return {"A": first, "B": (scheduler, governor)} if scheduler else {"": first}
+
+    def beside(self) -> tuple[str, str, str]:
+        """The words of the second pair."""
+        return self.single.get("beside", "").partition(" ")
+
+    def call(self, pair: tuple[str, str] | None = None) -> Call[str]:
+        """The call of `run`, for a pair or for that of the fields."""
+        scheduler, governor = pair or (self.single["scheduler"], self.single["governor"])
+        options = [("--scheduler", scheduler), ("--governor", governor), ("--ticks", self.single["ticks"])]
         files = [(f"--{name}", text) for name, text in self.files().items()]
         return Call("run", (*options, ("--format", "2")), tuple(files))
 
@@ -129,6 +153,18 @@ def _tables(kind: str, rows: Rows) -> str:
                   for key, text in row.items() if text)
         lines += [f"[[{kind}]]", *values, ""]
     return "\n".join(lines)
+
+
+def _units(text: str, worst: str) -> str:
+    """Work units, or a share of the worst case in percent, which is rounded up; what is neither stays as it is.
+
+    >>> _units("8", "12"), _units("50%", "13"), _units("12.5 %", "8"), _units("x%", "8"), _units("1", "y")
+    ('8', '7', '1', 'x%', '1')
+    """
+    found = re.fullmatch(r"([0-9]{1,3})(\.[0-9]{1,6})? *%", text.strip())
+    if not found or not re.fullmatch("[0-9]{1,19}", worst):
+        return text
+    return str(ceil(Fraction(f"{found[1]}{found[2] or ''}") / 100 * int(worst)))
 
 
 def _quoted(text: str) -> str:
@@ -173,6 +209,13 @@ def _named(column: str) -> Callable[[re.Match[str], Example], str]:
     return place
 
 
+def _not_rising(found: re.Match[str], example: Example) -> str:
+    """The field that doesn't rise: the millivolts, if the speed does."""
+    place = int(found[1]) - 1
+    speeds = [whole(point["speed"], 0) for point in example.points[max(0, place - 1):place + 1]]
+    return f"points.{place}.{'millivolts' if speeds == sorted(set(speeds)) else 'speed'}"
+
+
 def _over_worst(found: re.Match[str], example: Example) -> str:
     rows = [(row["task"], row["job"]) for row in example.demands]
     return f"demands.{rows.index((found[1], found[2]))}.units" if (found[1], found[2]) in rows else ""
@@ -188,6 +231,7 @@ _FIELDS: Sequence[tuple[str, Callable[[re.Match[str], Example], str]]] = (
     (r"tasks: task (\d+): (.*)", _column("tasks")),
     (r"tasks: tasks \d+ and (\d+) have one (name)", _column("tasks")),
     (r"tasks: periods", lambda found, example: "tasks.0.period"),
+    (r"machine: point (\d+): not rising", _not_rising),
     (r"machine: point (\d+): (.*)", _column("points")),
     (r"machine: .*\b(idle|charge)\b", lambda found, example: found[1]),
     (r"demands: row (\d+): (.*)", _column("demands")),
@@ -204,25 +248,46 @@ _FIELDS: Sequence[tuple[str, Callable[[re.Match[str], Example], str]]] = (
 
 
 def run_answer(example: Example, engine: Engine) -> dict[str, object]:
-    """The page's data of a run, and the files; raises EngineError and Refused."""
-    text = engine.answer(example.call()).text()
-    files = example.files()
+    """The page's data of a run, or of two, and the files; raises EngineError and Refused."""
+    files, is_own = example.files(), example.single["admission"] == "none"
+    texts = own_runs(example) if is_own else {
+        label: engine.answer(example.call(pair)).text() for label, pair in example.pairs().items()}
+    shown = Shown(*parsed(files), MOST_SERVED_TEXT, NOTE if is_own else "")
+    return {"data": page_data(texts, shown), "files": {**files, "trace": next(iter(texts.values()))}}
+
+
+def parsed(files: Mapping[str, str]) -> tuple[TaskSet, Machine, Demands | None]:
+    """The values of an example's files; raises Refused."""
     tasks = TaskSet.parse(files["tasks"])
     demands = Demands.parse(files["demands"], tasks) if "demands" in files else None
-    shown = Shown(tasks, Machine.parse(files["machine"]), demands, MOST_SERVED_TEXT)
-    return {"data": page_data({"": text}, shown), "files": {**files, "trace": text}}
+    return tasks, Machine.parse(files["machine"]), demands
+
+
+def own_runs(example: Example) -> dict[str, str]:
+    """The package's runs of a set that isn't admitted, up to a missed deadline; raises Refused and BadValue."""
+    tasks, machine, demands = parsed(example.files())
+    ticks = whole(example.single["ticks"], 1)
+    return {label: run_until_missed(tasks, machine, scheduler, ticks, governor, demands).text()
+            for label, (scheduler, governor) in example.pairs().items()}
+
+
+def denial(fault: Exception, example: Example) -> dict[str, object]:
+    """What a refusal means, and whether the package can run the set all the same; nothing for other refusals."""
+    if not isinstance(fault, Denied):
+        return {}
+    top = Machine.parse(example.files()["machine"]).top_speed
+    return {"meaning": meaning_of(fault, top), "offer": True}
 
 
 def compare_answer(example: Example, engine: Engine) -> dict[str, object]:
     """The rows of all pairs; raises EngineError and Refused."""
     files = example.files()
-    tasks, machine = TaskSet.parse(files["tasks"]), Machine.parse(files["machine"])
-    demands = Demands.parse(files["demands"], tasks) if "demands" in files else None
+    tasks, machine, demands = parsed(files)
     rows = compare(engine, tasks, machine, whole(example.single["ticks"], 1), demands)
     speeds = sorted({speed for row in rows if row.result for speed in row.result.residency})
     heading = [*HEADING, *(f"at_{speed}" for speed in speeds)]
     return {"heading": [name.replace("_", " ") for name in heading],
-            "rows": [cells(row, speeds) for row in rows]}
+            "rows": [cells(row, speeds) for row in rows], "files": files}
 
 
 ANSWERS: Mapping[str, Callable[[Example, Engine], dict[str, object]]] = {
@@ -238,7 +303,8 @@ def answer_of(path: str, body: bytes, engine: Engine) -> tuple[HTTPStatus, dict[
             raise TooManyJobs(example.jobs(), MOST_JOBS)
         return HTTPStatus.OK, ANSWERS[path](example, engine)
     except REFUSALS as fault:
-        return HTTPStatus.OK, {"refused": str(fault), "field": field_of(fault, example)}
+        refusal = {"refused": str(fault), "field": field_of(fault, example), "files": example.files()}
+        return HTTPStatus.OK, refusal | denial(fault, example)
     except (EngineError, LoadFailed, Differs) as fault:
         return HTTPStatus.BAD_GATEWAY, {"refused": str(fault) or type(fault).__name__, "field": ""}
     except (ValueError, RecursionError):
@@ -252,10 +318,9 @@ def examples() -> Iterator[dict[str, object]]:
     """The repository's examples, of which the paper's is the first, or those of the installed package."""
     installed = Path(__file__).resolve().parents[5:6]
     tops = (CRATE.parents[1], *(folder / "share" / "rtdvs" for folder in installed))
-    folders = [folder for top in tops for folder in sorted(top.joinpath(*EXAMPLE_DATA).glob("*/tasks.toml"))]
-    for path in sorted(folders, key=lambda path: path.parent.name != "paper"):
+    for path in [top.joinpath(*EXAMPLE_DATA, name, "tasks.toml") for top in tops for name in MENU]:
         try:
-            yield {"name": path.parent.name, "example": read_example(path.parent)}
+            yield {"name": path.parent.name, "about": MENU[path.parent.name], "example": read_example(path.parent)}
         except (FileRefused, OSError):
             continue
 
