@@ -236,7 +236,9 @@ done
 # plants.sh, over one check and two faults, of which the check sees the first
 mkdir -p "$work/plants/tools/planted"
 for name in group.py plants.py plants.sh work.sh; do cp "tools/$name" "$work/plants/tools"; done
-printf '# the first\nfile: text\nold: one\nnew: another\n\n# the second\nfile: text\nold: two\nnew: another\n' > "$work/plants/tools/planted/one.txt"
+# TEXT: stores the two faults, of which the second changes this text
+store() { printf '# the first\nfile: text\nold: one\nnew: another\n\n# the second\nfile: text\nold: %s\nnew: another\n' "$1" > "$work/plants/tools/planted/one.txt"; }
+store two
 # STATUS TEXT LINE [WORD]: plants.sh ends so over a check that prints this line and looks for the word
 plants() {
     echo 'one two' > "$work/plants/text"
@@ -256,7 +258,7 @@ plants: 2 planted, 1 faults" 'one: 1 case, 1 skipped (no cc)'
     unset TOOLS
     holds 'plants.sh of a check that fails' plants 1 'one: fails without a plant: all of it
 plants: 2 planted, 1 faults' 'one: 1 case' three
-    sed -i 's/old: two/old: three/' "$work/plants/tools/planted/one.txt"
+    store three
     holds 'plants.sh of a fault without a place' plants 1 "one: can't be planted: the second: text has 0 times: three
 plants: 2 planted, 1 faults" 'one: 1 case'
 fi
