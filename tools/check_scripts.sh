@@ -233,13 +233,43 @@ for name in peer wrapper; do
     holds "check_$name.sh" passes
 done
 
+# plants.sh, over one check and two faults, of which the check sees the first
+mkdir -p "$work/plants/tools/planted"
+for name in group.py plants.py plants.sh work.sh; do cp "tools/$name" "$work/plants/tools"; done
+# TEXT: stores the two faults, of which the second changes this text
+store() { printf '# the first\nfile: text\nold: one\nnew: another\n\n# the second\nfile: text\nold: %s\nnew: another\n' "$1" > "$work/plants/tools/planted/one.txt"; }
+store two
+# STATUS TEXT LINE [WORD]: plants.sh ends so over a check that prints this line and looks for the word
+plants() {
+    echo 'one two' > "$work/plants/text"
+    printf 'echo "%s"\ngrep -q -w %s text\n' "$3" "${4:-one}" > "$work/plants/tools/check_one.sh"
+    prints "$1" "$2" sh "$work/plants/tools/plants.sh" "$program"
+}
+if "$python" -c 'import tomllib' 2>&-; then
+    holds 'plants.sh of a fault that is not seen' plants 1 'one: not seen: the second
+plants: 2 planted, 1 faults' 'one: 1 case'
+    lacking='one: not seen, since the check lacks a tool: the second'
+    holds 'plants.sh without a tool' plants 0 "$lacking
+plants: 2 planted, 0 faults, 1 skipped" 'one: 1 case, 1 skipped (no cc)'
+    TOOLS=all
+    export TOOLS
+    holds 'plants.sh with all tools' plants 1 "$lacking
+plants: 2 planted, 1 faults" 'one: 1 case, 1 skipped (no cc)'
+    unset TOOLS
+    holds 'plants.sh of a check that fails' plants 1 'one: fails without a plant: all of it
+plants: 2 planted, 1 faults' 'one: 1 case' three
+    store three
+    holds 'plants.sh of a fault without a place' plants 1 "one: can't be planted: the second: text has 0 times: three
+plants: 2 planted, 1 faults" 'one: 1 case'
+fi
+
 # The table of the stored faults, and whether each can still be put in its place
 table() { same "$(sed -n '/^| Check | Faults |$/,/^$/p' docs/TESTING.md | grep '^| `')" "$("$python" tools/plants.py)"; }
 if "$python" -c 'import tomllib' 2>&-; then
     holds 'the table of TESTING.md' table
     holds 'the places of the stored faults' "$python" "$away/top/tools/plants.py" "$work"
 else
-    skipped=', 2 skipped (no Python 3.11)'
+    skipped=', 7 skipped (no Python 3.11)'
 fi
 
 echo "scripts: $cases cases, $bad differ$skipped"
