@@ -291,6 +291,15 @@ def test_parts_of_lines(line: str, free: bool, known: bool) -> None:
         assert found == (number, "not a line of a trace")
 
 
+def test_as_many_lines_as_there_may_be(monkeypatch: pytest.MonkeyPatch) -> None:
+    """The trace has 33 lines: the last is one too many if 32 is the most."""
+    lines = CC_TEXT.splitlines(keepends=True)
+    for most, refusal in ((33, None), (32, (33, "a trace has at most 32 lines"))):
+        for module in ("rules.checker", "trace.reader"):
+            monkeypatch.setattr(f"rtdvs.{module}.MOST_LINES", most)
+        assert folder("paper").refusal(lines) == refusal
+
+
 def test_static_is_explained_once() -> None:
     """Its terms are those of tick 0: 12/8 + 12/10 + 4/14 are 836/280, which speed 3 meets."""
     trace = simulate(PAPER_SET, BOARD, "edf", 16, "static")
