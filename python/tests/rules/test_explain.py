@@ -193,6 +193,8 @@ UNKNOWN = [  # without a demand file; the last entry is --any
     pytest.param("offsets", edited(SAW, {10: "speed 2 5 4/1"}), 10, "the machine has no speed 5", True,
                  id="no such speed"),
     pytest.param("offsets", edited(SAW, {10: "speed 2 4 4/0"}), 10, "a fraction over 0", True, id="a fraction over 0"),
+    pytest.param("offsets", edited(SAW, {5: "speed 0 2 2/1"}), 5, "no decision is made here", True, id="two decisions"),
+    pytest.param("offsets", edited(SAW, {6: None}), 6, "x job 1 has had all of its 4 units", True, id="its worst case"),
     pytest.param("offsets", SAW.splitlines(True), 2, "no scheduler and governor edf saw", False, id="no pair"),
 ]
 
