@@ -54,7 +54,7 @@ def rm_cycle(state: State) -> Demand:
     (13, 4)
     """
     end = state.first_deadline
-    start, handed = state.handed
+    start, handed = state.last.handed
     room, total = (end - start) * state.plan.static_speed, 0
     for job, might in handed:
         if room == 0:

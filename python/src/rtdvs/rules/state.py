@@ -78,6 +78,9 @@ class Latest:
 class Moments:
     """The ticks of the last decision, of the last release, and at which a governor sees the last completion.
 
+    `handed` are the last tick with releases before a decision, the jobs that were open there, and what each
+    might need.
+
     >>> Moments().released
     -1
     """
@@ -85,6 +88,7 @@ class Moments:
     decided: int = -1
     released: int = -1
     seen: int = -1
+    handed: tuple[int, list[tuple[Latest, int]]] = (0, [])
 
 
 @dataclass(slots=True)
@@ -93,8 +97,7 @@ class State:
 
     The seven pairs' rules read it; a governor of your own gets a `view`. `jobs` are in the order of the
     file; `deadlines` and `open` are sorted, the next deadline and the job of the highest priority first, each
-    with the place of its task. `handed` are the last tick with releases before a decision, the jobs that were
-    open there, and what each might need.
+    with the place of its task. `last` has the ticks of what was last.
 
     >>> state = State.begin(EXAMPLE)
     >>> state.now, state.deadlines, state.open
@@ -109,7 +112,6 @@ class State:
     deadlines: list[tuple[int, int]] = field(default_factory=list)
     open: list[tuple[Any, int]] = field(default_factory=list)
     last: Moments = field(default_factory=Moments)
-    handed: tuple[int, list[tuple[Latest, int]]] = (0, [])
 
     @classmethod
     def begin(cls, plan: Plan) -> "State":
@@ -251,11 +253,11 @@ class State:
         >>> state = State.begin(EXAMPLE)
         >>> state.release(state.jobs[0])
         >>> state.hand_out()
-        >>> [units for job, units in state.handed[1]]
+        >>> [units for job, units in state.last.handed[1]]
         [4]
         """
         if self.last.released == self.now:
-            self.handed = self.now, [(self.jobs[place], self.jobs[place].left) for _, place in self.open]
+            self.last.handed = self.now, [(self.jobs[place], self.jobs[place].left) for _, place in self.open]
 
     def after(self, units: int, speed: int) -> Position:
         """The position after some more work units at the speed in force.

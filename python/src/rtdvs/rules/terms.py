@@ -69,7 +69,7 @@ def _edf_cycle(state: State) -> list[str]:
 
 
 def _rm_cycle(state: State) -> list[str]:
-    (start, handed), end, speed = state.handed, state.first_deadline, state.plan.static_speed
+    (start, handed), end, speed = state.last.handed, state.first_deadline, state.plan.static_speed
     room = (end - start) * speed
     lines = [f"handed out at tick {start}, up to the earliest deadline {end}, at the static speed {speed}: "
              f"{end - start} * {speed} = {room}"]
