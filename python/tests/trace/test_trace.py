@@ -12,7 +12,7 @@ from hypothesis import strategies as st
 from rtdvs.errors import TraceFault
 from rtdvs.model import Task, TaskSet
 from rtdvs.trace import (
-    Decision, End, Job, Position, Run, Trace, csv_text, frame, parse_lines, rows, task_statistics,
+    SAMPLE, Decision, End, Job, Position, Run, Trace, csv_text, frame, parse_lines, rows, task_statistics,
 )
 from tests.shared.examples import DATA, PAPER, TEMPLATE, TRACES, WORKED, Captured, cases, printed, refusal
 
@@ -113,6 +113,16 @@ def test_deadlines_without_a_task_set() -> None:
     assert once.completion == 1 and once.deadline is None is once.laxity
 
 
+def test_declared_units_without_a_charge() -> None:
+    """The task's worst case is 4; a charge of 3 is paid twice."""
+    trace = Trace.parse(SAMPLE)
+    assert [next(rows(trace, "jobs"))[-1], next(rows(trace, "jobs", charge=3))[-1]] == [4, 10]
+    assert [csv_text(trace, "jobs")[-2:], csv_text(trace, "jobs", charge=3)[-3:]] == ["4\n", "10\n"]
+    pytest.importorskip("pandas")
+    for make in (frame, Trace.frame):
+        assert [make(trace, "jobs")["declared"][0], make(trace, "jobs", charge=3)["declared"][0]] == [4, 10]
+
+
 @pytest.mark.parametrize("table", ["job", "Jobs", ""])
 def test_unknown_tables(table: str) -> None:
     makers: list[Callable[[Trace, str], object]] = [rows, csv_text, frame]
@@ -176,7 +186,8 @@ def test_each_part_of_the_greatest_trace(begin: int, end: int) -> None:
 
 def test_as_many_tasks_and_lines_as_there_may_be(monkeypatch: pytest.MonkeyPatch) -> None:
     """64 tasks have 64 lines and their energies; of 33 lines the last is one too many if 32 is the most."""
-    tasks, energies = ("".join(form.format(place) for place in range(64)) for form in ("task t{} 4 0 4\n", "energy t{} 0\n"))
+    tasks, energies = ("".join(form.format(place) for place in range(64))
+                       for form in ("task t{} 4 0 4\n", "energy t{} 0\n"))
     assert len(Trace.parse(f"trace 2\nplan edf mine 4\n{tasks}{energies}end 4 0 0\n").tasks) == 64
     for most, fault in ((33, None), (32, TraceFault(33, "a trace has at most 32 lines"))):
         monkeypatch.setattr("rtdvs.trace.reader.MOST_LINES", most)
