@@ -5,8 +5,8 @@
 A change is one of these: another comparison, a number greater by one, `and` in place of `or`, a condition turned, a
 call left out, None in place of what a function returns. Changes are drawn by the seed from all that can be planted. For
 each one the docstrings of its module and the tests that import it, or a module that does, are run up to the first that
-fails. It is planted in a copy of the folder, so nothing here is changed. A survivor may be right all the same: a reader
-has to judge it. The status is 1 if there are survivors.
+fails. It is planted in a copy of the folder, so nothing here is changed; `--jobs` is the number of copies that are used
+at a time. A survivor may be right all the same: a reader has to judge it. The status is 1 if there are survivors.
 """
 
 import argparse
@@ -17,9 +17,12 @@ import shutil
 import subprocess
 import sys
 from collections.abc import Iterable, Iterator, Sequence
+from concurrent.futures import ThreadPoolExecutor
 from copy import deepcopy
 from dataclasses import dataclass
+from functools import cache
 from pathlib import Path
+from queue import SimpleQueue
 from tempfile import TemporaryDirectory
 
 TOP = Path(__file__).resolve().parents[1]
@@ -123,6 +126,7 @@ def dotted(path: Path, root: Path = TOP) -> str:
     return ".".join(inner.with_suffix("").parts).removesuffix(".__init__")
 
 
+@cache
 def imported(path: Path) -> set[str]:
     """The modules that a file imports, and what may be modules: a.b.c for `from a.b import c`."""
     found: set[str] = set()
@@ -166,6 +170,32 @@ def drawn(folders: Iterable[Path], count: int, seed: int) -> list[Change]:
     return random.Random(seed).sample(found, min(count, len(found)))
 
 
+def copied(folder: Path) -> Path:
+    """A copy of the folder of the package and its tests, beside links to all that is beside it here."""
+    copy = folder / TOP.parent.name / TOP.name
+    shutil.copytree(TOP, copy, ignore=shutil.ignore_patterns("__pycache__", ".mypy_cache", "out"))
+    for name in (path.name for path in TOP.parent.iterdir() if path.name != TOP.name):
+        (copy.parent / name).symlink_to(TOP.parent / name)
+    return copy
+
+
+def survivors(taken: Sequence[Change], jobs: int, seconds: float) -> Iterator[Change]:
+    """Those of the changes that no test sees, in order."""
+    with TemporaryDirectory(prefix="mutants-") as folder, ThreadPoolExecutor(jobs) as pool:
+        roots = SimpleQueue[Path]()
+        for place in range(jobs):
+            roots.put(copied(Path(folder, str(place))))
+
+        def is_unseen(change: Change) -> bool:
+            root = roots.get()
+            try:
+                return survives(change, root, seconds)
+            finally:
+                roots.put(root)
+
+        yield from (change for change, unseen in zip(taken, pool.map(is_unseen, taken)) if unseen)
+
+
 def main(words: Sequence[str] | None = None) -> int:
     """Prints each survivor, and the numbers."""
     parser = argparse.ArgumentParser(description=__doc__, formatter_class=argparse.RawDescriptionHelpFormatter)
@@ -173,19 +203,13 @@ def main(words: Sequence[str] | None = None) -> int:
     parser.add_argument("--count", type=int, default=10)
     parser.add_argument("--seed", type=int, default=1)
     parser.add_argument("--seconds", type=float, default=600.0, help="the longest that the tests of a change may take")
+    parser.add_argument("--jobs", type=int, default=1, help="how many changes are tried at a time")
     args = parser.parse_args(words)
-    taken, survivors = drawn(args.folders, args.count, args.seed), 0
-    with TemporaryDirectory(prefix="mutants-") as folder:
-        copy = Path(folder, TOP.parent.name, TOP.name)
-        shutil.copytree(TOP, copy, ignore=shutil.ignore_patterns("__pycache__", ".mypy_cache", "out"))
-        for name in (path.name for path in TOP.parent.iterdir() if path.name != TOP.name):
-            (copy.parent / name).symlink_to(TOP.parent / name)
-        for change in taken:
-            if survives(change, copy, args.seconds):
-                survivors += 1
-                print(change.text(), flush=True)
-    print(f"{len(taken)} changes, {survivors} survivors")
-    return 1 if survivors else 0
+    taken, found = drawn(args.folders, args.count, args.seed), 0
+    for found, change in enumerate(survivors(taken, args.jobs, args.seconds), 1):
+        print(change.text(), flush=True)
+    print(f"{len(taken)} changes, {found} survivors")
+    return 1 if found else 0
 
 
 if __name__ == "__main__":

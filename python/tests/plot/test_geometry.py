@@ -20,7 +20,7 @@ from rtdvs.plot import View, parse_means, save_compare, save_means, save_trace
 from rtdvs.rules import simulate
 from rtdvs.studies import Result, Row
 from rtdvs.trace import Trace
-from tests.shared.examples import DATA, MINE, TEMPLATE, WORKED, Lines
+from tests.shared.examples import DATA, MINE, TEMPLATE, TEST_DATA, WORKED, Lines
 
 pytest.importorskip("matplotlib")
 Found = TypeVar("Found")
@@ -161,7 +161,8 @@ def shafts(axes: Any) -> list[tuple[float, float, float]]:
 
 @pytest.mark.parametrize(("path", "top"), [
     pytest.param(WORKED, None, id="version 1"), pytest.param(TEMPLATE, None, id="version 2"),
-    pytest.param(WORKED, 9, id="another top"), pytest.param(DATA / "offsets" / "edf_cc.trace", None, id="offsets")])
+    pytest.param(WORKED, 9, id="another top"), pytest.param(DATA / "offsets" / "edf_cc.trace", None, id="offsets"),
+    pytest.param(TEST_DATA / "saw.trace", None, id="a job that ends at a lower speed")])
 def test_marks_are_where_the_lines_say(path: Path, top: int | None) -> None:
     lines, trace = Lines(path.read_text()), Trace.read(path)
     full = top or max(speed for _, speed, _ in lines.decisions)

@@ -193,6 +193,8 @@ UNKNOWN = [  # without a demand file; the last entry is --any
     pytest.param("offsets", edited(SAW, {10: "speed 2 5 4/1"}), 10, "the machine has no speed 5", True,
                  id="no such speed"),
     pytest.param("offsets", edited(SAW, {10: "speed 2 4 4/0"}), 10, "a fraction over 0", True, id="a fraction over 0"),
+    pytest.param("offsets", edited(SAW, {5: "speed 0 2 2/1"}), 5, "no decision is made here", True, id="two decisions"),
+    pytest.param("offsets", edited(SAW, {6: None}), 6, "x job 1 has had all of its 4 units", True, id="its worst case"),
     pytest.param("offsets", SAW.splitlines(True), 2, "no scheduler and governor edf saw", False, id="no pair"),
 ]
 
@@ -289,6 +291,15 @@ def test_parts_of_lines(line: str, free: bool, known: bool) -> None:
     for number in (3, 7, 8, 33):
         found = folder("paper").refusal([*lines[:number - 1], f"{line}\n", *lines[number:]], known, free)
         assert found == (number, "not a line of a trace")
+
+
+def test_as_many_lines_as_there_may_be(monkeypatch: pytest.MonkeyPatch) -> None:
+    """The trace has 33 lines: the last is one too many if 32 is the most."""
+    lines = CC_TEXT.splitlines(keepends=True)
+    for most, refusal in ((33, None), (32, (33, "a trace has at most 32 lines"))):
+        for module in ("rules.checker", "trace.reader"):
+            monkeypatch.setattr(f"rtdvs.{module}.MOST_LINES", most)
+        assert folder("paper").refusal(lines) == refusal
 
 
 def test_static_is_explained_once() -> None:

@@ -1,5 +1,6 @@
 """Traces: the worked one of docs/TRACE.md by hand, and what is refused."""
 
+import re
 from collections.abc import Callable
 from fractions import Fraction
 from pathlib import Path
@@ -11,7 +12,7 @@ from hypothesis import strategies as st
 from rtdvs.errors import TraceFault
 from rtdvs.model import Task, TaskSet
 from rtdvs.trace import (
-    Decision, End, Job, Position, Run, Trace, csv_text, frame, parse_lines, rows, task_statistics,
+    SAMPLE, Decision, End, Job, Position, Run, Trace, csv_text, frame, parse_lines, rows, task_statistics,
 )
 from tests.shared.examples import DATA, PAPER, TEMPLATE, TRACES, WORKED, Captured, cases, printed, refusal
 
@@ -19,7 +20,12 @@ TEXTS = [path.read_text() for path in TRACES]
 # The number of the first wrong line, the text, and a part of the reason.
 REFUSED = [
     *cases("refused_traces"),
+    pytest.param("3", "trace 1\nplan edf mine 4\n" + "x" * 255 + "\n", "not a line of a trace", id="255 bytes"),
     pytest.param("3", "trace 1\nplan edf mine 4\n" + "x" * 256 + "\n", "more than 255 bytes", id="256 bytes"),
+    pytest.param("2", "trace 1\n" + "x" * 255 + "\n", "not a plan line", id="255 bytes of the plan"),
+    pytest.param("2", "trace 1\n" + "x" * 256 + "\n", "more than 255 bytes", id="256 bytes of the plan"),
+    pytest.param("67", "trace 2\nplan edf mine 4\n" + "".join(f"task t{n} 4 0 4\n" for n in range(65)),
+                 "more than 64 tasks", id="65 tasks"),
     pytest.param("3", "trace 1\nplan edf mine 4\n" + "x" * 10**6, "more than 255 bytes", id="10^6 bytes"),
     pytest.param("800001", "trace 1\nplan edf mine 4\n" + "release 0 a 1\n" * 800_000, "at most 800000 lines",
                  id="800001 lines"),
@@ -107,6 +113,16 @@ def test_deadlines_without_a_task_set() -> None:
     assert once.completion == 1 and once.deadline is None is once.laxity
 
 
+def test_declared_units_without_a_charge() -> None:
+    """The task's worst case is 4; a charge of 3 is paid twice."""
+    trace = Trace.parse(SAMPLE)
+    assert [next(rows(trace, "jobs"))[-1], next(rows(trace, "jobs", charge=3))[-1]] == [4, 10]
+    assert [csv_text(trace, "jobs")[-2:], csv_text(trace, "jobs", charge=3)[-3:]] == ["4\n", "10\n"]
+    pytest.importorskip("pandas")
+    for make in (frame, Trace.frame):
+        assert [make(trace, "jobs")["declared"][0], make(trace, "jobs", charge=3)["declared"][0]] == [4, 10]
+
+
 @pytest.mark.parametrize("table", ["job", "Jobs", ""])
 def test_unknown_tables(table: str) -> None:
     makers: list[Callable[[Trace, str], object]] = [rows, csv_text, frame]
@@ -134,6 +150,53 @@ def test_refused(line: str, text: str, part: str) -> None:
     with pytest.raises(TraceFault) as found:
         Trace.parse(text)
     assert found.value.line == int(line) and part in found.value.reason
+
+
+NAME, COUNT, ENERGY = "x" * 32, 2**64 - 1, 2**128 - 1
+GREATEST = f"""trace 2
+plan {NAME} {NAME} {2**40}
+task {NAME} {2**40} {2**40} {2**60}
+release {COUNT} {NAME} {COUNT}
+speed {COUNT} {COUNT} {ENERGY}/{ENERGY}
+run {COUNT}:{COUNT} {COUNT}:{COUNT} {NAME} {COUNT} {COUNT} {ENERGY}
+done {COUNT}:{COUNT} {NAME} {COUNT} {COUNT}
+idle {COUNT}:{COUNT} {COUNT}:{COUNT} {COUNT} {ENERGY}
+energy {NAME} {ENERGY}
+end {COUNT} {ENERGY} {ENERGY}
+"""
+PARTS = [found.span() for found in re.finditer(r"\d{2,}|x+", GREATEST)]
+
+
+def test_the_greatest_trace() -> None:
+    trace = Trace.parse(GREATEST)
+    assert trace.text() == GREATEST
+    assert trace.energy == 2 * ENERGY and trace.tasks == (Task(NAME, 2**40, 2**60, 2**40),)
+
+
+@pytest.mark.parametrize(("begin", "end"), PARTS, ids=[str(GREATEST[:begin].count("\n") + 1) for begin, _ in PARTS])
+def test_each_part_of_the_greatest_trace(begin: int, end: int) -> None:
+    """A number that is greater by one, and a name that is longer by a letter, are refused at their lines."""
+    part = GREATEST[begin:end]
+    wrong = GREATEST[:begin] + (part + "x" if part == NAME else str(int(part) + 1)) + GREATEST[end:]
+    line = GREATEST[:begin].count("\n") + 1
+    with pytest.raises(TraceFault) as found:
+        Trace.parse(wrong)
+    assert found.value == TraceFault(line, "not a plan line" if line == 2 else "not a line of a trace")
+
+
+def test_as_many_tasks_and_lines_as_there_may_be(monkeypatch: pytest.MonkeyPatch) -> None:
+    """64 tasks have 64 lines and their energies; of 33 lines the last is one too many if 32 is the most."""
+    tasks, energies = ("".join(form.format(place) for place in range(64))
+                       for form in ("task t{} 4 0 4\n", "energy t{} 0\n"))
+    assert len(Trace.parse(f"trace 2\nplan edf mine 4\n{tasks}{energies}end 4 0 0\n").tasks) == 64
+    for most, fault in ((33, None), (32, TraceFault(33, "a trace has at most 32 lines"))):
+        monkeypatch.setattr("rtdvs.trace.reader.MOST_LINES", most)
+        try:
+            found = None
+            Trace.parse(WORKED.read_text())
+        except TraceFault as refused:
+            found = refused
+        assert found == fault
 
 
 @pytest.mark.parametrize("path", [WORKED, TEMPLATE], ids=["version 1", "version 2"])

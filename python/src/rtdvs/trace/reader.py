@@ -2,7 +2,7 @@
 
 import re
 from collections.abc import Callable, Iterable, Iterator
-from functools import lru_cache, partial
+from functools import cache, lru_cache, partial
 from typing import TextIO
 
 from rtdvs.errors import TraceFault
@@ -57,13 +57,14 @@ _FORMS: dict[str, Callable[..., Line]] = {
 }
 
 
+@cache  # made for the first line of the form: to make all of them takes 50 ms
 def _shape(form: str) -> re.Pattern[str]:
     """A pattern for a line of that form, with its line feed."""
     return re.compile(re.sub(r"{0\.(\w+)}", lambda field: _SHAPES.get(str(field[1]), _NUMBER), form) + "\n")
 
 
-_LINES = {form[:3]: (_shape(form).fullmatch, make) for form, make in _FORMS.items()}
-_NO_LINE = re.compile("(?!)").fullmatch, End  # a pattern that nothing matches
+_LINES = {form[:3]: (form, make) for form, make in _FORMS.items()}
+_NO_LINE = "(?!)", End  # nothing has this form
 
 
 def read_head(lines: Iterator[str]) -> Head:
@@ -121,8 +122,8 @@ class Reader:
 
     def spelled(self, line: str) -> Line:
         """What the line says that `lines` gave last, wherever it is."""
-        shape, make = _LINES.get(line[:3], _NO_LINE)
-        found = shape(line)
+        form, make = _LINES.get(line[:3], _NO_LINE)
+        found = _shape(form).fullmatch(line)
         if not found or self.number > MOST_LINES:
             more = f"a trace has at most {MOST_LINES} lines"
             raise TraceFault(self.number, more if found else _misspelled(line, "not a line of a trace"))
