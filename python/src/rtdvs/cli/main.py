@@ -6,34 +6,32 @@ import signal
 import sys
 from collections.abc import Iterator, Sequence
 from contextlib import contextmanager
-from types import ModuleType
+from importlib import import_module
 
-from rtdvs.cli import (
-    compare, convert, design, evaluate, explain, generate, page, paper_table, per_task, plot, sensitivity,
-    serve, simulate,
-)
 from rtdvs.engine import end_calls, wait_for_calls
 from rtdvs.errors import RtdvsError
 
 SIGNALS = (signal.SIGINT, signal.SIGTERM, signal.SIGHUP)
 PERIOD = 0.25  # seconds after which a process that waits looks for signals again
 GRACE = 2.0  # seconds for an orderly end
-COMMANDS: tuple[ModuleType, ...] = (
-    explain, simulate, per_task, compare, sensitivity, generate, evaluate, paper_table, design, plot,
-    convert, page, serve,
-)
+COMMANDS = {
+    "explain": "explain", "simulate": "simulate", "statistics": "per_task", "compare": "compare",
+    "sensitivity": "sensitivity", "generate": "generate", "evaluate": "evaluate", "paper-table": "paper_table",
+    "design": "design", "plot": "plot", "convert": "convert", "page": "page", "serve": "serve",
+}
+"""The module of each command."""
 
 
-def parser() -> argparse.ArgumentParser:
-    """The parser of all commands.
+def parser(command: str = "") -> argparse.ArgumentParser:
+    """The parser of a command, of which only its module is imported, or of all commands.
 
     >>> parser().parse_args("generate published --count 5 --tenths 2 --number 1".split()).tenths
     2
     """
     top = argparse.ArgumentParser(prog="python3 -m rtdvs", description=__doc__)
     commands = top.add_subparsers(title="commands", metavar="COMMAND", required=True)
-    for module in COMMANDS:
-        module.add_command(commands)
+    for name in [command] if command in COMMANDS else COMMANDS:
+        import_module(f"rtdvs.cli.{COMMANDS[name]}").add_command(commands)
     return top
 
 
@@ -68,8 +66,9 @@ def main(words: Sequence[str] | None = None) -> int:
 def _handled(words: Sequence[str] | None) -> int:
     """The exit status of a command, or of argparse's own answer."""
     try:
-        top = parser()
-        args = top.parse_args(words)
+        given = sys.argv[1:] if words is None else [*words]
+        top = parser(*given[:1])
+        args = top.parse_args(given)
         lists = (value if isinstance(value, list) else [value] for value in vars(args).values())
         if sum(isinstance(value, bytes) for values in lists for value in values) > 1:
             top.error("only one file can be standard input")
