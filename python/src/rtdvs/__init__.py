@@ -6,20 +6,56 @@
 The packages below this one have the rest: rtdvs.board, rtdvs.export, rtdvs.rules, rtdvs.studies and others.
 """
 
+from importlib import import_module
+from typing import TYPE_CHECKING, Any
+
 from rtdvs._version import __version__
-from rtdvs.engine import Call, Engine, admit_call, find_engine, response_call, run_call
-from rtdvs.errors import (
-    BadValue, DeadlineMissed, Denied, EngineError, FileRefused, NoEngine, OverWorst, Refused, RtdvsError,
-    TimedOut, TooManyJobs, TraceFault, WrongTrace,
-)
-from rtdvs.hints import second_line
-from rtdvs.model import (
-    PAIRS, Deadlines, Demands, Governor, Machine, Point, Request, Requests, Scheduler, Task, TaskSet,
-)
-from rtdvs.plot import plot_trace, save_trace
-from rtdvs.rules import Walk, check, explain, simulate
-from rtdvs.studies import Sweep, compare, evaluate, sensitivity, uunifast
-from rtdvs.trace import Job, Trace, task_statistics
+
+if TYPE_CHECKING:
+    from rtdvs.engine import Call, Engine, admit_call, find_engine, response_call, run_call
+    from rtdvs.errors import (
+        BadValue, DeadlineMissed, Denied, EngineError, FileRefused, NoEngine, OverWorst, Refused, RtdvsError,
+        TimedOut, TooManyJobs, TraceFault, WrongTrace,
+    )
+    from rtdvs.hints import second_line
+    from rtdvs.model import (
+        PAIRS, Deadlines, Demands, Governor, Machine, Point, Request, Requests, Scheduler, Task, TaskSet,
+    )
+    from rtdvs.plot import plot_trace, save_trace
+    from rtdvs.rules import Walk, check, explain, simulate
+    from rtdvs.studies import Sweep, compare, evaluate, sensitivity, uunifast
+    from rtdvs.trace import Job, Trace, task_statistics
+
+# Each is imported when it is first asked for, so that a command imports no more than it needs.
+_HOMES = {
+    "engine": "Call Engine admit_call find_engine response_call run_call",
+    "errors":
+        "BadValue DeadlineMissed Denied EngineError FileRefused NoEngine OverWorst Refused RtdvsError "
+        "TimedOut TooManyJobs TraceFault WrongTrace",
+    "hints": "second_line",
+    "model": "PAIRS Deadlines Demands Governor Machine Point Request Requests Scheduler Task TaskSet",
+    "plot": "plot_trace save_trace",
+    "rules": "Walk check explain simulate",
+    "studies": "Sweep compare evaluate sensitivity uunifast",
+    "trace": "Job Trace task_statistics",
+}
+_PACKAGES = {*_HOMES, "board", "export", "web"}
+_HOME_OF = {name: home for home, names in _HOMES.items() for name in names.split()}
+
+
+def __getattr__(name: str) -> Any:
+    """A public name of a package below, or that package itself."""
+    if name in _HOME_OF:
+        return getattr(import_module(f"rtdvs.{_HOME_OF[name]}"), name)
+    if name in _PACKAGES:
+        return import_module(f"rtdvs.{name}")
+    raise AttributeError(f"module 'rtdvs' has no attribute {name!r}")
+
+
+def __dir__() -> list[str]:
+    """The public names, and the packages."""
+    return sorted({*__all__, *_PACKAGES})
+
 
 __all__ = [
     "BadValue",

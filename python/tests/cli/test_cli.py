@@ -35,7 +35,8 @@ def stub(monkeypatch: pytest.MonkeyPatch) -> Stub:
             add_options(parser, ["tasks"], ["machine", "demands"])
             parser.set_defaults(handler=handler)
 
-        monkeypatch.setattr(cli, "COMMANDS", (SimpleNamespace(add_command=add_command),))
+        monkeypatch.setattr(cli, "COMMANDS", {"stub": "stub"})
+        monkeypatch.setitem(sys.modules, "rtdvs.cli.stub", SimpleNamespace(add_command=add_command))
 
     return replace
 
@@ -143,6 +144,23 @@ def test_interrupted(stub: Stub, capsys: Captured) -> None:
     stub(Mock(side_effect=KeyboardInterrupt))
     assert cli.main(["stub", "--tasks", "x"]) == 130
     assert capsys.readouterr() == ("", "")
+
+
+@pytest.mark.parametrize(("command", "others"), [
+    ("explain", {"board", "export", "plot", "studies", "web"}), ("statistics", {"board", "export", "plot", "studies", "web"}),
+    ("simulate", {"board", "export", "plot", "studies", "web"}), ("convert", {"board", "plot", "studies", "web"}),
+    ("compare", {"board", "export", "plot", "web"})])
+def test_a_command_imports_what_it_needs(command: str, others: set[str]) -> None:
+    """No other command, no package that it doesn't use, no server, and no pattern of a line before one is read."""
+    script = ("import sys; from rtdvs.cli.main import main; main([sys.argv[1], '--help']); "
+              "from rtdvs.trace import reader; print(*sorted(sys.modules), reader._line.cache_info().currsize)")
+    made = subprocess.run([sys.executable, "-c", script, command], env={"PYTHONPATH": SOURCE}, capture_output=True,
+                          text=True, check=True)
+    *names, patterns = made.stdout.splitlines()[-1].split()
+    packages = {name.split(".")[1] for name in names if name.startswith("rtdvs.")}
+    commands = {name for name in names if name.startswith("rtdvs.cli.")} - {"rtdvs.cli.main", "rtdvs.cli.options"}
+    assert commands == {f"rtdvs.cli.{cli.COMMANDS[command]}"}
+    assert not packages & others and not {"http.server", "matplotlib", "pandas"} & {*names} and patterns == "0"
 
 
 # Standard streams

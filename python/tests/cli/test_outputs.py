@@ -454,6 +454,30 @@ def test_the_tables_of_an_evaluation(tmp_path: Path, capsys: Captured, monkeypat
         figure: figure_table(panels, places) for figure, panels in FIGURES.items()}
 
 
+OWN = ("evaluate --folder OUT/sweep --sets 1 --counts 1 --utilisations 0.5 --machine OUT/mine.toml --scheduler edf "
+       "--governor OUT/governor.py:full --traces OUT/other")
+
+
+def test_an_evaluation_of_one_s_own(tmp_path: Path, capsys: Captured, monkeypatch: pytest.MonkeyPatch) -> None:
+    """The traces are asked for with their task files; the governor's and theirs are those of the highest speed."""
+    monkeypatch.setattr("rtdvs.cli.evaluate.processes_of", lambda args: ThreadPoolExecutor(1))
+    (tmp_path / "governor.py").write_text("def full(view): return view.plan.machine.top_speed\n")
+    words, trace = OWN.replace("OUT", str(tmp_path)).split(), tmp_path / "other" / "mine" / "1_5_1.trace"
+    assert refusal(capsys, words) == (
+        f"rtdvs: {trace} is missing, and 0 more; the task file of each is there\n")
+    machine = Machine.parse(MY_MACHINE)
+    trace.write_text(simulate(TaskSet.read(trace.with_suffix(".toml")), machine, "edf", 720720, "none").text())
+    assert printed(capsys, words) == "10 lines, 1 groups, 0 denied under RM, 0 faults\n"
+    rows = [line.split("\t") for line in (tmp_path / "sweep" / "own.tsv").read_text().splitlines()]
+    assert [row[:5] for row in rows if row[2:4] == ["0.5", "1"] and row[4] == "1.0000"] == [
+        ["1 tasks, mine", curve, "0.5", "1", "1.0000"] for curve in ("edf none", "rm none", "edf full", "edf other")]
+    (tmp_path / "governor.py").write_text("def full(view): return 1 // 0\n")
+    assert "it has results of" in refusal(capsys, words)
+    words[2] = str(tmp_path / "again")
+    assert refusal(capsys, words) == (
+        "rtdvs: governor full at tick 0: ZeroDivisionError: integer division or modulo by zero\n")
+
+
 def test_wrong_results_are_printed(tmp_path: Path, capsys: Captured, monkeypatch: pytest.MonkeyPatch) -> None:
     """The bound has 0.36 of the energy of `none`, `static` 0.48, and the others 0.18."""
     monkeypatch.setattr(commandline, "find_engine", lambda *words: High(Path("high")))
@@ -551,7 +575,7 @@ def option_words(parser: argparse.ArgumentParser, path: tuple[str, ...] = ()) ->
 def test_each_option_is_in_a_row() -> None:
     """tests/board calls `design`."""
     called = [*(words for words, _ in PRINTED), *(f"{words} --output" for words, *_ in WRITTEN),
-              *(words for words, *_ in EVALUATIONS), GRADES, *UNCHECKED, "serve --port"]
+              *(words for words, *_ in EVALUATIONS), GRADES, OWN, *UNCHECKED, "serve --port"]
     shared = {"--program", "--timeout", "--version"}
     for command, option in option_words(cli.parser()):
         assert command == "design" or option in shared or any(

@@ -79,7 +79,12 @@ USAGE = {
     ],
     "evaluate": [
         ("--folder OUT --utilisations 0.15", "a utilisation is 0.1, 0.2 .. or 1, not 0.15"),
-        ("--folder OUT --counts 6", "invalid choice: 6"),
+        ("--folder OUT --counts 65", "a whole number from 1 to 64, not 65"),
+        ("--folder OUT --governor mine.py", "a governor is FILE.py:NAME, not mine.py"),
+        ("--folder OUT --governor absent.py:f", "absent.py: No such file or directory"),
+        ("--folder OUT --machine absent.toml", "absent.toml: No such file or directory"),
+        ("--folder OUT --machine PAPER/machine.toml examples/../crates/example_runs/data/paper/machine.toml",
+         "two machine files of one name"),
         ("--folder OUT --sets 0", "a whole number from 1 to 999, not 0"),
         ("--folder OUT --draws other", "invalid choice: 'other'"),
         ("--folder OUT --jobs 0", "argument --jobs: a whole number from 1"),

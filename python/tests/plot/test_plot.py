@@ -7,6 +7,7 @@ import xml.etree.ElementTree as ElementTree
 import zlib
 from collections import Counter
 from pathlib import Path
+from typing import Any
 
 import pytest
 from hypothesis import given
@@ -16,8 +17,8 @@ from rtdvs._numbers import readable
 from rtdvs.engine import Engine
 from rtdvs.errors import BadValue
 from rtdvs.plot import (
-    Bar, View, join_narrow, plot_compare, plot_trace, round_step, save_trace, settled, steps, thin,
-    trace_height,
+    Bar, View, join_narrow, parse_means, plot_compare, plot_trace, round_step, save_means, save_trace, settled,
+    steps, thin, trace_height,
 )
 from rtdvs.studies import Result, Row
 from rtdvs.trace import Trace
@@ -255,3 +256,46 @@ def test_readable_is_near(number: int) -> None:
     raised = int(power.translate(str.maketrans("⁰¹²³⁴⁵⁶⁷⁸⁹", "0123456789")) or "0")
     whole, _, places = digits.partition(".")
     assert abs(int(whole + places) * 10 ** (raised - len(places)) - number) * 10**5 <= number
+
+
+# Figures of the evaluation, of any table
+
+LONG = "8 tasks on the machine of a file with a rather long name of its own, and then some more of it"
+
+
+def table_of(*panels: str) -> str:
+    """A table with two curves of other governors in each panel."""
+    rows = [(panel, curve, f"0.{tenth}") for panel in panels for tenth in (2, 7)
+            for curve in ("edf none", "edf la", "edf careful_governor_of_mine", "rm other", "bound")]
+    return "panel\tcurve\tutilisation\tsets\tmean\tlow\thigh\n" + "".join(
+        "\t".join([*row, "9", f"0.{place % 9 + 1}", "0.1", "0.9"]) + "\n" for place, row in enumerate(rows))
+
+
+@pytest.mark.parametrize("panels", [("5 tasks",), (LONG,), (LONG, "a", "b", "c")], ids=["one", "long", "four"])
+@pytest.mark.parametrize("columns", [1, 2, 3, 7])
+def test_each_curve_is_drawn_and_no_text_is_cut(panels: tuple[str, ...], columns: int, tmp_path: Path,
+                                                monkeypatch: pytest.MonkeyPatch) -> None:
+    from matplotlib.backends.backend_agg import FigureCanvasAgg
+    from matplotlib.text import Text
+
+    made: list[Any] = []
+    monkeypatch.setattr("rtdvs.plot.evaluation.save", lambda figure, *rest: made.append(figure))
+    save_means(parse_means(table_of(*panels)), tmp_path / "a.svg", columns)
+    [figure] = made
+    FigureCanvasAgg(figure)
+    figure.draw_without_rendering()
+    for axes in figure.axes:
+        drawn = {line.get_gid(): len(line.get_xdata()) for line in axes.lines}
+        assert [drawn[name] for name in ("bound", "edf-la", "edf-careful_governor_of_mine", "rm-other")] == [2] * 4
+        colours = {line.get_gid(): line.get_color() for line in axes.lines}
+        assert len(set(colours.values())) == 6 and colours == {
+            line.get_gid(): line.get_color() for line in figure.axes[0].lines}
+    [signs] = figure.legends
+    assert {"EDF careful_governor_of_mine", "RM other"} <= {text.get_text() for text in signs.get_texts()}
+    wide, high = figure.canvas.get_width_height()
+    boxes = [(text.get_text(), text.get_window_extent()) for text in figure.findobj(Text) if text.get_text()]
+    outside = [text for text, box in boxes if box.x0 < -1 or box.y0 < -1 or box.x1 > wide + 1 or box.y1 > high + 1]
+    assert not outside
+    titles = [box for text, box in boxes if text.replace("\n", " ") in panels]
+    heading = next(box for text, box in boxes if text.startswith("energy"))
+    assert len(titles) == len(panels) and all(title.y1 <= heading.y0 + 1 for title in titles)

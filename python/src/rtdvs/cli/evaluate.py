@@ -5,6 +5,10 @@ figures, and writes a table for each figure of docs/EVALUATION.md into the folde
 leaves a file for each set, so a sweep that was stopped goes on when the call is made again. A file that was
 changed, or isn't whole, is named and made again. The last line counts what is wrong: a file of another set,
 an energy below the bound or above EDF with none.
+
+With --machine, or with other numbers of tasks, the one figure is own.tsv; the sets are then in proportion to each
+machine's highest speed. --governor and --traces add curves under --scheduler, EDF unless given. A folder of --traces
+has MACHINE/COUNT_TENTHS_NUMBER.trace for each set; for those that are missing the task file is written there.
 """
 
 import argparse
@@ -13,11 +17,14 @@ from pathlib import Path
 
 from rtdvs._files import write_whole
 from rtdvs.cli.options import (
-    Commands, add_engine_options, add_parser, engine_of, exact_fraction, processes_of, progress, whole_number,
+    SCHEDULERS, Commands, add_engine_options, add_parser, engine_of, exact_fraction, processes_of, progress,
+    whole_number,
 )
+from rtdvs.errors import BadValue
+from rtdvs.model import MOST_TASKS, Machine
 from rtdvs.studies import (
-    DRAWS, FIGURES, PUBLISHED_COUNTS, TENTHS, Sweep, broken, evaluate, faults, figure_table, finished,
-    read_records, shares, summary,
+    DRAWS, PUBLISHED_COUNTS, TENTHS, Own, OwnGovernor, OwnTraces, Sweep, broken, evaluate, faults, figure_table,
+    finished, read_records, shares, summary,
 )
 
 
@@ -30,15 +37,25 @@ def add_command(commands: Commands) -> None:
     ['evaluate']
     """
     parser = add_parser(commands, "evaluate", _handle, "energy over utilisation, of random sets",
-                        "evaluate --folder sweep --jobs 4 --counts 5 --utilisations 0.1 0.2")
+                        "evaluate --folder sweep --jobs 4 --counts 5 --utilisations 0.1 0.2\n"
+                        "evaluate --folder mine --counts 6 12 --machine board.toml --governor mine.py:careful")
     parser.add_argument("--folder", type=Path, required=True, help="where results and tables are kept")
     parser.add_argument("--sets", type=whole_number(1, 999), default=100, metavar="N",
                         help="for each number of tasks and each utilisation; 100 unless given")
     parser.add_argument("--draws", choices=list(DRAWS), default="published", help="published unless given")
-    parser.add_argument("--counts", type=int, choices=PUBLISHED_COUNTS, nargs="+", default=PUBLISHED_COUNTS,
-                        help="the numbers of tasks; all unless given")
+    parser.add_argument("--counts", type=whole_number(1, MOST_TASKS), nargs="+", default=PUBLISHED_COUNTS,
+                        metavar="N",
+                        help="the numbers of tasks; 5, 8, 10 and 15 unless given")
     parser.add_argument("--utilisations", type=tenth, nargs="+", default=TENTHS, metavar="U",
                         help="tenths from 0.1 to 1; all unless given")
+    parser.add_argument("--machine", type=Path, nargs="+", default=[], metavar="FILE",
+                        help="machine files of your own")
+    parser.add_argument("--scheduler", choices=SCHEDULERS, default="edf",
+                        help="that of the next two; edf unless given")
+    parser.add_argument("--governor", nargs="+", default=[], metavar="FILE.py:NAME",
+                        help="functions of files of Python, as for rtdvs.simulate")
+    parser.add_argument("--traces", type=Path, nargs="+", default=[], metavar="FOLDER",
+                        help="traces by other simulators")
     add_engine_options(parser, jobs=True)
 
 
@@ -54,18 +71,37 @@ def tenth(word: str) -> int:
     return int(tenths)
 
 
+def own_of(args: argparse.Namespace) -> Own:
+    """The machines, governors and traces of the options; raises BadValue, Refused and OSError.
+
+    >>> words = {"machine": [], "scheduler": "edf", "governor": ["mine.py"], "traces": []}
+    >>> own_of(argparse.Namespace(**words))
+    Traceback (most recent call last):
+    rtdvs.errors.BadValue: a governor is FILE.py:NAME, not mine.py
+    """
+    machines = {path.stem: Machine.read(path) for path in args.machine}
+    if len(machines) < len(args.machine):
+        raise BadValue("two machine files of one name")
+    governors = tuple(map(OwnGovernor.parse, args.governor))
+    for governor in governors:
+        governor.chooser()
+    return Own(machines, args.scheduler, governors, tuple(map(OwnTraces, args.traces)))
+
+
 def _handle(args: argparse.Namespace) -> int:
-    sweep = Sweep(args.draws, args.sets, counts=args.counts, tenths=args.utilisations)
+    sweep = Sweep(args.draws, args.sets, counts=args.counts, tenths=args.utilisations, own=own_of(args))
+    if missing := sweep.missing():
+        raise BadValue(f"{missing[0]} is missing, and {len(missing) - 1} more; the task file of each is there")
     total = len(set(args.counts)) * len(set(args.utilisations)) * args.sets
-    for line in broken(args.folder):
+    for line in broken(args.folder, sweep):
         print(f"{line}; it is made again if the sweep has it", file=sys.stderr)
     with processes_of(args) as executor:
         for _ in progress(evaluate(engine_of(args), args.folder, sweep, executor), total, "sets"):
             pass
-    records = read_records(args.folder, finished(args.folder))
+    records = read_records(args.folder, finished(args.folder, sweep), sweep)
     found = shares(records)
-    for figure, panels in FIGURES.items():
-        write_whole(args.folder / f"{figure}.tsv", figure_table(panels, found))
-    wrong = [*broken(args.folder), *faults(records)]
+    for figure, panels in sweep.figures().items():
+        write_whole(args.folder / f"{figure}.tsv", figure_table(panels, found, sweep.curves()))
+    wrong = [*broken(args.folder, sweep), *faults(records, sweep)]
     print(*wrong, summary(records, wrong), sep="\n")
     return 2 if wrong else 0

@@ -28,7 +28,6 @@ from rtdvs._files import write_whole
 from rtdvs.cli.options import Commands, add_files, add_parser, open_input, read_files, read_text
 from rtdvs.errors import BadValue, WrongTrace
 from rtdvs.rules import Walk, explain, last_line
-from rtdvs.studies import Asked, expected, grades, handed_in
 from rtdvs.trace import Trace, lines_of
 
 
@@ -46,6 +45,8 @@ def _handle(args: argparse.Namespace) -> int:
         try:
             summary = explain(Walk(tasks, machine, lines, demands, args.any), None if args.quiet else print)
         except WrongTrace as fault:
+            from rtdvs.studies import expected  # here, so that a right trace needs no study
+
             sys.stdout.flush()
             form = expected(fault.line, latest[0]) if latest else ""
             print(fault, *[f"  {form}"][:len(form)], sep="\n", file=sys.stderr)
@@ -64,6 +65,8 @@ def _kept(lines: Iterable[str], latest: list[str]) -> Iterator[str]:
 def _graded(args: argparse.Namespace) -> int:
     if args.any or args.quiet:
         raise BadValue("--grade takes neither --any nor --quiet")
+    from rtdvs.studies import Asked, grades, handed_in
+
     tasks, machine, demands = read_files(args)
     solution = None if args.trace is None else Trace.parse(read_text(args.trace, "trace"))
     try:

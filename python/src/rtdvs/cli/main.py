@@ -6,14 +6,9 @@ import signal
 import sys
 from collections.abc import Iterator, Sequence
 from contextlib import contextmanager
-from pathlib import Path
-from types import ModuleType
+from importlib import import_module
 
 from rtdvs._version import __version__
-from rtdvs.cli import (
-    compare, convert, design, evaluate, explain, generate, page, paper_table, per_task, plot, sensitivity,
-    serve, simulate,
-)
 from rtdvs.cli.options import engine_of
 from rtdvs.cli.program import hand_on
 from rtdvs.engine import end_calls, wait_for_calls
@@ -23,10 +18,12 @@ from rtdvs.hints import COMMANDS as PROGRAM, FILES, second_line
 SIGNALS = (signal.SIGINT, signal.SIGTERM, signal.SIGHUP)
 PERIOD = 0.25  # seconds after which a process that waits looks for signals again
 GRACE = 2.0  # seconds for an orderly end
-COMMANDS: tuple[ModuleType, ...] = (
-    explain, simulate, per_task, compare, sensitivity, generate, evaluate, paper_table, design, plot,
-    convert, page, serve,
-)
+COMMANDS = {
+    "explain": "explain", "simulate": "simulate", "statistics": "per_task", "compare": "compare",
+    "sensitivity": "sensitivity", "generate": "generate", "evaluate": "evaluate", "paper-table": "paper_table",
+    "design": "design", "plot": "plot", "convert": "convert", "page": "page", "serve": "serve",
+}
+"""The module of each command."""
 
 
 MODULE = "python3 -m rtdvs"
@@ -36,8 +33,8 @@ EPILOG = f"""commands of the program, with its options, output and exit status:
 docs/COMMANDS.md has an example of each of these, docs/FORMATS.md the files. simulate needs no program."""
 
 
-def parser(name: str = MODULE) -> argparse.ArgumentParser:
-    """The parser of all commands of the package, for a command line that begins with this name.
+def parser(name: str = MODULE, command: str = "") -> argparse.ArgumentParser:
+    """The parser of a command, of which only its module is imported, or of all, for a line that begins with this name.
 
     >>> parser().parse_args("generate published --count 5 --tenths 2 --number 1".split()).tenths
     2
@@ -46,8 +43,8 @@ def parser(name: str = MODULE) -> argparse.ArgumentParser:
                                   formatter_class=argparse.RawDescriptionHelpFormatter)
     top.add_argument("--version", action="version", version=f"rtdvs {__version__}")
     commands = top.add_subparsers(title="commands", metavar="COMMAND", required=True)
-    for module in COMMANDS:
-        module.add_command(commands)
+    for each in [command] if command in COMMANDS else COMMANDS:
+        import_module(f"rtdvs.cli.{COMMANDS[each]}").add_command(commands)
     return top
 
 
@@ -85,7 +82,7 @@ def _handled(words: Sequence[str], name: str, args: argparse.Namespace) -> int:
     try:
         if words and words[0] in PROGRAM:
             return hand_on(words, engine_of(argparse.Namespace(program=None, timeout=None)))
-        top = parser(name)
+        top = parser(name, *words[:1])
         top.parse_args(words or ["--help"], args)
         lists = (value if isinstance(value, list) else [value] for value in vars(args).values())
         if sum(isinstance(value, bytes) for values in lists for value in values) > 1:

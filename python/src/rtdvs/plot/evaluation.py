@@ -1,7 +1,8 @@
 """Pictures of the evaluation's tables."""
 
 import csv
-from collections.abc import Sequence
+import textwrap
+from collections.abc import Iterable, Mapping, Sequence
 from dataclasses import dataclass
 from fractions import Fraction
 from pathlib import Path
@@ -51,8 +52,15 @@ def parse_means(text: str) -> tuple[Mean, ...]:
         raise BadValue("table: a row isn't a point") from None
 
 
+LETTER, WIDE_LETTER = 5.8, 7    # room for a letter of small text, and of a panel's title
+SIGN = 50                       # of a legend, without its text
+HEADING_PARTS = ("energy, as a share of EDF with none,", "over worst-case utilisation;",
+                 "numbers at RM: sets that it admits")
+HEADING = " ".join(HEADING_PARTS)
+
 # The curves: colour, marker, whether dashed, and pixels to the right, so that bars don't hide each other.
-CURVES = {
+Look = tuple[str, str, bool, int]
+CURVES: dict[str, Look] = {
     "bound": (INK, "", True, 0),
     "edf static": (TIME, "o", False, -2),
     "rm static": (TIME, "o", True, 4),
@@ -60,13 +68,27 @@ CURVES = {
     "rm cc": (ENERGY, "s", True, 6),
     "edf la": (BOUND, "D", False, 2),
 }
+WHOLE = ("edf none", "rm none")  # the line at 1
+MORE = (("#c04aa8", "^"), ("#a08a00", "v"), ("#2a9fb5", "P"), ("#9c7350", "X"), ("#6f7fd8", "*"))
 
 
-def plot_means(means: Sequence[Mean], axes: "Axes") -> None:
+def looks(means: Iterable[Mean]) -> dict[str, Look]:
+    """How each curve of a table is drawn: those of the pairs, and any others that it has.
+
+    >>> [*looks([Mean("5 tasks", "edf mine", Fraction(1), sets=0, energies=())])][-1]
+    'edf mine'
+    """
+    others = [curve for curve in dict.fromkeys(mean.curve for mean in means) if curve not in {*CURVES, *WHOLE}]
+    own = {curve: (*MORE[place % len(MORE)], place >= len(MORE), 8 + 2 * place) for place, curve in enumerate(others)}
+    return CURVES | own
+
+
+def plot_means(means: Sequence[Mean], axes: "Axes", curves: Mapping[str, Look] | None = None) -> None:
     """Draws a panel of the evaluation: mean energies over utilisation, the middle 80 % as bars, the sets
     that RM admits.
 
-    A curve has no point if fewer than a tenth of the sets are admitted.
+    A curve has no point if fewer than a tenth of the sets are admitted. `curves` are those of the whole figure,
+    by `looks`, so that each has one colour in all panels.
 
     >>> axes = new_figure(96, 96).add_subplot()
     >>> plot_means([Mean("5 tasks", "bound", Fraction(1, 10), 100, 3 * (Fraction(1, 2),))], axes)
@@ -82,15 +104,17 @@ def plot_means(means: Sequence[Mean], axes: "Axes") -> None:
                     [f"{decimal(tenth, 1)}\n{admitted.get(tenth, 0)}" for tenth in tenths], fontsize=SMALL)
     axes.set_yticks([0, 0.2, 0.4, 0.6, 0.8, 1], ["0.0", "0.2", "0.4", "0.6", "0.8", "1.0"], fontsize=SMALL)
     beside(axes, (0, 0), (-6, -24), "RM", ha="right")
-    axes.set_title(means[0].panel if means else "", fontsize=TEXT, color=INK)
+    title = means[0].panel if means else ""
+    lines = textwrap.wrap(title, int(270 / LETTER)) if len(title) > 270 / WIDE_LETTER else [title]
+    axes.set_title("\n".join(lines), fontsize=SMALL if lines[1:] else TEXT, color=INK)
     axes.hlines(1, 0.1, 1, color=INK, linewidth=1.5 * POINT, clip_on=False)
-    for curve in CURVES:
-        _draw_curve(axes, curve, [mean for mean in means if mean.curve == curve and mean.energies
-                                  and 10 * mean.sets >= sets.get(mean.utilisation, 0)])
+    for curve, look in (curves or looks(means)).items():
+        _draw_curve(axes, curve, look, [mean for mean in means if mean.curve == curve and mean.energies
+                                        and 10 * mean.sets >= sets.get(mean.utilisation, 0)])
 
 
-def _draw_curve(axes: "Axes", curve: str, means: Sequence[Mean]) -> None:
-    colour, _, _, shift = CURVES[curve]
+def _draw_curve(axes: "Axes", curve: str, look: Look, means: Sequence[Mean]) -> None:
+    colour, _, _, shift = look
     width = axes.get_position().width * axes.figure.get_figwidth() / PIXEL / 1.03
     places = [float(mean.utilisation) + shift / width for mean in means]
     bars = [(place, *map(float, mean.energies[1:])) for place, mean in zip(places, means)
@@ -98,11 +122,11 @@ def _draw_curve(axes: "Axes", curve: str, means: Sequence[Mean]) -> None:
     axes.vlines(*(zip(*bars) if bars else ([], [], [])), color=colour, alpha=0.75, linewidth=1.2 * POINT,
                 clip_on=False)
     axes.plot(places, [float(mean.energies[0]) for mean in means], color=colour, clip_on=False,
-              gid=curve.replace(" ", "-"), **_style(curve))
+              gid=curve.replace(" ", "-"), **_style(curve, look))
 
 
-def _style(curve: str) -> dict[str, Any]:
-    colour, marker, is_dashed, _ = CURVES[curve]
+def _style(curve: str, look: Look) -> dict[str, Any]:
+    colour, marker, is_dashed, _ = look
     dashes = (0, (1, 1.5)) if curve == "bound" else (0, (3, 2)) if is_dashed else "-"
     return {"linestyle": dashes, "linewidth": (2 if curve == "bound" else 1.6) * POINT, "marker": marker,
             "markersize": 6 * POINT, "markerfacecolor": "none" if is_dashed else colour,
@@ -120,25 +144,28 @@ def save_means(means: Sequence[Mean], path: Path, columns: int = 3, background: 
     """
     with settings():
         panels = list(dict.fromkeys(mean.panel for mean in means))
+        columns = min(columns, max(1, len(panels)))
         wide, rows = 44 + columns * 314, -(-len(panels) // columns)
-        heading, above, below, signs_in_row = _around(columns)
+        curves = looks(means)
+        signs = [sign("none", INK, linewidth=1.5 * POINT)]
+        signs += [sign(curve.replace("edf", "EDF").replace("rm", "RM"), look[0], **_style(curve, look))
+                  for curve, look in curves.items()]
+        heading, above, below, signs_in_row = _around(columns, wide, [each.get_label() for each in signs])
         high = above + rows * 290 + below
         figure = new_figure(wide, high)
         for place, panel in enumerate(panels):
             left, top = 44 + place % columns * 314, above + place // columns * 290
             axes = figure.add_axes((left / wide, 1 - (top + 230) / high, 270 / wide, 230 / high))
-            plot_means([mean for mean in means if mean.panel == panel], axes)
+            plot_means([mean for mean in means if mean.panel == panel], axes, curves)
         figure.text(14 / wide, 1 - 6 / high, heading, fontsize=SMALL, color=INK, va="top")
-        signs = [sign("none", INK, linewidth=1.5 * POINT)]
-        signs += [sign(curve.replace("edf", "EDF").replace("rm", "RM"), CURVES[curve][0], **_style(curve))
-                  for curve in CURVES]
         legend(figure, signs, signs_in_row, loc="lower left", handlelength=3, borderaxespad=0.3)
         save(figure, path, background)
 
 
-def _around(columns: int) -> tuple[str, int, int, int]:
+def _around(columns: int, wide: float, labels: Sequence[str]) -> tuple[str, int, int, int]:
     """The heading, the pixels above the panels and below them, and the signs in a row of the legend."""
-    gap = "\n" if columns == 1 else " "
-    heading = gap.join(("energy, as a share of EDF with none,", "over worst-case utilisation;",
-                        "numbers at RM: sets that it admits"))
-    return heading, *((76, 76, 2) if columns == 1 else (52, 40, 4) if columns == 2 else (52, 20, 7))
+    heading = "\n".join(textwrap.wrap(HEADING, int((wide - 28) / LETTER))) if columns > 1 else "\n".join(HEADING_PARTS)
+    longest = max(map(len, labels))
+    in_row = min({1: 2, 2: 4}.get(columns, 7), max(1, int(wide / (SIGN + LETTER * longest))))
+    rows = -(-len(labels) // in_row)
+    return heading, 40 + 12 * (heading.count("\n") + 1), (19 if columns == 1 else 20) * rows, in_row

@@ -12,6 +12,7 @@ from rtdvs.studies.evaluation import (
 )
 from rtdvs.studies.exercises import BOARD, Exercise, exercise, small_sets
 from rtdvs.studies.grading import Asked, Grade, Grades, expected, grade, grades, handed_in, mended
+from rtdvs.studies.own import Own, OwnGovernor, OwnTraces, scaled_to
 from rtdvs.studies.paper_table import (
     FINER, PAPER_EXAMPLE, PAPER_PAIRS, PUBLISHED, paper_line, paper_lines, paper_shares,
 )
@@ -46,6 +47,9 @@ __all__ = [
     "LogUniform",
     "MACHINES",
     "MOST_SEED",
+    "Own",
+    "OwnGovernor",
+    "OwnTraces",
     "PAIRS",
     "PAPER_EXAMPLE",
     "PAPER_PAIRS",
@@ -109,6 +113,7 @@ __all__ = [
     "result_of",
     "result_text",
     "runs",
+    "scaled_to",
     "sensitivity",
     "set_names",
     "shares",

@@ -15,6 +15,7 @@ from rtdvs.engine import Engine
 from rtdvs.errors import BadValue, Denied
 from rtdvs.model import Demands, Machine, Point, TaskSet
 from rtdvs.studies.comparison import PAIRS, Case, energy_of, runs
+from rtdvs.studies.own import Own, scaled_to
 from rtdvs.studies.published import (
     PUBLISHED_COUNTS, PUBLISHED_SEED, PUBLISHED_TOP, SetName, published_sets,
     uunifast_sets,
@@ -77,6 +78,9 @@ MACHINES = {
 class Sweep:
     """How sets are drawn, and which are run: their numbers of tasks, and utilisations in tenths.
 
+    With own machines, or with other numbers of tasks than the published ones, there is one figure, `own`. The
+    worst cases of the sets are then in proportion to the machine's highest speed.
+
     >>> [str(name) for name, tasks in Sweep(most=2, counts=[8], tenths=[7]).sets()]
     ['8_7_1', '8_7_2']
     """
@@ -86,10 +90,51 @@ class Sweep:
     seed: int = PUBLISHED_SEED
     counts: Collection[int] = PUBLISHED_COUNTS
     tenths: Collection[int] = TENTHS
+    own: Own = Own()
+
+    def figures(self) -> Mapping[str, tuple[Panel, ...]]:
+        """The figures, by their names.
+
+        >>> Sweep(counts=[6]).figures()["own"]
+        (Panel(count=6, machine='table1_idle0', take='1', title='6 tasks, table1_idle0'),)
+        """
+        if not self.own.machines and {*self.counts} <= {*PUBLISHED_COUNTS}:
+            return FIGURES
+        return {"own": tuple(Panel(count, name, "1", f"{count} tasks, {name}")
+                             for name in self.own.machines or ("table1_idle0",) for count in sorted({*self.counts}))}
+
+    def machine(self, name: str) -> Machine:
+        """The machine of that name.
+
+        >>> Sweep().machine("table1_idle10").idle
+        10
+        """
+        return self.own.machines.get(name) or MACHINES[name]
+
+    def curves(self) -> tuple[str, ...]:
+        """The curves of each panel: those of the pairs, the bound, and the user's own.
+
+        >>> Sweep().curves() == CURVES
+        True
+        """
+        return (*CURVES, *self.own.curves())
+
+    def case(self, name: SetName, tasks: TaskSet, kind: str, take: str) -> Case:
+        """The run of a set on a machine, in which jobs take a share of their worst cases."""
+        machine = self.machine(kind)
+        fitted = scaled_to(tasks, machine.top_speed, PUBLISHED_TOP) if kind in self.own.machines else tasks
+        return Case(fitted, machine, PUBLISHED_TICKS, demands_of(name, fitted, take, self.seed))
+
+    def missing(self) -> list[Path]:
+        """The own traces that aren't there; the task file of each is written beside it; raises OSError."""
+        panels = [panel for figure in self.figures().values() for panel in figure] if self.own.traces else []
+        return [path for panel in panels for traces in self.own.traces for path in traces.missing(
+            panel.machine, {name: self.case(name, tasks, panel.machine, panel.take).tasks
+                            for name, tasks in self.sets() if name.count == panel.count})]
 
     def sets(self) -> Iterator[tuple[SetName, TaskSet]]:
         """The sets that are run, by name."""
-        return ((name, tasks) for name, tasks in DRAWS[self.draws](self.most, self.seed)
+        return ((name, tasks) for name, tasks in DRAWS[self.draws](self.most, self.seed, self.counts)
                 if name.count in self.counts and name.tenths in self.tenths)
 
     def text(self) -> str:
@@ -98,7 +143,10 @@ class Sweep:
         >>> Sweep().text()
         '100 published sets a point by seed 2001\\n'
         """
-        return f"{self.most} {self.draws} sets a point by seed {self.seed}\n"
+        return f"{self.most} {self.draws} sets a point by seed {self.seed}\n{self.own.mark()}"
+
+
+PUBLISHED_SWEEP = Sweep()
 
 
 @dataclass(frozen=True, slots=True)
@@ -144,13 +192,13 @@ def demands_of(name: SetName, tasks: TaskSet, take: str, seed: int) -> Demands |
     return taken(tasks, Fraction(take), PUBLISHED_TICKS)
 
 
-def panels_of(name: SetName) -> tuple[tuple[str, str], ...]:
+def panels_of(name: SetName, sweep: Sweep = PUBLISHED_SWEEP) -> tuple[tuple[str, str], ...]:
     """The machines and shares for which the figures need a set.
 
     >>> panels_of(SetName(5, 1, 1))
     (('table1_idle0', '1'),)
     """
-    panels = (panel for figure in FIGURES.values() for panel in figure)
+    panels = (panel for figure in sweep.figures().values() for panel in figure)
     return tuple(dict.fromkeys((panel.machine, panel.take) for panel in panels if panel.count == name.count))
 
 
@@ -179,27 +227,43 @@ def recount(board: Machine, text: str) -> None:
             raise AssertionError(f"{what} {found}, counted {wanted}")
 
 
-def measure(engine: Engine, seed: int, named: tuple[SetName, TaskSet]) -> list[Record]:
-    """All runs of one set; those of a set with number 1 are recounted. Raises refusals other than RM's.
+def measure(engine: Engine, sweep: Sweep, named: tuple[SetName, TaskSet]) -> list[Record]:
+    """All runs of one set; those of a set with number 1 are recounted.
+
+    Raises refusals other than RM's, and than EDF's of a machine with a charge; BadValue and OSError for own curves.
 
     >>> from rtdvs import Task, find_engine
     >>> named = SetName(5, 1, 2), TaskSet((Task("a", 10010, 10**8),))
-    >>> [record.curve for record in measure(find_engine(), 2001, named)][:3]
+    >>> [record.curve for record in measure(find_engine(), Sweep(), named)][:3]
     ['bound', 'edf none', 'edf static']
     """
     name, tasks = named
-    cases = ((kind, take, Case(tasks, MACHINES[kind], PUBLISHED_TICKS, demands_of(name, tasks, take, seed)))
-             for kind, take in panels_of(name))
-    return [Record(name, kind, take, curve, energy) for kind, take, case in cases
-            for curve, energy in _energies(engine, case, name.number == 1)]
+    return [Record(name, kind, take, curve, energy)
+            for kind, take in panels_of(name, sweep)
+            for curve, energy in _all_energies(engine, sweep, name, sweep.case(name, tasks, kind, take), kind)]
+
+
+def _all_energies(engine: Engine, sweep: Sweep, name: SetName, case: Case,
+                  kind: str) -> Iterator[tuple[str, Fraction | None]]:
+    """The energies of the pairs, and those of the user's own curves, unless their scheduler denies the set."""
+    denied = set[str]()
+    for curve, energy in _energies(engine, case, name.number == 1):
+        if energy is None:
+            denied.add(curve.split(" ")[0])
+        yield curve, energy
+    if sweep.own.scheduler in denied:
+        yield from ((curve, None) for curve in sweep.own.curves())
+    else:
+        yield from sweep.own.energies(case, kind, name)
 
 
 def _energies(engine: Engine, case: Case, recounted: bool = False) -> Iterator[tuple[str, Fraction | None]]:
     """The energy of each curve: the seven pairs, and the bound for their units, which all pairs share."""
     for (scheduler, governor), text in zip(PAIRS, runs(engine, case, PAIRS)):
         if isinstance(text, Denied):
-            if scheduler == "edf":
+            if scheduler == "edf" and not case.machine.charge:
                 raise text
+            yield from ((("bound", None),) if (scheduler, governor) == PAIRS[0] else ())
             yield f"{scheduler} {governor}", None
             continue
         if recounted:
@@ -239,10 +303,10 @@ def evaluate(engine: Engine, folder: Path, sweep: Sweep,
     waiting: dict[Future[list[Record]], SetName] = {}
     try:
         for name, tasks in sweep.sets():
-            if result_of(folder, name) is not None:
+            if result_of(folder, name, sweep) is not None:
                 yield name
             else:
-                waiting[executor.submit(measure, engine, sweep.seed, (name, tasks))] = name
+                waiting[executor.submit(measure, engine, sweep, (name, tasks))] = name
         for future in as_completed(waiting):
             write_whole(_result_file(folder, waiting[future]), result_text(future.result()))
             yield waiting[future]
@@ -276,7 +340,7 @@ def result_text(records: Iterable[Record]) -> str:
     return f"{lines}sum\t{crc32(lines.encode()):08x}\n"
 
 
-def result_of(folder: Path, name: SetName) -> list[Record] | None:
+def result_of(folder: Path, name: SetName, sweep: Sweep = PUBLISHED_SWEEP) -> list[Record] | None:
     """A set's result if it is whole: all its runs, each once, and as they were written; raises OSError.
 
     >>> result_of(Path("absent"), SetName(8, 7, 1)) is None
@@ -289,11 +353,11 @@ def result_of(folder: Path, name: SetName) -> list[Record] | None:
     except (ArithmeticError, ValueError):
         return None
     found = sorted((record.name, record.machine, record.take, record.curve) for record in records)
-    wanted = sorted((name, *panel, curve) for panel in panels_of(name) for curve in CURVES)
+    wanted = sorted((name, *panel, curve) for panel in panels_of(name, sweep) for curve in sweep.curves())
     return records if found == wanted and text == result_text(records) else None
 
 
-def read_records(folder: Path, names: Iterable[SetName]) -> list[Record]:
+def read_records(folder: Path, names: Iterable[SetName], sweep: Sweep = PUBLISHED_SWEEP) -> list[Record]:
     """The results of these sets, in their order; raises OSError, and BadValue for one that isn't whole.
 
     >>> read_records(Path("sweep"), [SetName(8, 7, 1)])
@@ -302,31 +366,31 @@ def read_records(folder: Path, names: Iterable[SetName]) -> list[Record]:
     """
     found: list[Record] = []
     for name in names:
-        records = result_of(folder, name)
+        records = result_of(folder, name, sweep)
         if records is None:
             raise BadValue(f"{_result_file(folder, name)}: {NOT_WHOLE}")
         found += records
     return found
 
 
-def finished(folder: Path) -> list[SetName]:
+def finished(folder: Path, sweep: Sweep = PUBLISHED_SWEEP) -> list[SetName]:
     """The sets that have whole results in the folder, in order; raises OSError.
 
     >>> finished(Path("absent"))
     []
     """
     named = (_name_of(file) for file in _files(folder))
-    return sorted(name for name in named if name is not None and result_of(folder, name) is not None)
+    return sorted(name for name in named if name is not None and result_of(folder, name, sweep) is not None)
 
 
-def broken(folder: Path) -> list[str]:
+def broken(folder: Path, sweep: Sweep = PUBLISHED_SWEEP) -> list[str]:
     """A line for each file of results that isn't the whole result of a set; raises OSError.
 
     >>> broken(Path("absent"))
     []
     """
     named = ((file, _name_of(file)) for file in _files(folder))
-    return [f"{file}: {NOT_WHOLE}" for file, name in named if name is None or result_of(folder, name) is None]
+    return [f"{file}: {NOT_WHOLE}" for file, name in named if name is None or result_of(folder, name, sweep) is None]
 
 
 def _files(folder: Path) -> list[Path]:
@@ -360,14 +424,15 @@ def shares(records: Iterable[Record]) -> dict[Place, list[Fraction]]:
     base = {(row.name, row.machine, row.take): row.energy for row in rows if row.curve == CURVES[0]}
     found: defaultdict[Place, list[Fraction]] = defaultdict(list)
     for row in rows:
-        whole = base[row.name, row.machine, row.take]
+        whole = base.get((row.name, row.machine, row.take))
         if row.energy is not None and whole:
             name = row.name
             found[name.count, row.machine, row.take, row.curve, name.tenths].append(row.energy / whole)
     return {point: sorted(energies) for point, energies in found.items()}
 
 
-def figure_table(panels: Iterable[Panel], found: Mapping[Place, list[Fraction]]) -> str:
+def figure_table(panels: Iterable[Panel], found: Mapping[Place, list[Fraction]],
+                 curves: Iterable[str] = CURVES) -> str:
     r"""The table of a figure: a line for each panel, curve and utilisation.
 
     It has the number of sets that were admitted, the mean over them and the ends of the middle 80 %, each
@@ -376,9 +441,10 @@ def figure_table(panels: Iterable[Panel], found: Mapping[Place, list[Fraction]])
     >>> figure_table(FIGURES["tasks"], {}).splitlines()[1]
     '5 tasks\tedf none\t0.1\t0\t\t\t'
     """
+    curves = [*curves]
     lines = (f"{panel.title}\t{curve}\t{decimal(Fraction(tenths, 10), 1)}\t"
              + point(found.get((panel.count, panel.machine, panel.take, curve, tenths), []))
-             for panel in panels for curve in CURVES for tenths in TENTHS)
+             for panel in panels for curve in curves for tenths in TENTHS)
     return "panel\tcurve\tutilisation\tsets\tmean\tlow\thigh\n" + "".join(lines)
 
 
@@ -398,7 +464,7 @@ def point(rising: list[Fraction]) -> str:
 # What has to hold
 
 
-def faults(records: Iterable[Record]) -> Iterator[str]:
+def faults(records: Iterable[Record], sweep: Sweep = PUBLISHED_SWEEP) -> Iterator[str]:
     """What is wrong with results, a line each.
 
     Each set has all its runs. No energy is below the bound; with the idle share 0 none is above that of EDF
@@ -412,17 +478,18 @@ def faults(records: Iterable[Record]) -> Iterator[str]:
         groups[record.name, record.machine, record.take][record.curve] = record.energy
     for (name, kind, take), by_curve in groups.items():
         place = f"{name} {kind} {take}"
-        if sorted(by_curve) != sorted(CURVES):
+        board = sweep.machine(kind)
+        if sorted(by_curve) != sorted(sweep.curves()):
             yield f"{place}: runs are missing"
             continue
         base, bound = by_curve[CURVES[0]], by_curve["bound"]
         for curve, energy in by_curve.items():
             if energy is None or base is None or bound is None:
-                if not curve.startswith("rm "):
+                if not curve.startswith("rm ") and not board.charge:
                     yield f"{place}: {curve}: it is denied"
             elif energy < bound:
                 yield f"{place}: {curve}: below the bound"
-            elif kind.endswith("idle0") and energy > base:
+            elif not board.idle and energy > base:
                 yield f"{place}: {curve}: above EDF with none"
 
 

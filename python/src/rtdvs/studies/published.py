@@ -1,13 +1,14 @@
 """The random task sets of the published evaluation."""
 
-from collections.abc import Iterator
+from collections.abc import Collection, Iterable, Iterator
 from dataclasses import dataclass
 from fractions import Fraction
 from math import floor
 
 from rtdvs.model import TaskSet
 from rtdvs.studies.random_sets import (
-    MODULUS, PUBLISHED_TICKS, LogUniform, divisors, drawn, nearest, numbered, states, uunifast,
+    MODULUS, PUBLISHED_TICKS, LogUniform, divisors, drawn, nearest, numbered, states, unrelated_states,
+    uunifast,
 )
 
 PUBLISHED_SEED = 2001
@@ -16,6 +17,7 @@ PUBLISHED_MILLISECOND = 400
 """In ticks."""
 PUBLISHED_TOP = 100_000
 """The highest speed of the published machines, in work units per tick."""
+OWN_SEEDS = 10**9  # above the seeds of demands
 
 
 @dataclass(frozen=True, slots=True, order=True)
@@ -44,14 +46,14 @@ class SetName:
         return ((seed * 20 + self.count) * 11 + self.tenths) * 1000 + self.number
 
 
-def set_names(most: int) -> Iterator[SetName]:
+def set_names(most: int, counts: Iterable[int] = PUBLISHED_COUNTS) -> Iterator[SetName]:
     """The sets of an evaluation, `most` for each number of tasks and utilisation, in the order of the draws.
 
     >>> len(list(set_names(100)))
     4000
     """
     return (SetName(count, tenths, number)
-            for count in PUBLISHED_COUNTS for tenths in range(1, 11) for number in range(1, most + 1))
+            for count in counts for tenths in range(1, 11) for number in range(1, most + 1))
 
 
 def published_time(stream: Iterator[int]) -> Fraction:
@@ -81,24 +83,30 @@ def published_set(count: int, tenths: int, stream: Iterator[int]) -> TaskSet:
     return numbered([period for period, _ in pairs], worsts)
 
 
-def published_sets(most: int, seed: int = PUBLISHED_SEED) -> Iterator[tuple[SetName, TaskSet]]:
+def published_sets(most: int, seed: int = PUBLISHED_SEED,
+                   counts: Collection[int] = PUBLISHED_COUNTS) -> Iterator[tuple[SetName, TaskSet]]:
     """The sets of the published evaluation with `most` for each number of tasks and each utilisation.
 
-    All come from one seed, one after the other, so a set depends on `most`.
+    All come from one seed, one after the other, so a set depends on `most`. Those of other numbers of tasks come
+    after them, each by a seed of its own.
 
     >>> next(published_sets(100))[1].named("t1").period
     936
     """
     stream = states(seed)
-    return ((name, published_set(name.count, name.tenths, stream)) for name in set_names(most))
+    if not {*PUBLISHED_COUNTS}.isdisjoint(counts):
+        yield from ((name, published_set(name.count, name.tenths, stream)) for name in set_names(most))
+    for name in set_names(most, sorted({*counts} - {*PUBLISHED_COUNTS})):
+        yield name, published_set(name.count, name.tenths, unrelated_states(OWN_SEEDS + name.seed(seed)))
 
 
-def uunifast_sets(most: int, seed: int = PUBLISHED_SEED) -> Iterator[tuple[SetName, TaskSet]]:
+def uunifast_sets(most: int, seed: int = PUBLISHED_SEED,
+                  counts: Collection[int] = PUBLISHED_COUNTS) -> Iterator[tuple[SetName, TaskSet]]:
     """Sets by UUniFast with the published range of periods, each by a seed of its own that no demands have.
 
     >>> next(uunifast_sets(1))[1].named("t1").period
     30030
     """
     periods = LogUniform(PUBLISHED_MILLISECOND, 1000 * PUBLISHED_MILLISECOND, PUBLISHED_TICKS)
-    return ((name, uunifast(name.count, Fraction(name.tenths, 10), 10**9 + name.seed(seed), periods,
-                            PUBLISHED_TOP)) for name in set_names(most))
+    return ((name, uunifast(name.count, Fraction(name.tenths, 10), OWN_SEEDS + name.seed(seed), periods,
+                            PUBLISHED_TOP)) for name in set_names(most, sorted({*counts})))

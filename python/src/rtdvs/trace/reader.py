@@ -43,7 +43,11 @@ def _at(place: str) -> Position:
     return Position(int(tick), int(offset))
 
 
-_PLAN = re.compile(f"plan {_NAME} {_NAME} ({_up_to(MOST_TICKS)})\n")
+@cache
+def _plan() -> re.Pattern[str]:
+    return re.compile(f"plan {_NAME} {_NAME} ({_up_to(MOST_TICKS)})\n")
+
+
 _FORMS: dict[str, Callable[..., Line]] = {
     TASK_FORM: lambda name, period, offset, worst: Task(name, int(period), int(worst), int(offset)),
     Release.form: lambda tick, task, job: Release(int(tick), task, int(job)),
@@ -63,8 +67,14 @@ def _shape(form: str) -> re.Pattern[str]:
     return re.compile(re.sub(r"{0\.(\w+)}", lambda field: _SHAPES.get(str(field[1]), _NUMBER), form) + "\n")
 
 
-_LINES = {form[:3]: (form, make) for form, make in _FORMS.items()}
-_NO_LINE = "(?!)", End  # nothing has this form
+_STARTS = {form[:3]: form for form in _FORMS}
+
+
+@lru_cache(maxsize=32)  # it takes long to compile a pattern, and a command may need none
+def _line(start: str) -> tuple[Callable[[str], re.Match[str] | None], Callable[..., Line]]:
+    """What reads a line that begins so, and what makes a value of its fields."""
+    form = _STARTS.get(start)
+    return (lambda line: None, End) if form is None else (_shape(form).fullmatch, _FORMS[form])
 
 
 def read_head(lines: Iterator[str]) -> Head:
@@ -77,7 +87,7 @@ def read_head(lines: Iterator[str]) -> Head:
     if line not in ("trace 1\n", "trace 2\n"):
         raise TraceFault(1, "neither trace 1 nor trace 2")
     plan = next(lines, "")
-    found = _PLAN.fullmatch(plan)
+    found = _plan().fullmatch(plan)
     if not found:
         raise TraceFault(2, _misspelled(plan, "not a plan line"))
     return Head(int(line[6]), found[1], found[2], int(found[3]))
@@ -122,8 +132,8 @@ class Reader:
 
     def spelled(self, line: str) -> Line:
         """What the line says that `lines` gave last, wherever it is."""
-        form, make = _LINES.get(line[:3], _NO_LINE)
-        found = _shape(form).fullmatch(line)
+        shape, make = _line(line[:3])
+        found = shape(line)
         if not found or self.number > MOST_LINES:
             more = f"a trace has at most {MOST_LINES} lines"
             raise TraceFault(self.number, more if found else _misspelled(line, "not a line of a trace"))
