@@ -8,7 +8,7 @@ from rtdvs.model import MOST_LINES, Demands, Machine, Scheduler, TaskSet
 from rtdvs.rules.governors import GOVERNORS
 from rtdvs.rules.plan import Plan, Priority
 from rtdvs.rules.reasons import Reasons
-from rtdvs.rules.state import State
+from rtdvs.rules.state import State, state_of
 from rtdvs.rules.step import DECISION, DONE, END, RUN, Fields, Step
 from rtdvs.trace import Decision, Head, Line, Reader, Release, task_text
 
@@ -73,7 +73,8 @@ class Checker:
 class Walk:
     """A trace's lines and what they are checked against. With `any_governor` its demands are its own.
 
-    `scheduler` is the one whose function the trace is made by, if it isn't one of the two.
+    `scheduler` is the one whose function the trace is made by, if it isn't one of the two. With "drop" for
+    `missed` the set needn't be admitted, and a job that isn't complete at its deadline is given up there.
 
     >>> from rtdvs.rules.plan import EXAMPLE
     >>> lines = ["trace 1\\n", "plan edf none 1\\n", "release 0 a 1\\n", "release 0 c 1\\n"]
@@ -88,6 +89,7 @@ class Walk:
     demands: Demands | None = None
     any_governor: bool = False
     scheduler: Priority | None = None
+    missed: str = "stop"
 
     def steps(self) -> Iterator[tuple[int, Checker]]:
         """Each line's number, after it was checked, and the checker. Raises WrongTrace, Denied.
@@ -131,6 +133,7 @@ class Walk:
             if pair not in GOVERNORS:
                 raise Wrong(f"no scheduler and governor {' '.join(pair)}")
             rule = GOVERNORS[pair]
-            plan.admit()
+            if self.missed == "stop":
+                plan.admit()
         needs = None if self.demands is None else plan.needs(self.demands)
-        return Checker(Step(State.begin(plan), head.ticks, rule, needs), head.version)
+        return Checker(Step(state_of(plan, self.missed), head.ticks, rule, needs), head.version)

@@ -11,20 +11,22 @@ from rtdvs.errors import NAME
 from rtdvs.model import Demands, Machine, Scheduler, TaskSet, checked_name, checked_number
 from rtdvs.rules.governors import Chooser, rule_of
 from rtdvs.rules.plan import Plan, Priority
-from rtdvs.rules.state import State
+from rtdvs.rules.state import State, state_of
 from rtdvs.rules.step import END, Step, note_of
 from rtdvs.trace import Note, Trace
 
 
 def simulate(tasks: TaskSet, machine: Machine, scheduler: str | Priority, ticks: int,
-             governor: str | Chooser, demands: Demands | None = None, name: str = "") -> Trace:
+             governor: str | Chooser, demands: Demands | None = None, name: str = "",
+             missed: str = "stop") -> Trace:
     """The trace, in version 2, of a run of that many ticks.
 
     The scheduler is "edf", "rm" or a function, the priority of a job: the open job with the least value runs,
     of equal ones the first in the file. It is asked at each tick. The governor is "none", "static", "cc",
     "la" or a function of a View, which returns an int, a Fraction or a pair of ints. `name` is the governor's
     in the trace, which is "mine" for a function without one; a scheduler's is its own. A job whose demand
-    isn't named needs its worst case. No admission test is made.
+    isn't named needs its worst case. No admission test is made. With "drop" for `missed` a job that isn't
+    complete at its deadline is given up there, and has no `done` line.
 
     Raises DeadlineMissed, FileRefused and OverWorst for demands that aren't of the tasks, and BadValue for
     another wrong value, also if it is a governor's.
@@ -36,6 +38,8 @@ def simulate(tasks: TaskSet, machine: Machine, scheduler: str | Priority, ticks:
     ...     return Fraction(sum(job.remaining_wcet for job in view.ready), view.earliest_deadline - view.now)
     >>> simulate(tasks, machine, "edf", 4, open_work).decisions
     (Decision(tick=0, speed=2, num=1, den=1), Decision(tick=2, speed=2, num=0, den=1))
+    >>> simulate(TaskSet((Task("t", 4, 17),)), machine, "edf", 8, "none", missed="drop").run_energy  # 32 * 4000000000
+    128000000000
     >>> simulate(tasks, machine, "EDF", 4, "none")
     Traceback (most recent call last):
     rtdvs.errors.BadValue: a scheduler is edf or rm, not EDF
@@ -44,7 +48,7 @@ def simulate(tasks: TaskSet, machine: Machine, scheduler: str | Priority, ticks:
     length, demands = checked_number("ticks", ticks), demands or Demands({})
     demands.belong_to(tasks)
     rule = rule_of(plan, governor, checked_name(called))
-    step = Step(State.begin(plan), length, rule, plan.needs(demands))
+    step = Step(state_of(plan, missed), length, rule, plan.needs(demands))
     return Trace(2, scheduler_name(scheduler), called, length, tuple(tasks), notes(step))
 
 

@@ -1,10 +1,11 @@
 """What has happened in a run up to a position, and what a governor sees of it."""
 
 from bisect import insort
+from collections.abc import Mapping
 from dataclasses import dataclass, field
 from typing import Any
 
-from rtdvs.errors import DeadlineMissed
+from rtdvs.errors import BadValue, DeadlineMissed
 from rtdvs.model import Point, Task
 from rtdvs.rules.plan import EXAMPLE, JobView, Plan
 from rtdvs.trace import Position
@@ -273,3 +274,42 @@ class State:
         self.open.remove((job.key, job.place))
         job.left, job.complete = 0, True
         self.seen = self.now + (self.behind > 0)
+
+
+@dataclass(slots=True)
+class Dropping(State):
+    """A state whose jobs are given up at their deadlines, if they aren't complete there.
+
+    >>> state = Dropping.begin(EXAMPLE)
+    >>> state.release(state.jobs[0])
+    >>> state.now = 4
+    >>> state.release(state.jobs[1]) or state.all_met()
+    >>> state.jobs[0].complete, state.open
+    (True, [(6, 1)])
+    """
+
+    def all_met(self) -> None:
+        """Gives up the jobs whose deadlines are now."""
+        for due, place in self.deadlines:
+            job = self.jobs[place]
+            if due > self.now:
+                break
+            if not job.complete:
+                self.open.remove((job.key, place))
+                job.left, job.complete = 0, True
+
+
+MISSED: Mapping[str, type[State]] = {"stop": State, "drop": Dropping}
+"""What a missed deadline does: it ends the simulation, or the job."""
+
+
+def state_of(plan: Plan, missed: str) -> State:
+    """The state before a run in which a missed deadline does this; raises BadValue for another word.
+
+    >>> state_of(EXAMPLE, "wait")
+    Traceback (most recent call last):
+    rtdvs.errors.BadValue: a missed deadline is a stop or a drop, not wait
+    """
+    if missed not in MISSED:
+        raise BadValue(f"a missed deadline is a {' or a '.join(MISSED)}, not {missed}")
+    return MISSED[missed].begin(plan)
