@@ -106,6 +106,16 @@ class Stop:
 _STOP: ContextVar[Stop | None] = ContextVar("stop", default=None)
 
 
+def is_stopped() -> bool:
+    """Whether this is in a block whose calls have been ended, so that its answer isn't wanted any more.
+
+    >>> is_stopped()
+    False
+    """
+    stop = _STOP.get()
+    return stop is not None and stop.is_ended
+
+
 @contextmanager
 def guarded() -> Iterator[Guard]:
     """A guard for one call, whose folder is there until the call ends; raises SystemFault.

@@ -11,7 +11,7 @@ import json
 import re
 import zlib
 from collections.abc import Iterator, Mapping, Sequence
-from dataclasses import dataclass
+from dataclasses import dataclass, replace
 from itertools import islice
 from pathlib import Path
 
@@ -33,12 +33,17 @@ DATA = re.compile(r'(<script id="data" type="application/json">)\{\}(</script>)'
 
 @dataclass(frozen=True, slots=True)
 class Shown:
-    """What a page is of: the files, and the most mebibytes of explanations of each trace."""
+    """What a page is of: the files, and the most mebibytes of explanations of each trace.
+
+    With a `note` a trace is of a set that isn't admitted, whose jobs are given up at their deadlines; the page
+    has the note.
+    """
 
     tasks: TaskSet
     machine: Machine
     demands: Demands | None = None
     most: int = MOST_TEXT
+    note: str = ""
 
 
 class _Full(Exception):
@@ -110,13 +115,15 @@ def sheet(text: str, trace: Trace, shown: Shown, label: str) -> dict[str, object
     """What the page has of a trace and its text; raises TraceFault, WrongTrace and Denied."""
     pair = f"{trace.scheduler} {trace.governor}"
     known = (trace.scheduler, trace.governor) in GOVERNORS
-    walk = Walk(shown.tasks, shown.machine, text.splitlines(keepends=True), shown.demands, not known)
+    walk = Walk(shown.tasks, shown.machine, text.splitlines(keepends=True), shown.demands, not known,
+                missed="drop" if shown.note else "stop")
     boards, whole = boards_of(walk, shown.most * MEBIBYTE)
     trace.belongs_to(shown.tasks, shown.machine)  # also what no explanation has checked
     energy = f"energy {trace.energy}: {trace.run_energy} running, {trace.idle_energy} idle"
     return {
         "label": label or pair,
-        "title": f"{label}{': ' if label else ''}{pair}, {trace.ticks} ticks",
+        "title": f"{label}{': ' if label else ''}{pair}, {trace.ticks} ticks{', not admitted' if shown.note else ''}",
+        "note": shown.note,
         "energy": f"{energy}, in units × mV² × 1000; switches of the speed: {trace.switches}",
         "ticks": trace.ticks,
         "pieces": [pack(piece) for piece in pieces(text)],
@@ -177,8 +184,8 @@ def first_window(traces: Mapping[str, Trace], tasks: int) -> int:
     return max(min(next(islice(releases, FIRST_JOBS + 3 * tasks, None), ticks), ticks), 1)
 
 
-def page_data(texts: Mapping[str, str], shown: Shown) -> dict[str, object]:
-    """The data of a page of traces, by their labels; raises TraceFault, WrongTrace and Denied."""
+def page_data(texts: Mapping[str, str], shown: Shown, notes: Mapping[str, str] = {}) -> dict[str, object]:
+    """The data of a page of traces, by their labels, some with a note; raises TraceFault, WrongTrace and Denied."""
     charge, traces = 2 * shown.machine.charge, {label: Trace.parse(text) for label, text in texts.items()}
     return {
         "tasks": [{"name": task.name, "period": task.period, "worst": str(task.worst + charge)}
@@ -186,7 +193,8 @@ def page_data(texts: Mapping[str, str], shown: Shown) -> dict[str, object]:
         "top": shown.machine.top_speed,
         "columns": [name.replace("_", " ") for name in COLUMNS],
         "window": first_window(traces, len(shown.tasks)),
-        "sheets": [sheet(texts[label], trace, shown, label) for label, trace in traces.items()],
+        "sheets": [sheet(texts[label], trace, replace(shown, note=notes.get(label, "")), label)
+                   for label, trace in traces.items()],
         "apart": apart(*traces.values()) if len(traces) == 2 else None,
     }
 
