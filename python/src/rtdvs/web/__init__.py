@@ -6,6 +6,7 @@ from rtdvs.web.data import (
     residency, safe_json, sheet, tick_of, with_data,
 )
 from rtdvs.web.example import Example, examples, field_of, read_example
+from rtdvs.web.lesson import Lesson, LessonExample, LessonPair, lesson_data
 from rtdvs.web.server import HOST, LONGEST_CALL, LONGEST_TRY, PORT, PageServer
 
 __all__ = [
@@ -13,6 +14,9 @@ __all__ = [
     "HOST",
     "LONGEST_CALL",
     "LONGEST_TRY",
+    "Lesson",
+    "LessonExample",
+    "LessonPair",
     "MOST_TEXT",
     "PORT",
     "PageServer",
@@ -27,6 +31,7 @@ __all__ = [
     "field_of",
     "first_window",
     "in_one_file",
+    "lesson_data",
     "meaning_of",
     "pack",
     "page_data",
