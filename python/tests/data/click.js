@@ -1,4 +1,4 @@
 // Clicks a mark of a kind by its place.
-drawAll();
+schedule.drawAll();
 const marks = [...document.querySelectorAll("#sheets path")].filter((each) => each.mark?.kind === arguments[0]);
 marks[arguments[1]].dispatchEvent(new MouseEvent("click", { bubbles: true }));

@@ -1,5 +1,5 @@
 // Two fingers that go twice as far apart.
-const picture = document.querySelector("#sheets svg");
+const picture = document.querySelector("#sheets svg.rows");
 const touch = (kind, pointerId, clientX) =>
   picture.dispatchEvent(new PointerEvent(kind, { pointerId, clientX, clientY: 300, bubbles: true }));
 touch("pointerdown", 1, 400);

@@ -1,15 +1,8 @@
-"""The page in Chromium, headless: clicks, keys, zoom, and how fast it is on a run of 100,000 jobs.
-
-Skipped where there is no Chromium with its driver, or no selenium.
-"""
+"""The page in Chromium, headless: clicks, keys, zoom, and how fast it is on a run of 100,000 jobs."""
 
 import os
-import shutil
-from collections.abc import Iterator
 from importlib import import_module
 from pathlib import Path
-from time import monotonic, sleep
-from typing import Any
 
 import pytest
 
@@ -17,85 +10,10 @@ from rtdvs.engine import Engine
 from rtdvs.model import Demands, Task, TaskSet
 from rtdvs.rules import simulate
 from rtdvs.web import Shown, in_one_file, page_data
-from tests.shared.examples import BOARD, DATA, PAPER, TEST_DATA, explained, files, serving
-
-selenium = pytest.importorskip("selenium.webdriver", reason="no selenium")
-CHROMIUM, DRIVER = shutil.which("chromium"), shutil.which("chromedriver")
-if not CHROMIUM or not DRIVER:
-    pytest.skip("no chromium with chromedriver", allow_module_level=True)
-Browser = Any
-WAIT = 120      # seconds that anything may take on a busy machine
-ALL_READ = "return document.body.classList.contains('whole')"
-CLICK, MOVES, TOUCH = ((TEST_DATA / f"{name}.js").read_text() for name in ("click", "moves", "touch"))
-
-
-def chromium() -> Browser:
-    """Chromium without a window; as root it needs to be without its sandbox."""
-    options = selenium.ChromeOptions()
-    options.binary_location = CHROMIUM
-    for word in ("--headless=new", "--no-sandbox", "--disable-dev-shm-usage", "--window-size=1280,1000"):
-        options.add_argument(word)
-    options.set_capability("goog:loggingPrefs", {"browser": "ALL"})
-    service = import_module("selenium.webdriver.chrome.service").Service(DRIVER)
-    driver = selenium.Chrome(options=options, service=service)
-    driver.set_script_timeout(WAIT)
-    return driver
-
-
-@pytest.fixture(scope="module")
-def browser() -> Iterator[Browser]:
-    driver = chromium()
-    yield driver
-    driver.quit()
-
-
-def until(browser: Browser, script: str, *words: object) -> Any:
-    """Waits until a script gives anything true, and gives that."""
-    end = monotonic() + WAIT
-    while not (found := browser.execute_script(script, *words)):
-        assert monotonic() < end, browser.execute_script("return document.body.innerText")
-        sleep(0.03)
-    return found
-
-
-def text(browser: Browser, selector: str) -> str:
-    found: str = browser.execute_script(f"return document.querySelector('{selector}').textContent")
-    return found
-
-
-def press(browser: Browser, key: str, **held: bool) -> None:
-    event = "new KeyboardEvent('keydown', { key: arguments[0], bubbles: true, cancelable: true, ...arguments[1] })"
-    browser.execute_script(f"document.body.dispatchEvent({event})", key, held)
-
-
-def opened(browser: Browser, folder: Path, traces: dict[str, str], shown: Shown) -> None:
-    """Opens the page of traces as a file, without a network, and waits until it is read."""
-    page = folder / "page.html"
-    page.write_text(in_one_file(page_data(traces, shown)), encoding="utf-8")
-    browser.get(page.as_uri())
-    until(browser, ALL_READ)
-
-
-def paper(browser: Browser, folder: Path, *names: str) -> list[list[str]]:
-    """Opens the page of stored traces of the paper's example, and gives the explanations of each."""
-    tasks, machine, demands = files("paper")
-    texts = {name: (DATA / "paper" / f"{name}.trace").read_text() for name in names}
-    opened(browser, folder, texts, Shown(tasks, machine, demands))
-    return [explained(tasks, machine, demands, trace) for trace in texts.values()]
-
-
-def assert_board(browser: Browser, board: str) -> None:
-    until(browser, "return document.querySelector('#board').textContent === arguments[0]", board)
-
-
-@pytest.fixture(autouse=True)
-def without_faults(request: pytest.FixtureRequest) -> Iterator[None]:
-    """No test leaves a fault in the browser's log; the policy's refusals are there too."""
-    yield
-    if "browser" in request.fixturenames:
-        log = request.getfixturevalue("browser").get_log("browser")
-        assert [each["message"] for each in log if "status of 4" not in each["message"]] == []
-
+from tests.shared.browsing import (
+    ALL_READ, CLICK, MOVES, TOUCH, Browser, assert_board, opened, paper, press, refused, shows, text, until, write,
+)
+from tests.shared.examples import BOARD, PAPER, explained, files
 
 # A page without a network
 
@@ -131,13 +49,13 @@ def test_keys_step_from_decision_to_decision(browser: Browser, tmp_path: Path) -
     (boards,) = paper(browser, tmp_path, "edf_cc_with_demands")
     keys = ["Home", *["ArrowRight"] * 3, *["ArrowLeft"] * 2, "End", "ArrowRight", "ArrowLeft"]
     for key, place in zip(keys, [0, 1, 2, 3, 2, 1, -1, -1, -2], strict=True):
-        press(browser, key)
+        press(browser, key, "nav")
         assert_board(browser, boards[place])
 
 
 def test_keys_zoom_and_move(browser: Browser, tmp_path: Path) -> None:
     paper(browser, tmp_path, "edf_cc_with_demands")
-    window = "return [state.from, state.to]"
+    window = "return [schedule.state.from, schedule.state.to]"
     press(browser, "+")
     press(browser, "+")
     first, last = browser.execute_script(window)
@@ -149,36 +67,59 @@ def test_keys_zoom_and_move(browser: Browser, tmp_path: Path) -> None:
     assert browser.execute_script(window) == [0, 16]
 
 
+def test_minus_shows_more(browser: Browser, tmp_path: Path) -> None:
+    paper(browser, tmp_path, "edf_cc_with_demands")
+    span = "return schedule.state.to - schedule.state.from"
+    browser.execute_script("schedule.zoom(0.25)")
+    assert browser.execute_script(span) == 4
+    press(browser, "-")
+    assert browser.execute_script(span) == 6
+    browser.execute_script("document.querySelector('#out').click()")
+    assert browser.execute_script(span) == 9
+
+
+def test_click_beside_a_bar(browser: Browser, tmp_path: Path) -> None:
+    """In the row of t2, after its first run has ended at 4, the next run of t2 is opened: from 10 on."""
+    paper(browser, tmp_path, "edf_cc_with_demands")
+    browser.execute_script(
+        "const svg = document.querySelector('svg.rows'), box = svg.getBoundingClientRect(); "
+        "const [left, , right] = svg.querySelector('.floor').getAttribute('d').match(/[0-9.]+/g).map(Number); "
+        "svg.dispatchEvent(new MouseEvent('click', { bubbles: true, clientY: box.top + 90, "
+        "clientX: box.left + left + 7 * (right - left) / 16 }))")
+    assert "t2 job 2 runs from 10 to 12 " in text(browser, "#subject")
+
+
 def test_drag_and_wheel(browser: Browser, tmp_path: Path) -> None:
     paper(browser, tmp_path, "edf_cc_with_demands")
-    actions = selenium.ActionChains(browser)
-    picture = browser.find_element("css selector", "#sheets svg")
-    browser.execute_script("zoom(0.25)")
-    from_before = browser.execute_script("return state.from")
+    actions = import_module("selenium.webdriver").ActionChains(browser)
+    picture = browser.find_element("css selector", "#sheets svg.rows")
+    browser.execute_script("schedule.zoom(0.25)")
+    from_before = browser.execute_script("return schedule.state.from")
     actions.move_to_element(picture).click_and_hold().move_by_offset(-200, 0).release().perform()
-    assert browser.execute_script("return state.from") > from_before
+    assert browser.execute_script("return schedule.state.from") > from_before
     browser.execute_script("arguments[0].dispatchEvent(new WheelEvent('wheel', "
                            "{ deltaY: -500, ctrlKey: true, clientX: 700, bubbles: true, cancelable: true }))", picture)
-    assert browser.execute_script("return state.to - state.from") < 4
+    assert browser.execute_script("return schedule.state.to - schedule.state.from") < 4
 
 
 def test_two_fingers(browser: Browser, tmp_path: Path) -> None:
     """Twice as far apart they show half the ticks."""
     paper(browser, tmp_path, "edf_cc_with_demands")
     browser.execute_script(TOUCH)
-    assert browser.execute_script("return state.to - state.from") == 8
+    assert browser.execute_script("return schedule.state.to - schedule.state.from") == 8
 
 
 def test_two_traces(browser: Browser, tmp_path: Path) -> None:
     """Below each other with their energies; the button opens the first decision that differs."""
     boards = paper(browser, tmp_path, "edf_cc_with_demands", "edf_static_with_demands")
-    assert len(browser.find_elements("css selector", "#sheets svg")) == 2
+    assert len(browser.find_elements("css selector", "#sheets svg.rows")) == 2
     page = text(browser, "body")
     assert "energy 364000000000: " in page and "energy 448000000000: " in page
-    lines = "“speed 3 3 696/280” and “speed 3 3 836/280”"
-    assert text(browser, "#apart").startswith(f"The traces part at tick 3: {lines}.")
+    assert text(browser, "#apart").startswith(
+        "The schedules part at tick 4: t3 1 at speed 2, and t3 1 at speed 3. "
+        "The published demands differ from tick 3 on: 696/280 and 836/280.")
     browser.execute_script("document.querySelector('#apart button').click()")
-    assert_board(browser, boards[0][1])
+    assert_board(browser, boards[0][2])
 
 
 def test_marks_have_words(browser: Browser, tmp_path: Path) -> None:
@@ -194,15 +135,17 @@ def test_marks_have_words(browser: Browser, tmp_path: Path) -> None:
     assert len(set.union(*shapes.values())) == len(shapes)
 
 
-def test_print_has_all_rows_and_dark_is_dark(browser: Browser, tmp_path: Path) -> None:
+def test_all_rows_are_drawn(browser: Browser, tmp_path: Path) -> None:
+    """Also those that are out of view: a capture of the whole page has all 64."""
     tasks = TaskSet(tuple(Task(f"task_{place}", 100, 1) for place in range(64)))
     trace = simulate(tasks, BOARD, "edf", 100, "cc").text()
     opened(browser, tmp_path, {"": trace}, Shown(tasks, BOARD))
-    names = "return document.querySelectorAll('#sheets .name').length - 1"
-    assert until(browser, names) < 30
-    browser.execute_script("dispatchEvent(new Event('beforeprint'))")
-    assert browser.execute_script(names) == 64
-    browser.execute_script("dispatchEvent(new Event('afterprint'))")
+    assert browser.execute_script("return document.querySelectorAll('#sheets .name').length - 1") == 64
+    assert browser.execute_script("return document.querySelectorAll('#sheets .row .release').length") == 64
+
+
+def test_dark_is_dark(browser: Browser, tmp_path: Path) -> None:
+    paper(browser, tmp_path, "edf_cc_with_demands")
     colours = []
     for scheme in ("light", "dark"):
         browser.execute_cdp_cmd("Emulation.setEmulatedMedia",
@@ -213,6 +156,11 @@ def test_print_has_all_rows_and_dark_is_dark(browser: Browser, tmp_path: Path) -
 
 
 # A long run
+
+FIRST_DRAWN = """new MutationObserver(() => {
+  if (!window.firstDrawn && document.querySelector("#sheets .run")) window.firstDrawn = performance.now();
+}).observe(document, { childList: true, subtree: true });"""
+
 
 def processor_time(browser: Browser) -> float:
     """The seconds of processor time that the page's own thread has taken, which a busy machine doesn't change."""
@@ -230,16 +178,19 @@ def test_100000_jobs(browser: Browser, tmp_path: Path, engine: Engine) -> None:
     assert page.stat().st_size < 8 * 2**20
     busy = 1 + os.getloadavg()[0] / (os.cpu_count() or 1)
     browser.execute_cdp_cmd("Performance.enable", {"timeDomain": "threadTicks"})
+    watch = browser.execute_cdp_cmd("Page.addScriptToEvaluateOnNewDocument", {"source": FIRST_DRAWN})
     browser.get(page.as_uri())
-    first = until(browser, "const [one] = performance.getEntriesByName('draw'); return one?.startTime + one?.duration")
+    browser.execute_cdp_cmd("Page.removeScriptToEvaluateOnNewDocument", watch)
+    first = until(browser, "return window.firstDrawn")
     until(browser, ALL_READ)
     read = processor_time(browser)
-    assert browser.execute_script("return state.sheets[0].trace.jobs.length") == 99_999
+    assert browser.execute_script("return schedule.state.sheets[0].trace.jobs.length") == 99_999
     found = browser.execute_async_script(MOVES)
     frames, draws = found["frames"], sorted(found["draws"])
     each = (processor_time(browser) - read) / len(frames)
     rate = 1000 * (len(frames) - 1) / (frames[-1] - frames[0])
-    elements = browser.execute_script("move(0, state.ticks); drawAll(); return document.querySelectorAll('*').length")
+    elements = browser.execute_script("const { move, state, drawAll } = schedule; move(0, state.ticks); drawAll(); "
+                                      "return document.querySelectorAll('*').length")
     print(f"first drawing after {first:.0f} ms; processor time to read all {read:.2f} s, of a frame "
           f"{1000 * each:.1f} ms; a drawing {draws[len(draws) // 2]:.1f} ms, {rate:.0f} frames a second; "
           f"{elements} elements; busy {busy:.1f}")
@@ -248,56 +199,33 @@ def test_100000_jobs(browser: Browser, tmp_path: Path, engine: Engine) -> None:
 
 # The editor
 
-@pytest.fixture
-def editor(browser: Browser, engine: Engine) -> Iterator[Browser]:
-    """The browser with the server's page of the paper's example."""
-    with serving(engine) as server:
-        browser.get(f"http://127.0.0.1:{server.port}/")
-        shows(browser, "edf cc, 16 ticks")
-        yield browser
-        browser.get("about:blank")
-
-
-def shows(browser: Browser, title: str) -> None:
-    """Waits until the picture has that title."""
-    until(browser, f"{ALL_READ} && document.querySelector('#sheets h2')?.textContent === arguments[0]", title)
-
-
-def write(browser: Browser, name: str, value: str) -> None:
-    """Gives a field another text, as a reader does."""
-    browser.execute_script("const field = fieldOf(arguments[0]); field.value = arguments[1]; "
-                           "field.dispatchEvent(new Event('input', { bubbles: true }))", name, value)
-
-
-def refused(browser: Browser, name: str, line: str) -> None:
-    """Waits until a field has a refusal."""
-    until(browser, "const field = document.querySelector('[aria-invalid]'); "
-                   "return field?.dataset.field === arguments[0] "
-                   "&& field.nextElementSibling.textContent === arguments[1]", name, line)
-
-
-def test_editor_round_trip(editor: Browser, engine: Engine) -> None:
+def test_editor_round_trip(editor: Browser) -> None:
     """A change is drawn, its explanations are those of `explain`, and its files and trace can be taken along."""
     tasks, machine, demands = files("paper")
     write(editor, "governor", "la")
     shows(editor, "edf la, 16 ticks")
-    trace = engine.run(tasks, machine, "edf", "la", 16, demands).text()
+    trace = simulate(tasks, machine, "edf", 16, "la", demands).text()
     boards = explained(tasks, machine, demands, trace)
     for board in boards:
-        press(editor, "ArrowRight" if board != boards[0] else "Home")
+        press(editor, *(["ArrowRight"] if board != boards[0] else ["Home", "nav"]))
         assert_board(editor, board)
-    found = editor.execute_script("return editor.files")
+    found = editor.execute_script("return schedule.filesOfFields()")
     assert found["trace"] == trace and TaskSet.parse(found["tasks"]) == tasks
     assert Demands.parse(found["demands"], tasks) == demands
     print(text(editor, "#status"))
 
 
 def test_downloads(editor: Browser) -> None:
-    editor.execute_script("URL.createObjectURL = (blob) => { window.taken = blob; return '#'; }")
-    for kind in ("tasks", "machine", "demands", "trace"):
+    editor.execute_script("URL.createObjectURL = (blob) => { window.taken = blob; return '#'; }; "
+                          "HTMLAnchorElement.prototype.click = function () { window.name = this.download; }")
+    names = {"tasks": "tasks.toml", "machine": "machine.toml", "demands": "demands.csv", "trace": "run.trace"}
+    for kind, name in names.items():
         editor.execute_script(f"document.querySelector('[data-file={kind}]').click()")
         content = editor.execute_async_script("taken.text().then(arguments[0])")
-        assert content and content == editor.execute_script("return editor.files[arguments[0]]", kind)
+        assert content and content == editor.execute_script("return schedule.filesOfFields()[arguments[0]]", kind)
+        assert editor.execute_script("return window.name") == name
+        assert content.startswith({"tasks": "[[task]]", "machine": "idle", "demands": "task,job,units",
+                                   "trace": "trace 2"}[kind])
 
 
 def test_refusal_at_its_field(editor: Browser) -> None:
@@ -316,8 +244,10 @@ def test_refusal_at_its_field(editor: Browser) -> None:
 
 def test_rows_are_added_and_removed(editor: Browser) -> None:
     editor.execute_script("document.querySelector('[aria-label=\"remove demands 6\"]').click()")
-    until(editor, "return !editor.files.demands.includes('t3,2')")
+    until(editor, "return !schedule.filesOfFields().demands?.includes('t3,2')")
     editor.execute_script("document.querySelector('#table-tasks tr:last-child button').click()")
+    until(editor, "return schedule.filesOfFields().tasks?.includes('t4')")
+    write(editor, "tasks.3.name", "")
     refused(editor, "tasks.3.name", "tasks: task 4: missing name")
 
 
@@ -328,11 +258,11 @@ def test_address_carries_the_example(editor: Browser) -> None:
     write(editor, "demands.4.units", "2")
     write(editor, "demands.5.units", "2")
     shows(editor, "edf cc, 20 ticks")
-    example, address = editor.execute_script("return [readExample(), document.querySelector('#address').href]")
+    example, address = editor.execute_script("return [schedule.readExample(), document.querySelector('#address').href]")
     editor.get("about:blank")
     editor.get(address)
     shows(editor, "edf cc, 20 ticks")
-    assert editor.execute_script("return readExample()") == example
+    assert editor.execute_script("return schedule.readExample()") == example
 
 
 @pytest.mark.parametrize("end", ["#!", "#bnVsbA==", "#W10=", "#eyJ0YXNrcyI6MX0="], ids=range(4))
@@ -350,9 +280,9 @@ def test_hostile_names(editor: Browser) -> None:
     name = '<img src=x onerror="document.title=1"></script><script>document.title=2</script>'
     write(editor, "tasks.0.name", name)
     refused(editor, "tasks.0.name", "tasks: task 1: bad name")
-    write(editor, "demands.0.task", name)
-    refused(editor, "tasks.0.name", "tasks: task 1: bad name")
     write(editor, "tasks.0.name", "t1")
+    shows(editor, "edf cc, 16 ticks")
+    write(editor, "demands.0.task", name)
     refused(editor, "demands.0.task", "demands: row 1: unknown task ?img?src?x?onerror??document?tit")
     address = editor.execute_script("return location.href")
     editor.get("about:blank")
@@ -372,4 +302,4 @@ def test_menu(editor: Browser) -> None:
     editor.execute_script("const menu = document.querySelector('#menu'); "
                           "menu.selectedIndex = [...menu.options].findIndex((each) => each.text === 'controller'); "
                           "menu.dispatchEvent(new Event('change'))")
-    until(editor, f"return state.data.tasks?.length === {len(files('controller')[0])}")
+    until(editor, f"return schedule.state.data.tasks?.length === {len(files('controller')[0])}")

@@ -8,6 +8,7 @@ import re
 import zlib
 from collections.abc import Callable
 from dataclasses import replace
+from fractions import Fraction
 from pathlib import Path
 from typing import Any
 
@@ -20,8 +21,8 @@ from rtdvs.model import Machine, Point, Task, TaskSet
 from rtdvs.rules import Walk, explain, simulate
 from rtdvs.trace import TaskEnergy, Trace
 from rtdvs.web import (
-    Shown, apart, boards_of, chunks, first_window, in_one_file, page_data, pieces, residency, safe_json,
-    with_data,
+    SCRIPTS, Shown, apart, boards_of, chunks, first_window, in_one_file, mark_pieces, modules, page_data, residency,
+    safe_json, with_data,
 )
 from tests.shared.examples import (
     BOARD, DATA, MINE, PAPER, SHORT, WORKED, Captured, explained, files, options, path_id, printed, refusal,
@@ -66,17 +67,44 @@ def sheet_of(text: str, shown: Shown) -> Any:
     return sheet
 
 
+def moment(time: int | str, speed: int) -> str:
+    """A time of a page as a position of a trace, at a speed.
+
+    >>> moment("2 2/3", 3), moment("1/2", 4), moment(9, 4)
+    ('2:2', '0:2', '9:0')
+    """
+    exact = sum(map(Fraction, str(time).split()))
+    return f"{exact // 1}:{exact % 1 * speed}"
+
+
+def lines_of(pieces: list[dict[str, Any]], tasks: TaskSet) -> list[str]:
+    """The lines of the trace that marks are of, sorted; energies of idle time and of a run aren't in marks."""
+    jobs = [row for piece in pieces for row in piece["jobs"]]
+    names = [f"{tasks[row[0]].name} {row[1]}" for row in jobs]
+    found = [f"release {row[2]} {name}" for row, name in zip(jobs, names)]
+    found += [f"done {moment(row[4], row[9])} {name} {row[7]}" for row, name in zip(jobs, names) if row[4] is not None]
+    for piece in pieces:
+        found += [f"speed {tick} {speed} {demand}" for tick, speed, demand, _ in piece["decisions"]]
+        found += [f"run {moment(begin, speed)} {moment(end, speed)} {names[job]} {units}"
+                  for job, begin, end, speed, units in piece["runs"]]
+        found += [f"idle {moment(begin, speed)} {moment(end, speed)} {units}"
+                  for begin, end, speed, units in piece["idles"]]
+    return sorted(found)
+
+
 # The data
 
 @pytest.mark.parametrize("path", SHORT, ids=path_id)
 def test_all_of_a_trace_is_in_the_page(path: Path) -> None:
-    """Its text, the explanations as `explain` gives them, and the ticks of the run."""
+    """Each line but the head, the energies and the end; the explanations as `explain` gives them; the ticks."""
     tasks, machine, named = files(path.parent.name)
     demands = named if "with_demands" in path.stem else None
     text = path.read_text()
     boards = explained(tasks, machine, demands, text)
     sheet = sheet_of(text, Shown(tasks, machine, demands))
-    assert "".join(map(unpacked, sheet["pieces"])) == text
+    assert lines_of([json.loads(unpacked(piece)) for piece in sheet["pieces"]], tasks) == sorted(
+        line.rpartition(" ")[0] if line.startswith(("run", "idle")) else line for line in text.splitlines()
+        if line.split()[0] in ("release", "run", "idle", "done", "speed"))
     assert [board for chunk in sheet["boards"] for board in json.loads(unpacked(chunk["text"]))] == boards
     assert sheet["left"] == "" and sheet["ticks"] == Trace.parse(text).ticks
 
@@ -105,12 +133,19 @@ def test_version_1_and_worst_cases_with_the_charge() -> None:
     assert data["tasks"] == [{"name": "a", "period": 4, "worst": "4"}]
 
 
-@given(st.lists(st.text("ab\n", max_size=9)), st.integers(1, 20))
-def test_pieces_are_whole_lines(lines: list[str], size: int) -> None:
-    text = "".join(f"{line}\n" for line in lines)
-    found = [*pieces(text, size)]
-    assert "".join(found) == text and all(piece.endswith("\n") for piece in found)
-    assert all(len(piece) >= size for piece in found[:-1])
+@pytest.mark.parametrize("size", [1, 7, 4000])
+def test_marks_in_pieces(size: int) -> None:
+    """They are those of one piece, in the same order."""
+    trace = Trace.parse(WORKED.read_text())
+    (whole,), found = mark_pieces(trace, PAPER), [*mark_pieces(trace, PAPER, size)]
+    assert {kind: [row for piece in found for row in piece[kind]] for kind in whole} == whole
+    assert all(sum(map(len, piece.values())) == size for piece in found[:-1])
+
+
+def test_jobs_have_their_facts() -> None:
+    """By hand: t1's second job has 4 units from 8 on at speed 3, for 4 * 4000 * 4000 * 1000; 16 - 9 1/3 is 6 2/3."""
+    (piece,) = mark_pieces(Trace.parse(WORKED.read_text()), PAPER)
+    assert [0, 2, 8, 16, "9 1/3", "1 1/3", "6 2/3", 4, "64000000000", 3, 0] in piece["jobs"]
 
 
 @given(st.lists(st.text(max_size=9), max_size=20), st.integers(1, 30))
@@ -125,23 +160,28 @@ def test_residency() -> None:
     assert rows == [("2", "10", "0.6250"), ("3", "6", "0.3750"), ("idle", "4.6667", "0.2917")]
 
 
-PARTED = [("edf_la_with_demands", 0), ("edf_static_with_demands", 3), ("edf_cc_with_demands", None)]
+PARTED = [
+    pytest.param("edf_la_with_demands", 3, "t2 1 at speed 3, and t2 1 at speed 2", "0 on: 836/280 and 21/8", id="la"),
+    pytest.param("edf_static_with_demands", 4, "t3 1 at speed 2, and t3 1 at speed 3", "3 on: 696/280 and 836/280",
+                 id="static"),
+]
 
 
-@pytest.mark.parametrize(("name", "tick"), PARTED)
-def test_where_traces_part(name: str, tick: int | None) -> None:
-    """Under `static` the first demand is that of `cc`; after the completion in tick 2 it stays."""
+@pytest.mark.parametrize(("name", "tick", "does", "demands"), PARTED)
+def test_where_schedules_part(name: str, tick: int, does: str, demands: str) -> None:
+    """By the lines of the traces: the speeds at that tick, and the first `speed` lines that differ."""
     one, two = (Trace.parse((DATA / "paper" / f"{each}.trace").read_text()) for each in (WORKED.stem, name))
-    found = apart(one, two)
-    assert (found and found["tick"]) == tick
+    assert apart(one, two) == {"tick": tick, "parts": True, "text":
+                               f"The schedules part at tick {tick}: {does}. "
+                               f"The published demands differ from tick {demands}."}
 
 
-def test_traces_that_part_in_an_energy() -> None:
-    """Such a line has no tick, so the tick is that of the line before it. No trace that is read has such an energy."""
+def test_schedules_that_never_part() -> None:
+    """Other demands, and the energy of a task, make no other schedule."""
     trace = Trace.parse(MINE)
     other = replace(trace, notes=tuple(replace(note, energy=31001) if isinstance(note, TaskEnergy) else note
                                        for note in trace.notes))
-    assert apart(trace, other) == {"tick": 1, "text": "The traces part at tick 1: “energy x 31000” and “energy x 31001”."}
+    assert apart(trace, other) == {"tick": 0, "parts": False, "text": "The schedules are the same."}
 
 
 @pytest.mark.parametrize(("tasks", "last"), [pytest.param(1, 230, id="a task"), pytest.param(2, 130, id="two tasks")])
@@ -189,17 +229,49 @@ def test_one_file_needs_no_other() -> None:
     assert used == ["href"] and 'id="address" href="#"' in page
 
 
+WEB = Path(in_one_file.__code__.co_filename).parent / "static"
+TOGETHER = 1400
+"""Lines of all files. They were 900 before undo, two governors, saved pictures, marks by keyboard and refused links."""
+
+
 def test_web_files_are_short() -> None:
-    """They are at most 900 lines together, and each function of the script has a comment before it."""
-    web = Path(in_one_file.__code__.co_filename).parent / "static"
-    texts = {path.name: path.read_text() for path in web.iterdir()}
-    assert sorted(texts) == ["page.css", "page.html", "page.js"]
-    assert sum(text.count("\n") for text in texts.values()) <= 900
-    script = texts["page.js"].splitlines()
-    bare = [line for before, line in zip(script, script[1:])
-            if re.match(r"(async )?function", line) and not before.endswith("*/")]
-    assert bare == []
-    assert "innerHTML" not in texts["page.js"] and "outerHTML" not in texts["page.js"]
+    """Each has at most 400 lines, and each function of the modules has a comment before it."""
+    texts = {path.name: path.read_text() for path in WEB.iterdir()}
+    assert sorted(texts) == sorted(["page.css", "page.html", *SCRIPTS])
+    assert max(text.count("\n") for text in texts.values()) <= 400
+    assert sum(text.count("\n") for text in texts.values()) <= TOGETHER
+    for name in SCRIPTS:
+        script = texts[name].splitlines()
+        bare = [line for before, line in zip(script, script[1:])
+                if re.match(r"(export )?(async )?function", line) and not before.endswith("*/")]
+        assert bare == [] and "innerHTML" not in texts[name] and "outerHTML" not in texts[name]
+
+
+def test_modules_are_in_order() -> None:
+    """Each imports by one line each, from modules before it, and no two have one name at the top."""
+    seen: set[str] = set()
+    names: list[str] = []
+    for name in SCRIPTS:
+        text = (WEB / name).read_text()
+        assert set(re.findall(r'from "\./(.*)";', text)) <= seen
+        whole = re.findall(r"^import \{[^{}\n]*\} from \"[^\"\n]*\";$", text, re.MULTILINE)
+        assert text.count("import ") == len(whole)
+        names += re.findall(r"^(?:export )?(?:async )?(?:function\*? |const |let )(\w+)", text, re.MULTILINE)
+        seen.add(name)
+    assert sorted(names) == sorted(set(names))
+
+
+def test_modules_measure_nothing_in_a_frame() -> None:
+    """What draws reads no box of an element: widths come from an observer."""
+    drawing = (WEB / "picture.js").read_text()
+    view = (WEB / "view.js").read_text()
+    frame = view[view.index("export function drawAll"):view.index("/** Lists the jobs")]
+    for word in ("getBoundingClientRect", "clientWidth", "offsetWidth", "getComputedStyle", "innerHeight", "performa"):
+        assert word not in drawing and word not in frame
+
+
+def test_modules_leave_no_words_of_modules() -> None:
+    assert not re.search("^(import|export) ", modules(), re.MULTILINE)
 
 
 # The command
@@ -215,7 +287,7 @@ def test_page_of_two_traces(capsys: Captured) -> None:
     other = WORKED.with_name("edf_la_with_demands.trace")
     data = data_of(printed(capsys, ["page", WORKED, other, *WORDS]))
     assert [sheet["title"] for sheet in data["sheets"]] == ["A: edf cc, 16 ticks", "B: edf la, 16 ticks"]
-    assert data["apart"]["tick"] == 0
+    assert data["apart"]["tick"] == 3
 
 
 def test_page_of_three_traces(capsys: Captured) -> None:

@@ -27,7 +27,8 @@ from rtdvs.errors import BadRequest
 from rtdvs.model import Machine, TaskSet
 from rtdvs.studies import PAIRS
 from rtdvs.web import (
-    Example, PageServer, answer_of, answers, example, example_of, examples, field_of, read_example, server as serve,
+    SCRIPTS, Example, PageServer, answer_of, answers, example, example_of, examples, field_of, read_example,
+    server as serve,
 )
 from tests.shared.examples import DATA, SOURCE, WORKED, Captured, cases, fake, files, refusal, serving
 from tests.shared.simulated import Simulated
@@ -81,7 +82,7 @@ START: Any = example.START["example"]
 MENU = {str(each["name"]): each for each in examples()}
 
 
-@pytest.mark.parametrize("name", ["paper", "controller", "offsets", "ahead", "templates"])
+@pytest.mark.parametrize("name", ["paper", "controller", "ahead", "offsets"])
 def test_examples_of_the_menu(name: str, engine: Engine) -> None:
     """The files of a folder are those of its example, which runs and has a sentence."""
     fields = example_of(json.dumps(MENU[name]["example"]).encode())
@@ -93,7 +94,7 @@ def test_examples_of_the_menu(name: str, engine: Engine) -> None:
 def test_the_menu_has_no_test_s_files() -> None:
     """Those of `long` have 60 lines of comment between two tasks; `server` and `deadlines` need more files than these.
     Without the repository there is one."""
-    assert [*MENU] == ["paper", "controller", "offsets", "ahead", "templates", "late"]
+    assert [*MENU] == ["paper", "controller", "ahead", "offsets", "late"]
     _, answer = answered(Simulated(Path("simulated")), START)
     assert answer["data"]["sheets"][0]["title"] == "edf cc, 20 ticks"
 
@@ -372,8 +373,8 @@ def test_listens_here_only(server: PageServer) -> None:
     assert server.server_address[0] == "127.0.0.1"
 
 
-@pytest.mark.parametrize(("path", "kind"), [("/", "text/html"), ("/page.js", "text/javascript"),
-                                            ("/page.css", "text/css")])
+@pytest.mark.parametrize(("path", "kind"), [("/", "text/html"), ("/page.css", "text/css"),
+                                            *((f"/{name}", "text/javascript") for name in SCRIPTS)])
 def test_files_and_their_policy(server: PageServer, path: str, kind: str) -> None:
     connection = http.client.HTTPConnection("127.0.0.1", server.port, timeout=60)
     connection.request("GET", path)
@@ -501,7 +502,8 @@ def test_dripping_connections_stop_no_other(server: PageServer, monkeypatch: pyt
 def test_at_most_64_requests_at_a_time(tmp_path: Path, monkeypatch: pytest.MonkeyPatch) -> None:
     """One that has come whole keeps its place: of 70 six are refused, and the others wait for their turn."""
     monkeypatch.setattr(serve, "PATIENCE", 900.0)
-    engine = Engine(fake(tmp_path, f"until [ -e {tmp_path}/end ]; do sleep 0.05; done; echo 'denied edf 2 1' >&2; exit 1"))
+    script = f"until [ -e {tmp_path}/end ]; do sleep 0.05; done; echo 'denied edf 2 1' >&2; exit 1"
+    engine = Engine(fake(tmp_path, script))
     with serving(engine) as server, ThreadPoolExecutor(70) as executor:
         found = [executor.submit(asked, server, "POST", "/run", BODY) for _ in range(70)]
         until(lambda: sum(each.done() for each in found) == 6)
@@ -653,7 +655,8 @@ def test_a_port_that_isn_t_permitted(tmp_path: Path, monkeypatch: pytest.MonkeyP
 def test_port_80(server: PageServer, monkeypatch: pytest.MonkeyPatch) -> None:
     """A browser leaves it out in what it says of the host; that of another port is refused with the address."""
     bare = "127.0.0.1"
-    assert json.loads(asked(server, "GET", "/", Host=bare)[1])["refused"] == f"open http://{bare}:{server.port}/ instead"
+    refused = json.loads(asked(server, "GET", "/", Host=bare)[1])["refused"]
+    assert refused == f"open http://{bare}:{server.port}/ instead"
     monkeypatch.setattr(serve, "HTTP_PORT", server.port)
     assert server.address == "http://127.0.0.1/"
     for host in (bare, "localhost", f"{bare}:{server.port}"):

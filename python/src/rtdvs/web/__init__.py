@@ -1,13 +1,15 @@
 """Pages for a browser: in one file, or served."""
 
-from rtdvs.web.answers import answer_of, compare_answer, example_of, meaning_of, run_answer
+from rtdvs.web.answers import answer_of, compare_answer, example_of, run_answer
 from rtdvs.web.data import (
-    MOST_TEXT, Shown, apart, boards_of, chunks, first_window, in_one_file, pack, page_data, pieces,
-    residency, safe_json, sheet, tick_of, with_data,
+    MOST_TEXT, SCRIPTS, Shown, apart, boards_of, chunks, explanations, first_window, in_one_file, modules, pack,
+    page_data, parting, question, residency, safe_json, segments, sheet, with_data,
 )
 from rtdvs.web.example import Example, examples, field_of, read_example
 from rtdvs.web.lesson import Lesson, LessonExample, LessonPair, lesson_data
+from rtdvs.web.marks import is_missed, mark_pieces, time_of
 from rtdvs.web.server import HOST, LONGEST_CALL, LONGEST_TRY, PORT, PageServer
+from rtdvs.web.unadmitted import meaning_of, not_the_programs
 
 __all__ = [
     "Example",
@@ -20,6 +22,7 @@ __all__ = [
     "MOST_TEXT",
     "PORT",
     "PageServer",
+    "SCRIPTS",
     "Shown",
     "answer_of",
     "apart",
@@ -28,19 +31,26 @@ __all__ = [
     "compare_answer",
     "example_of",
     "examples",
+    "explanations",
     "field_of",
     "first_window",
     "in_one_file",
+    "is_missed",
     "lesson_data",
+    "mark_pieces",
     "meaning_of",
+    "modules",
+    "not_the_programs",
     "pack",
     "page_data",
-    "pieces",
+    "parting",
+    "question",
     "read_example",
     "residency",
     "run_answer",
     "safe_json",
+    "segments",
     "sheet",
-    "tick_of",
+    "time_of",
     "with_data",
 ]

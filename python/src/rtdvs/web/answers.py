@@ -5,10 +5,9 @@ import sys
 import traceback
 from collections.abc import Callable, Mapping
 from contextlib import suppress
-from fractions import Fraction
 from http import HTTPStatus
 
-from rtdvs._numbers import decimal, whole
+from rtdvs._numbers import whole
 from rtdvs.engine import Engine, is_stopped
 from rtdvs.errors import (
     BadRequest, Denied, Differs, EngineError, LoadFailed, Refused, RtdvsError, SystemFault, TooManyJobs,
@@ -17,6 +16,7 @@ from rtdvs.rules import simulate
 from rtdvs.studies import HEADING, cells, compare
 from rtdvs.web.data import Shown, page_data
 from rtdvs.web.example import Example, field_of
+from rtdvs.web.unadmitted import meaning_of, not_the_programs
 
 MOST_JOBS = 10_000      # of a run
 MOST_SERVED_TEXT = 2    # mebibytes of explanations
@@ -97,35 +97,6 @@ def refusal(fault: Refused, example: Example) -> Found:
     if isinstance(fault, Denied):
         found |= {"meaning": meaning_of(fault, example.parsed()[1].top_speed), "offer": True}
     return found
-
-
-def not_the_programs(denied: Denied) -> str:
-    """What is said of a run of a set that isn't admitted.
-
-    >>> not_the_programs(Denied("edf", 80, 76))[:70]
-    "This run is the package's, not the program's, which says: denied edf 8"
-    """
-    return (f"This run is the package's, not the program's, which says: {denied}. A job that isn't complete at its "
-            "deadline is given up there.")
-
-
-def meaning_of(fault: Denied, top_speed: int) -> str:
-    """What a denial of a run means, in a sentence; "" for one of another command.
-
-    >>> meaning_of(Denied("edf", asked=1556, capacity=1120), 4)
-    'The tasks ask for 5.56 units a tick, and the fastest speed is 4.'
-    >>> meaning_of(Denied("rm", asked=68, capacity=56, task="t3"), 4)
-    'In 14 ticks, the period of t3, it and the tasks before it ask for 68 units, and the fastest speed does 56.'
-    """
-    if not fault.asked or not fault.capacity:
-        return ""
-    ticks = Fraction(fault.capacity, top_speed)
-    if fault.test == "edf":
-        return f"The tasks ask for {decimal(fault.asked / ticks, 2)} units a tick, and the fastest speed is {top_speed}."
-    if fault.test == "rm":
-        return (f"In {ticks} ticks, the period of {fault.task}, it and the tasks before it ask for {fault.asked} "
-                f"units, and the fastest speed does {fault.capacity}.")
-    return ""
 
 
 def failed(fault: Exception) -> Found:

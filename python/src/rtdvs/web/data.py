@@ -12,18 +12,23 @@ import re
 import zlib
 from collections.abc import Iterator, Mapping, Sequence
 from dataclasses import dataclass, replace
+from fractions import Fraction
 from itertools import islice
 from pathlib import Path
 
 from rtdvs._numbers import decimal
 from rtdvs.model import Demands, Machine, TaskSet
 from rtdvs.rules import GOVERNORS, Walk, explain
-from rtdvs.trace import COLUMNS, Decision, Done, End, Idle, Note, Release, Run, Trace, task_statistics
+from rtdvs.trace import COLUMNS, Decision, Idle, Release, Run, Trace, task_statistics
+from rtdvs.web.marks import mark_pieces, time_of
 
 WEB = Path(__file__).parent / "static"
 MEBIBYTE = 2**20
 MOST_TEXT = 8       # mebibytes of explanations of a trace, unless said otherwise
 CHUNK = 2**17       # characters that are compressed together
+MOST_ROWS = 60      # of demands on paper
+SCRIPTS = ("trace.js", "picture.js", "save.js", "view.js", "lesson.js", "editor.js", "page.js")
+"""The modules of the page, each after those that it imports from; the last one starts the page."""
 FIRST_JOBS = 20     # jobs in the window of a page that is opened, and three more for each task
 NO_RULE = "The governor is none of the rules, so there is no explanation."
 LEFT_OUT = ("The page has the explanations up to here; `python3 -m rtdvs explain` prints all. "
@@ -84,19 +89,6 @@ def boards_of(walk: Walk, most: int) -> tuple[list[str], bool]:
     return boards, True
 
 
-def pieces(text: str, size: int = CHUNK) -> Iterator[str]:
-    r"""A text in pieces of whole lines, each of about that many characters.
-
-    >>> [*pieces("12345\n1\n2\n", size=3)]
-    ['12345\n', '1\n2\n']
-    """
-    first = 0
-    while first < len(text):
-        end = text.find("\n", first + size - 1) + 1 or len(text)
-        yield text[first:end]
-        first = end
-
-
 def chunks(boards: Sequence[str], size: int = CHUNK) -> Iterator[dict[str, object]]:
     """Explanations in packed lists of about that many characters, each with the place of its first one.
 
@@ -114,10 +106,7 @@ def chunks(boards: Sequence[str], size: int = CHUNK) -> Iterator[dict[str, objec
 def sheet(text: str, trace: Trace, shown: Shown, label: str) -> dict[str, object]:
     """What the page has of a trace and its text; raises TraceFault, WrongTrace and Denied."""
     pair = f"{trace.scheduler} {trace.governor}"
-    known = (trace.scheduler, trace.governor) in GOVERNORS
-    walk = Walk(shown.tasks, shown.machine, text.splitlines(keepends=True), shown.demands, not known,
-                missed="drop" if shown.note else "stop")
-    boards, whole = boards_of(walk, shown.most * MEBIBYTE)
+    boards, left = explanations(text, trace, shown)
     trace.belongs_to(shown.tasks, shown.machine)  # also what no explanation has checked
     energy = f"energy {trace.energy}: {trace.run_energy} running, {trace.idle_energy} idle"
     return {
@@ -126,12 +115,21 @@ def sheet(text: str, trace: Trace, shown: Shown, label: str) -> dict[str, object
         "note": shown.note,
         "energy": f"{energy}, in units × mV² × 1000; switches of the speed: {trace.switches}",
         "ticks": trace.ticks,
-        "pieces": [pack(piece) for piece in pieces(text)],
+        "pieces": [pack(json.dumps(piece, separators=(",", ":"))) for piece in mark_pieces(trace, shown.tasks)],
         "boards": [*chunks(boards)],
-        "left": NO_RULE if not known else LEFT_OUT if not whole else "",
+        "left": left,
         "residency": residency(trace),
         "statistics": [each.row() for each in task_statistics(trace, shown.tasks)],
     }
+
+
+def explanations(text: str, trace: Trace, shown: Shown) -> tuple[list[str], str]:
+    """The explanations of a trace's decisions, and what is said where one is missing; raises as `sheet`."""
+    known = (trace.scheduler, trace.governor) in GOVERNORS
+    walk = Walk(shown.tasks, shown.machine, text.splitlines(keepends=True), shown.demands, not known,
+                missed="drop" if shown.note else "stop")
+    boards, whole = boards_of(walk, shown.most * MEBIBYTE)
+    return boards, NO_RULE if not known else LEFT_OUT if not whole else ""
 
 
 def residency(trace: Trace) -> list[tuple[str, str, str]]:
@@ -147,34 +145,68 @@ def residency(trace: Trace) -> list[tuple[str, str, str]]:
     return [*rows, ("idle", decimal(idle, 4), decimal(idle / trace.ticks, 4))]
 
 
-def tick_of(note: Note) -> int:
-    """The tick in which a note is, or the last one of the run.
-
-    >>> tick_of(Release(8, "t1", 2)), tick_of(End(16, 5, 0))
-    (8, 16)
-    """
-    match note:
-        case Release(tick=tick) | Decision(tick=tick) | Run(begin=(tick, _)) | Idle(begin=(tick, _)):
-            return tick
-        case Done(at=(tick, _)) | End(ticks=tick):
-            return tick
-    return 0
-
-
-def apart(first: Trace, second: Trace) -> dict[str, object] | None:
-    """The first place where the notes of two traces part: the tick and the lines; None if they never do.
+def segments(trace: Trace) -> Iterator[tuple[Fraction, Fraction, str]]:
+    """Begin, end and words of each stretch of a schedule: who runs at which speed. Neighbours that are alike are one.
 
     >>> from rtdvs.trace import SAMPLE
-    >>> one, two = Trace.parse(SAMPLE), Trace.parse(SAMPLE.replace("run 1:0 1:1", "run 1:0 2:0"))
-    >>> apart(one, one) is None, apart(one, two)["tick"]
-    (True, 1)
+    >>> [words for _, _, words in segments(Trace.parse(SAMPLE))]
+    ['t 1 at speed 3', 't 1 at speed 2', 'idle at speed 2']
     """
-    tick = 0
-    for one, two in zip(first.notes, second.notes, strict=False):
-        tick = max(tick, tick_of(one))
-        if one != two:
-            return {"tick": tick, "text": f"The traces part at tick {tick}: “{one.text()}” and “{two.text()}”."}
+    begin, end, last = Fraction(0), Fraction(0), ""
+    for note, speed in trace.at_speeds():
+        if not isinstance(note, Run | Idle):
+            continue
+        words = f"{f'{note.task} {note.job}' if isinstance(note, Run) else 'idle'} at speed {speed}"
+        if words != last and last:
+            yield begin, end, last
+            begin = end
+        end, last = Fraction(note.end.time(speed)), words
+    if last:
+        yield begin, end, last
+
+
+def parting(first: Trace, second: Trace) -> tuple[Fraction, str, str] | None:
+    """The first time at which two schedules differ, and what each does then; None if they never do.
+
+    >>> from rtdvs.trace import SAMPLE
+    >>> one, two = (Trace.parse(text) for text in (SAMPLE, SAMPLE.replace("run 1:0 1:1 t 1 1", "run 1:0 2:0 t 1 2")))
+    >>> parting(one, one) is None, parting(one, two)
+    (True, (Fraction(3, 2), 'idle at speed 2', 't 1 at speed 2'))
+    """
+    for one, two in zip(segments(first), segments(second), strict=False):
+        if one[2] != two[2]:
+            return max(one[0], two[0]), one[2], two[2]
+        if one[1] != two[1]:
+            return _after(first, second, min(one[1], two[1]))
     return None
+
+
+def _after(first: Trace, second: Trace, time: Fraction) -> tuple[Fraction, str, str]:
+    """What two schedules do from a time on."""
+    does = [next((words for _, end, words in segments(trace) if end > time), "nothing") for trace in (first, second)]
+    return time, does[0], does[1]
+
+
+def apart(first: Trace, second: Trace) -> dict[str, object]:
+    """Where two schedules part: the tick, and a sentence; the first demands that differ are a sentence of their own.
+
+    >>> from rtdvs.trace import SAMPLE
+    >>> one, two = (Trace.parse(text) for text in (SAMPLE, SAMPLE.replace("run 1:0 1:1 t 1 1", "run 1:0 2:0 t 1 2")))
+    >>> apart(one, two)["tick"], apart(one, two)["text"]
+    (1, 'The schedules part at tick 1 1/2: idle at speed 2, and t 1 at speed 2.')
+    >>> apart(one, one)
+    {'tick': 0, 'parts': False, 'text': 'The schedules are the same.'}
+    """
+    found = parting(first, second)
+    text = "The schedules are the same."
+    if found:
+        text = f"The schedules part at tick {time_of(found[0])}: {found[1]}, and {found[2]}."
+    demands = ((one, two) for one, two in zip(first.decisions, second.decisions, strict=False)
+               if (one.tick, one.num, one.den) != (two.tick, two.num, two.den))
+    if differ := next(demands, None):
+        asked = " and ".join(f"{each.num}/{each.den}" for each in differ)
+        text += f" The published demands differ from tick {min(each.tick for each in differ)} on: {asked}."
+    return {"tick": int(found[0]) if found else 0, "parts": found is not None, "text": text}
 
 
 def first_window(traces: Mapping[str, Trace], tasks: int) -> int:
@@ -184,12 +216,35 @@ def first_window(traces: Mapping[str, Trace], tasks: int) -> int:
     return max(min(next(islice(releases, FIRST_JOBS + 3 * tasks, None), ticks), ticks), 1)
 
 
+def question(shown: Shown) -> list[dict[str, object]]:
+    """The tables of tasks, machine and demands, which are printed above the schedule.
+
+    >>> from rtdvs.model import Point, Task
+    >>> [table["caption"] for table in question(Shown(TaskSet((Task("a", 4, 4),)), Machine((Point(2, 1000),))))]
+    ['Tasks', 'Machine: idle share 0 thousandths, charge 0 units']
+    """
+    tasks, machine = shown.tasks, shown.machine
+    settings = f"Machine: idle share {machine.idle} thousandths, charge {machine.charge} units"
+    tables: list[dict[str, object]] = [
+        {"caption": "Tasks", "heading": ["task", "period", "worst case", "offset"],
+         "rows": [[task.name, task.period, task.worst, task.offset] for task in tasks]},
+        {"caption": settings, "heading": ["speed", "millivolts"],
+         "rows": [[point.speed, point.millivolts] for point in machine.points]},
+    ]
+    rows = [[task, job, units] for (task, job), units in (shown.demands.units if shown.demands else {}).items()]
+    if rows:
+        more = f", the first {MOST_ROWS} of {len(rows)}" if len(rows) > MOST_ROWS else ""
+        tables.append({"caption": f"Demands{more}", "heading": ["task", "job", "units"], "rows": rows[:MOST_ROWS]})
+    return tables
+
+
 def page_data(texts: Mapping[str, str], shown: Shown, notes: Mapping[str, str] = {}) -> dict[str, object]:
     """The data of a page of traces, by their labels, some with a note; raises TraceFault, WrongTrace and Denied."""
     charge, traces = 2 * shown.machine.charge, {label: Trace.parse(text) for label, text in texts.items()}
     return {
         "tasks": [{"name": task.name, "period": task.period, "worst": str(task.worst + charge)}
                   for task in shown.tasks],
+        "question": question(shown),
         "top": shown.machine.top_speed,
         "columns": [name.replace("_", " ") for name in COLUMNS],
         "window": first_window(traces, len(shown.tasks)),
@@ -218,15 +273,24 @@ def with_data(data: object) -> str:
     return DATA.sub(lambda found: found[1] + safe_json(data) + found[2], page)
 
 
+def modules() -> str:
+    """The page's modules as one: in their order, without the words that import and export.
+
+    >>> [line for line in modules().splitlines() if line.startswith(("import ", "export "))]
+    []
+    """
+    texts = ((WEB / name).read_text(encoding="utf-8") for name in SCRIPTS)
+    return "\n".join(re.sub("^export ", "", re.sub("^import .*\n", "", text, flags=re.M), flags=re.M) for text in texts)
+
+
 def in_one_file(data: object) -> str:
     """The page with some data, its style and its script, and a policy that allows only these."""
-    style, script = ((WEB / name).read_text(encoding="utf-8") for name in ("page.css", "page.js"))
-    style, script = f"\n{style}", f"\n{script}"
+    style, script = f"\n{(WEB / 'page.css').read_text(encoding='utf-8')}", f"\n{modules()}"
     policy = (f"default-src 'none'; style-src {_hash(style)}; script-src {_hash(script)}; base-uri 'none'; "
               "form-action 'none'")
     head = f'<meta http-equiv="Content-Security-Policy" content="{policy}">\n<style>{style}</style>'
     page = with_data(data).replace('<link rel="stylesheet" href="page.css">', head)
-    return page.replace('<script src="page.js" defer></script>', f"<script>{script}</script>")
+    return page.replace('<script type="module" src="page.js"></script>', f'<script type="module">{script}</script>')
 
 
 def _hash(text: str) -> str:

@@ -12,6 +12,7 @@ from typing import Any
 from rtdvs.engine import CRATE, Call
 from rtdvs.errors import BadRequest, FileRefused
 from rtdvs.model import Demands, Machine, TaskSet
+from rtdvs.web.menu import MENU
 
 LONGEST_FIELD = 1000    # characters
 TABLES = {"tasks": ("name", "period", "worst", "offset"), "points": ("speed", "millivolts"),
@@ -21,14 +22,6 @@ MORE = ("beside", "admission", "page")
 """Fields that may be missing: a second pair, `none` for the package's run of a set that isn't admitted, and the
 page that asks, whose newer call ends an older one."""
 EXAMPLE_DATA = ("crates", "example_runs", "data")
-MENU = {
-    "paper": "The example of Pillai and Shin (2001): three tasks, three speeds, and what the first jobs need.",
-    "controller": "A battery-driven controller. An idle unit costs a tenth, and a switch of the speed costs 2 units.",
-    "offsets": "Two tasks. The second one is released for the first time at tick 2.",
-    "ahead": "Three tasks for which look-ahead asks for more than the highest speed.",
-    "templates": "A small set with an idle share, a charge and demands, to begin with.",
-}
-"""The repository's examples, each with a sentence; the first one is opened."""
 Rows = Sequence[Mapping[str, str]]
 START: dict[str, object] = {
     "name": "late", "about": "Two tasks that EDF admits. Under RM, which denies them, b misses its deadline.",

@@ -36,8 +36,8 @@ from rtdvs.model import (
 )
 from rtdvs.rules import simulate
 from rtdvs.trace import Trace
-from rtdvs.web.answers import not_the_programs
 from rtdvs.web.data import Shown, apart, page_data
+from rtdvs.web.unadmitted import not_the_programs
 
 MOST_EXAMPLES = 100
 MOST_LESSON_TEXT = 1    # mebibytes of explanations of a run

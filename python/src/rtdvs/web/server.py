@@ -22,7 +22,7 @@ from typing import Any
 from rtdvs.engine import Engine, Stop
 from rtdvs.errors import BadRequest
 from rtdvs.web.answers import ANSWERS, Found, answer_of, example_of, failed
-from rtdvs.web.data import WEB, with_data
+from rtdvs.web.data import SCRIPTS, WEB, with_data
 from rtdvs.web.example import Example, examples
 
 HOST = "127.0.0.1"
@@ -37,7 +37,6 @@ LONGEST_CALL = 10.0     # seconds
 LONGEST_TRY = 300.0     # seconds, where `rt try` has to compile first
 POLICY = ("default-src 'none'; script-src 'self'; style-src 'self'; connect-src 'self'; base-uri 'none'; "
           "form-action 'none'; frame-ancestors 'none'")
-KINDS = {".js": "text/javascript", ".css": "text/css"}
 
 
 @dataclass(eq=False, slots=True)
@@ -74,8 +73,8 @@ class PageServer(HTTPServer):
         self.change = Condition()  # of the visits and the calls
         self.files: Mapping[str, tuple[str, bytes]] = {
             "/": ("text/html", with_data({"examples": [*examples()]}).encode()),
-            **{f"/{path.name}": (KINDS[path.suffix], path.read_bytes()) for path in WEB.iterdir()
-               if path.suffix in KINDS}}
+            "/page.css": ("text/css", (WEB / "page.css").read_bytes()),
+            **{f"/{name}": ("text/javascript", (WEB / name).read_bytes()) for name in SCRIPTS}}
         super().__init__((HOST, port), _Handler)
 
     @property

@@ -1,0 +1,122 @@
+"""What a page draws of a trace: jobs with their facts, runs, idle times and decisions, as rows of JSON.
+
+The facts are worked out here; the page only writes them. A time is a whole number of ticks, or a text such as
+"2 2/3".
+"""
+
+from collections.abc import Iterator, Mapping
+from dataclasses import dataclass, field
+from fractions import Fraction
+from math import gcd
+
+from rtdvs.model import TaskSet
+from rtdvs.trace import Decision, Done, Idle, Job, Position, Release, Run, Trace
+
+PIECE = 4000        # marks that are read together
+Row = list[object]
+Name = tuple[str, int]
+
+
+def time_of(time: Fraction | None) -> int | str | None:
+    """A time in ticks; None stays None.
+
+    >>> time_of(Fraction(8, 3)), time_of(Fraction(2, 3)), time_of(Fraction(4)), time_of(None)
+    ('2 2/3', '2/3', 4, None)
+    """
+    if time is None:
+        return None
+    whole, rest = divmod(time.numerator, time.denominator)
+    return f"{whole or ''} {rest}/{time.denominator}".strip() if rest else whole
+
+
+def place_of(at: Position, speed: int) -> int | str:
+    """A position as a time, at the speed in force.
+
+    >>> place_of(Position(2, 2), 3), place_of(Position(0, 2), 4), place_of(Position(9, 0), 4)
+    ('2 2/3', '1/2', 9)
+    """
+    if not at.offset:
+        return at.tick
+    common = gcd(at.offset, speed)
+    return f"{at.tick or ''} {at.offset // common}/{speed // common}".strip()
+
+
+def is_missed(job: Job, ticks: int) -> bool:
+    """Whether a job isn't complete at its deadline, in a run of some ticks.
+
+    >>> late = Job("t", 1, release=0, deadline=4, completion=Fraction(9, 2))
+    >>> is_missed(late, 8), is_missed(Job("t", 2, release=4, deadline=8), 8), is_missed(Job("t", 2, 4, 8), 7)
+    (True, True, False)
+    """
+    if job.deadline is None:
+        return False
+    return job.deadline <= ticks if job.completion is None else job.deadline < job.completion
+
+
+@dataclass(frozen=True, slots=True)
+class Piece:
+    """Some marks of a trace, in the order of time; a run names its job by its place among all jobs."""
+
+    jobs: list[Row] = field(default_factory=list)
+    runs: list[Row] = field(default_factory=list)
+    idles: list[Row] = field(default_factory=list)
+    decisions: list[Row] = field(default_factory=list)
+
+    def data(self) -> dict[str, list[Row]]:
+        """The piece as a value of JSON.
+
+        >>> Piece(idles=[[0, 2, 3, 6]]).data()["idles"]
+        [[0, 2, 3, 6]]
+        """
+        return {"jobs": self.jobs, "runs": self.runs, "idles": self.idles, "decisions": self.decisions}
+
+
+def job_row(job: Job, place: int, speed: int, ticks: int) -> Row:
+    """A job: its task's place, number, release, deadline, completion, response, laxity, units, energy, the speed
+    at its completion, and whether it misses its deadline.
+
+    >>> job_row(Job("t", 1, 0, 8, Fraction(0), Fraction(8, 3), 8, 0, 500), 0, 3, 16)
+    [0, 1, 0, 8, '2 2/3', '2 2/3', '5 1/3', 8, '500', 3, 0]
+    """
+    times = (time_of(time) for time in (job.completion, job.response, job.laxity))
+    return [place, job.number, job.release, job.deadline, *times, job.units, str(job.energy), speed,
+            int(is_missed(job, ticks))]
+
+
+def mark_pieces(trace: Trace, tasks: TaskSet, size: int = PIECE) -> Iterator[dict[str, list[Row]]]:
+    """The marks of a trace in pieces of about that many. Raises TraceFault for a job that can't be.
+
+    >>> from rtdvs.model import Task
+    >>> from rtdvs.trace import SAMPLE
+    >>> piece, = mark_pieces(Trace.parse(SAMPLE), TaskSet((Task("t", 2, 4),)))
+    >>> piece["decisions"], piece["runs"]
+    ([[0, 3, '3/1', 5], [1, 2, '2/1', 7]], [[0, 0, 1, 3, 3], [0, 1, '1 1/2', 2, 1]])
+    """
+    rows = {task.name: place for place, task in enumerate(tasks)}
+    jobs = {(job.task, job.number): job for job in trace.jobs(tasks)}
+    places = {name: place for place, name in enumerate(jobs)}
+    speeds = {(note.task, note.job): speed for note, speed in trace.at_speeds() if isinstance(note, Done)}
+    piece, count = Piece(), 0
+    for line, note, speed in trace.numbered():
+        match note:
+            case Release(task=task, job=number):
+                piece.jobs.append(job_row(jobs[task, number], rows[task], speeds.get((task, number), 0), trace.ticks))
+            case Run():
+                piece.runs.append(_segment(note, speed, places))
+            case Idle():
+                piece.idles.append(_segment(note, speed, {}))
+            case Decision():
+                piece.decisions.append([note.tick, note.speed, f"{note.num}/{note.den}", line])
+            case _:
+                continue
+        count += 1
+        if count % size == 0:
+            yield piece.data()
+            piece = Piece()
+    yield piece.data()
+
+
+def _segment(note: Run | Idle, speed: int, places: Mapping[Name, int]) -> Row:
+    """A run, with the place of its job, or idle time: begin, end, speed and units."""
+    job = [places[note.task, note.job]] if isinstance(note, Run) else []
+    return [*job, place_of(note.begin, speed), place_of(note.end, speed), speed, note.units]
