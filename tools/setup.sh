@@ -6,13 +6,13 @@
 python='python3 python3-pytest python3-hypothesis python3-matplotlib python3-pandas python3-distributed python3-mpi4py
     python3-hatchling python3-venv python3-selenium python3-nbconvert python3-ipykernel python3-libfdt mypy'
 others='bash chromium chromium-driver device-tree-compiler g++ gcc libc6-dev lintian locales openmpi-bin pkgconf
-    valgrind'
+    poppler-utils valgrind'
 
 if [ -z "$(command -v dpkg-query)" ] || [ -z "$(command -v apt-get)" ]; then
     echo 'setup: no apt-get here. Take Python 3.11 or later, which the variable PYTHON names, with pytest,'
     echo 'hypothesis, matplotlib, pandas, distributed, mpi4py, hatchling, selenium, nbconvert, ipykernel, libfdt, venv'
-    echo 'and mypy; and bash, a C compiler as cc, a C++ compiler as c++, dtc, valgrind, pkg-config, chromium with'
-    echo 'chromedriver, localedef with the sources of de_DE, mpiexec, and for a Debian package dpkg-deb and lintian.'
+    echo 'and mypy; and bash, a C compiler as cc, a C++ compiler as c++, dtc, valgrind, pkg-config, pdftotext, chromium'
+    echo 'with chromedriver, localedef with the sources of de_DE, mpiexec, and for a Debian package dpkg-deb and lintian.'
     exit 1
 fi
 installed=$(dpkg-query -W -f '${Package} ${db:Status-Abbrev}\n' $python $others 2>/dev/null | sed -n 's/ ii.*//p')

@@ -43,15 +43,15 @@ def draw_figures(target: Path) -> Iterator[Path]:
 def draw_page(engine: Engine, target: Path) -> Path:
     """Draws what a browser shows of the server's page, in few colours; it needs selenium and Chromium."""
     from PIL import Image
-    from tests.web.test_browser import chromium, until
+    from tests.shared.browsing import chromium, until
 
     browser, path = chromium(), target / "page.png"
     with serving(engine) as server:
-        browser.set_window_size(1280, 1430)
+        browser.set_window_size(1280, 860)
         browser.get(f"http://127.0.0.1:{server.port}/")
-        until(browser, "return document.body.classList.contains('whole') && (step(1), true)")
+        until(browser, "return document.body.classList.contains('whole') && (schedule.step(1), true)")
         until(browser, "return document.querySelector('#board').textContent.startsWith('line 13')")
-        browser.execute_script("document.documentElement.style.overflow = 'hidden'; find('#status').textContent = ''")
+        browser.execute_script("document.documentElement.style.overflow = 'hidden'")
         browser.save_screenshot(str(path))
     browser.quit()
     Image.open(path).convert("RGB").quantize(48).save(path, optimize=True)
