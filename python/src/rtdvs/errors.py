@@ -19,7 +19,7 @@ from typing import ClassVar
 
 NUMBER, NAME = r"(0|[1-9][0-9]*)", r"([A-Za-z0-9_-]{1,32})"
 ENTRIES = {"tasks": "task", "machine": "point", "demands": "row", "deadlines": "row", "requests": "row",
-           "trace": "line"}
+           "trace": "line", "lesson": "example"}
 """The kinds of files, each with the word for one of its parts."""
 
 

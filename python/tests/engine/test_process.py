@@ -17,7 +17,7 @@ from typing import Any
 
 import pytest
 
-from rtdvs.engine import Engine, process as process_module, stop_calls, workload_call
+from rtdvs.engine import Engine, Stop, process as process_module, stop_calls, workload_call
 from rtdvs.errors import Crashed, NoEngine, SystemFault, TimedOut
 from tests.shared.examples import DATA, SOURCE, fake, options
 
@@ -133,6 +133,31 @@ def test_calls_that_are_stopped(tmp_path: Path) -> None:
         stop_calls()
         assert {answer.status for answer in found} <= {-signal.SIGTERM, -signal.SIGKILL}
     assert left(tmp_path) == [] and engine.answer(workload_call(1)).status == 0
+
+
+def test_calls_of_one_block_are_stopped(tmp_path: Path) -> None:
+    """Its program ends, and it makes no more calls; the call of another thread goes on, with a guard of its own."""
+    script = f'[ "$3" = 1 ] || {{ {LONG}; }}; until [ -e {tmp_path}/end ]; do sleep 0.01; done'
+    engine, stop = Engine(fake(tmp_path, script)), Stop()
+
+    def stopped() -> tuple[int, str]:
+        with stop.of_calls():
+            status = engine.answer(workload_call(2)).status
+            with pytest.raises(Crashed) as fault:
+                engine.answer(workload_call(1))
+        return status, str(fault.value)
+
+    with ThreadPoolExecutor(2) as executor:
+        first, other = executor.submit(stopped), executor.submit(engine.answer, workload_call(1))
+        until(lambda: len([*(tmp_path / "calls").iterdir()]) == 2)
+        stop.end()
+        status, line = first.result()
+        assert status in {-signal.SIGTERM, -signal.SIGKILL} and line == "this process makes no more calls"
+        (tmp_path / "end").touch()
+        assert other.result().status == 0
+    assert len(process_module.IDLE) == 1
+    stop_calls()
+    assert left(tmp_path) == []
 
 
 # Callers that end

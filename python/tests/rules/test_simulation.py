@@ -7,10 +7,10 @@ from typing import Any
 
 import pytest
 
-from rtdvs.errors import BadValue, DeadlineMissed, FileRefused, OverWorst, WrongTrace
+from rtdvs.errors import BadValue, DeadlineMissed, Denied, FileRefused, OverWorst, WrongTrace
 from rtdvs.model import PAIRS, Deadlines, Demands, Machine, Point, Scheduler, Task, TaskSet
 from rtdvs.rules import GOVERNORS, JobView, Plan, Priority, View, Walk, check, explain, simulate
-from rtdvs.trace import Run, Trace
+from rtdvs.trace import Done, Run, Trace
 from tests.shared.examples import BOARD
 from tests.shared.model import Model, random_case
 
@@ -257,3 +257,39 @@ def test_a_trace_of_a_function_is_checked_by_it() -> None:
 
 def test_one_table_of_pairs() -> None:
     assert tuple(GOVERNORS) == PAIRS
+
+
+# Missed deadlines
+
+LATE = TaskSet((Task("a", 4, 8), Task("b", 5, 9)))
+"""EDF needs 8/4 + 9/5 units a tick, of 4. Under RM b has only the 8 units that a leaves it in ticks 2 to 4."""
+
+
+def test_a_job_is_given_up_at_its_deadline() -> None:
+    """Under RM at speed 4: a runs 2 of each 4 ticks, so b's jobs have 8 units by tick 5, and 8 from 5 to 10; its third
+    one has tick 10 to 12 and a unit more in tick 14."""
+    trace = simulate(LATE, BOARD, "rm", 15, "none", missed="drop")
+    assert [(note.job, str(note.at)) for note in trace.notes if isinstance(note, Done) and note.task == "b"] == [
+        (3, "14:1")]
+    assert [run for run in runs(trace) if run[0] == "b"] == [("b", 2, 4), ("b", 6, 8), ("b", 10, 12), ("b", 14, 14)]
+    with pytest.raises(DeadlineMissed, match="^b job 1 was due at 5 and is not complete: it has had 8 units$"):
+        simulate(LATE, BOARD, "rm", 15, "none")
+    with pytest.raises(BadValue, match="^a missed deadline is continue, drop, stop, not go on$"):
+        simulate(LATE, BOARD, "rm", 15, "none", missed="go on")
+
+
+def test_a_run_with_missed_deadlines_is_explained() -> None:
+    """Its plan line says that jobs are dropped; without that word the set is denied: 25 units in 5 ticks, of 20."""
+    text = simulate(LATE, BOARD, "rm", 15, "none", missed="drop").text()
+    boards: list[str] = []
+    summary = explain(Walk(LATE, BOARD, text.splitlines(keepends=True)), boards.append)
+    assert (summary.released, summary.complete) == (7, 5) and len(boards) == summary.decisions
+    with pytest.raises(Denied, match="^denied rm b 25 20$"):
+        explain(Walk(LATE, BOARD, text.replace("none-drop", "none").splitlines(keepends=True)))
+
+
+@pytest.mark.parametrize("pair", PAIRS, ids=" ".join)
+def test_nothing_is_given_up_of_a_set_that_is_admitted(pair: tuple[str, str]) -> None:
+    scheduler, governor = pair
+    stopped, dropped = (simulate(TASKS, BOARD, scheduler, 24, governor, missed=word) for word in ("stop", "drop"))
+    assert stopped.notes == dropped.notes and dropped.misses() == ()

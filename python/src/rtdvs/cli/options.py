@@ -102,14 +102,14 @@ def add_files(parser: argparse.ArgumentParser, required: Sequence[str], optional
 
 
 def add_output(parser: argparse.ArgumentParser) -> None:
-    """Adds `--output FILE`; without it a command prints.
+    """Adds `--output FILE`, in short `-o`; without it a command prints.
 
     >>> parser = argparse.ArgumentParser()
     >>> add_output(parser)
     >>> parser.parse_args(["--output", "cc.svg"]).output
     PosixPath('cc.svg')
     """
-    parser.add_argument("--output", type=Path, metavar="FILE", help="write to this file, and print nothing")
+    parser.add_argument("-o", "--output", type=Path, metavar="FILE", help="write to this file, and print nothing")
 
 
 def add_engine_options(parser: argparse.ArgumentParser, jobs: bool = False) -> None:

@@ -1,4 +1,4 @@
-"""Writes one or two traces of a task set as a page for a browser, in one file that needs no network.
+"""Writes one or two traces of a task set, or a lesson, as a page for a browser, in one file that needs no network.
 
 The page has a row for each task, zoom, and steps from decision to decision; a click on a mark opens the lines
 of `explain` and the job's times. Two traces are drawn one below the other, with the place where they part.
@@ -7,42 +7,64 @@ The whole trace is in the file, compressed. Explanations are in it up to some me
 trace; the page says where they end. A trace of a governor that isn't one of docs/RULES.md is checked as by
 `explain --any`, and has no explanations.
 
+A lesson is a TOML file with examples, pairs and a text for each. The program makes all its runs, and the page has
+menus for them. Its address names what is shown, as `#example=paper&pair=edf-cc&tick=4`, so the file can be put on
+any web site, or be opened by itself, and links lead to a place in it.
+
 The status is 1 if a trace is wrong; standard error then names its first wrong line.
 """
 
 import argparse
 import sys
+from pathlib import Path
 
 from rtdvs.cli.options import (
-    Commands, Input, add_files, add_output, add_parser, input_path, read_files, read_text, whole_number,
-    write_output,
+    Commands, Input, add_engine_options, add_files, add_output, add_parser, engine_of, input_path, read_files,
+    read_text, whole_number, write_output,
 )
 from rtdvs.errors import BadValue, WrongTrace
-from rtdvs.web import MOST_TEXT, Shown, in_one_file, page_data
+from rtdvs.web import MOST_TEXT, Lesson, Shown, in_one_file, lesson_data, page_data
 
 
 def _handle(args: argparse.Namespace) -> int:
-    traces: list[Input] = args.trace
-    if len(traces) > 2:
-        raise BadValue(f"{len(traces)} traces, at most 2")
-    shown = Shown(*read_files(args), args.most)
-    labels = ("A", "B") if len(traces) == 2 else ("",)
-    texts = {label: read_text(source, "trace") for label, source in zip(labels, traces, strict=True)}
     try:
-        write_output(args, in_one_file(page_data(texts, shown)))
+        write_output(args, in_one_file(_traces_data(args) if args.lesson is None else _lesson_data(args)))
     except WrongTrace as fault:
         print(fault, file=sys.stderr)
         return 1
     return 0
 
 
+def _traces_data(args: argparse.Namespace) -> dict[str, object]:
+    traces: list[Input] = args.trace
+    if not 1 <= len(traces) <= 2:
+        raise BadValue(f"{len(traces)} traces, at most 2" if traces else "a trace or two, or --lesson")
+    for kind in ("tasks", "machine"):
+        if getattr(args, kind) is None:
+            raise BadValue(f"a page of traces needs --{kind}")
+    shown = Shown(*read_files(args), args.most)
+    labels = ("A", "B") if len(traces) == 2 else ("",)
+    return page_data({label: read_text(source, "trace") for label, source in zip(labels, traces, strict=True)}, shown)
+
+
+def _lesson_data(args: argparse.Namespace) -> dict[str, object]:
+    others = ["a trace"] if args.trace else [f"--{kind}" for kind in ("tasks", "machine", "demands")
+                                             if getattr(args, kind) is not None]
+    if others:
+        raise BadValue(f"--lesson names its files, so {others[0]} has no place beside it")
+    return lesson_data(Lesson.read(args.lesson), engine_of(args))
+
+
 def add_command(commands: Commands) -> None:
     """Adds the command `page`."""
-    parser = add_parser(commands, "page", _handle, "write traces as a page for a browser",
-                        "page run.trace --tasks tasks.toml --machine machine.toml > page.html")
-    parser.add_argument("trace", type=input_path, nargs="+", metavar="TRACE",
+    parser = add_parser(commands, "page", _handle, "write traces or a lesson as a page for a browser",
+                        "page run.trace --tasks tasks.toml --machine machine.toml > page.html\n"
+                        "page --lesson examples/lesson/lesson.toml -o lesson.html")
+    parser.add_argument("trace", type=input_path, nargs="*", metavar="TRACE",
                         help="the trace, or two of one task set; - is standard input")
-    add_files(parser, ("tasks", "machine"), ("demands",))
+    add_files(parser, (), ("tasks", "machine", "demands"))
+    parser.add_argument("--lesson", type=Path, metavar="FILE", help="a lesson, in place of traces and their files")
     parser.add_argument("--most", type=whole_number(0, 256), default=MOST_TEXT, metavar="MIB",
                         help=f"the most mebibytes of explanations of a trace (default: {MOST_TEXT})")
     add_output(parser)
+    add_engine_options(parser)

@@ -4,7 +4,9 @@ Each change of the tasks, the machine, the demands or the run calls the program,
 again. What the program refuses is shown at the field, in its words. The address carries the whole example.
 
 It listens on 127.0.0.1 only, and answers only requests for that host and from its own pages. A run has at
-most 10,000 jobs; 4 calls are made at a time, each for at most 10 seconds. Ctrl and C end it.
+most 10,000 jobs; 4 calls are made at a time, each for at most 10 seconds, and a newer call of a page ends the
+older one. A request has to come whole within 5 seconds. What the program or the server does wrong is printed on
+standard error, a line for each. Ctrl and C end it.
 """
 
 import argparse
@@ -12,7 +14,7 @@ from dataclasses import replace
 
 from rtdvs.cli.options import Commands, add_engine_options, add_parser, engine_of, whole_number
 from rtdvs.engine import TryEngine
-from rtdvs.web import HOST, LONGEST_CALL, LONGEST_TRY, PORT, PageServer
+from rtdvs.web import LONGEST_CALL, LONGEST_TRY, PORT, PageServer
 
 
 def _handle(args: argparse.Namespace) -> int:
@@ -21,7 +23,7 @@ def _handle(args: argparse.Namespace) -> int:
     if isinstance(engine, TryEngine):
         engine = replace(engine, timeout=LONGEST_TRY)
     with PageServer(args.port, engine) as server:
-        print(f"http://{HOST}:{server.port}/ for browsers on this machine only; Ctrl and C end it", flush=True)
+        print(f"{server.address} for browsers on this machine only; Ctrl and C end it", flush=True)
         server.serve_forever()
     return 0
 

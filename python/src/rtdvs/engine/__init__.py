@@ -10,7 +10,7 @@ from rtdvs.engine.calls import (
 )
 from rtdvs.engine.engine import CRATE, Engine, LibraryEngine, TryEngine, find_engine
 from rtdvs.engine.library import Lengths, answer, main, opened
-from rtdvs.engine.process import end_calls, stop_calls, wait_for_calls
+from rtdvs.engine.process import Stop, end_calls, is_stopped, stop_calls, wait_for_calls
 
 __all__ = [
     "Admitted",
@@ -31,6 +31,7 @@ __all__ = [
     "RequestSource",
     "Service",
     "Source",
+    "Stop",
     "TaskSource",
     "TraceSource",
     "TryEngine",
@@ -40,6 +41,7 @@ __all__ = [
     "constrain_call",
     "end_calls",
     "find_engine",
+    "is_stopped",
     "least_call",
     "main",
     "migrate_call",

@@ -11,12 +11,14 @@ import secrets
 import signal
 from collections.abc import Iterator, Sequence
 from contextlib import contextmanager, suppress
-from dataclasses import dataclass
+from contextvars import ContextVar
+from dataclasses import dataclass, field
 from io import FileIO
 from pathlib import Path
 from shutil import rmtree
 from subprocess import DEVNULL, PIPE, Popen, TimeoutExpired
 from tempfile import gettempdir
+from threading import Lock
 from time import monotonic, sleep
 
 from rtdvs.engine.calls import Answer
@@ -55,6 +57,65 @@ ENDED: list[bool] = []
 """Of this process: guards of calls, guards that are free, and whether it makes no more calls."""
 
 
+@dataclass(eq=False, slots=True)
+class Stop:
+    """Ends the programs that run for a block, from another thread; the block then makes no more calls.
+
+    >>> stop = Stop()
+    >>> stop.end()
+    >>> with stop.of_calls(), guarded():
+    ...     pass
+    Traceback (most recent call last):
+    rtdvs.errors.Crashed: this process makes no more calls
+    """
+
+    is_ended: bool = False
+    guards: set[Guard] = field(default_factory=set)
+    lock: Lock = field(default_factory=Lock)
+
+    @contextmanager
+    def of_calls(self) -> Iterator[None]:
+        """All calls that this thread makes in the block are ended by `end`."""
+        before = _STOP.set(self)
+        try:
+            yield
+        finally:
+            _STOP.reset(before)
+
+    def end(self) -> None:
+        """Ends the programs that run. It doesn't wait for them."""
+        with self.lock:
+            self.is_ended = True
+            for guard in self.guards:
+                guard.line.close()
+
+    def begin(self, guard: Guard) -> None:
+        """Begins a call: the guard gets its folder's name. Raises Crashed, and OSError."""
+        with self.lock:
+            if ENDED or self.is_ended:
+                raise Crashed("this process makes no more calls")
+            self.guards.add(guard)
+            guard.line.write(os.fsencode(guard.folder) + b"\n")
+
+    def leave(self, guard: Guard) -> None:
+        """Has no more part in a call that is over: its guard is then used for others."""
+        with self.lock:
+            self.guards.discard(guard)
+
+
+_STOP: ContextVar[Stop | None] = ContextVar("stop", default=None)
+
+
+def is_stopped() -> bool:
+    """Whether this is in a block whose calls have been ended, so that its answer isn't wanted any more.
+
+    >>> is_stopped()
+    False
+    """
+    stop = _STOP.get()
+    return stop is not None and stop.is_ended
+
+
 @contextmanager
 def guarded() -> Iterator[Guard]:
     """A guard for one call, whose folder is there until the call ends; raises SystemFault.
@@ -67,13 +128,11 @@ def guarded() -> Iterator[Guard]:
     >>> guard.folder.exists()
     False
     """
-    guard = _taken()
+    guard, stop = _taken(), _STOP.get() or Stop()
     RUNNING.add(guard)
     try:
-        if ENDED:
-            raise Crashed("this process makes no more calls")
         with _refusals():
-            guard.line.write(os.fsencode(guard.folder) + b"\n")
+            stop.begin(guard)
             guard.folder.mkdir(0o700)
             yield guard
         rmtree(guard.folder, ignore_errors=True)
@@ -81,8 +140,9 @@ def guarded() -> Iterator[Guard]:
         _end(guard)
         raise
     finally:
+        stop.leave(guard)
         RUNNING.discard(guard)
-    if guard.folder.exists():
+    if guard.folder.exists() or guard.line.closed:
         _end(guard)
     else:
         IDLE.append(guard)

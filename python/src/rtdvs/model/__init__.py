@@ -7,8 +7,9 @@ reads it. A key of more than 80 parts, arrays more than 80 deep and dates out of
 both, not always with the same line.
 """
 
-from rtdvs.model._checks import checked_name, checked_number
+from rtdvs.model._checks import Table, checked_name, checked_number
 from rtdvs.model._file import load
+from rtdvs.model._toml import document
 from rtdvs.model.demands import Deadlines, Demands, Request, Requests
 from rtdvs.model.limits import (
     GREATEST, LONGEST_FILE, LONGEST_HYPERPERIOD, LONGEST_LINE, LONGEST_TIME, LONGEST_TRACE, MOST_JOBS,
@@ -45,10 +46,12 @@ __all__ = [
     "Request",
     "Requests",
     "Scheduler",
+    "Table",
     "Task",
     "TaskSet",
     "checked_name",
     "checked_number",
+    "document",
     "jobs_of",
     "load",
     "pair_of",

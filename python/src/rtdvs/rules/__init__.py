@@ -7,7 +7,6 @@ from rtdvs.rules.plan import JobView, Plan, Priority
 from rtdvs.rules.simulation import simulate
 from rtdvs.rules.state import View
 from rtdvs.rules.step import Summary
-from rtdvs.rules.until_missed import run_until_missed
 
 __all__ = [
     "Chooser",
@@ -21,6 +20,5 @@ __all__ = [
     "check",
     "explain",
     "last_line",
-    "run_until_missed",
     "simulate",
 ]

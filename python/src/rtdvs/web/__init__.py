@@ -1,23 +1,25 @@
 """Pages for a browser: in one file, or served."""
 
+from rtdvs.web.answers import answer_of, compare_answer, example_of, run_answer
 from rtdvs.web.data import (
     MOST_TEXT, SCRIPTS, Shown, apart, boards_of, chunks, explanations, first_window, in_one_file, modules, pack,
     page_data, parting, question, residency, safe_json, segments, sheet, with_data,
 )
+from rtdvs.web.example import Example, examples, field_of, read_example
+from rtdvs.web.lesson import Lesson, LessonExample, LessonPair, lesson_data
 from rtdvs.web.marks import is_missed, mark_pieces, time_of
-from rtdvs.web.server import (
-    HOST, LONGEST_CALL, LONGEST_TRY, PORT, Example, PageServer, answer_of, compare_answer,
-    examples, field_of, read_example, run_answer,
-)
-from rtdvs.web.unadmitted import NOTE, meaning_of
+from rtdvs.web.server import HOST, LONGEST_CALL, LONGEST_TRY, PORT, PageServer
+from rtdvs.web.unadmitted import meaning_of, not_the_programs
 
 __all__ = [
     "Example",
     "HOST",
     "LONGEST_CALL",
     "LONGEST_TRY",
+    "Lesson",
+    "LessonExample",
+    "LessonPair",
     "MOST_TEXT",
-    "NOTE",
     "PORT",
     "PageServer",
     "SCRIPTS",
@@ -27,15 +29,18 @@ __all__ = [
     "boards_of",
     "chunks",
     "compare_answer",
+    "example_of",
     "examples",
     "explanations",
     "field_of",
     "first_window",
     "in_one_file",
     "is_missed",
+    "lesson_data",
     "mark_pieces",
     "meaning_of",
     "modules",
+    "not_the_programs",
     "pack",
     "page_data",
     "parting",

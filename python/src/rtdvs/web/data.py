@@ -11,7 +11,7 @@ import json
 import re
 import zlib
 from collections.abc import Iterator, Mapping, Sequence
-from dataclasses import dataclass
+from dataclasses import dataclass, replace
 from fractions import Fraction
 from itertools import islice
 from pathlib import Path
@@ -19,7 +19,7 @@ from pathlib import Path
 from rtdvs._numbers import decimal
 from rtdvs.model import Demands, Machine, TaskSet
 from rtdvs.rules import GOVERNORS, Walk, explain
-from rtdvs.trace import COLUMNS, Decision, Idle, Release, Run, Trace, task_statistics
+from rtdvs.trace import COLUMNS, Decision, Idle, Release, Run, Trace, split_governor, task_statistics
 from rtdvs.web.marks import mark_pieces, time_of
 
 WEB = Path(__file__).parent / "static"
@@ -27,7 +27,7 @@ MEBIBYTE = 2**20
 MOST_TEXT = 8       # mebibytes of explanations of a trace, unless said otherwise
 CHUNK = 2**17       # characters that are compressed together
 MOST_ROWS = 60      # of demands on paper
-SCRIPTS = ("trace.js", "picture.js", "save.js", "view.js", "editor.js", "page.js")
+SCRIPTS = ("trace.js", "picture.js", "save.js", "view.js", "lesson.js", "editor.js", "page.js")
 """The modules of the page, each after those that it imports from; the last one starts the page."""
 FIRST_JOBS = 20     # jobs in the window of a page that is opened, and three more for each task
 NO_RULE = "The governor is none of the rules, so there is no explanation."
@@ -40,7 +40,8 @@ DATA = re.compile(r'(<script id="data" type="application/json">)\{\}(</script>)'
 class Shown:
     """What a page is of: the files, and the most mebibytes of explanations of each trace.
 
-    With a `note` the traces are of a set that isn't admitted: they aren't explained, and the page has the note.
+    With a `note` a trace is of a set that isn't admitted, whose jobs are given up at their deadlines; the page
+    has the note.
     """
 
     tasks: TaskSet
@@ -124,9 +125,7 @@ def sheet(text: str, trace: Trace, shown: Shown, label: str) -> dict[str, object
 
 def explanations(text: str, trace: Trace, shown: Shown) -> tuple[list[str], str]:
     """The explanations of a trace's decisions, and what is said where one is missing; raises as `sheet`."""
-    if shown.note:
-        return [], shown.note
-    known = (trace.scheduler, trace.governor) in GOVERNORS
+    known = (trace.scheduler, split_governor(trace.governor)[0]) in GOVERNORS
     walk = Walk(shown.tasks, shown.machine, text.splitlines(keepends=True), shown.demands, not known)
     boards, whole = boards_of(walk, shown.most * MEBIBYTE)
     return boards, NO_RULE if not known else LEFT_OUT if not whole else ""
@@ -238,8 +237,8 @@ def question(shown: Shown) -> list[dict[str, object]]:
     return tables
 
 
-def page_data(texts: Mapping[str, str], shown: Shown) -> dict[str, object]:
-    """The data of a page of traces, by their labels; raises TraceFault, WrongTrace and Denied."""
+def page_data(texts: Mapping[str, str], shown: Shown, notes: Mapping[str, str] = {}) -> dict[str, object]:
+    """The data of a page of traces, by their labels, some with a note; raises TraceFault, WrongTrace and Denied."""
     charge, traces = 2 * shown.machine.charge, {label: Trace.parse(text) for label, text in texts.items()}
     return {
         "tasks": [{"name": task.name, "period": task.period, "worst": str(task.worst + charge)}
@@ -248,7 +247,8 @@ def page_data(texts: Mapping[str, str], shown: Shown) -> dict[str, object]:
         "top": shown.machine.top_speed,
         "columns": [name.replace("_", " ") for name in COLUMNS],
         "window": first_window(traces, len(shown.tasks)),
-        "sheets": [sheet(texts[label], trace, shown, label) for label, trace in traces.items()],
+        "sheets": [sheet(texts[label], trace, replace(shown, note=notes.get(label, "")), label)
+                   for label, trace in traces.items()],
         "apart": apart(*traces.values()) if len(traces) == 2 else None,
     }
 

@@ -5,10 +5,6 @@ from fractions import Fraction
 from rtdvs._numbers import decimal
 from rtdvs.errors import Denied
 
-NOTE = ("This run is the package's, not the program's: the set isn't admitted. It ends at the first missed deadline, "
-        "or after all ticks.")
-
-
 def meaning_of(fault: Denied, top_speed: int) -> str:
     """What a denial of a run means, in a sentence; "" for one of another command.
 
@@ -27,3 +23,13 @@ def meaning_of(fault: Denied, top_speed: int) -> str:
         return (f"In {ticks} ticks, the period of {fault.task}, it and the tasks before it ask for {fault.asked} "
                 f"units, and the fastest speed does {fault.capacity}.")
     return ""
+
+
+def not_the_programs(denied: Denied) -> str:
+    """What is said of a run of a set that isn't admitted.
+
+    >>> not_the_programs(Denied("edf", 80, 76))[:70]
+    "This run is the package's, not the program's, which says: denied edf 8"
+    """
+    return (f"This run is the package's, not the program's, which says: {denied}. A job that isn't complete at its "
+            "deadline is given up there.")

@@ -10,6 +10,7 @@ const TABLES = {
 };
 const SINGLE = ["scheduler", "governor", "ticks", "idle", "charge", "beside"];
 const MOST_ROWS = 1000;     // of an example in an address
+const PAGE = `${performance.timeOrigin} ${Math.random()}`;   // a newer call of the page ends an older one
 const REST = 150;           // milliseconds without a key before a call
 const BUSY = 400;           // milliseconds before a busy server is asked again, and longer each time
 const MOST_TURNS = 6;       // times that it is asked
@@ -281,7 +282,7 @@ async function call(path, more = {}) {
   editor.last = new AbortController();
   find("#sheets").setAttribute("aria-busy", "true");
   try {
-    const found = await ask(path, { ...example, ...more }, editor.last.signal);
+    const found = await ask(path, { ...example, ...more, page: PAGE }, editor.last.signal);
     return number === editor.calls ? found : null;
   } catch (fault) {
     return number === editor.calls ? { refused: `no answer: ${fault.message}`, field: "" } : null;

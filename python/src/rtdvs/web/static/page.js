@@ -1,7 +1,8 @@
-// The start of the page of one or two traces, and of the editor that `serve` adds. The data is JSON in the page; texts
-// in it are packed: compressed by deflate and written in base64.
+// The start of the page of one or two traces, of a lesson, and of the editor that `serve` adds. The data is JSON in the
+// page; texts in it are packed: compressed by deflate and written in base64.
 
 import { edit, fieldOf, filesOfFields, readExample, startEditor } from "./editor.js";
+import { startLesson } from "./lesson.js";
 import { find } from "./picture.js";
 import { canvasOf, svgText } from "./save.js";
 import { state } from "./trace.js";
@@ -21,6 +22,7 @@ async function start() {
   state.data = data;
   if (data.examples) startEditor(data.examples);
   if (data.sheets) await load(data);
+  if (data.lesson) await startLesson(data.lesson);
 }
 
 // What a reader may call in the browser's console; nothing else of the page has a name there
