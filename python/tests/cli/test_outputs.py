@@ -513,7 +513,7 @@ def test_serve(words: str, wanted: int, engine: tuple[Path | None, float | None]
 
     class Stub:
         def __init__(self, port: int, engine: object) -> None:
-            self.port = port
+            self.address = f"http://127.0.0.1:{port}/"
             served.append((port, engine))
 
         def __enter__(self) -> "Stub":
@@ -552,12 +552,22 @@ def test_serve(words: str, wanted: int, engine: tuple[Path | None, float | None]
     ("plot compare", "--tasks, --machine, --ticks, --output"),
     ("plot evaluation", "--table, --output"),
     ("convert", "--to, --trace"),
-    ("page", "TRACE, --tasks, --machine"),
 ])
 def test_what_has_to_be_given(words: str, missing: str | None, capsys: Captured) -> None:
     line = "one of the arguments --share --seed is required" if missing is None else (
         f"the following arguments are required: {missing}")
     assert refusal(capsys, words.split()).endswith(f": error: {line}\n")
+
+
+@pytest.mark.parametrize(("words", "line"), [
+    pytest.param("page", "a trace or two, or --lesson", id="nothing"),
+    pytest.param("page a.trace", "a page of traces needs --tasks", id="no tasks"),
+    pytest.param("page a.trace --tasks t.toml", "a page of traces needs --machine", id="no machine"),
+    pytest.param("page a.trace b.trace c.trace", "3 traces, at most 2", id="three traces"),
+    pytest.param("page a.trace --lesson l.toml", "--lesson names its files, so a trace has no place beside it", id="both"),
+])
+def test_what_a_page_needs(words: str, line: str, capsys: Captured) -> None:
+    assert refusal(capsys, words.split()) == f"rtdvs: {line}\n"
 
 
 # The options of each command

@@ -188,7 +188,7 @@ def test_the_run_all_the_same() -> None:
     """It is the package's, and says so; b has 8 of its 9 units by tick 5 and again by tick 10. It is explained."""
     status, answer = answered(SIMULATED, LATE | {"admission": "none"})
     (sheet,) = answer["data"]["sheets"]
-    assert status == 200 and sheet["title"] == "rm none, 20 ticks, not admitted"
+    assert status == 200 and sheet["title"] == "rm none-drop, 20 ticks, not admitted"
     assert sheet["note"].startswith("This run is the package's, not the program's, which says: denied rm b 25 20.")
     released, done = ([line.split()[2:] if word == "release" else line.split()[2:4]
                        for line in answer["files"]["trace"].splitlines() if line.startswith(word)]
@@ -202,7 +202,7 @@ def test_only_the_run_of_a_denied_pair_is_the_package_s() -> None:
     _, answer = answered(SIMULATED, LATE | {"scheduler": "edf", "beside": "rm none", "admission": "none"})
     first, second = answer["data"]["sheets"]
     assert (first["title"], first["note"]) == ("A: edf none, 20 ticks", "")
-    assert second["title"] == "B: rm none, 20 ticks, not admitted" and second["note"]
+    assert second["title"] == "B: rm none-drop, 20 ticks, not admitted" and second["note"]
 
 
 def test_a_set_that_is_admitted_is_the_program_s_run() -> None:

@@ -11,7 +11,6 @@ from pathlib import Path
 
 from rtdvs._version import __version__
 from rtdvs.cli.options import engine_of
-from rtdvs.cli.program import hand_on
 from rtdvs.engine import end_calls, wait_for_calls
 from rtdvs.errors import RtdvsError
 from rtdvs.hints import COMMANDS as PROGRAM, FILES, second_line
@@ -82,7 +81,8 @@ def _handled(words: Sequence[str], name: str, args: argparse.Namespace) -> int:
     """The exit status of a command, whose arguments are put into `args`, or of argparse's own answer."""
     try:
         if words and words[0] in PROGRAM:
-            return hand_on(words, engine_of(argparse.Namespace(program=None, timeout=None)))
+            program = import_module("rtdvs.cli.program")
+            return int(program.hand_on(words, engine_of(argparse.Namespace(program=None, timeout=None))))
         top = parser(name, *words[:1])
         top.parse_args(words or ["--help"], args)
         lists = (value if isinstance(value, list) else [value] for value in vars(args).values())
