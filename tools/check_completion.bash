@@ -6,7 +6,7 @@ cases=0 bad=0
 # What is offered for the last of the words, against the words behind the --.
 offers() {
     local found wanted
-    COMP_WORDS=(rtdvs)
+    COMP_WORDS=("${called-rtdvs}")
     while [ "$1" != -- ]; do COMP_WORDS+=("$1"); shift; done
     shift
     COMP_CWORD=$((${#COMP_WORDS[@]} - 1))
@@ -70,5 +70,22 @@ offers run --tasks --scheduler '' -- --machine --scheduler --governor --ticks --
 folders=(../*/)
 offers run --tasks ../ -- "${folders[@]%/}"
 offers walk '' --
+
+# The commands and options of rtdvs-tools are those of its help.
+rtdvs-tools() {
+    case $1 in
+    --help) printf '%s\n' 'usage: rtdvs-tools' '    simulate    a run' '    paper-table' '               energies' ;;
+    simulate) printf '%s\n' 'usage: rtdvs-tools simulate [--help] --tasks FILE' '  --trace-to FILE  as --tasks' '  --any' ;;
+    esac
+}
+called=rtdvs-tools
+offers '' -- $(cut -d '`' -f 2 <<< "$rows") simulate paper-table
+offers s -- simulate
+offers simulate '' -- --tasks --trace-to --any
+offers simulate --any --t -- --tasks --trace-to
+offers simulate --tasks '' -- machine.toml tasks.toml
+offers admit --scheduler '' -- edf rm
+offers walk '' --
+[ "$(complete -p rtdvs-tools)" = 'complete -F _rtdvs rtdvs-tools' ] || { echo 'rtdvs-tools has no completion'; bad=$((bad + 1)); }
 echo "completion: $cases cases, $bad differ"
 [ $bad = 0 ]

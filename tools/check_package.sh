@@ -43,9 +43,9 @@ first_call() (
         cmp "$work/trace" "$top/crates/example_runs/data/paper/edf_cc_with_demands.trace"
 )
 calls_by_python() (
-    cd "$data" && sed -n 's/^    python3 \(.*\)/"$python" -B \1 || exit/p' "$doc/README.md" > "$work/calls" &&
-        same "$(wc -l < "$work/calls")" 2 &&
-        export PYTHONPATH="$root/lib/python3/dist-packages" && . "$work/calls"
+    cd "$data" && sed -n 's/^    \(rtdvs-tools .*\)/\1 || exit/p' "$doc/README.md" > "$work/calls" &&
+        same "$(wc -l < "$work/calls")" 2 && PATH=$(dirname "$python"):$PATH PYTHONDONTWRITEBYTECODE=1 &&
+        export PATH PYTHONDONTWRITEBYTECODE PYTHONPATH="$root/lib/python3/dist-packages" && . "$work/calls"
 )
 examples() {
     same "$(sed -n 's/^    cd //p' "$doc/README.md")" "${data#"$work/root"}" && diff -r "$data/crates/example_runs/stdout" crates/example_runs/stdout &&
@@ -73,7 +73,11 @@ papers() {
 }
 sums() { (cd "$work/root" && md5sum -c "$work/control/md5sums"); }
 lintian_finds_nothing() { lintian --fail-on error,warning "$package"; }
-completion() { same "$(bash -c '. "$1" && complete -p rtdvs' - "$1")" 'complete -F _rtdvs rtdvs'; }
+completion() {
+    for name in rtdvs rtdvs-tools; do
+        same "$(bash -c '. "$1/$2" && complete -p "$2"' - "$1" $name)" "complete -F _rtdvs $name" || return
+    done
+}
 module() { diff -r -x __pycache__ "$root/lib/python3/dist-packages/rtdvs" python/src/rtdvs; }
 # The library: its header, and call.c over it.
 library() {
@@ -90,6 +94,16 @@ from rtdvs import find_engine
 files = {name: Path(name + ending) for name, ending in (("tasks", ".toml"), ("machine", ".toml"), ("demands", ".csv"))}
 print(find_engine().run(**files, scheduler="edf", governor="cc", ticks=16, version=1).text(), end="")' > "$work/trace" &&
         cmp "$work/trace" edf_cc_with_demands.trace
+)
+# rtdvs-tools: its version, a run by the program, and a second line below a refusal; its man page is that of rtdvs.
+tools_of_package() (
+    cd "$data/crates/example_runs/data/paper" && PATH=$(dirname "$python"):$PATH PYTHONDONTWRITEBYTECODE=1 &&
+        export PATH PYTHONDONTWRITEBYTECODE PYTHONPATH="$root/lib/python3/dist-packages" &&
+        cmp "$root/share/man/man1/rtdvs-tools.1.gz" "$root/share/man/man1/rtdvs.1.gz" &&
+        same "$(rtdvs-tools --version)" "rtdvs $version" &&
+        rtdvs-tools run --tasks tasks.toml --machine machine.toml --demands demands.csv --scheduler edf --governor cc \
+            --ticks 16 | cmp - edf_cc_with_demands.trace &&
+        same "$(rtdvs-tools least --units x 2>&1 | sed -n '2s/ .--units. .*//p')" '  The value of'
 )
 # The scripts that dpkg runs, with stand-ins for what compiles a package's modules, and without.
 scripts() (
@@ -136,7 +150,7 @@ holds 'the examples' examples
 holds 'the man page' man_page
 holds 'the files of the man page' man_files
 if [ -n "$(command -v bash)" ]; then
-    holds 'the completion' completion "$root/share/bash-completion/completions/rtdvs"
+    holds 'the completion' completion "$root/share/bash-completion/completions"
 else
     skip 1 'no bash'
 fi
@@ -151,8 +165,9 @@ fi
 if "$python" -c 'import tomllib' 2>&-; then
     holds 'a call by the Python module' call_from_python
     holds 'the calls by Python' calls_by_python
+    holds 'rtdvs-tools' tools_of_package
 else
-    skip 2 'no Python 3.11'
+    skip 3 'no Python 3.11'
 fi
 holds 'the scripts of the package' scripts
 holds 'the sums of the files' sums

@@ -1,5 +1,5 @@
-# package.sh: makes a Debian package of the built program, its man page, completion, Python module, pages and examples,
-# and of the library for C, if library.sh has made it:
+# package.sh: makes a Debian package of the built program, its man page, completion, Python module with the command
+# rtdvs-tools, pages and examples, and of the library for C, if library.sh has made it:
 #     sh tools/package.sh PROGRAM [FOLDER]
 # It writes rtdvs_VERSION_ARCHITECTURE.deb into FOLDER, or here without one, and prints its name. VERSION and the date of
 # all files are those of the first version of CHANGELOG.md, so the same files give the same package. DEBFULLNAME and
@@ -52,8 +52,11 @@ else
     echo 'package.sh: the package is without the library for C, which sh tools/library.sh makes' >&2
 fi
 [ -z "$(command -v strip)" ] || strip --strip-unneeded -R .comment -R .note "$root/usr/bin/rtdvs"
+printf '#!/%s\n%s\n' bin/sh "$(cat tools/package/rtdvs-tools)" > "$root/usr/bin/rtdvs-tools"
 gzip -9n < docs/rtdvs.1 > "$share/man/man1/rtdvs.1.gz"
+ln -s rtdvs.1.gz "$share/man/man1/rtdvs-tools.1.gz"
 cp examples/rtdvs.bash "$share/bash-completion/completions/rtdvs"
+ln -s rtdvs "$share/bash-completion/completions/rtdvs-tools"
 cp -R python/src/rtdvs/. "$module"
 find "$module" -name __pycache__ -prune -exec rm -r {} +
 cp -R crates/example_runs/data crates/example_runs/stdout "$data/crates/example_runs"
@@ -91,7 +94,7 @@ for page in "$doc/README.md" "$doc"/docs/*.md "$data/examples/README.md" "$data/
 done
 find "$root" -type f -exec chmod 644 {} +
 find "$root" -type d -exec chmod 755 {} +
-chmod 755 "$root/usr/bin/rtdvs"
+chmod 755 "$root/usr/bin/rtdvs" "$root/usr/bin/rtdvs-tools"
 
 # Where Python is installed, it compiles the module, and takes what it compiled away again.
 for step in 'postinst compile' 'prerm clean'; do

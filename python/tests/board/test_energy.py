@@ -29,7 +29,8 @@ DA850 = ["--device-tree", str(TEST_DATA / "da850.dts")]
 def run_of(folder: Path, ticks: int, capsys: Captured, governor: str = "static", scheduler: str = "edf") -> str:
     """The text of a run of the files in a folder."""
     files = [word for kind in ("tasks", "machine") for word in (f"--{kind}", folder / f"{kind}.toml")]
-    return printed(capsys, ["simulate", *files, "--scheduler", scheduler, "--governor", governor, "--ticks", ticks])
+    pair = ["--scheduler", scheduler, "--governor", governor]
+    return printed(capsys, ["simulate", *files, *pair, "--ticks", ticks, "--format", 2])
 
 
 def energy_of(text: str, words: Sequence[str], ticks: int, folder: Path, capsys: Captured,

@@ -93,13 +93,14 @@ def with_finer(*times: int) -> str:
 
 
 def limits(all_: int, worsts: tuple[int, int, int], speed: int) -> str:
-    """The limits of the paper's set, which test_sensitivity.py works out."""
-    tasks = "".join(f"task {task.name} {task.worst} {most}\n" for task, most in zip(PAPER, worsts))
-    return f"all {all_}\n{tasks}speed 4 {speed}\n"
+    """The limits of the paper's set, which test_sensitivity.py works out, in columns for their widths."""
+    tasks = "".join(f"{task.name}               work units      {task.worst:2} {most:6}\n" for task, most in zip(PAPER, worsts))
+    return ("of               in             now  limit\n"
+            f"all worst cases  thousandths   1000   {all_}\n{tasks}highest speed    units a tick     4      {speed}\n")
 
 
 def of_ticks(scheduler: str, governor: str, ticks: int = 16) -> str:
-    return simulate(PAPER, BOARD, scheduler, ticks, governor).text()
+    return version_1(simulate(PAPER, BOARD, scheduler, ticks, governor).text())
 
 
 def seven(**changes: str) -> str:
@@ -148,6 +149,8 @@ PRINTED: list[tuple[str, Callable[[], str]]] = [
        lambda pair=pair: of_ticks(*pair)) for pair in PAIRS),
     (f"simulate {SET} --scheduler edf --governor cc --ticks 9", lambda: of_ticks("edf", "cc", 9)),
     (f"simulate {NAMED} --scheduler rm --governor cc --ticks 16",
+     lambda: version_1(simulate(PAPER, BOARD, "rm", 16, "cc", CASE.demands).text())),
+    (f"simulate {NAMED} --scheduler rm --governor cc --ticks 16 --format 2",
      lambda: simulate(PAPER, BOARD, "rm", 16, "cc", CASE.demands).text()),
     (f"statistics {CHECKED}", statistics),
     (f"compare {SET} --ticks 16", compared),
@@ -155,6 +158,7 @@ PRINTED: list[tuple[str, Callable[[], str]]] = [
     (f"compare {NAMED} --ticks 16", lambda: compared(16, True)),
     (f"compare {NAMED} --ticks 16 {TRACE} edf_none.trace", lambda: compared(16, True, CC, NONE)),
     (f"compare {NAMED} --ticks 16 --finer 1 3", lambda: with_finer(1, 3)),
+    (f"sensitivity {SET}", lambda: limits(1250, (20, 22, 18), 3)),
     (f"sensitivity {SET} --test edf", lambda: limits(1250, (20, 22, 18), 3)),
     (f"sensitivity {SET} --test rm --jobs 2", lambda: limits(1000, (14, 14, 8), 4)),
     (f"sensitivity {SET} --test response", lambda: limits(1083, (16, 16, 8), 4)),
@@ -218,7 +222,7 @@ def test_a_simulated_run_is_that_of_the_program(path: Path, capsys: Captured) ->
     """The stored traces are the program's own."""
     scheduler, governor, *named = path.stem.split("_", 2)
     words = f"simulate {NAMED if named else SET} --scheduler {scheduler} --governor {governor} --ticks 16"
-    assert version_1(printed(capsys, words.split())) == path.read_text()
+    assert printed(capsys, words.split()) == path.read_text()
 
 
 def test_the_stored_comparison(capsys: Captured) -> None:
@@ -539,7 +543,7 @@ def test_serve(words: str, wanted: int, engine: tuple[Path | None, float | None]
     ("simulate", "--tasks, --machine, --scheduler, --governor, --ticks"),
     ("statistics", "--tasks, --trace"),
     ("compare", "--tasks, --machine, --ticks"),
-    ("sensitivity", "--tasks, --machine, --test"),
+    ("sensitivity", "--tasks, --machine"),
     ("generate", "KIND"),
     ("generate uunifast", "--count, --utilisation, --seed"),
     ("generate published", "--count, --tenths, --number"),

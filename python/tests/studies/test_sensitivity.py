@@ -173,16 +173,20 @@ def call(program: Path, tmp_path: Path) -> Words:
     (entry(worst="0"), entry("point"), "tasks: task 1: worst out of range"),
 ])
 def test_a_file_that_the_program_refuses(call: Words, capsys: Captured, tasks: str, machine: str, line: str) -> None:
-    assert refusal(capsys, call(tasks, machine, "edf")) == f"rtdvs: {line}\n"
+    assert refusal(capsys, call(tasks, machine, "edf")).startswith(f"rtdvs: {line}\n  Line ")
 
 
 @pytest.mark.parametrize(("tasks", "machine", "test", "lines"), [
     # Quoted keys and inline tables.
     ('task = [{ "name" = "a", period = 10, worst = 6 }, { name = "b", period = 10, worst = 10 }]',
      '"charge" = 2\npoint = [{ speed = 2, millivolts = 1 }]', "edf",
-     "all 700\ntask a 6 2\ntask b 10 6\nspeed 2 3\n"),
+     "of               in             now  limit\nall worst cases  thousandths   1000    700\n"
+     "a                work units       6      2\nb                work units      10      6\n"
+     "highest speed    units a tick     2      3\n"),
     # No number is enough: the charge alone is 40 units in 4 ticks.
-    (entry(), "charge = 20\n" + entry("point"), "rm", "all -\ntask a 2 -\nspeed 2 11\n"),
+    (entry(), "charge = 20\n" + entry("point"), "rm",
+     "of               in             now  limit\nall worst cases  thousandths   1000      -\n"
+     "a                work units       2      -\nhighest speed    units a tick     2     11\n"),
 ])
 def test_printed(call: Words, capsys: Captured, tasks: str, machine: str, test: str, lines: str) -> None:
     assert printed(capsys, call(tasks, machine, test)) == lines

@@ -1,9 +1,13 @@
 """How far a task set is from the limit of a test: how worst cases can grow, how slow a machine can be.
 
-The command prints the most thousandths that all worst cases can be multiplied by, each product rounded up;
-for each task its worst case and the most units that it can have; the highest speed and the lowest that is
-enough. Each limit leaves the rest as it is; a dash says that no number is enough. A set that is denied has
-limits below its own numbers.
+The command prints what is now, and the limit:
+
+    all worst cases  the most thousandths that they can be multiplied by, each product rounded up
+    a task's name    the most work units that its worst case can be
+    highest speed    the lowest that is enough, in work units a tick
+
+Each limit leaves the rest as it is; a dash says that no number is enough. A set that is denied has limits
+below its own numbers.
 """
 
 import argparse
@@ -24,10 +28,10 @@ def add_command(commands: Commands) -> None:
     ['sensitivity']
     """
     parser = add_parser(commands, "sensitivity", _handle, "how far a set is from the limit of a test",
-                        "sensitivity --tasks tasks.toml --machine machine.toml --test edf")
+                        "sensitivity --tasks tasks.toml --machine machine.toml --test response")
     add_files(parser, ["tasks", "machine"])
-    parser.add_argument("--test", choices=TESTS, required=True,
-                        help="edf or rm: the test of admit; response: the exact one under RM")
+    parser.add_argument("--test", choices=TESTS, default=TESTS[0],
+                        help="edf or rm: the test of admit; response: the exact one under RM (default: edf)")
     add_engine_options(parser, jobs=True)
 
 

@@ -1,28 +1,40 @@
 """Simulates a run in Python, apart from the program.
 
 The command has the program's schedulers and governors; `rtdvs.rules.simulate` takes any function. The trace
-is drawn, compared and checked as any other.
+is drawn, compared and checked as any other. It is that of `run`, by default in version 1 as there.
 
 With --missed the set needn't be admitted. Standard error then has a note for each missed deadline.
 """
 
 import argparse
 import sys
+from dataclasses import replace
 
 from rtdvs.cli.options import Commands, add_files, add_pair, add_parser, add_ticks, read_files
 from rtdvs.rules import simulate
-from rtdvs.trace import Missed
+from rtdvs.trace import Missed, TaskEnergy, Trace
 
 
 def _handle(args: argparse.Namespace) -> int:
     tasks, machine, demands = read_files(args)
     trace = simulate(tasks, machine, args.scheduler, args.ticks, args.governor, demands,
                      admitted=args.missed is None, missed=args.missed)
-    print(trace.text(), end="")
+    print((trace if args.format == 2 else first_version(trace)).text(), end="")
     if args.missed is not None:
         print("\n".join(["note: not a run of the program", *(f"note: {miss.text()}" for miss in trace.misses())]),
               file=sys.stderr)
     return 0
+
+
+def first_version(trace: Trace) -> Trace:
+    """The same run in version 1, which doesn't have the tasks and the energy of each.
+
+    >>> from rtdvs.trace import SAMPLE
+    >>> first_version(Trace.parse(SAMPLE)).text().splitlines()[:3]
+    ['trace 1', 'plan edf mine 2', 'release 0 t 1']
+    """
+    notes = tuple(note for note in trace.notes if not isinstance(note, TaskEnergy))
+    return replace(trace, version=1, tasks=(), notes=notes)
 
 
 def add_command(commands: Commands) -> None:
@@ -40,6 +52,8 @@ def add_command(commands: Commands) -> None:
     add_files(parser, ("tasks", "machine"), ("demands",))
     add_pair(parser)
     add_ticks(parser)
+    parser.add_argument("--format", type=int, choices=(1, 2), default=1,
+                        help="the version of the trace: 2 has the tasks too (default: 1)")
     parser.add_argument("--missed", choices=[*map(str, Missed)],
                         help="takes a set that isn't admitted; a job that misses its deadline goes on or is dropped, "
                              "or the run stops there")

@@ -11,7 +11,7 @@ from math import lcm
 from operator import mul
 from typing import Self
 
-from rtdvs._numbers import decimal
+from rtdvs._numbers import aligned, decimal
 from rtdvs.engine import Engine, admit_call, response_call
 from rtdvs.errors import Denied
 from rtdvs.model import MOST_SPEED, Machine, Point, TaskSet
@@ -386,17 +386,19 @@ def sensitivity(engine: Engine, tasks: TaskSet, machine: Machine, test: str,
 
 
 def limits_table(question: Question, limits: Limits) -> str:
-    """A line for all tasks, for each task and for the speed: what is, and the limit; `-` for None.
+    """A line for all tasks, for each task and for the speed: what is now, and the limit; `-` for None.
 
     >>> from rtdvs import Task, find_engine
     >>> one = TaskSet((Task("a", 10, 6),))
     >>> question = Question(find_engine(), one, Machine((Point(2, 1000),)), "edf")
     >>> print(limits_table(question, Limits(3333, (20,), None)), end="")
-    all 3333
-    task a 6 20
-    speed 2 -
+    of               in             now  limit
+    all worst cases  thousandths   1000   3333
+    a                work units       6     20
+    highest speed    units a tick     2      -
     """
-    worsts = "".join(f"task {task.name} {task.worst} {decimal(most, 0)}\n"
-                     for task, most in zip(question.tasks, limits.worsts))
-    speed = f"speed {question.machine.top_speed} {decimal(limits.speed, 0)}\n"
-    return f"all {decimal(limits.thousandths, 0)}\n{worsts}{speed}"
+    rows = [("of", "in", "now", "limit"), ("all worst cases", "thousandths", "1000", decimal(limits.thousandths, 0))]
+    rows += [(task.name, "work units", str(task.worst), decimal(most, 0))
+             for task, most in zip(question.tasks, limits.worsts)]
+    rows += [("highest speed", "units a tick", str(question.machine.top_speed), decimal(limits.speed, 0))]
+    return aligned(rows, left=2)
