@@ -20,7 +20,7 @@ class Shown:
     >>> class Primes(Shown):
     ...     def _columns(self): return {"prime": "int64"}
     ...     def _rows(self): return [(2,), (3,)]
-    >>> Primes()._repr_html_().count("<tr>"), Primes().frame()["prime"].sum()
+    >>> Primes()._repr_html_().count("<tr>"), int(Primes().frame()["prime"].sum())
     (3, 5)
     """
 

@@ -4,6 +4,7 @@ from collections.abc import Callable
 from dataclasses import replace
 from fractions import Fraction
 from pathlib import Path
+from typing import Any
 
 import pytest
 
@@ -21,7 +22,7 @@ from tests.shared.examples import (
 CC = WORKED.read_text()
 
 
-def others(**changes: int) -> TaskSet:
+def others(**changes: Any) -> TaskSet:
     """The tasks of the paper, the first one with other numbers."""
     return TaskSet((replace(PAPER["t1"], **changes), *PAPER.tasks[1:]))
 

@@ -11,7 +11,7 @@ import sys
 from collections.abc import Iterator, Sequence
 from functools import cache
 from pathlib import Path
-from typing import TypeAlias
+from typing import Any, TypeAlias
 
 from rtdvs._version import __version__
 from rtdvs.engine.calls import Answer, Word, constrain_call
@@ -61,7 +61,8 @@ build the library again (docs/LIBRARY.md), or name another one or the program by
     """
     try:
         library = ctypes.CDLL(str(path))
-        library.rtdvs_call.argtypes = [*[ctypes.c_char_p, ctypes.c_size_t] * 6, ctypes.POINTER(Lengths)]
+        texts: list[Any] = 6 * [ctypes.c_char_p, ctypes.c_size_t]
+        library.rtdvs_call.argtypes = [*texts, ctypes.POINTER(Lengths)]
         library.rtdvs_call.restype = ctypes.c_uint8
     except OSError as error:
         why = str(error).removeprefix(f"{path}: ")

@@ -202,7 +202,7 @@ def _refusals() -> Iterator[None]:
     try:
         yield
     except OSError as error:
-        raise SystemFault(error.filename or "a call of the program", error.strerror) from None
+        raise SystemFault(error.filename or "a call of the program", error.strerror or str(error)) from None
 
 
 def _taken() -> Guard:
