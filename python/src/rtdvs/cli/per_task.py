@@ -9,20 +9,30 @@
     least_laxity       the least time from a completion to its deadline, in ticks
     preemptions        how often a job was interrupted by another one
     energy             of all its runs
+
+With --board the times are in milliseconds, and the energy in joules, with the mean milliwatts of the whole run; below
+are those of all tasks and of idle time.
 """
 
 import argparse
 
 from rtdvs._numbers import aligned
-from rtdvs.cli.options import Commands, add_files, add_parser, open_input, read_tasks
+from rtdvs.cli.boards import add_board, read_given
+from rtdvs.cli.options import Commands, add_files, add_parser, open_input
 from rtdvs.trace import COLUMNS, Trace, task_statistics
 
 
 def _handle(args: argparse.Namespace) -> int:
-    tasks = read_tasks(args)
+    given = read_given(args)
     with open_input(args.trace) as file:
         trace = Trace.parse(file.read().decode("latin-1"))
-    print(aligned([COLUMNS, *(each.row() for each in task_statistics(trace, tasks))]), end="")
+    given.check(trace)
+    if units := given.units:
+        print(aligned(units.table(trace)), end="")
+        print("\n".join(["", *units.lines(trace)] if not units.no_power() else ["", f"no power: {units.no_power()}"]))
+        return 0
+    assert given.tasks
+    print(aligned([COLUMNS, *(each.row() for each in task_statistics(trace, given.tasks))]), end="")
     return 0
 
 
@@ -35,5 +45,7 @@ def add_command(commands: Commands) -> None:
     ['statistics']
     """
     parser = add_parser(commands, "statistics", _handle, "print times, preemptions and energy of each task",
-                        "statistics --tasks tasks.toml --trace run.trace")
+                        "statistics --tasks tasks.toml --trace run.trace\n"
+                        "statistics --board board.toml --folder made --trace run.trace")
     add_files(parser, ("tasks", "trace"))
+    add_board(parser)

@@ -66,7 +66,7 @@ COLUMNS = tuple(KINDS)
 
 
 def statistics_of(task: str, jobs: Sequence[Job], missed: int) -> TaskStatistics:
-    """The statistics of some jobs of a task, of which so many weren't complete at their deadlines.
+    """The statistics of some jobs of a task, and how many weren't complete at their deadlines.
 
     >>> statistics_of("t", [Job("t", 1, 0, 4, completion=Fraction(5, 2)), Job("t", 2, 4, 8)], 0).mean_response
     Fraction(5, 2)
