@@ -17,6 +17,7 @@ from unittest.mock import Mock
 import pytest
 
 from rtdvs.cli import main as cli, options as commandline, serve
+from rtdvs.cli.boards import add_board
 from rtdvs.engine import Answer, Call
 from rtdvs.export import events_text, vcd_text
 from rtdvs.model import Demands, Machine, Point, Task, TaskSet
@@ -586,11 +587,19 @@ def option_words(parser: argparse.ArgumentParser, path: tuple[str, ...] = ()) ->
             yield " ".join(path), action.option_strings[-1]
 
 
+WITH_BOARDS = {"compare", "statistics", "sensitivity", "plot trace", "plot compare"}
+
+
 def test_each_option_is_in_a_row() -> None:
-    """tests/board calls `design`."""
+    """tests/board calls `design`, test_boards.py has those of a board, and tests/rules/test_missed.py `--missed`."""
+    boards = argparse.ArgumentParser()
+    add_board(boards)
     called = [*(words for words, _ in PRINTED), *(f"{words} --output" for words, *_ in WRITTEN),
               *(words for words, *_ in EVALUATIONS), GRADES, OWN, *UNCHECKED, "serve --port"]
     shared = {"--program", "--timeout", "--version"}
+    of_boards = {"--ms", *(option for _, option in option_words(boards))}
     for command, option in option_words(cli.parser()):
+        if command in WITH_BOARDS and option in of_boards or option == "--missed":
+            continue
         assert command == "design" or option in shared or any(
             re.match(f"{command} ", words) and option in words.split() for words in called), (command, option)

@@ -2,17 +2,19 @@
 
 from collections.abc import Callable
 from fractions import Fraction
+from pathlib import Path
 from typing import Any
 
 import pytest
 from hypothesis import given
 from hypothesis import strategies as st
 
+from rtdvs.cli.main import main
 from rtdvs.errors import BadValue, DeadlineMissed, Denied, WrongTrace
 from rtdvs.model import PAIRS, Demands, Machine, Point, Task, TaskSet
 from rtdvs.rules import View, Walk, check, explain, last_line, simulate
 from rtdvs.trace import Miss, Missed, Run, Trace, task_statistics
-from tests.shared.examples import BOARD, PAPER, explained, machines, task_sets
+from tests.shared.examples import BOARD, PAPER, Captured, explained, machines, options, refusal, task_sets
 
 SLOW = Machine((Point(2, 3000), Point(3, 4000)))    # the paper's machine without its highest speed
 RIVALS = TaskSet((Task("a", 4, 8), Task("b", 5, 9)))    # EDF meets all their deadlines at 4 units a tick
@@ -253,6 +255,17 @@ def test_what_is_refused() -> None:
         simulate(PAPER, SLOW, "rm", 32, lambda view: 3, name="own-drop")
     with pytest.raises(BadValue, match="^bad name$"):
         simulate(PAPER, SLOW, "rm", 32, lambda view: 3, name="x" * 30, missed="drop")
+
+
+def test_the_command(tmp_path: Path, capsys: Captured) -> None:
+    """It prints what `simulate` gives, and notes on standard error; without the option the test is made."""
+    PAPER.write(tmp_path / "tasks.toml")
+    SLOW.write(tmp_path / "machine.toml")
+    words = ["simulate", *options(tmp_path), "--scheduler", "rm", "--governor", "static", "--ticks", "32"]
+    assert main([*words, "--missed", "drop"]) == 0
+    assert capsys.readouterr() == (simulate(PAPER, SLOW, "rm", 32, "static", missed="drop").text(), "".join(
+        f"note: {line}\n" for line in ("not a run of the program", FIRST.text(), SECOND.text())))
+    assert refusal(capsys, words) == "rtdvs: denied rm t2 36 30\n"
 
 
 def test_names() -> None:

@@ -4,7 +4,7 @@ from rtdvs.board.description import Board, BoardPoint, BoardTask, board_fault, i
 from rtdvs.board.device_tree import Choice, OperatingPoint, OperatingTable, operating_points
 from rtdvs.board.energy import Spent, check_trace, nanojoules
 from rtdvs.board.files import machine_text, read_design, write_design
-from rtdvs.board.reporting import Asked, Load, report, run_ticks, unserved
+from rtdvs.board.reporting import Asked, Load, PairCost, pair_costs, report, run_ticks, unserved
 from rtdvs.board.scale import (
     Design, Rounding, Scale, choose_scale, choose_tick, choose_unit, design, machine_of, settle, usual_demands,
 )
@@ -20,6 +20,7 @@ __all__ = [
     "Load",
     "OperatingPoint",
     "OperatingTable",
+    "PairCost",
     "Rounding",
     "Scale",
     "Spent",
@@ -35,6 +36,7 @@ __all__ = [
     "machine_text",
     "nanojoules",
     "operating_points",
+    "pair_costs",
     "points_of",
     "read_design",
     "report",

@@ -1,18 +1,18 @@
 """What a designer asks of a board: whether it is admitted, how long jobs take, and what each pair costs."""
 
-from collections.abc import Iterator
+from collections.abc import Iterator, Mapping, Sequence
 from dataclasses import dataclass
 from fractions import Fraction
 from math import ceil, floor
 
 from rtdvs._numbers import aligned, plain, rounded
 from rtdvs.board.description import Board
-from rtdvs.board.energy import nanojoules
+from rtdvs.board.energy import Spent, nanojoules
 from rtdvs.board.scale import Design, usual_demands
 from rtdvs.board.units import Units
 from rtdvs.errors import BadValue, Denied
 from rtdvs.model import PAIRS, Demands
-from rtdvs.rules import Plan, simulate
+from rtdvs.rules import simulate
 
 FEW_JOBS, MOST_JOBS = 2_000, 99_000
 
@@ -134,7 +134,7 @@ def report(board: Board, made: Design, ticks: int) -> Iterator[str]:
     except BadValue as fault:
         yield f"no power: {str(fault).removeprefix('board: ')}\n"
         return
-    yield aligned([*_costs(board, made, ticks)])
+    yield aligned([*_cost_rows(board, made.milliseconds(ticks), pair_costs(board, made, ticks))])
 
 
 def unserved(board: Board, made: Design) -> str:
@@ -166,24 +166,47 @@ def _most(asked: tuple[Asked, Asked]) -> Iterator[tuple[str, ...]]:
                    *("-" if cycles is None else str(floor(cycles)) for cycles in most))
 
 
-def _costs(board: Board, made: Design, ticks: int) -> Iterator[tuple[str, ...]]:
-    """A line for each pair: of jobs at their worst cases, and as they usually are if the board says that."""
+@dataclass(frozen=True, slots=True)
+class PairCost:
+    """What a pair costs: with jobs at their worst cases, and as they usually are; nothing for a pair that is denied.
+
+    >>> PairCost("rm", "cc", {}).spent
+    {}
+    """
+
+    scheduler: str
+    governor: str
+    spent: Mapping[str, Spent]
+
+
+def pair_costs(board: Board, made: Design, ticks: int) -> tuple[PairCost, ...]:
+    """What each pair costs in a run of these ticks; with `usual` only if the board says what jobs usually take.
+
+    Raises BadValue if no power was measured.
+    """
     demands = {"worst": Demands({})}
     if any(task.usual is not None for task in board.tasks):
         demands["usual"] = usual_demands(board, made, ticks)
-    hours = () if board.battery is None else ("hours",)
-    yield f"{plain(made.milliseconds(ticks))} ms", *(word for case in demands for word in (f"{case} mW", *hours))
+    units, found = Units(board, made), list[PairCost]()
     for scheduler, governor in PAIRS:
         try:
-            Plan(made.tasks, made.machine, scheduler).admit()
+            runs = {case: simulate(made.tasks, made.machine, scheduler, ticks, governor, named, admitted=True)
+                    for case, named in demands.items()}
         except Denied:
-            yield f"{scheduler} {governor}", "denied"
-            continue
-        row = [f"{scheduler} {governor}"]
-        for named in demands.values():
-            run = Units(board, made).spent(simulate(made.tasks, made.machine, scheduler, ticks, governor, named))
+            runs = {}
+        found.append(PairCost(scheduler, governor, {case: units.spent(run) for case, run in runs.items()}))
+    return tuple(found)
+
+
+def _cost_rows(board: Board, time: Fraction, costs: Sequence[PairCost]) -> Iterator[tuple[str, ...]]:
+    cases = dict.fromkeys(case for cost in costs for case in cost.spent)
+    hours = () if board.battery is None else ("hours",)
+    yield f"{plain(time)} ms", *(word for case in cases for word in (f"{case} mW", *hours))
+    for cost in costs:
+        row = [f"{cost.scheduler} {cost.governor}"]
+        for run in cost.spent.values():
             row.append(rounded(run.milliwatts))
             if board.battery is not None:
                 lasts = run.hours(board.battery)
                 row.append("-" if lasts is None else rounded(lasts))
-        yield tuple(row)
+        yield tuple(row) if cost.spent else (*row, "denied")

@@ -10,7 +10,7 @@ from rtdvs.board.description import Board, board_fault
 from rtdvs.board.energy import Spent, nanojoules
 from rtdvs.board.scale import Design
 from rtdvs.errors import BadValue, TraceFault
-from rtdvs.trace import Ran, Trace
+from rtdvs.trace import Ran, Run, Trace, ran_at, task_statistics
 
 
 @dataclass(frozen=True)
@@ -56,9 +56,24 @@ class Units:
                     for speed, each in ran.items()), Fraction(0))
         return self.cycles(cost) / 10**9
 
+    def spent_at(self, ran: Mapping[int, Ran]) -> Spent:
+        """What these units take at their speeds, and how long; raises BadValue as `joules` does."""
+        ticks = sum((Fraction(each.units + each.idle, speed) for speed, each in ran.items()), Fraction(0))
+        return Spent(self.joules(ran), self.milliseconds(ticks))
+
     def spent(self, trace: Trace) -> Spent:
-        """What a run of the board's files takes; the trace isn't checked. Raises BadValue as `joules` does."""
-        return Spent(self.joules(trace.ran()), self.milliseconds(trace.ticks))
+        """What a run of the board's files takes; the trace isn't checked. Raises BadValue as `joules` does.
+
+        >>> from rtdvs.board.scale import Scale, design
+        >>> board = Board.parse('''
+        ... task = [{name = "a", period_ms = 2, worst_cycles = 4000}]
+        ... point = [{mhz = 4, volts = 1, milliwatts = 8}]''')
+        >>> run = "speed 0 4 4/1\\nrun 0:0 1:0 a 1 4 4000000\\nend 1 4000000 0\\n"
+        >>> trace = Trace.parse(f"trace 1\\nplan edf mine 1\\n{run}")
+        >>> Units(board, design(board, Scale(Fraction(1), Fraction(1000)))).spent(trace).joules  # 4000 cycles of 2 nJ
+        Fraction(1, 125000)
+        """
+        return self.spent_at(trace.ran())
 
     def lines(self, trace: Trace) -> Iterator[str]:
         """What a run takes, in lines: joules, milliwatts, and the hours of a battery; raises BadValue as `joules`."""
@@ -68,6 +83,24 @@ class Units:
         if battery is not None:
             hours, of = run.hours(battery), f"from {plain(battery)} milliwatt hours"
             yield f"no energy was used {of}" if hours is None else f"{rounded(hours)} hours {of}"
+
+    def table(self, trace: Trace) -> list[tuple[str, ...]]:
+        """The statistics of each task below their names: milliseconds, joules and mean milliwatts of its runs.
+
+        Dashes are in place of joules and milliwatts if no power was measured.
+        """
+        times = ("mean_response", "greatest_response", "jitter", "least_laxity")
+        rows = [("task", "jobs", "complete", "missed", *(f"{name}_ms" for name in times), "preemptions", "J", "mW")]
+        for each in task_statistics(trace, self.made.tasks):
+            found = [getattr(each, name) for name in times]
+            own = ran_at((note, speed) for note, speed in trace.at_speeds()
+                         if isinstance(note, Run) and note.task == each.task)
+            cost = None if self.no_power() else Spent(self.joules(own), self.milliseconds(trace.ticks))
+            power = ("-", "-") if cost is None else (rounded(cost.joules), rounded(cost.milliwatts))
+            rows.append((each.task, str(each.jobs), str(each.complete), str(each.missed),
+                         *("-" if time is None else rounded(self.milliseconds(time)) for time in found),
+                         str(each.preemptions), *power))
+        return rows
 
     def no_power(self) -> str:
         """Why there are no joules; empty if there are."""

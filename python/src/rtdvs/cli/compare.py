@@ -11,16 +11,24 @@ A row for each of the seven pairs, and for traces given beside them:
     jitter            the greatest difference between two responses of one task, in ticks
 
 A pair that is denied has the line of its refusal. Shares and ticks are rounded once, half to even.
+
+With --board the columns are joules, mean milliwatts, hours of the battery, and milliseconds and MHz; of_none is then a
+share of the joules, which are exact for measured points.
 """
 
 import argparse
+from collections.abc import Sequence
+from fractions import Fraction
 
+from rtdvs._numbers import aligned, decimal, plain, rounded
+from rtdvs.board import Units
+from rtdvs.cli.boards import add_board, read_given, ticks_of
 from rtdvs.cli.options import (
     Commands, Input, add_engine_options, add_files, add_parser, add_ticks, add_unchecked, check_first, engine_of,
-    executor_of, input_path, progress, read_files, read_text, whole_number,
+    executor_of, input_path, progress, read_text, whole_number,
 )
 from rtdvs.errors import BadValue, TraceFault
-from rtdvs.studies import PAIRS, Case, compare, finer_energies, finer_table, table
+from rtdvs.studies import PAIRS, Case, Row, compare, finer_energies, finer_table, table
 from rtdvs.trace import Trace
 
 
@@ -33,7 +41,8 @@ def add_command(commands: Commands) -> None:
     ['compare']
     """
     parser = add_parser(commands, "compare", _handle, "energies and times under each scheduler and governor",
-                        "compare --tasks tasks.toml --machine machine.toml --ticks 16 --finer 2 10")
+                        "compare --tasks tasks.toml --machine machine.toml --ticks 16 --finer 2 10\n"
+                        "compare --board board.toml --ms 100")
     add_files(parser, ["tasks", "machine"], ["demands"])
     add_ticks(parser)
     parser.add_argument("--trace", type=input_path, nargs="+", default=[], metavar="FILE",
@@ -42,20 +51,62 @@ def add_command(commands: Commands) -> None:
     parser.add_argument("--finer", type=whole_number(1), nargs="+", default=[], metavar="N",
                         help="the energies in ticks N times finer too, as shares of those in the ticks given")
     add_engine_options(parser, jobs=True)
+    add_board(parser)
 
 
 def _handle(args: argparse.Namespace) -> int:
-    engine, (tasks, machine, demands) = engine_of(args), read_files(args)
-    case = Case(tasks, machine, args.ticks, demands)
+    engine, given = engine_of(args), read_given(args)
+    assert given.tasks and given.machine
+    case = Case(given.tasks, given.machine, ticks_of(args, given), given.demands)
     traces = [read_trace(source, case, args) for source in args.trace]
     with executor_of(args) as executor:
         rows = compare(engine, case.tasks, case.machine, case.ticks, case.demands, traces, executor)
-        print(table(rows), end="")
+        print(table(rows) if given.units is None else board_table(rows, case.ticks, given.units), end="")
         finer = {times: finer_energies(engine, case, times, executor)
                  for times in progress(args.finer, len(args.finer), "finer ticks")}
     if finer:
         print("\n" + finer_table(rows[:len(PAIRS)], finer), end="")
     return 0
+
+
+def board_table(rows: Sequence[Row], ticks: int, units: Units) -> str:
+    """The rows in a board's units, below the length of the run; raises BadValue if no power was measured.
+
+    >>> from rtdvs.board import Board, Scale, design
+    >>> board = Board.parse('''
+    ... task = [{name = "a", period_ms = 2, worst_cycles = 4000}]
+    ... point = [{mhz = 4, volts = 1, milliwatts = 8}]''')
+    >>> units = Units(board, design(board, Scale(Fraction(1), Fraction(1000))))
+    >>> print(board_table([Row("rm", "cc", None, "denied rm a 7 6")], 10, units), end="")
+    10 ms      J  mW  of_none  above_bound  switches  idle  least_laxity_ms  jitter_ms
+    rm     cc  denied rm a 7 6
+    """
+    speeds = sorted({speed for row in rows if row.result for speed in row.result.residency})
+    battery = units.board.battery
+    costs = [None if row.result is None else units.spent_at(row.result.ran) for row in rows]
+    hours = [] if battery is None else ["hours"]
+    heading = [f"{plain(units.milliseconds(ticks))} ms", "", "J", "mW", *hours, "of_none", "above_bound", "switches",
+               "idle", "least_laxity_ms", "jitter_ms",
+               *(f"at_{plain(units.megahertz(speed))}_MHz" for speed in speeds)]
+    lines = [heading]
+    for row, cost in zip(rows, costs, strict=True):
+        line, found = [row.scheduler, row.governor], row.result
+        if found is None or cost is None:
+            lines.append([*line, row.refusal])
+            continue
+        base = costs[0].joules if costs[0] else Fraction(0)
+        line += [rounded(cost.joules), rounded(cost.milliwatts)]
+        line += [] if battery is None else [_rounded(cost.hours(battery))]
+        shares = (cost.joules / base if base else None, found.above_bound, found.switches, found.idle)
+        line += [str(each) if isinstance(each, int) else decimal(each, 4) for each in shares]
+        line += [_rounded(None if each is None else units.milliseconds(each))
+                 for each in (found.least_laxity, found.jitter)]
+        lines.append([*line, *(decimal(found.residency.get(speed, Fraction(0)), 4) for speed in speeds)])
+    return aligned(lines, left=2)
+
+
+def _rounded(number: Fraction | None) -> str:
+    return "-" if number is None else rounded(number)
 
 
 def read_trace(source: Input, case: Case, args: argparse.Namespace) -> Trace:

@@ -25,23 +25,23 @@ worst cases, voltages and the charge up.
 """
 
 import argparse
-import re
-import sys
 from collections.abc import Iterator
 from fractions import Fraction
 from pathlib import Path
 
 from rtdvs._numbers import plain, rounded
 from rtdvs.board import (
-    Board, Choice, Design, OperatingTable, Scale, Spent, board_fault, choose_scale, design,
-    machine_of, machine_text, operating_points, points_of, read_design, report, run_ticks, settle,
-    Units, unserved, usual_demands, write_design,
+    Board, Design, OperatingTable, Scale, Spent, Units, board_fault, choose_scale, design, machine_of, machine_text,
+    points_of, report, run_ticks, settle, unserved, usual_demands, write_design,
 )
+from rtdvs.cli.boards import add_scale, add_tree, check_above_0, read_made, table_of
 from rtdvs.cli.options import (
     Commands, add_engine_options, add_output, add_pair, add_parser, add_unchecked, check_first, engine_of,
-    exact_fraction, input_path, open_input, read_text, whole_number, write_output,
+    exact_fraction, input_path, read_text, write_output,
 )
+from rtdvs.cli.plot import drawn
 from rtdvs.errors import TraceFault
+from rtdvs.plot import save_report
 from rtdvs.trace import Trace
 
 
@@ -61,32 +61,20 @@ def add_command(commands: Commands) -> None:
     parser.add_argument("--board", type=input_path, metavar="FILE", help="the description of a board")
     parser.add_argument("--folder", type=Path,
                         help="writes tasks.toml and machine.toml there; with --trace they are there")
-    parser.add_argument("--tick-ms", type=exact_fraction, metavar="MS",
-                        help="the tick, in place of a chosen one")
-    parser.add_argument("--unit-cycles", type=exact_fraction, metavar="CYCLES",
-                        help="the work unit, likewise")
+    add_scale(parser)
     parser.add_argument("--trace", type=input_path, metavar="FILE",
                         help="prints joules, mean power and battery hours of a run of the files in --folder")
     add_unchecked(parser)
     parser.add_argument("--report", action="store_true",
                         help="prints admission, responses, and power and hours of each pair")
+    parser.add_argument("--picture", type=Path, metavar="FILE",
+                        help="draws the responses and the power of each pair: .svg, .pdf or .png")
+    parser.add_argument("--background", default="none", metavar="COLOUR", help="of the picture; none by default")
     parser.add_argument("--ms", type=exact_fraction, metavar="MS",
                         help="the time of the runs of --report, and of demands.csv")
-    _add_tree_options(parser)
+    add_tree(parser)
     _add_settle_options(parser)
     add_output(parser)
-
-
-def _add_tree_options(parser: argparse.ArgumentParser) -> None:
-    group = parser.add_argument_group("device tree", "without --board the machine file is printed")
-    group.add_argument("--device-tree", type=input_path, metavar="FILE", help="a device tree: its source or its blob")
-    group.add_argument("--table", default="", help="a table's label or path; needed if there are several")
-    group.add_argument("--supported-hw", type=_hardware, default=(), metavar="N[,N..]",
-                       help="the hardware's version, level by level, for opp-supported-hw")
-    group.add_argument("--suffix", default="", help="takes opp-microvolt-SUFFIX")
-    group.add_argument("--supply", type=whole_number(1), default=1, metavar="N",
-                       help="which supply; 1 by default")
-    group.add_argument("--turbo", action="store_true", help="takes points of turbo-mode too, which need boost")
 
 
 def _add_settle_options(parser: argparse.ArgumentParser) -> None:
@@ -97,20 +85,11 @@ def _add_settle_options(parser: argparse.ArgumentParser) -> None:
     add_engine_options(parser)
 
 
-def _hardware(word: str) -> tuple[int, ...]:
-    levels = word.split(",")
-    if not all(re.fullmatch(r"0[xX][0-9a-fA-F]+|[0-9]+", level) for level in levels):
-        raise argparse.ArgumentTypeError(f"no numbers with commas between them: {word!r}")
-    return tuple(int(level, 16 if level[:2].lower() == "0x" else 10) for level in levels)
-
-
 def _handle(args: argparse.Namespace) -> int:
-    for option in ("tick_ms", "unit_cycles", "settle_ms", "ms"):
-        if getattr(args, option) is not None and getattr(args, option) <= 0:
-            raise board_fault(f"--{option.replace('_', '-')} has to be above 0")
+    check_above_0(args, "tick_ms", "unit_cycles", "settle_ms", "ms")
     if args.board is None and args.device_tree is None:
         raise board_fault("give --board or --device-tree")
-    table = _table_of(args)
+    table = table_of(args)
     if args.board is None:
         scale = Scale(args.tick_ms or Fraction(1), args.unit_cycles or Fraction(1000))
         machine, _ = machine_of(Board((), points_of(table.points)), scale)
@@ -118,20 +97,16 @@ def _handle(args: argparse.Namespace) -> int:
         return 0
     board = Board.parse(read_text(args.board, "board"), table.points)
     lines = _energy_lines(board, args) if args.trace is not None else _design_lines(board, table, args)
+    if args.picture is not None and (status := drawn(args, lambda args: _draw(board, args))):
+        return status
     write_output(args, "".join(f"{line}\n" for line in lines))
     return 0
 
 
-def _table_of(args: argparse.Namespace) -> OperatingTable:
-    """The points of `--device-tree`; those that are left out are said on standard error."""
-    if args.device_tree is None:
-        return OperatingTable("", ())
-    with open_input(args.device_tree) as file:
-        choice = Choice(args.table, args.supported_hw, args.suffix, args.supply, args.turbo)
-        table = operating_points(file.read(), choice)
-    if table.left_out:
-        print(f"note: {table.note()}", file=sys.stderr)
-    return table
+def _draw(board: Board, args: argparse.Namespace) -> None:
+    made = design(board, choose_scale(board, args.tick_ms, args.unit_cycles))
+    ticks = run_ticks(made) if args.ms is None else made.ticks_of(args.ms)
+    save_report(board, made, ticks, args.picture, args.background)
 
 
 def _design_lines(board: Board, table: OperatingTable, args: argparse.Namespace) -> Iterator[str]:
@@ -166,10 +141,7 @@ def _run(board: Board, made: Design, args: argparse.Namespace) -> Spent:
 def _energy_lines(board: Board, args: argparse.Namespace) -> Iterator[str]:
     if args.folder is None:
         raise board_fault("--trace needs --folder, with the files that were run")
-    made = read_design(args.folder, board)
-    for given, taken in ((args.tick_ms, made.scale.tick), (args.unit_cycles, made.scale.unit)):
-        if given not in (None, taken):
-            raise board_fault(f"in the files of {args.folder} {made.scale.text()}, not {plain(given)}")
+    made = read_made(args, board)
     trace = Trace.parse(read_text(args.trace, "trace"))
     try:
         check_first(args, trace, made.tasks, made.machine)

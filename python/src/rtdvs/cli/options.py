@@ -24,7 +24,7 @@ from rtdvs.engine import Engine, TryEngine, find_engine, stop_calls
 from rtdvs.errors import BadValue, Denied, TraceFault, WordFault
 from rtdvs.model import MOST_TICKS, Demands, Machine, TaskSet, load
 from rtdvs.rules import GOVERNORS, check
-from rtdvs.trace import Done, Noted, Trace, TraceFile, lines_of
+from rtdvs.trace import Done, Noted, Trace, TraceFile, lines_of, split_governor
 
 Commands: TypeAlias = "argparse._SubParsersAction[argparse.ArgumentParser]"
 Item = TypeVar("Item")
@@ -340,7 +340,7 @@ def check_first(args: argparse.Namespace, trace: Trace | TraceFile, tasks: TaskS
     if machine is None or tasks is None:
         files = "--machine" if tasks else "--tasks and --machine"
         raise BadValue(f"give {files}, by which the trace is checked, or --unchecked")
-    is_known = (trace.scheduler, trace.governor) in GOVERNORS
+    is_known = (trace.scheduler, split_governor(trace.governor)[0]) in GOVERNORS
     try:
         with suppress(Denied):
             check(tasks, machine, _all_lines(trace), any_governor=not is_known)

@@ -11,19 +11,37 @@
     energy             of all its runs
 
 The trace is checked first, by the machine. It is read twice, in little memory.
+
+With --board the times are in milliseconds, and the energy in joules, with the mean milliwatts of the whole run; below
+are those of all tasks and of idle time.
 """
 
 import argparse
 
 from rtdvs._numbers import aligned
-from rtdvs.cli.options import Commands, add_files, add_parser, add_unchecked, read_tasks, trace_file
-from rtdvs.trace import COLUMNS, task_statistics
+from rtdvs.cli.boards import Given, add_board, read_given
+from rtdvs.cli.options import Commands, add_files, add_parser, add_unchecked, check_first, read_text, trace_file
+from rtdvs.trace import COLUMNS, Trace, task_statistics
 
 
 def _handle(args: argparse.Namespace) -> int:
-    trace, _ = trace_file(args)
-    print(aligned([COLUMNS, *(each.row() for each in task_statistics(trace, read_tasks(args)))]), end="")
+    given = read_given(args)
+    if given.units is None:
+        trace, _ = trace_file(args)
+        assert given.tasks
+        print(aligned([COLUMNS, *(each.row() for each in task_statistics(trace, given.tasks))]), end="")
+    else:
+        _print_of_board(args, given)
     return 0
+
+
+def _print_of_board(args: argparse.Namespace, given: Given) -> None:
+    trace, units = Trace.parse(read_text(args.trace, "trace")), given.units
+    assert units
+    given.check(trace)
+    check_first(args, trace, given.tasks, given.machine)
+    print(aligned(units.table(trace)), end="")
+    print("\n".join(["", *units.lines(trace)] if not units.no_power() else ["", f"no power: {units.no_power()}"]))
 
 
 def add_command(commands: Commands) -> None:
@@ -35,6 +53,8 @@ def add_command(commands: Commands) -> None:
     ['statistics']
     """
     parser = add_parser(commands, "statistics", _handle, "print times, preemptions and energy of each task",
-                        "statistics --tasks tasks.toml --machine machine.toml --trace run.trace")
+                        "statistics --tasks tasks.toml --machine machine.toml --trace run.trace\n"
+                        "statistics --board board.toml --folder made --trace run.trace")
     add_files(parser, ("tasks", "trace"), ("machine",))
     add_unchecked(parser)
+    add_board(parser)

@@ -1,7 +1,7 @@
 """Pictures of traces, of comparisons and of the evaluation, by matplotlib.
 
 Each is drawn into the caller's axes or into a file: SVG, PDF or PNG, by its name. A picture has no
-background, and colours that can be read on white and on dark.
+background, and colours that can be read on white and on dark. With --board it is in milliseconds, MHz and joules.
 """
 
 import argparse
@@ -9,13 +9,15 @@ import sys
 from collections.abc import Callable
 from pathlib import Path
 
+from rtdvs.cli.boards import add_board, read_given, ticks_of
 from rtdvs.cli.options import (
-    Commands, add_engine_options, add_files, add_parser, add_ticks, add_unchecked, engine_of, input_path, note_charge,
-    read_demands, read_machine, read_tasks, read_text, read_trace, whole_number,
+    Commands, add_engine_options, add_files, add_parser, add_ticks, add_unchecked, check_first, engine_of, input_path,
+    note_charge, read_text, read_trace, whole_number,
 )
 from rtdvs.errors import BadValue
 from rtdvs.plot import View, parse_means, save_compare, save_means, save_trace
 from rtdvs.studies import compare
+from rtdvs.trace import Trace
 
 
 def add_command(commands: Commands) -> None:
@@ -39,11 +41,13 @@ def add_command(commands: Commands) -> None:
                                 ("--width", 1, "pixels; 1000 by default")):
         trace.add_argument(option, type=whole_number(least), metavar="N", help=text)
     add_unchecked(trace)
+    add_board(trace)
     _add_file(trace, _run_trace)
     pairs = kinds.add_parser("compare", help="the energy of each pair, and its time at each speed")
     add_files(pairs, ("tasks", "machine"), ("demands",))
     add_ticks(pairs)
     add_engine_options(pairs)
+    add_board(pairs)
     _add_file(pairs, _run_compare)
     means = kinds.add_parser("evaluation", help="a table of the evaluation")
     means.add_argument("--table", type=input_path, required=True, metavar="FILE", help="the table")
@@ -60,12 +64,21 @@ def _add_file(parser: argparse.ArgumentParser, draw: Callable[[argparse.Namespac
 
 
 def _handle(args: argparse.Namespace) -> int:
+    return drawn(args, args.draw)
+
+
+def drawn(args: argparse.Namespace, draw: Callable[[argparse.Namespace], None]) -> int:
+    """The exit status of what draws a picture: 2 without matplotlib; raises BadValue for a background of no colour.
+
+    >>> drawn(argparse.Namespace(background="none"), lambda args: None)
+    0
+    """
     try:
         from matplotlib.colors import is_color_like
 
         if not is_color_like(args.background):
             raise BadValue(f"no colour: {args.background}")
-        args.draw(args)
+        draw(args)
     except ModuleNotFoundError as error:
         print(f"plot: {error.name} is not installed; it is python3-matplotlib of Debian, matplotlib of PyPI",
               file=sys.stderr)
@@ -74,16 +87,24 @@ def _handle(args: argparse.Namespace) -> int:
 
 
 def _run_trace(args: argparse.Namespace) -> None:
-    trace, charge = read_trace(args)
-    view = View(getattr(args, "from") or 0, args.to, args.top, charge)
+    if args.board is None:
+        (trace, charge), units = read_trace(args), read_given(args).units
+    else:
+        given, trace = read_given(args), Trace.parse(read_text(args.trace, "trace"))
+        given.check(trace)
+        check_first(args, trace, given.tasks, given.machine)
+        assert given.machine
+        units, charge = given.units, given.machine.charge
+    view = View(getattr(args, "from") or 0, args.to, args.top, charge, units)
     note_charge(trace, view.charge)
     save_trace(trace, args.output, view, args.width or 1000, args.background)
 
 
 def _run_compare(args: argparse.Namespace) -> None:
-    tasks = read_tasks(args)
-    rows = compare(engine_of(args), tasks, read_machine(args), args.ticks, read_demands(args, tasks))
-    save_compare(rows, args.output, args.background)
+    engine, given = engine_of(args), read_given(args)
+    assert given.tasks and given.machine
+    rows = compare(engine, given.tasks, given.machine, ticks_of(args, given), given.demands)
+    save_compare(rows, args.output, args.background, given.units)
 
 
 def _run_means(args: argparse.Namespace) -> None:

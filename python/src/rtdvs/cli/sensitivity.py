@@ -8,13 +8,18 @@ The command prints what is now, and the limit:
 
 Each limit leaves the rest as it is; a dash says that no number is enough. A set that is denied has limits
 below its own numbers.
+
+With --board the limits are in cycles, milliseconds and MHz.
 """
 
 import argparse
+from fractions import Fraction
 
+from rtdvs._numbers import aligned, plain, rounded
+from rtdvs.board import Units
+from rtdvs.cli.boards import add_board, read_given
 from rtdvs.cli.options import (
-    Commands, add_engine_options, add_files, add_parser, engine_of, executor_of, progress, read_machine,
-    read_tasks,
+    Commands, add_engine_options, add_files, add_parser, engine_of, executor_of, progress,
 )
 from rtdvs.studies import TESTS, Limits, Question, limits_of, limits_table
 
@@ -33,12 +38,49 @@ def add_command(commands: Commands) -> None:
     parser.add_argument("--test", choices=TESTS, default=TESTS[0],
                         help="edf or rm: the test of admit; response: the exact one under RM (default: edf)")
     add_engine_options(parser, jobs=True)
+    add_board(parser)
 
 
 def _handle(args: argparse.Namespace) -> int:
-    question = Question(engine_of(args), read_tasks(args), read_machine(args), args.test)
+    engine, given = engine_of(args), read_given(args)
+    assert given.tasks and given.machine
+    question = Question(engine, given.tasks, given.machine, args.test)
     with executor_of(args) as executor:
         found = limits_of(question, executor)
         thousandths, speed, *worsts = progress(found, len(question.tasks) + 2, "limits")
-    print(limits_table(question, Limits(thousandths, tuple(worsts), speed)), end="")
+    limits = Limits(thousandths, tuple(worsts), speed)
+    text = limits_table(question, limits) if given.units is None else board_limits(question, limits, given.units)
+    print(text, end="")
     return 0
+
+
+def board_limits(question: Question, limits: Limits, units: Units) -> str:
+    """The limits in a board's units; `-` for None.
+
+    >>> from rtdvs.board import Board, Scale, design
+    >>> board = Board.parse('''
+    ... task = [{name = "a", period_ms = 2, worst_cycles = 4000}]
+    ... point = [{mhz = 4, volts = 1}]''')
+    >>> made = design(board, Scale(Fraction(1, 2), Fraction(1000)))
+    >>> question = Question(None, made.tasks, made.machine, "edf")
+    >>> print(board_limits(question, Limits(2000, (8,), 1), Units(board, made)), end="")
+                                is  limit
+    all worst cases, times       1      2
+    task a, cycles            4000   8000
+    task a, ms at 4 MHz          1      2
+    highest speed, MHz           4      2
+    """
+    top = units.megahertz(question.machine.top_speed)
+    times = None if limits.thousandths is None else Fraction(limits.thousandths, 1000)
+    rows = [("", "is", "limit"), ("all worst cases, times", "1", _text(times))]
+    for task, most in zip(question.tasks, limits.worsts, strict=True):
+        is_now, limit = units.cycles(task.worst), None if most is None else units.cycles(most)
+        rows.append((f"task {task.name}, cycles", _text(is_now), _text(limit)))
+        rows.append((f"task {task.name}, ms at {plain(top)} MHz", _text(is_now / top / 1000),
+                     _text(None if limit is None else limit / top / 1000)))
+    speed = None if limits.speed is None else units.megahertz(limits.speed)
+    return aligned([*rows, ("highest speed, MHz", _text(top), _text(speed))])
+
+
+def _text(number: Fraction | None) -> str:
+    return "-" if number is None else plain(number) if number.denominator == 1 else rounded(number)

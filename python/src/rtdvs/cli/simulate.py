@@ -19,7 +19,7 @@ def _handle(args: argparse.Namespace) -> int:
     tasks, machine, demands = read_files(args)
     trace = simulate(tasks, machine, args.scheduler, args.ticks, args.governor, demands,
                      admitted=args.missed is None, missed=args.missed)
-    print((trace if args.format == 2 else first_version(trace)).text(), end="")
+    print((trace if args.format == 2 else first_version(trace)).text(), end="", flush=True)
     if args.missed is not None:
         print("\n".join(["note: not a run of the program", *(f"note: {miss.text()}" for miss in trace.misses())]),
               file=sys.stderr)

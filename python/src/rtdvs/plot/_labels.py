@@ -22,7 +22,7 @@ class Labels:
 
     time_unit = "ticks"
     speed_unit = "units/tick"
-    work_unit = ""
+    work_unit = times = works = ""
 
     def time(self, tick: Fraction | int) -> str:
         """A time."""
@@ -39,11 +39,12 @@ class Labels:
     def facts(self, task: Task, charge: int) -> str:
         """A task in one line, with the charge that its worst case has twice."""
         offset = f", offset {self.time(task.offset)}" if task.offset else ""
-        return f"period {self.time(task.period)}{offset}, worst {self.work(task.worst)}" + (
-            f"+{self.work(2 * charge)}" if charge else "")
+        charged = f"+{self.work(2 * charge)}" if charge else ""
+        return (f"period {self.time(task.period)}{offset}{self.times}, "
+                f"worst {self.work(task.worst)}{charged}{self.works}")
 
     def marks(self, first: int, last: int, width: float) -> Iterator[Fraction]:
-        """The ticks that have a label, in a picture so many pixels wide."""
+        """The ticks that have a label, in a picture of a width in pixels."""
         step = round_step(last - first, max(1, int(width / (12 + 7 * len(str(last))))))
         return map(Fraction, range(-(-first // step) * step, last + 1, step))
 
@@ -66,7 +67,7 @@ class BoardLabels(Labels):
     units: Units
     time_unit = "ms"
     speed_unit = "MHz"
-    work_unit = " in 1000 cycles"
+    work_unit, times, works = " in 1000 cycles", " ms", " kcycles"
 
     def time(self, tick: Fraction | int) -> str:
         return plain(self.units.milliseconds(tick))

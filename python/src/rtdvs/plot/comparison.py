@@ -5,7 +5,8 @@ from fractions import Fraction
 from pathlib import Path
 from typing import TYPE_CHECKING
 
-from rtdvs._numbers import decimal
+from rtdvs._numbers import decimal, plain, rounded
+from rtdvs.board import Units
 from rtdvs.plot._style import INK, POINT, SMALL, TEXT, bare, legend, new_figure, patch, save, settings, words
 from rtdvs.studies import Row
 
@@ -15,10 +16,11 @@ if TYPE_CHECKING:
 ENERGY, BOUND, TIME = "#d55e00", "#009e73", "#0072b2"
 
 
-def plot_compare(rows: Sequence[Row], energy: "Axes", time: "Axes") -> None:
+def plot_compare(rows: Sequence[Row], energy: "Axes", time: "Axes", units: Units | None = None) -> None:
     """Draws a comparison into two axes: energies as shares of EDF with `none`, and the time at each speed.
 
-    A mark is at the bound for the row's units. A pair that is denied has its line in place of a bar.
+    A mark is at the bound for the row's units. A pair that is denied has its line in place of a bar. In a board's units
+    a bar has its mean milliwatts beside it, and the battery's hours.
 
     >>> energy, time = new_figure(96, 96).subplots(2)
     >>> plot_compare([Row("rm", "cc", None, "denied rm y 7 6")], energy, time)
@@ -26,7 +28,7 @@ def plot_compare(rows: Sequence[Row], energy: "Axes", time: "Axes") -> None:
     'denied rm y 7 6'
     """
     for axes, title in ((energy, "energy, as a share of EDF none; the mark is the bound"),
-                        (time, "time at speed")):
+                        (time, "time at speed" if units is None else "time at MHz")):
         bare(axes, "x")
         axes.set_title(title, loc="left", fontsize=SMALL, color=INK)
         axes.set(xlim=(0, 1), ylim=(len(rows) - 0.5, -0.5), yticks=[])
@@ -37,13 +39,14 @@ def plot_compare(rows: Sequence[Row], energy: "Axes", time: "Axes") -> None:
     shades = {speed: 0.7 if len(speeds) == 1 else 0.3 + 0.6 * place / (len(speeds) - 1)
               for place, speed in enumerate(speeds)}
     for place, row in enumerate(rows):
-        _draw_energy(energy, place, row)
+        _draw_energy(energy, place, row, units)
         _draw_times(time, place, row, shades)
-    legend(time, [patch(str(speed), TIME, shade) for speed, shade in shades.items()], max(1, len(shades)),
+    names = {speed: str(speed) if units is None else plain(units.megahertz(speed)) for speed in shades}
+    legend(time, [patch(names[speed], TIME, shade) for speed, shade in shades.items()], max(1, len(shades)),
            loc="lower right", bbox_to_anchor=(1, 1), handlelength=1, columnspacing=1, borderpad=0)
 
 
-def save_compare(rows: Sequence[Row], path: Path, background: str = "none") -> None:
+def save_compare(rows: Sequence[Row], path: Path, background: str = "none", units: Units | None = None) -> None:
     """Draws a comparison into a file, as SVG, PDF or PNG by its name; raises BadValue, OSError.
 
     >>> save_compare([Row("rm", "cc", None, "denied rm y 7 6")], Path("a.gif"))
@@ -52,19 +55,32 @@ def save_compare(rows: Sequence[Row], path: Path, background: str = "none") -> N
     """
     with settings():
         high = 24 * len(rows) + 70
-        figure = new_figure(810, high)
+        second = 480 if units is None else 540  # the labels of the bars have more room
+        wide = second + 330
+        figure = new_figure(wide, high)
         low, tall = 30 / high, 24 * len(rows) / high
-        plot_compare(rows, *(figure.add_axes((left / 810, low, 300 / 810, tall)) for left in (90, 480)))
+        energy, time = (figure.add_axes((left / wide, low, 300 / wide, tall)) for left in (90, second))
+        plot_compare(rows, energy, time, units)
         save(figure, path, background)
 
 
-def _draw_energy(axes: "Axes", place: int, row: Row) -> None:
+def _label(row: Row, units: Units | None) -> str:
+    """What is beside the bar of a pair."""
+    assert row.result is not None and row.result.share is not None
+    if units is None or units.no_power():
+        return decimal(row.result.share, 3)
+    run, battery = units.spent_at(row.result.ran), units.board.battery
+    hours = None if battery is None else run.hours(battery)
+    return f"{rounded(run.milliwatts, 4)} mW" + ("" if hours is None else f", {rounded(hours, 3)} h")
+
+
+def _draw_energy(axes: "Axes", place: int, row: Row, units: Units | None) -> None:
     if row.result is None or row.result.share is None:
         words(axes, 0.02, place, row.refusal or "no share", va="center")
         return
     share, pair = row.result.share, f"{row.scheduler}-{row.governor}"
     axes.barh(place, float(share), height=2 / 3, color=ENERGY, alpha=0.75, gid=f"energy-{pair}")
-    words(axes, float(share) + 0.013, place, decimal(share, 3), va="center")
+    words(axes, float(share) + 0.013, place, _label(row, units), va="center")
     if row.result.above_bound is not None:
         axes.vlines(float(share / (1 + row.result.above_bound)), place - 0.42, place + 0.42, color=BOUND,
                     linewidth=3 * POINT, zorder=3, gid=f"bound-{pair}")

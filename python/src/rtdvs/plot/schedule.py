@@ -279,7 +279,7 @@ def _head_lines(trace: Trace, view: View, width: float) -> list[str]:
 
 
 def _wrapped(parts: Sequence[str], letters: float) -> list[str]:
-    """Parts in lines of about so many letters; a part is never cut."""
+    """Parts in lines of about that many letters; a part is never cut."""
     lines = [*parts[:1]]
     for part in parts[1:]:
         if len(lines[-1]) + 1 + len(part) > letters:

@@ -2,7 +2,7 @@
 
 from collections.abc import Iterable, Iterator, Mapping, Sequence
 from concurrent.futures import Executor
-from dataclasses import dataclass, replace
+from dataclasses import dataclass, field, replace
 from fractions import Fraction
 
 from rtdvs._display import Cell, Shown
@@ -10,7 +10,7 @@ from rtdvs._numbers import aligned, decimal
 from rtdvs.engine import Answer, Engine, Least, least_call, parse_least, run_call
 from rtdvs.errors import Denied, TraceFault
 from rtdvs.model import Demands, Machine, TaskSet
-from rtdvs.trace import Run, Trace, task_statistics
+from rtdvs.trace import Ran, Run, Trace, task_statistics
 
 PAIRS = (("edf", "none"), ("edf", "static"), ("edf", "cc"), ("edf", "la"),
          ("rm", "none"), ("rm", "static"), ("rm", "cc"))
@@ -28,7 +28,7 @@ class Result:
     the bound; None if that is 0. `switches` counts the decisions with another speed than before. `idle` is a
     share of the run, and so is each speed's `residency`. `least_laxity` and `jitter`, in ticks, are over all
     complete jobs: the least time from a completion to its deadline, and the greatest difference between two
-    responses of one task. None without such a job.
+    responses of one task. None without such a job. `ran` are the units at each speed, by which a board has joules.
 
     >>> idle = Result(12, None, None, 0, Fraction(1), None, None, residency={3: Fraction(1)})
     >>> cells(Row("rm", "cc", idle), [3])[2:]
@@ -43,6 +43,7 @@ class Result:
     least_laxity: Fraction | None
     jitter: Fraction | None
     residency: Mapping[int, Fraction]
+    ran: Mapping[int, Ran] = field(default_factory=dict)
 
 
 @dataclass(frozen=True, slots=True)
@@ -190,6 +191,7 @@ def result(trace: Trace, tasks: TaskSet, least: Least, base: int) -> Result:
         least_laxity=min(laxities, default=None),
         jitter=max(jitters, default=None),
         residency={speed: time / trace.ticks for speed, time in trace.residency().items()},
+        ran=trace.ran(),
     )
 
 
@@ -197,8 +199,8 @@ def compare(engine: Engine, tasks: TaskSet, machine: Machine, ticks: int, demand
             traces: Sequence[Trace] = (), executor: Executor | None = None) -> Comparison:
     """A row for each of the seven pairs, and for each trace given beside them.
 
-    Raises TraceFault if a trace is of other tasks, another machine or other ticks, and what the program raises, but not for a pair that is
-    denied.
+    Raises TraceFault if a trace is of other tasks, another machine or other ticks, and what the program raises, but not
+    for a pair that is denied.
 
     >>> from rtdvs import Point, Task, find_engine
     >>> machine = Machine((Point(1, 1000), Point(2, 2000)))

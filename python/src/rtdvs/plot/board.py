@@ -1,0 +1,96 @@
+"""The picture of a board's report: responses under RM, and the power of each pair."""
+
+from collections.abc import Sequence
+from pathlib import Path
+from typing import TYPE_CHECKING
+
+from rtdvs._numbers import plain, rounded
+from rtdvs.board import Asked, Board, Design, PairCost, Units, pair_costs
+from rtdvs.plot._style import INK, SMALL, TEXT, bare, legend, new_figure, patch, save, settings, words
+
+if TYPE_CHECKING:
+    from matplotlib.axes import Axes
+
+RESPONSE, POWER = "#0072b2", {"worst": "#d55e00", "usual": "#e6a23c"}
+ROW, WIDE = 30, 700
+NO_POWER = "no power: "
+
+
+def plot_responses(asked: Asked, axes: "Axes") -> None:
+    """Draws each task's longest response under RM at the highest speed, as a share of its period.
+
+    >>> from rtdvs.board import Load
+    >>> axes = new_figure(96, 96).add_subplot()
+    >>> loads = Load("a", period=4, cycles=8), Load("b", 6, 10)
+    >>> plot_responses(Asked(loads, speed=4), axes)
+    >>> [text.get_text() for text in axes.texts]
+    ['2 of 4 ms', 'late: 6 ms']
+    """
+    bare(axes, "x")
+    axes.set_title("longest response under RM, as a share of the period", loc="left", fontsize=SMALL, color=INK)
+    axes.set(xlim=(0, 1), ylim=(len(asked.loads) - 0.5, -0.5))
+    axes.set_xticks([0, 0.25, 0.5, 0.75, 1], ["0.00", "0.25", "0.50", "0.75", "1.00"], fontsize=SMALL)
+    axes.set_yticks(range(len(asked.loads)), [load.name for load in asked.loads], fontsize=TEXT)
+    for place, load in enumerate(asked.loads):
+        time = asked.response(place)
+        if time is None:
+            words(axes, 0.02, place, f"late: {plain(load.period)} ms", va="center")
+            continue
+        share = float(time / load.period)
+        axes.barh(place, share, height=2 / 3, color=RESPONSE, alpha=0.75, gid=f"response-{load.name}")
+        words(axes, share + 0.013, place, f"{rounded(time, 4)} of {rounded(load.period, 4)} ms", va="center")
+
+
+def plot_power(costs: Sequence[PairCost], board: Board, axes: "Axes") -> None:
+    """Draws each pair's mean milliwatts, beside them the battery's hours; a pair that is denied has that word.
+
+    >>> axes = new_figure(96, 96).add_subplot()
+    >>> plot_power([PairCost("rm", "cc", {})], Board((), ()), axes)
+    >>> axes.texts[0].get_text()
+    'denied'
+    """
+    bare(axes, "x")
+    axes.set_title("mean milliwatts", loc="left", fontsize=SMALL, color=INK)
+    most = max((float(run.milliwatts) for cost in costs for run in cost.spent.values()), default=0) or 1
+    axes.set(xlim=(0, most), ylim=(len(costs) - 0.5, -0.5))
+    axes.tick_params(labelsize=SMALL)
+    axes.set_yticks(range(len(costs)), [f"{cost.scheduler.upper()} {cost.governor}" for cost in costs], fontsize=TEXT)
+    cases = [*dict.fromkeys(case for cost in costs for case in cost.spent)]
+    for place, cost in enumerate(costs):
+        if not cost.spent:
+            words(axes, most / 50, place, "denied", va="center")
+        for at, (case, run) in enumerate(cost.spent.items()):
+            high = 2 / 3 / len(cases)
+            middle = place - 1 / 3 + high * (at + 0.5)
+            axes.barh(middle, float(run.milliwatts), height=high, color=POWER[case], alpha=0.75,
+                      gid=f"{case}-{cost.scheduler}-{cost.governor}")
+            hours = None if board.battery is None else run.hours(board.battery)
+            lasts = "" if hours is None else f", {rounded(hours, 3)} h"
+            text = f"{rounded(run.milliwatts, 4)} mW{lasts}"
+            words(axes, float(run.milliwatts) + most / 80, middle, text, va="center")
+    if len(cases) > 1:
+        legend(axes, [patch(f"{case} demands", POWER[case], 0.75) for case in cases], len(cases), loc="lower right",
+               bbox_to_anchor=(1, 1), handlelength=1, columnspacing=1, borderpad=0)
+
+
+def save_report(board: Board, made: Design, ticks: int, path: Path, background: str = "none") -> None:
+    """Draws a board's report into a file, as SVG, PDF or PNG by its name; raises BadValue, OSError.
+
+    Without measured power only the responses are drawn, in the second part is why.
+    """
+    reason = Units(board, made).no_power()
+    costs = () if reason else pair_costs(board, made, ticks)
+    with settings():
+        upper, lower = ROW * len(made.tasks), ROW * max(1, len(costs))
+        high = upper + lower + 130
+        left = 30 + 8 * max(9, *(len(task.name) for task in made.tasks))
+        figure = new_figure(WIDE + left, high)
+        first, second = (figure.add_axes((left / (WIDE + left), low / high, 560 / (WIDE + left), tall / high))
+                         for low, tall in ((lower + 95, upper), (30, lower)))
+        plot_responses(Asked.by_files(made), first)
+        if reason:
+            second.set_axis_off()
+            words(second, 0, 0.5, f"{NO_POWER}{reason}", va="center")
+        else:
+            plot_power(costs, board, second)
+        save(figure, path, background)
