@@ -72,8 +72,13 @@ _STARTS = {form[:3]: form for form in _FORMS}
 @lru_cache(maxsize=32)  # it takes long to compile a pattern, and a command may need none
 def _line(start: str) -> tuple[Callable[[str], re.Match[str] | None], Callable[..., Line]]:
     """What reads a line that begins so, and what makes a value of its fields."""
-    form = _STARTS.get(start)
-    return (lambda line: None, End) if form is None else (_shape(form).fullmatch, _FORMS[form])
+    if form := _STARTS.get(start):
+        return _shape(form).fullmatch, _FORMS[form]
+    return _no_line, End
+
+
+def _no_line(line: str) -> None:
+    return None
 
 
 def read_head(lines: Iterator[str]) -> Head:
