@@ -42,7 +42,7 @@ def test_other_outputs_are_a_fault() -> None:
     for output in tour.code_cells(changed)[1]["outputs"]:
         output["text"] = [line.replace("448000000000", "448000000001") for line in output["text"]]
     for output in tour.code_cells(without)[2]["outputs"]:
-        del output["data"]["image/svg+xml"]
+        del output["data"]["image/png"]
     assert [fault.split(":")[0] for fault in faults(STORED, changed)] == ["pairs"]
     assert [fault.split(":")[0] for fault in faults(STORED, without)] == ["pairs-drawn"]
 
@@ -107,6 +107,13 @@ def test_the_form_of_the_file() -> None:
     assert [cell["execution_count"] for cell in CELLS.values()] == [*range(1, len(CELLS) + 1)]
     assert len(CELLS) <= 12 and len({cell["id"] for cell in STORED["cells"]}) == len(STORED["cells"])
     assert not re.search(r"(?<![.\w])/(?:home|root|tmp|usr|work|var)/", text) and str(TOP) not in text
+
+
+def test_pictures_survive_a_sanitizer() -> None:
+    """Debian's nbconvert takes the paths out of an SVG, also beside a PNG, and shows a PNG that has no SVG beside it."""
+    kinds = [{kind for kind in output.get("data", {}) if kind.startswith("image/")}
+             for cell in CELLS.values() for output in cell["outputs"]]
+    assert [kind for kind in kinds if kind] == [{"image/png"}] * 5
 
 
 def test_each_cell_has_its_sentence() -> None:

@@ -8,7 +8,7 @@ import sys
 from collections.abc import Callable
 from fractions import Fraction
 from pathlib import Path
-from types import SimpleNamespace
+from types import ModuleType
 from unittest.mock import Mock
 
 import pytest
@@ -36,7 +36,9 @@ def stub(monkeypatch: pytest.MonkeyPatch) -> Stub:
             parser.set_defaults(handler=handler)
 
         monkeypatch.setattr(cli, "COMMANDS", {"stub": "stub"})
-        monkeypatch.setitem(sys.modules, "rtdvs.cli.stub", SimpleNamespace(add_command=add_command))
+        module = ModuleType("stub")
+        setattr(module, "add_command", add_command)
+        monkeypatch.setitem(sys.modules, "rtdvs.cli.stub", module)
 
     return replace
 

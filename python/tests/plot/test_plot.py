@@ -299,3 +299,36 @@ def test_each_curve_is_drawn_and_no_text_is_cut(panels: tuple[str, ...], columns
     titles = [box for text, box in boxes if text.replace("\n", " ") in panels]
     heading = next(box for text, box in boxes if text.startswith("energy"))
     assert len(titles) == len(panels) and all(title.y1 <= heading.y0 + 1 for title in titles)
+
+
+# What is left out of a picture is said
+
+NEAR_SAID, JOINED_SAID = "near marks (less than 2 pixels) once", "runs below 3 pixels joined, as high as the highest"
+
+
+def rare_trace(runs: int) -> Trace:
+    """One release in a thousand ticks, and within a tick many decisions with the same speed, and runs between."""
+    lines = [head(1000, "task a 1000 0 900\n"), "release 0 a 1\n", "speed 0 10 10/1\n"]
+    for tick in range(runs):
+        lines += [f"run {tick}:0 {tick}:5 a 1 5 1\n", f"idle {tick}:5 {tick + 1}:0 5 0\n"]
+    lines.append(f"idle {runs}:0 1000:0 {10 * (1000 - runs)} 0\n")
+    return Trace.parse("".join([*lines, f"energy a {runs}\nend 1000 {runs} 0\n"]))
+
+
+def decided_trace(decisions: int) -> Trace:
+    """Only decisions are near to each other."""
+    lines = [head(1000, "task a 1000 0 900\n"), "release 0 a 1\n"]
+    lines += [f"speed {tick} 10 10/1\nidle {tick}:0 {tick + 1}:0 10 0\n" for tick in range(decisions)]
+    lines.append(f"idle {decisions}:0 1000:0 {10 * (1000 - decisions)} 0\n")
+    return Trace.parse("".join([*lines, "energy a 0\nend 1000 0 0\n"]))
+
+
+@pytest.mark.parametrize(("trace", "near", "joined"), [
+    pytest.param(long_trace(20), False, False, id="all is there"),
+    pytest.param(rare_trace(20), False, True, id="runs only"),
+    pytest.param(decided_trace(20), True, False, id="decisions only"),
+    pytest.param(long_trace(4000), True, True, id="both"),
+])
+def test_what_is_left_out_is_said(trace: Trace, near: bool, joined: bool, tmp_path: Path) -> None:
+    _, said = drawn(trace, tmp_path / "a.svg", width=600)
+    assert (NEAR_SAID in said, JOINED_SAID in said) == (near, joined)

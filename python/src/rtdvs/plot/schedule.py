@@ -6,7 +6,7 @@ background, and colours that can be read on white and on dark.
 
 import math
 from collections.abc import Iterable, Sequence
-from dataclasses import dataclass, replace
+from dataclasses import dataclass, field, replace
 from fractions import Fraction
 from functools import cached_property, partial
 from pathlib import Path
@@ -41,6 +41,8 @@ LEAST = 0.6         # the narrowest bar
 NARROW = 3          # narrower bars are drawn over the arrows, others below them
 GAP = 0.5           # narrow bars with smaller gaps are drawn as one
 NEAR = 2            # marks of one kind that are nearer are drawn once
+NEAR_MARKS = f"near marks (less than {NEAR} pixels) once"
+JOINED = f"runs below {NARROW} pixels joined, as high as the highest"
 LETTER = 6.4        # room for a letter of small text
 NAME_LETTER = 7.8   # room for a letter of a name
 DEMAND = "#c04aa8"
@@ -104,6 +106,15 @@ class _Frame:
     first: int
     last: int
     top: int
+    left_out: set[str] = field(default_factory=set)  # what the legend has to say of what isn't drawn
+
+    def thinned(self, places: Iterable[float]) -> list[float]:
+        """The places in view, without those that are too near; the legend says if there are any."""
+        shown = list(filter(self.is_shown, places))
+        kept = thin(shown, NEAR / self.scale)
+        if len(kept) < len(shown):
+            self.left_out.add(NEAR_MARKS)
+        return kept
 
     @cached_property
     def names(self) -> tuple[str, ...]:
@@ -312,10 +323,9 @@ def _draw_rows(frame: _Frame) -> None:
         _draw_arrows(frame, row, [job.release for job in jobs[name]], is_due=False)
         due = [job.deadline for job in jobs[name] if job.deadline is not None]
         _draw_arrows(frame, row, due, is_due=True)
-        shown = [done for done in complete[name] if frame.is_shown(done.at)]
         _draw_misses(frame, row, [miss.due for miss in frame.misses if miss.task == name])
-        places = set(thin((done.at for done in shown), NEAR / frame.scale))
-        kept = [done for done in shown if done.at in places]
+        places = set(frame.thinned(done.at for done in complete[name]))
+        kept = [done for done in complete[name] if done.at in places]
         _draw_completions(frame, row, kept)
         for done in kept:
             _label_completion(frame, floor, done, f"{work(done.used)}{worst.get(name, '')}")
@@ -325,7 +335,7 @@ def _draw_arrows(frame: _Frame, row: int, ticks: Sequence[int], is_due: bool) ->
     """Draws a task's releases, or its deadlines."""
     floor, high = frame.floor(row), DUE if is_due else 48
     style: dict[str, Any] = {"color": DEADLINE if is_due else INK, "zorder": 2.2, "clip_on": False}
-    kept = thin(filter(frame.is_shown, ticks), NEAR / frame.scale)
+    kept = frame.thinned(ticks)
     frame.axes.vlines(kept, floor, floor + high, linewidth=1.6 * POINT, **style)
     frame.axes.plot(kept, [floor if is_due else floor + high] * len(kept), linestyle="none", fillstyle="none",
                     marker=TIP_BELOW if is_due else TIP_ABOVE, markersize=6 * POINT,
@@ -347,13 +357,15 @@ def _draw_bars(frame: _Frame, shown: Iterable[Bar], floor: float, unit: float, n
     """Draws bars on a floor, so high for each unit of speed; narrow ones over the arrows, others below."""
     from matplotlib.collections import PolyCollection
 
-    cut = (Bar(max(bar.begin, frame.first), min(bar.end, frame.last), bar.speed) for bar in shown)
+    cut = [Bar(max(bar.begin, frame.first), min(bar.end, frame.last), bar.speed) for bar in shown]
     corners: dict[bool, list[list[tuple[float, float]]]] = {False: [], True: []}
     for bar in join_narrow(cut, NARROW / frame.scale, GAP / frame.scale):
         is_narrow = (bar.end - bar.begin) * frame.scale < NARROW
         begin, end = bar.begin, max(bar.end, bar.begin + LEAST / frame.scale)
         high = floor + unit * bar.speed
         corners[is_narrow].append([(begin, floor), (begin, high), (end, high), (end, floor)])
+    if sum(map(len, corners.values())) < len(cut):
+        frame.left_out.add(JOINED)
     for is_narrow, polygons in corners.items():
         if polygons:
             made = PolyCollection(polygons, linewidth=0, zorder=2.4 if is_narrow else 2,
@@ -413,7 +425,10 @@ def _draw_decisions(frame: _Frame) -> None:
     for begin, end, decision in frame.spans:
         value = Fraction(decision.num, decision.den)
         y = frame.speed_height(float(value))
-        if (begin - latest.get(int(y / NEAR), -math.inf)) * frame.scale < NEAR or begin != decision.tick:
+        if begin != decision.tick:
+            continue
+        if (begin - latest.get(int(y / NEAR), -math.inf)) * frame.scale < NEAR:
+            frame.left_out.add(NEAR_MARKS)
             continue
         latest[int(y / NEAR)] = begin
         places["over" if value > Fraction(CAP) * frame.top else "decision"].append((begin, y))
@@ -440,9 +455,7 @@ def _draw_legend(frame: _Frame, has_idle: bool) -> None:
         handles.append(patch("idle", INK, 0.3))
     if any(each.num > Fraction(CAP) * frame.top * each.den for _, _, each in frame.spans):
         handles.append(_sign("demand above the picture", DEMAND, "^"))
-    released = ([job.release for job in jobs] for jobs in by_task(frame.trace).values())
-    if any(len(thin(ticks, NEAR / frame.scale)) < len(ticks) for ticks in released):
-        handles.append(_sign(f"near marks (less than {NEAR} pixels) once", "none", ""))
+    handles += [_sign(said, "none", "") for said in (NEAR_MARKS, JOINED) if said in frame.left_out]
     longest = max(len(handle.get_label()) for handle in handles)
     high = frame.floor(0) + ROW + TICKS
     legend(frame.axes, handles, max(1, int(frame.width / (longest * 5.5 + 38))), loc="upper left",

@@ -24,7 +24,7 @@ FIELDS = {"begin": PLACE, "end": PLACE, "at": PLACE, "used": "UNITS"}  # others 
 PLAN_FORM = "plan SCHEDULER GOVERNOR TICKS"
 ROW_FORM = "task NAME PERIOD OFFSET WORST"
 FORMS = {form.split()[0]: form for form in (ROW_FORM, *(
-    re.sub(r"{0\.(\w+)}", lambda field: FIELDS.get(field[1], field[1].upper()), form)
+    re.sub(r"{0\.(\w+)}", lambda field: FIELDS.get(str(field[1]), str(field[1]).upper()), form)
     for form in (Release.form, Decision.form, Run.form, Idle.form, Done.form, TaskEnergy.form, End.form)))}
 
 

@@ -62,7 +62,7 @@ def _loaded(governor: OwnGovernor, content: bytes) -> Chooser:
         exec(compile(content, governor.path, "exec"), names)
     except Exception as fault:
         raise BadValue(f"{governor.path}: {type(fault).__name__}: {fault}") from fault
-    function = names.get(governor.name)
+    function: Any = names.get(governor.name)
     if not callable(function):
         raise BadValue(f"{governor.path}: it has no function {governor.name}")
 
@@ -138,13 +138,16 @@ class Own:
     traces: tuple[OwnTraces, ...] = ()
 
     def __post_init__(self) -> None:
-        names = [each.name for each in (*self.governors, *self.traces)]
+        names = self._names()
         if twice := {name for name in names if names.count(name) > 1 or name in ("none", "static", "cc", "la")}:
             raise BadValue(f"two curves of one name: {min(twice)}")
 
     def curves(self) -> tuple[str, ...]:
         """The names of the curves, beside those of the pairs."""
-        return tuple(f"{self.scheduler} {each.name}" for each in (*self.governors, *self.traces))
+        return tuple(f"{self.scheduler} {name}" for name in self._names())
+
+    def _names(self) -> list[str]:
+        return [*(governor.name for governor in self.governors), *(traces.name for traces in self.traces)]
 
     def energies(self, case: Case, machine: str, name: object) -> Iterator[tuple[str, Fraction]]:
         """The energy of each curve for a set on a machine; raises BadValue and OSError."""

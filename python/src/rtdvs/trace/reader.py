@@ -67,8 +67,19 @@ def _shape(form: str) -> re.Pattern[str]:
     return re.compile(re.sub(r"{0\.(\w+)}", lambda field: _SHAPES.get(str(field[1]), _NUMBER), form) + "\n")
 
 
-_LINES = {form[:3]: (form, make) for form, make in _FORMS.items()}
-_NO_LINE = "(?!)", End  # nothing has this form
+_STARTS = {form[:3]: form for form in _FORMS}
+
+
+@lru_cache(maxsize=32)  # it takes long to compile a pattern, and a command may need none
+def _line(start: str) -> tuple[Callable[[str], re.Match[str] | None], Callable[..., Line]]:
+    """What reads a line that begins so, and what makes a value of its fields."""
+    if form := _STARTS.get(start):
+        return _shape(form).fullmatch, _FORMS[form]
+    return _no_line, End
+
+
+def _no_line(line: str) -> None:
+    return None
 
 
 def read_head(lines: Iterator[str]) -> Head:
@@ -126,8 +137,8 @@ class Reader:
 
     def spelled(self, line: str) -> Line:
         """What the line says that `lines` gave last, wherever it is."""
-        form, make = _LINES.get(line[:3], _NO_LINE)
-        found = _shape(form).fullmatch(line)
+        shape, make = _line(line[:3])
+        found = shape(line)
         if not found or self.number > MOST_LINES:
             more = f"a trace has at most {MOST_LINES} lines"
             raise TraceFault(self.number, more if found else _misspelled(line, "not a line of a trace"))
