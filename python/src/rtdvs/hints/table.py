@@ -64,13 +64,15 @@ DENIED = (
          "This is <ratio> times the work of the highest speed.", FASTER)),
     Row(("denied rm <task> <num> <cap>",),
         "The RM test fails, first for this task: by it and those before it in RM order, in its period.",
-        ("In a period of `<task>`, it and the tasks with shorter periods ask for <num> units; the highest speed does <cap>.",
+        ("In a period of `<task>`, it and the tasks with shorter periods ask for <num> units; "
+         "the highest speed does <cap>.",
          "`response` is the exact test, and `edf` admits more.")),
     Row(("denied offset <task>",), "`response`, `constrain`: the first task in file order with an offset.",
         ("Take the `offset` of `<task>` out of the task file: this test is for sets that all start at tick 0.",)),
     Row(("misses <task> <num> <cap>",),
         "`response`: the first task in RM order without a response; its first job misses at worst cases.",
-        ("By the deadline of its first job, `<task>` and those before it ask for <num> units; the highest speed does <cap>.",
+        ("By the deadline of its first job, `<task>` and those before it ask for <num> units; "
+         "the highest speed does <cap>.",
          FASTER), "Or `edf`."),
     Row(("denied demand <ticks> <num> <cap>",), "`constrain`: no speed does the work due within `<ticks>`.",
         ("In <ticks> ticks <num> units are due, and the highest speed does <cap>.",
