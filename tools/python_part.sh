@@ -19,7 +19,8 @@ wheel() {
         needs=$(sed -n '/; extra ==/d; s/^Requires-[A-Z][a-z]*: //p' "$installed"/rtdvs-*/METADATA) &&
         [ "$needs" = "$(sed -n 's/^requires-python = "\(.*\)"$/\1/p' python/pyproject.toml)" ] || { echo "needs: $needs"; return 1; }
     cp crates/example_runs/data/paper/*.* "$work/dist" && cd "$work/dist" || return
-    answers Engine && "$work/venv/bin/python" -m rtdvs --help &&
+    answers Engine && "$work/venv/bin/python" -m rtdvs --help && "$work/venv/bin/rtdvs-tools" --version &&
+        [ "$("$work/venv/bin/rtdvs-tools" admit --tasks tasks.toml --machine machine.toml --scheduler edf)" = 'admitted edf 836/280 3' ] &&
         "$work/venv/bin/python" -m rtdvs page edf_none.trace --tasks tasks.toml --machine machine.toml --output page.html || return
     [ -z "$library" ] || { unset RTDVS && answers LibraryEngine; }
 }

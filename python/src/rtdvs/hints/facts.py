@@ -148,7 +148,8 @@ def rule_of(key: str) -> str | None:
     if key == "name":
         return "a text in quotes"
     least, most = RANGES.get(key, (0, GREATEST))
-    return f"a whole number from {least} to {most}{', without quotes' if key in RANGES else ', in digits only'}" if key else None
+    form = "without quotes" if key in RANGES else "in digits only"
+    return f"a whole number from {least} to {most}, {form}" if key else None
 
 
 def _split(found: Found) -> str | None:
@@ -311,6 +312,11 @@ def _asked(found: Found) -> str | None:
     return above(Fraction(found.number("num") * machine.top_speed, found.number("cap")), machine.top_speed)
 
 
+def _ratio(found: Found) -> str | None:
+    capacity = found.number("cap")
+    return above(Fraction(found.number("num"), capacity), 1) if capacity else None
+
+
 def _top(found: Found) -> str | None:
     machine = found.given.machine()
     return None if machine is None else str(machine.top_speed)
@@ -362,7 +368,7 @@ FACTS: dict[str, Callable[[Found], str | None]] = {
     "period": _period,
     "periods": _periods,
     "present": _present,
-    "ratio": lambda found: above(Fraction(found.number("num"), found.number("cap")), 1) if found.number("cap") else None,
+    "ratio": _ratio,
     "record": lambda found: _joined(found.record()),
     "required": _required,
     "rule": _rule,

@@ -21,7 +21,7 @@ def second_line(refusal: Exception | str, words: Sequence[Word] = (), files: Map
 
     >>> from rtdvs.errors import Denied, FileRefused
     >>> second_line(FileRefused("tasks", "not TOML"), files={"tasks": "[[task]]\nname = t1\n"})
-    'Line 2, column 8: this isn't a value: a text has quotes, a number only digits. The line is `name = t1`.'
+    "Line 2, column 8: this isn't a value: a text has quotes, a number only digits. The line is `name = t1`."
     >>> from rtdvs import Machine
     >>> second_line(Denied("edf", 1556, 1120), files={"machine": Machine.of([(2, 3000), (4, 5000)])}).split(". ")[0]
     'The tasks ask for 5.56 units a tick, and the highest speed is 4'

@@ -33,7 +33,7 @@ def toml_fault(content: bytes) -> Place | None:
     r"""The first place of a text that isn't TOML; None if it is TOML.
 
     >>> toml_fault(b"[[task]]\nname = t1\n")
-    Place(line=2, column=8, fault='this isn't a value: a text has quotes, a number only digits')
+    Place(line=2, column=8, fault="this isn't a value: a text has quotes, a number only digits")
     >>> toml_fault(b"idle = 1\n") is None
     True
     """
