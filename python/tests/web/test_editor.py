@@ -49,14 +49,18 @@ def test_a_refusal_marks_what_is_old(editor: Browser) -> None:
 
 
 def test_a_set_that_is_not_admitted_is_shown_all_the_same(editor: Browser) -> None:
-    """At speed 4 t1 and t2 have 6 of the 14 ticks up to t3's deadline, so t3 has 32 of its 40 units."""
+    """At speed 4 t1 and t2 have 6 of the 14 ticks up to t3's deadline, so t3 has 32 of its 40 units. It is given up,
+    and t1's second job, which waited for it, has ticks 14 and 15 only.
+    """
     editor.execute_script("const example = schedule.readExample(); example.tasks[2].worst = '40'; "
                           "schedule.edit({ ...example, demands: [] })")
     refused(editor, "scheduler", "denied edf 1556 1120")
     click(editor, "#stale button")
     until(editor, "return document.querySelector('#sheets h2').textContent.endsWith('not admitted')")
     assert "not the program's" in text(editor, ".note")
-    assert text(editor, ".miss title") == "t3 job 1 misses its deadline at 14: 32 of 40 units"
+    titles = "return [...document.querySelectorAll('#sheets .miss title')].map((each) => each.textContent)"
+    assert editor.execute_script(titles) == ["t1 job 2 misses its deadline at 16: 8 of 12 units",
+                                             "t3 job 1 misses its deadline at 14: 32 of 40 units"]
 
 
 def test_the_heading_follows_the_run(editor: Browser) -> None:
@@ -67,7 +71,7 @@ def test_the_heading_follows_the_run(editor: Browser) -> None:
     assert text(editor, "#subject") == "Explanation"
 
 
-EMPTY = {"tasks": [], "points": [], "demands": []}
+EMPTY: dict[str, object] = {"tasks": [], "points": [], "demands": []}
 LINKS = [
     pytest.param("!", "is cut or broken", id="no base64"),
     pytest.param(link({"tasks": [{"name": "t1"}]})[:-7], "is cut or broken", id="cut"),
