@@ -162,6 +162,18 @@ def test_each_field_and_example_has_a_sentence(editor: Browser) -> None:
     assert all(word in words for word in ("worst case", "charge", "idle share", "work unit", "demand"))
 
 
+def test_a_comparison_leaves_the_run(editor: Browser) -> None:
+    """Its files stay, and a change just before it is still drawn; the pairs are then those of the change."""
+    click(editor, "#compare")
+    until(editor, "return document.querySelectorAll('#pairs tbody tr').length === 7")
+    assert not disabled(editor, "trace") and not editor.execute_script("return document.body.matches('.stale')")
+    editor.execute_script("const field = schedule.fieldOf('governor'); field.value = 'la'; "
+                          "field.dispatchEvent(new Event('input', { bubbles: true })); "
+                          "document.querySelector('#compare').click()")
+    shows(editor, "edf la, 16 ticks")
+    assert not editor.execute_script("return document.querySelector('#compared').hidden")
+
+
 # Typing
 
 STAND_IN = """
