@@ -48,7 +48,7 @@ def test_a_refusal_marks_what_is_old(editor: Browser) -> None:
     assert float(editor.execute_script(opacity)) == 1 and not disabled(editor, "trace")
 
 
-def test_a_set_that_is_not_admitted_is_shown_all_the_same(editor: Browser) -> None:
+def test_a_set_that_is_not_admitted_is_shown(editor: Browser) -> None:
     """At speed 4 t1 and t2 have 6 of the 14 ticks up to t3's deadline, so t3 has 32 of its 40 units."""
     editor.execute_script("const example = schedule.readExample(); example.tasks[2].worst = '40'; "
                           "schedule.edit({ ...example, demands: [] })")
@@ -177,8 +177,12 @@ def test_a_comparison_leaves_the_run(editor: Browser) -> None:
 # Typing
 
 STAND_IN = """
-window.calls = []; window.answers = arguments[0];
-const own = window.fetch;
+window.calls = []; window.answers = arguments[0]; window.rests = [];
+const own = window.fetch, wait = window.setTimeout;
+window.setTimeout = (act, time, ...more) => {
+  rests.push(time);
+  return wait(act, time, ...more);
+};
 window.fetch = (path, given) => {
   const call = { body: JSON.parse(given.body), ended: false };
   calls.push(call);
@@ -200,10 +204,12 @@ def typed(browser: Browser, name: str, value: str) -> None:
 
 
 def test_letters_are_one_call(editor: Browser) -> None:
+    """It waits for a rest of 150 milliseconds after each."""
     editor.execute_script(STAND_IN, [])
     typed(editor, "ticks", "0000018")
     shows(editor, "edf cc, 18 ticks")
     assert [each["body"]["ticks"] for each in editor.execute_script("return calls")] == ["0000018"]
+    assert editor.execute_script("return rests").count(150) == 7
 
 
 def test_a_newer_call_ends_the_older(editor: Browser) -> None:

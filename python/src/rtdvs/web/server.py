@@ -272,7 +272,7 @@ def own_runs(example: Example) -> dict[str, str]:
 
 
 def denial(fault: Exception, example: Example) -> dict[str, object]:
-    """What a refusal means, and whether the package can run the set all the same; nothing for other refusals."""
+    """What a refusal means, and whether the package can still run the set; nothing for other refusals."""
     if not isinstance(fault, Denied):
         return {}
     top = Machine.parse(example.files()["machine"]).top_speed

@@ -221,7 +221,7 @@ function notice({ refused, meaning, offer } = {}) {
   document.body.classList.toggle("stale", isOld);
   const shown = state.sheets.map(({ title }) => title).join(" and ");
   const old = isOld && shown ? `What is below is of earlier values (${shown}), not of those in the fields.` : "";
-  const all = make("button", { type: "button" }, "Show the run all the same");
+  const all = make("button", { type: "button" }, "Show the run anyway");
   all.addEventListener("click", () => run({ admission: "none" }));
   const words = [meaning, old].filter(Boolean).map((text) => `${text} `);
   find("#stale").replaceChildren(...words, ...(offer ? [all] : []));
