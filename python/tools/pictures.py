@@ -41,7 +41,7 @@ def draw_figures(target: Path) -> Iterator[Path]:
 
 
 def draw_page(engine: Engine, target: Path) -> Path:
-    """Draws what a browser shows of the server's page, in few colours; it needs selenium and Chromium."""
+    """Draws what a browser shows of the server's page, in 128 colours; it needs selenium and Chromium."""
     from PIL import Image
     from tests.shared.browsing import chromium, until
 
@@ -54,7 +54,7 @@ def draw_page(engine: Engine, target: Path) -> Path:
         browser.execute_script("document.documentElement.style.overflow = 'hidden'")
         browser.save_screenshot(str(path))
     browser.quit()
-    Image.open(path).convert("RGB").quantize(48).save(path, optimize=True)
+    Image.open(path).convert("RGB").quantize(128).save(path, optimize=True)
     return path
 
 

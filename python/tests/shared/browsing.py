@@ -25,7 +25,8 @@ def chromium() -> Browser:
         pytest.skip("no chromium with chromedriver")
     options = webdriver.ChromeOptions()
     options.binary_location = binary
-    for word in ("--headless=new", "--no-sandbox", "--disable-dev-shm-usage", "--window-size=1280,1000"):
+    for word in ("--headless=new", "--no-sandbox", "--disable-dev-shm-usage", "--window-size=1280,1000", "--disable-gpu",
+                 "--disable-extensions", "--no-first-run"):
         options.add_argument(word)
     options.set_capability("goog:loggingPrefs", {"browser": "ALL"})
     service = import_module("selenium.webdriver.chrome.service").Service(driver)

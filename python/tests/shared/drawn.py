@@ -4,7 +4,7 @@ Positions are in pixels, in the order of the marks' kinds.
 """
 
 import re
-from collections.abc import Iterator
+from collections.abc import Callable, Iterator
 from dataclasses import dataclass, field
 from fractions import Fraction
 from typing import Any, NamedTuple
@@ -23,7 +23,8 @@ READ = """return [...document.querySelectorAll(".sheet")].map((sheet) => ({
   })),
 }))"""
 BAR, FULL, ROW, SPEED = 28, 56, 50, 96     # pixels of the highest speed in a task's row and below, and of the rows
-PLACES = {     # of each kind of mark, in the numbers of its path: its places along the ticks, and its height
+# Of each kind of mark, by the numbers of its path and its row's floor: its places along the ticks, and its height
+PLACES: dict[str, Callable[[list[float], float], tuple[float, ...]]] = {
     "run": lambda n, floor: (n[0], n[3], floor - n[2]), "idle": lambda n, floor: (n[0], n[3], floor - n[2]),
     "release": lambda n, floor: (n[0], n[2]), "deadline": lambda n, floor: (n[0], n[2]),
     "done": lambda n, floor: (n[0] - 4, floor - n[1]), "decision": lambda n, floor: (n[0], floor - n[1] - 6),
@@ -134,7 +135,7 @@ def marks_of(row: dict[str, Any], floor: float) -> list[Mark]:
     found = []
     for kind, path, words in row["paths"]:
         if kind.split()[0] in PLACES:
-            found.append(Mark(kind.split()[0], tuple(PLACES[kind.split()[0]](numbers(path), floor)), words))
+            found.append(Mark(kind.split()[0], PLACES[kind.split()[0]](numbers(path), floor), words))
     return found
 
 

@@ -230,8 +230,9 @@ def test_one_file_needs_no_other() -> None:
 
 
 WEB = Path(in_one_file.__code__.co_filename).parent / "static"
-TOGETHER = 1460
-"""Lines of all files. They were 900 before undo, two governors, saved pictures, marks by keyboard, refused links and lessons."""
+TOGETHER = 1500
+"""Lines of all files. They were 900 before undo, two governors, saved pictures, marks by keyboard,
+refused links and lessons."""
 
 
 def test_web_files_are_short() -> None:

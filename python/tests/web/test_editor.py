@@ -48,15 +48,19 @@ def test_a_refusal_marks_what_is_old(editor: Browser) -> None:
     assert float(editor.execute_script(opacity)) == 1 and not disabled(editor, "trace")
 
 
-def test_a_set_that_is_not_admitted_is_shown_all_the_same(editor: Browser) -> None:
-    """At speed 4 t1 and t2 have 6 of the 14 ticks up to t3's deadline, so t3 has 32 of its 40 units."""
+def test_a_set_that_is_not_admitted_is_shown(editor: Browser) -> None:
+    """At speed 4 t1 and t2 have 6 of the 14 ticks up to t3's deadline, so t3 has 32 of its 40 units. It is given up,
+    and t1's second job, which waited for it, has ticks 14 and 15 only.
+    """
     editor.execute_script("const example = schedule.readExample(); example.tasks[2].worst = '40'; "
                           "schedule.edit({ ...example, demands: [] })")
     refused(editor, "scheduler", "denied edf 1556 1120")
     click(editor, "#stale button")
     until(editor, "return document.querySelector('#sheets h2').textContent.endsWith('not admitted')")
     assert "not the program's" in text(editor, ".note")
-    assert text(editor, ".miss title") == "t3 job 1 misses its deadline at 14: 32 of 40 units"
+    titles = "return [...document.querySelectorAll('#sheets .miss title')].map((each) => each.textContent)"
+    assert editor.execute_script(titles) == ["t1 job 2 misses its deadline at 16: 8 of 12 units",
+                                             "t3 job 1 misses its deadline at 14: 32 of 40 units"]
 
 
 def test_the_heading_follows_the_run(editor: Browser) -> None:
@@ -67,7 +71,7 @@ def test_the_heading_follows_the_run(editor: Browser) -> None:
     assert text(editor, "#subject") == "Explanation"
 
 
-EMPTY = {"tasks": [], "points": [], "demands": []}
+EMPTY: dict[str, object] = {"tasks": [], "points": [], "demands": []}
 LINKS = [
     pytest.param("!", "is cut or broken", id="no base64"),
     pytest.param(link({"tasks": [{"name": "t1"}]})[:-7], "is cut or broken", id="cut"),
@@ -162,11 +166,27 @@ def test_each_field_and_example_has_a_sentence(editor: Browser) -> None:
     assert all(word in words for word in ("worst case", "charge", "idle share", "work unit", "demand"))
 
 
+def test_a_comparison_leaves_the_run(editor: Browser) -> None:
+    """Its files stay, and a change just before it is still drawn; the pairs are then those of the change."""
+    click(editor, "#compare")
+    until(editor, "return document.querySelectorAll('#pairs tbody tr').length === 7")
+    assert not disabled(editor, "trace") and not editor.execute_script("return document.body.matches('.stale')")
+    editor.execute_script("const field = schedule.fieldOf('governor'); field.value = 'la'; "
+                          "field.dispatchEvent(new Event('input', { bubbles: true })); "
+                          "document.querySelector('#compare').click()")
+    shows(editor, "edf la, 16 ticks")
+    assert not editor.execute_script("return document.querySelector('#compared').hidden")
+
+
 # Typing
 
 STAND_IN = """
-window.calls = []; window.answers = arguments[0];
-const own = window.fetch;
+window.calls = []; window.answers = arguments[0]; window.rests = [];
+const own = window.fetch, wait = window.setTimeout;
+window.setTimeout = (act, time, ...more) => {
+  rests.push(time);
+  return wait(act, time, ...more);
+};
 window.fetch = (path, given) => {
   const call = { body: JSON.parse(given.body), ended: false };
   calls.push(call);
@@ -188,10 +208,12 @@ def typed(browser: Browser, name: str, value: str) -> None:
 
 
 def test_letters_are_one_call(editor: Browser) -> None:
+    """It waits for a rest of 150 milliseconds after each."""
     editor.execute_script(STAND_IN, [])
     typed(editor, "ticks", "0000018")
     shows(editor, "edf cc, 18 ticks")
     assert [each["body"]["ticks"] for each in editor.execute_script("return calls")] == ["0000018"]
+    assert editor.execute_script("return rests").count(150) == 7
 
 
 def test_a_newer_call_ends_the_older(editor: Browser) -> None:

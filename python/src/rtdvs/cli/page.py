@@ -3,9 +3,9 @@
 The page has a row for each task, zoom, and steps from decision to decision; a click on a mark opens the lines
 of `explain` and the job's times. Two traces are drawn one below the other, with the place where they part.
 
-The whole trace is in the file, compressed. Explanations are in it up to some mebibytes of text for each
-trace; the page says where they end. A trace of a governor that isn't one of docs/RULES.md is checked as by
-`explain --any`, and has no explanations.
+All jobs, runs and decisions are in the file, compressed. Explanations are in it up to some mebibytes of text
+for each trace; the page says where they end. A trace of a governor that isn't one of docs/RULES.md is checked
+as by `explain --any`, and has no explanations.
 
 A lesson is a TOML file with examples, pairs and a text for each. The program makes all its runs, and the page has
 menus for them. Its address names what is shown, as `#example=paper&pair=edf-cc&tick=4`, so the file can be put on

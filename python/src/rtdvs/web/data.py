@@ -1,8 +1,8 @@
 """A page with one or two traces of a task set: its data, and the document.
 
-The whole trace is in it, compressed. Explanations are in it up to some mebibytes of text for each trace; the
-page says where they end. A trace of a governor that isn't one of docs/RULES.md is checked as by `explain --any`,
-and has no explanations.
+All jobs, runs and decisions are in it, compressed. Explanations are in it up to some mebibytes of text for each
+trace; the page says where they end. A trace of a governor that isn't one of docs/RULES.md is checked as by
+`explain --any`, and has no explanations.
 """
 
 import base64

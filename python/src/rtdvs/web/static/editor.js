@@ -35,7 +35,9 @@ const HINTS = {
   charge: "The work units of one switch of the speed; each job pays for two.",
   beside: "A second pair of scheduler and governor, drawn below the first.",
 };
-const editor = { files: {}, last: null, calls: 0, timer: 0, past: [], future: [], now: "", renamed: null };
+const editor = {
+  files: {}, last: null, calls: 0, timer: 0, past: [], future: [], now: "", drawn: "", compared: "", renamed: null,
+};
 export const fieldOf = (name) => find(`[data-field="${CSS.escape(name)}"]`);
 
 // Rows
@@ -214,15 +216,17 @@ function openAddress(otherwise) {
 
 // Calls
 
-/** Says that a picture isn't of what is in the fields, and what the refusal means; nothing if it is. */
+/** Says what a refusal means, and if the picture isn't of what is in the fields; nothing without a refusal. */
 function notice({ refused, meaning, offer } = {}) {
-  document.body.classList.toggle("stale", Boolean(refused));
+  const isOld = Boolean(refused) && editor.drawn !== editor.now;
+  document.body.classList.toggle("stale", isOld);
   const shown = state.sheets.map(({ title }) => title).join(" and ");
-  const old = shown ? `What is below is of earlier values (${shown}), not of those in the fields.` : "";
-  const all = make("button", { type: "button" }, "Show the run all the same");
+  const old = isOld && shown ? `What is below is of earlier values (${shown}), not of those in the fields.` : "";
+  const all = make("button", { type: "button" }, "Show the run anyway");
   all.addEventListener("click", () => run({ admission: "none" }));
-  find("#stale").hidden = !refused;
-  find("#stale").replaceChildren(...[meaning, old].filter(Boolean).map((text) => `${text} `), ...(offer ? [all] : []));
+  const words = [meaning, old].filter(Boolean).map((text) => `${text} `);
+  find("#stale").replaceChildren(...words, ...(offer ? [all] : []));
+  find("#stale").hidden = !find("#stale").hasChildNodes();
 }
 
 /** Shows a refusal, in the program's words, at the field that it names; an empty one is none. */
@@ -303,7 +307,8 @@ async function run(more = {}) {
     refuse(answer);
     return;
   }
-  find("#compared").hidden = true;
+  find("#compared").hidden = editor.compared !== editor.now;
+  editor.drawn = editor.now;
   await load({ ...state.data, ...answer.data });
   refuse();
   find("#status").textContent = `Drawn: ${state.sheets.map(({ title }) => title).join(" and ")}.`;
@@ -321,12 +326,14 @@ async function compare() {
   const answer = await call("compare");
   if (!answer) return;
   refuse(answer);
-  if (answer.files) offerFiles(answer.files);
-  if (answer.refused) return;
-  find("#compared").hidden = false;
-  find("#compared").open = true;
-  fillTable(find("#pairs"), answer.heading, answer.rows);
-  say("All pairs are compared below the schedule.");
+  if (!answer.refused) {
+    editor.compared = editor.now;
+    find("#compared").hidden = false;
+    find("#compared").open = true;
+    fillTable(find("#pairs"), answer.heading, answer.rows);
+    say("All pairs are compared below the schedule.");
+  }
+  if (editor.drawn !== editor.now) run();     // the call has ended that of a run
 }
 
 // The start
