@@ -67,7 +67,7 @@ def test_the_heading_follows_the_run(editor: Browser) -> None:
     assert text(editor, "#subject") == "Explanation"
 
 
-EMPTY = {"tasks": [], "points": [], "demands": []}
+EMPTY: dict[str, list[Any]] = {"tasks": [], "points": [], "demands": []}
 LINKS = [
     pytest.param("!", "is cut or broken", id="no base64"),
     pytest.param(link({"tasks": [{"name": "t1"}]})[:-7], "is cut or broken", id="cut"),

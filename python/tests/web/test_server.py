@@ -112,7 +112,7 @@ def test_a_denial_says_what_it_means(tmp_path: Path) -> None:
     """12/8 + 12/10 + 40/14 is 5.557 units a tick. Under EDF t1 and t2 have speed 4 for 6 ticks, so t3 has 32 of its
     40 units at its deadline, 14: there the package's run ends.
     """
-    example = paper(tasks_2_worst="40") | {"demands": []}
+    example: dict[str, Any] = paper(tasks_2_worst="40") | {"demands": []}
     answer = answered(SIMULATED, example)[1]
     assert answer["refused"] == "denied edf 1556 1120" and answer["offer"] is True
     assert answer["meaning"] == "The tasks ask for 5.56 units a tick, and the fastest speed is 4."
