@@ -33,9 +33,9 @@ VALUES: dict[str, tuple[Shown, list[list[str]]]] = {
         ["edf", "none", "1180591620717411303424", "1.0000", "-", "3", "0.1250", "0.3333", "-", "0.7500", ""],
         ["rm", "cc", "-", "-", "-", "-", "-", "-", "-", "-", "denied rm y 7 6"]]),
     "statistics": (SAMPLED, [
-        ["task", "jobs", "complete", "mean_response", "greatest_response", "jitter", "least_laxity", "preemptions",
-         "energy"],
-        ["t", "1", "1", "1.5000", "1.5000", "0.0000", "0.5000", "0", "6000"]]),
+        ["task", "jobs", "complete", "missed", "mean_response", "greatest_response", "jitter", "least_laxity",
+         "preemptions", "energy"],
+        ["t", "1", "1", "0", "1.5000", "1.5000", "0.0000", "0.5000", "0", "6000"]]),
 }
 IDS = list(VALUES)
 

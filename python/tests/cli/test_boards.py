@@ -183,8 +183,7 @@ def test_missed_deadlines_in_a_picture() -> None:
 
 @pytest.mark.parametrize(("words", "line"), [
     pytest.param(["--tick-ms", "0.5", "--unit-cycles", "1000"],
-                 "the trace isn't of this board where a tick is 0.5 ms, a unit 1000 cycles: line 3: its tasks aren't "
-                 "those of the task file; --folder names the files that were run", id="another scale"),
+                 "the trace isn't of this board where a tick is 0.5 ms, a unit 1000 cycles: line 5: the energy is ", id="another scale"),
     pytest.param(["--folder", "made", "--tick-ms", "0.5"], "a tick is 1 ms, a unit 1000 cycles, not 0.5",
                  id="another scale than that of the files"),
     pytest.param(["--tasks", "made/tasks.toml"], "give either --board or --tasks and --machine", id="both"),

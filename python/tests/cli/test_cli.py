@@ -149,9 +149,9 @@ def test_interrupted(stub: Stub, capsys: Captured) -> None:
 
 
 @pytest.mark.parametrize(("command", "others"), [
-    ("explain", {"board", "export", "plot", "studies", "web"}), ("statistics", {"board", "export", "plot", "studies", "web"}),
+    ("explain", {"board", "export", "plot", "studies", "web"}), ("statistics", {"export", "plot", "studies", "web"}),
     ("simulate", {"board", "export", "plot", "studies", "web"}), ("convert", {"board", "plot", "studies", "web"}),
-    ("compare", {"board", "export", "plot", "web"})])
+    ("compare", {"export", "plot", "web"})], ids=str)
 def test_a_command_imports_what_it_needs(command: str, others: set[str]) -> None:
     """No other command, no package that it doesn't use, no server, and no pattern of a line before one is read."""
     script = ("import sys; from rtdvs.cli.main import main; main([sys.argv[1], '--help']); "
@@ -161,7 +161,7 @@ def test_a_command_imports_what_it_needs(command: str, others: set[str]) -> None
     *names, patterns = made.stdout.splitlines()[-1].split()
     packages = {name.split(".")[1] for name in names if name.startswith("rtdvs.")}
     commands = {name for name in names if name.startswith("rtdvs.cli.")} - {"rtdvs.cli.main", "rtdvs.cli.options"}
-    assert commands == {f"rtdvs.cli.{cli.COMMANDS[command]}"}
+    assert commands - {"rtdvs.cli.boards"} == {f"rtdvs.cli.{cli.COMMANDS[command]}"}
     assert not packages & others and not {"http.server", "matplotlib", "pandas"} & {*names} and patterns == "0"
 
 

@@ -591,7 +591,7 @@ WITH_BOARDS = {"compare", "statistics", "sensitivity", "plot trace", "plot compa
 
 
 def test_each_option_is_in_a_row() -> None:
-    """tests/board calls `design`, test_boards.py has those of a board, and tests/rules/test_missed.py `--missed`."""
+    """tests/board calls `design`, test_boards.py has those of a board, tests/rules/test_missed.py `--missed`, tests/web `--lesson`."""
     boards = argparse.ArgumentParser()
     add_board(boards)
     called = [*(words for words, _ in PRINTED), *(f"{words} --output" for words, *_ in WRITTEN),
@@ -599,7 +599,7 @@ def test_each_option_is_in_a_row() -> None:
     shared = {"--program", "--timeout", "--version"}
     of_boards = {"--ms", *(option for _, option in option_words(boards))}
     for command, option in option_words(cli.parser()):
-        if command in WITH_BOARDS and option in of_boards or option == "--missed":
+        if command in WITH_BOARDS and option in of_boards or option in ("--missed", "--lesson"):
             continue
         assert command == "design" or option in shared or any(
             re.match(f"{command} ", words) and option in words.split() for words in called), (command, option)

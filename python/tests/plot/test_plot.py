@@ -207,7 +207,7 @@ def test_tables_are_refused(table: str, tmp_path: Path, capsys: Captured) -> Non
 def test_without_matplotlib(tmp_path: Path, monkeypatch: pytest.MonkeyPatch, capsys: Captured) -> None:
     modules: dict[str, object] = sys.modules    # type: ignore[assignment]
     monkeypatch.setitem(modules, "matplotlib", None)
-    words = ["--trace", DATA / "paper" / "edf_none.trace", "--output", tmp_path / "a.svg"]
+    words = ["--trace", DATA / "paper" / "edf_none.trace", "--output", tmp_path / "a.svg", "--unchecked"]
     assert "plot: matplotlib is not installed" in refusal(capsys, ["plot", "trace", *words])
 
 

@@ -261,11 +261,11 @@ def test_the_command(tmp_path: Path, capsys: Captured) -> None:
     """It prints what `simulate` gives, and notes on standard error; without the option the test is made."""
     PAPER.write(tmp_path / "tasks.toml")
     SLOW.write(tmp_path / "machine.toml")
-    words = ["simulate", *options(tmp_path), "--scheduler", "rm", "--governor", "static", "--ticks", "32"]
+    words = ["simulate", *options(tmp_path), "--scheduler", "rm", "--governor", "static", "--ticks", "32", "--format", "2"]
     assert main([*words, "--missed", "drop"]) == 0
     assert capsys.readouterr() == (simulate(PAPER, SLOW, "rm", 32, "static", missed="drop").text(), "".join(
         f"note: {line}\n" for line in ("not a run of the program", FIRST.text(), SECOND.text())))
-    assert refusal(capsys, words) == "rtdvs: denied rm t2 36 30\n"
+    assert refusal(capsys, words).splitlines()[0] == "rtdvs: denied rm t2 36 30"
 
 
 def test_names() -> None:

@@ -171,7 +171,7 @@ def assert_speeds(model: Model, body: list[str], num: int, den: int) -> None:
 # The command, against a trace of the program
 
 def test_simulate_command(capsys: Captured) -> None:
-    words = ["simulate", *options(DATA / "templates", "demands"), "--ticks", "8", "--governor"]
+    words = ["simulate", *options(DATA / "templates", "demands"), "--ticks", "8", "--format", "2", "--governor"]
     assert printed(capsys, [*words, "cc", "--scheduler", "edf"]) == TEMPLATE.read_text()
     assert refusal(capsys, [*words, "la", "--scheduler", "rm"]) == "rtdvs: rm has no governor la\n"
 

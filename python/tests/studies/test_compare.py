@@ -13,7 +13,7 @@ from rtdvs.engine import Engine
 from rtdvs.errors import Denied, TooManyJobs, TraceFault
 from rtdvs.model import Demands, Machine, Point, Task, TaskSet
 from rtdvs.studies import PAIRS, Result, Row, compare, finer_table, table
-from rtdvs.trace import Trace
+from rtdvs.trace import Ran, Trace
 from tests.shared.examples import (
     DATA, MINE, MY_BOARD, TEST_DATA, Captured, Lines, files, machines, options, printed, refusal,
     task_sets,
@@ -107,6 +107,10 @@ def recounted(text: str, tasks: TaskSet, machine: Machine, base: int) -> Result:
     residency: defaultdict[int, Fraction] = defaultdict(Fraction)
     for ticks, speed, _ in lines.spans():
         residency[speed] += Fraction(ticks, lines.ticks)
+    ran: dict[int, Ran] = {}
+    for each in lines.segments:
+        units, idle_units = ran.get(each.speed, Ran())
+        ran[each.speed] = Ran(units + each.units, idle_units) if each.task else Ran(units, idle_units + each.units)
     return Result(
         energy=energy,
         share=Fraction(energy, base) if base else None,
@@ -116,6 +120,7 @@ def recounted(text: str, tasks: TaskSet, machine: Machine, base: int) -> Result:
         least_laxity=min((periods[task] - max(jobs) for task, jobs in times.items()), default=None),
         jitter=max((max(jobs) - min(jobs) for jobs in times.values()), default=None),
         residency=residency,
+        ran=ran,
     )
 
 
@@ -170,7 +175,7 @@ def test_a_trace_beside_the_pairs(engine: Engine) -> None:
     rows = compare(engine, tasks, MY_BOARD, 2, traces=[trace])
     assert len(rows) == 8 and (rows[7].scheduler, rows[7].governor) == ("edf", "mine")
     assert rows[7].result == Result(31040, Fraction(31040, 36180), Fraction(31040, 16000) - 1, 1, half / 2, half,
-                                    Fraction(0), {3: half, 2: half})
+                                    Fraction(0), {3: half, 2: half}, {3: Ran(3, 0), 2: Ran(1, 1)})
     with pytest.raises(TraceFault, match="line 2: a run of 2 ticks, and not of 3"):
         compare(engine, tasks, MY_BOARD, 3, traces=[trace])
 

@@ -50,7 +50,8 @@ def test_the_exercise_is_printed(program: Path, tmp_path: Path, capsys: Captured
     call = ["generate", "exercise", "--program", program, "--folder", tmp_path, "--seed", "3"]
     assert printed(capsys, call) == (tmp_path / "question.md").read_text()
     assert refusal(capsys, [*call, "--scheduler", "rm", "--governor", "la"]) == (
-        "rtdvs: words: rm has no governor la\n")
+        "rtdvs: words: rm has no governor la\n"
+        "  Look-ahead is only for EDF: `--scheduler edf`, or the governor `none`, `static` or `cc`.\n")
 
 
 def test_uunifast_is_printed_and_written(tmp_path: Path, capsys: Captured) -> None:

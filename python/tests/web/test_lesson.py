@@ -147,7 +147,7 @@ def test_a_run_that_is_denied(tmp_path: Path) -> None:
     path.write_text(f'{LESSON}missed = "drop"\n')
     first, second = data_of(path)["examples"][0]["sheets"]
     assert first["note"] == "" and "says: denied rm b 25 20." in second["note"]
-    assert second["title"] == "rm none, 16 ticks, not admitted"
+    assert second["title"] == "rm none-drop, 16 ticks, not admitted"
 
 
 def test_a_fault_of_the_program(tmp_path: Path, capsys: Captured) -> None:
@@ -258,7 +258,7 @@ def test_a_link_leads_to_its_place(browser: Browser, lesson: str) -> None:
     browser.get(f"{lesson}#example=ahead&pair=edf-la&tick=24")
     shows(browser, "edf la, 56 ticks", "decision at tick 24: speed 4 for 14/4")
     browser.execute_script("location.hash = '#example=late&pair=rm-none&beside=edf-none&tick=4'")
-    shows(browser, "rm none, 20 ticks, not admitted; edf none, 20 ticks", "decision at tick 4: speed 4 for 4/1")
+    shows(browser, "rm none-drop, 20 ticks, not admitted; edf none, 20 ticks", "decision at tick 4: speed 4 for 4/1")
     missed = "[...document.querySelectorAll('#sheets path.miss title')].map((each) => each.textContent).join('; ')"
     assert "b job 1" in browser.execute_script(f"return {missed}") and "b job 2" in browser.execute_script(
         f"return {missed}")

@@ -64,11 +64,11 @@ def board_limits(question: Question, limits: Limits, units: Units) -> str:
     >>> made = design(board, Scale(Fraction(1, 2), Fraction(1000)))
     >>> question = Question(None, made.tasks, made.machine, "edf")
     >>> print(board_limits(question, Limits(2000, (8,), 1), Units(board, made)), end="")
-                                is  limit
-    all worst cases, times       1      2
-    task a, cycles            4000   8000
-    task a, ms at 4 MHz          1      2
-    highest speed, MHz           4      2
+                              is  limit
+    all worst cases, times     1      2
+    task a, cycles          4000   8000
+    task a, ms at 4 MHz        1      2
+    highest speed, MHz         4      2
     """
     top = units.megahertz(question.machine.top_speed)
     times = None if limits.thousandths is None else Fraction(limits.thousandths, 1000)

@@ -19,10 +19,11 @@ NO_POWER = "no power: "
 def plot_responses(asked: Asked, axes: "Axes") -> None:
     """Draws each task's longest response under RM at the highest speed, as a share of its period.
 
+    >>> from fractions import Fraction
     >>> from rtdvs.board import Load
     >>> axes = new_figure(96, 96).add_subplot()
-    >>> loads = Load("a", period=4, cycles=8), Load("b", 6, 10)
-    >>> plot_responses(Asked(loads, speed=4), axes)
+    >>> loads = Load("a", period=Fraction(4), cycles=Fraction(8)), Load("b", Fraction(6), Fraction(10))
+    >>> plot_responses(Asked(loads, speed=Fraction(4)), axes)
     >>> [text.get_text() for text in axes.texts]
     ['2 of 4 ms', 'late: 6 ms']
     """

@@ -41,8 +41,6 @@ def simulate(tasks: TaskSet, machine: Machine, scheduler: str | Priority, ticks:
     ...     return Fraction(sum(job.remaining_wcet for job in view.ready), view.earliest_deadline - view.now)
     >>> simulate(tasks, machine, "edf", 4, open_work).decisions
     (Decision(tick=0, speed=2, num=1, den=1), Decision(tick=2, speed=2, num=0, den=1))
-    >>> simulate(TaskSet((Task("t", 4, 17),)), machine, "edf", 8, "none", missed="drop").run_energy  # 32 * 4000000000
-    128000000000
     >>> simulate(tasks, machine, "EDF", 4, "none")
     Traceback (most recent call last):
     rtdvs.errors.BadValue: a scheduler is edf or rm, not EDF
