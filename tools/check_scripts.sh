@@ -115,13 +115,13 @@ runs() {
     echo "exit $3" > "$away/gate/tools/setup.sh"
     prints "$1" "$2" led_away env PATH="$work/stand-in:$PATH" RT="${4:-0}" sh gate/.ci/run
 }
-planted='plants: TOOLS=all, crates/rtdvs/out/rtdvs 3'
+planted='plants: TOOLS=all, crates/rtdvs/out/rtdvs 3 1'
 holds 'the gate with all tools' runs 0 "rt ci in gate
 check: TOOLS=all, gate
 $planted" 0
 holds 'the gate with some tools' runs 0 "rt ci in gate
 check: TOOLS=some, gate
-plants: TOOLS=some, crates/rtdvs/out/rtdvs 3" 1
+plants: TOOLS=some, crates/rtdvs/out/rtdvs 3 1" 1
 holds 'the gate after a failed proof' runs 3 'rt ci in gate' 0 3
 USER_ID=1000
 holds 'the gate of another user' runs 0 "rt ci in gate
