@@ -57,7 +57,7 @@ def test_values(make: "type[Task]", second: str) -> None:
 
 
 @pytest.mark.parametrize("fault", [BadValue("no colour: no"), TraceFault(3, "a line after the end line"),
-                                   FileRefused("board", "not TOML"), ValueError("x")])
+                                   FileRefused("board", "not TOML"), ValueError("x")], ids=str)
 def test_what_explains_itself(fault: Exception) -> None:
     assert second_line(fault) == ""
 
