@@ -97,6 +97,7 @@ def test_no_module_hides_another(module: Path) -> None:
     assert module.name == "__init__.py" or name not in sys.stdlib_module_names
     package = import_module(f"rtdvs.{dotted(module)}".rpartition(".")[0])
     assert name not in getattr(package, "__all__", [])
+    assert isinstance(import_module(f"rtdvs.{dotted(module)}"), ModuleType)
     assert isinstance(getattr(package, name), ModuleType)
 
 

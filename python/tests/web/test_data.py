@@ -176,6 +176,14 @@ def test_where_schedules_part(name: str, tick: int, does: str, demands: str) -> 
                                f"The published demands differ from tick {demands}."}
 
 
+def test_a_demand_that_is_published_again_is_no_other() -> None:
+    """EDF at full speed decides at other ticks than RM, and asks for 4/1 at each: only the schedules differ."""
+    tasks, machine = TaskSet((Task("a", 4, 8), Task("b", 5, 9))), Machine((Point(4, 5000),))
+    one, two = (simulate(tasks, machine, scheduler, 20, "none", missed="drop") for scheduler in ("edf", "rm"))
+    assert [each.tick for each in one.decisions] != [each.tick for each in two.decisions]
+    assert "demands" not in str(apart(one, two)["text"])
+
+
 def test_schedules_that_never_part() -> None:
     """Other demands, and the energy of a task, make no other schedule."""
     trace = Trace.parse(MINE)

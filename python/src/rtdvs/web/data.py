@@ -200,12 +200,29 @@ def apart(first: Trace, second: Trace) -> dict[str, object]:
     text = "The schedules are the same."
     if found:
         text = f"The schedules part at tick {time_of(found[0])}: {found[1]}, and {found[2]}."
-    demands = ((one, two) for one, two in zip(first.decisions, second.decisions, strict=False)
-               if (one.tick, one.num, one.den) != (two.tick, two.num, two.den))
-    if differ := next(demands, None):
-        asked = " and ".join(f"{each.num}/{each.den}" for each in differ)
-        text += f" The published demands differ from tick {min(each.tick for each in differ)} on: {asked}."
+    if differ := other_demands(first, second):
+        tick, *asked = differ
+        text += f" The published demands differ from tick {tick} on: {' and '.join(asked)}."
     return {"tick": int(found[0]) if found else 0, "parts": found is not None, "text": text}
+
+
+def other_demands(first: Trace, second: Trace) -> tuple[int, str, str] | None:
+    """The first tick from which two traces publish different demands, and both; None if there is none.
+
+    A decision that publishes the demand in force again changes nothing.
+
+    >>> from rtdvs.trace import SAMPLE
+    >>> one, two, same = (Trace.parse(SAMPLE.replace("2 2/1", demand)) for demand in ("2 2/1", "2 3/2", "2 4/2"))
+    >>> other_demands(one, two), other_demands(one, same)
+    ((1, '2/1', '3/2'), None)
+    """
+    at = [{each.tick: each for each in trace.decisions} for trace in (first, second)]
+    one = two = None
+    for tick in sorted({*at[0], *at[1]}):
+        one, two = at[0].get(tick, one), at[1].get(tick, two)
+        if one and two and one.num * two.den != two.num * one.den:
+            return tick, f"{one.num}/{one.den}", f"{two.num}/{two.den}"
+    return None
 
 
 def first_window(traces: Mapping[str, Trace], tasks: int) -> int:
