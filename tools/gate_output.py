@@ -57,7 +57,8 @@ class Refusal:
 
     def is_named(self) -> bool:
         """Whether the edit names the function whose goal refused it, or there is none to be named."""
-        return not self.function or re.search(rf"\b{self.function}\b", self.why()) is not None
+        name = re.escape(self.function.lstrip("+"))  # the folder of a function that calls itself begins with +
+        return not name or re.search(rf"\b{name}\b", self.why()) is not None
 
     def __str__(self) -> str:
         return f"{self.crate}/{self.edit}: {self.message}"
