@@ -373,7 +373,6 @@ def page_lines(tree: Tree, uses: Uses) -> Iterator[str]:
     seen = members_seen(tree)
     shown = reach(uses, [member for _, _, member in seen])
     everything = headline | others | library | shown
-    lister = Lister(uses)
     yield "| Clause | Definitions | Their lines | Files |"
     yield "|---|---|---|---|"
     yield row(tree, "`IsMet`: every deadline is met", met)
@@ -383,6 +382,7 @@ def page_lines(tree: Tree, uses: Uses) -> Iterator[str]:
     yield row(tree, "all of these, and what shelves, sinks and probes show", everything)
     yield from ("\n## What a fact of the headline needs\n", "Each fact also needs the files of those before it.\n")
     yield from fact_lines(tree, uses)
+    lister = Lister(uses)
     yield "\n## What the headline needs"
     yield from lister.lines("headline", headline)
     yield "\n## The other clauses"
@@ -395,6 +395,11 @@ def page_lines(tree: Tree, uses: Uses) -> Iterator[str]:
     yield "\n## The library for C\n"
     yield "The clauses of `rtdvs_call` are in `rtdvs_c/src/lib.rt`. Beside the files above they need:\n"
     yield from lister.lines("library", library)
+    yield from outside_lines(tree, everything)
+
+
+def outside_lines(tree: Tree, everything: Reached) -> Iterator[str]:
+    """The parts on what definitions rest on: constants, types and the kit."""
     yield "\n## Constants of the code\n"
     yield from constant_lines(constants_of(tree, everything))
     yield "\n## Types of the code\n"

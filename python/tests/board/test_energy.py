@@ -8,12 +8,20 @@ import pytest
 from hypothesis import given
 from hypothesis import strategies as st
 
-from rtdvs.board import Board, BoardPoint, Scale, Spent, Units, check_trace, design, nanojoules
+from rtdvs.board import Board, BoardPoint, Design, Scale, Spent, Units, design, nanojoules
 from rtdvs.cli.main import main
 from rtdvs.errors import BadValue, Refused, TraceFault
 from rtdvs.model import Demands, Machine, TaskSet
+from rtdvs.rules import check
 from rtdvs.trace import Trace
 from tests.shared.examples import TEST_DATA, Captured, printed, refusal
+
+
+
+def check_trace(files: Design, trace: Trace) -> None:
+    """As `design --trace` does."""
+    check(files.tasks, files.machine, trace.text().splitlines(keepends=True), any_governor=True)
+
 
 TASKS = '[[task]]\nname = "{}"\nperiod_ms = {}\nworst_cycles = {}\n'
 # The controller and the decoder of the page on units, with measured points.

@@ -37,7 +37,8 @@ def test_a_refusal_marks_what_is_old(editor: Browser) -> None:
     write(editor, "tasks.2.worst", "40")
     refused(editor, "scheduler", "denied edf 1556 1120")
     assert text(editor, "#stale").startswith(
-        "The tasks ask for 5.56 units a tick, and the fastest speed is 4. "
+        "The tasks ask for 5.56 units a tick, and the highest speed is 4. This is 1.39 times the work of the highest speed. "
+        "Lower worst cases, lengthen periods, or add a faster point. "
         "What is below is of earlier values (edf cc, 16 ticks), not of those in the fields.")
     opacity = "return getComputedStyle(document.querySelector('#sheets')).opacity"
     assert float(editor.execute_script(opacity)) < 0.6

@@ -173,15 +173,25 @@ SIMULATED = Simulated(Path("simulated"))
 
 @pytest.mark.parametrize(("fields", "line", "meaning"), [
     pytest.param(paper(tasks_2_worst="40"), "denied edf 1556 1120",
-                 "The tasks ask for 5.56 units a tick, and the fastest speed is 4.", id="edf"),
+                 "The tasks ask for 5.56 units a tick, and the highest speed is 4. This is 1.39 times the work of the highest "
+                 "speed. Lower worst cases, lengthen periods, or add a faster point.", id="edf"),
     pytest.param(paper(scheduler="rm", tasks_2_worst="20"), "denied rm t3 68 56",
-                 "In 14 ticks, the period of t3, it and the tasks before it ask for 68 units, and the fastest speed "
-                 "does 56.", id="rm")])
+                 "In a period of `t3`, it and the tasks with shorter periods ask for 68 units; the highest speed does 56. "
+                 "`response` is the exact test, and `edf` admits more.", id="rm")])
 def test_a_denial_says_what_it_means(fields: Any, line: str, meaning: str) -> None:
     """By hand: 12 * 35 + 12 * 28 + 40 * 20 = 1556 units in 280 ticks. Under RM two jobs of t1, two of t2 and one of t3
     in 14 ticks: 24 + 24 + 20."""
     status, answer = answered(SIMULATED, fields)
     assert (status, answer["refused"], answer["meaning"], answer["offer"]) == (200, line, meaning, True)
+
+
+def test_another_refusal_says_what_is_wrong() -> None:
+    """As below a refusal of a command; it offers no run."""
+    answer = answered(SIMULATED, paper(points_1_speed="2"))[1]
+    assert answer["refused"] == "machine: point 2: not rising" and "offer" not in answer
+    assert answer["meaning"] == (
+        "Speed 2 with 4000 mV comes after 2 with 3000 mV. Each point needs a higher speed than the one before, and no "
+        "fewer millivolts.")
 
 
 def test_the_run_all_the_same() -> None:

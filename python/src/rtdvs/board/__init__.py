@@ -2,7 +2,7 @@
 
 from rtdvs.board.description import Board, BoardPoint, BoardTask, board_fault, is_measured, points_of
 from rtdvs.board.device_tree import Choice, OperatingPoint, OperatingTable, operating_points
-from rtdvs.board.energy import Spent, check_trace, nanojoules
+from rtdvs.board.energy import Spent, nanojoules
 from rtdvs.board.files import machine_text, read_design, write_design
 from rtdvs.board.reporting import Asked, Load, PairCost, pair_costs, report, run_ticks, unserved
 from rtdvs.board.scale import (
@@ -26,7 +26,6 @@ __all__ = [
     "Spent",
     "Units",
     "board_fault",
-    "check_trace",
     "choose_scale",
     "choose_tick",
     "choose_unit",

@@ -4,9 +4,6 @@ from dataclasses import dataclass
 from fractions import Fraction
 
 from rtdvs.board.description import Board, board_fault, is_measured
-from rtdvs.board.scale import Design
-from rtdvs.rules import check
-from rtdvs.trace import Trace
 
 
 @dataclass(frozen=True, slots=True)
@@ -50,8 +47,3 @@ def nanojoules(board: Board) -> tuple[Fraction, ...]:
     if top.volts is None or not all(point.volts for point in board.points):
         raise board_fault("joules need volts at each point, or milliwatts at each")
     return tuple(((point.volts or 0) / top.volts)**2 * top.milliwatts / top.megahertz for point in board.rising)
-
-
-def check_trace(made: Design, trace: Trace) -> None:
-    """Raises TraceFault, with the line, if a trace isn't a legal one of these files under any governor."""
-    check(made.tasks, made.machine, trace.text().splitlines(keepends=True), any_governor=True)

@@ -6,7 +6,8 @@ from rtdvs.engine.answers import (
 )
 from rtdvs.engine.calls import (
     Answer, Call, DeadlineSource, DemandSource, MachineSource, RequestSource, Source, TaskSource, TraceSource, Word,
-    admit_call, constrain_call, least_call, migrate_call, poll_call, replay_call, response_call, run_call, workload_call,
+    admit_call, constrain_call, least_call, migrate_call, poll_call, replay_call, response_call, run_call,
+    workload_call,
 )
 from rtdvs.engine.engine import CRATE, Engine, LibraryEngine, TryEngine, find_engine
 from rtdvs.engine.library import Lengths, answer, main, opened

@@ -9,7 +9,7 @@ from rtdvs.web.example import Example, examples, field_of, read_example
 from rtdvs.web.lesson import Lesson, LessonExample, LessonPair, lesson_data
 from rtdvs.web.marks import is_missed, mark_pieces, time_of
 from rtdvs.web.server import HOST, LONGEST_CALL, LONGEST_TRY, PORT, PageServer
-from rtdvs.web.unadmitted import meaning_of, not_the_programs
+from rtdvs.web.unadmitted import not_the_programs
 
 __all__ = [
     "Example",
@@ -38,7 +38,6 @@ __all__ = [
     "is_missed",
     "lesson_data",
     "mark_pieces",
-    "meaning_of",
     "modules",
     "not_the_programs",
     "pack",

@@ -12,11 +12,12 @@ from rtdvs.engine import Engine, is_stopped
 from rtdvs.errors import (
     BadRequest, Denied, Differs, EngineError, LoadFailed, Refused, RtdvsError, SystemFault, TooManyJobs,
 )
+from rtdvs.hints import second_line
 from rtdvs.rules import simulate
 from rtdvs.studies import HEADING, cells, compare
 from rtdvs.web.data import Shown, page_data
 from rtdvs.web.example import Example, field_of
-from rtdvs.web.unadmitted import meaning_of, not_the_programs
+from rtdvs.web.unadmitted import not_the_programs
 
 MOST_JOBS = 10_000      # of a run
 MOST_SERVED_TEXT = 2    # mebibytes of explanations
@@ -92,11 +93,11 @@ def answer_of(path: str, example: Example, engine: Engine) -> tuple[HTTPStatus, 
 
 
 def refusal(fault: Refused, example: Example) -> Found:
-    """A refusal with its field. A denial has its meaning too, and the offer of the package's run."""
-    found: Found = {"refused": str(fault), "field": field_of(fault, example), "files": example.files()}
-    if isinstance(fault, Denied):
-        found |= {"meaning": meaning_of(fault, example.parsed()[1].top_speed), "offer": True}
-    return found
+    """A refusal with its field, what is wrong in the fields, and after a denial the offer of the package's run."""
+    files = example.files()
+    found: Found = {"refused": str(fault), "field": field_of(fault, example), "files": files,
+                    "meaning": second_line(fault, files=files)}
+    return found | {"offer": True} if isinstance(fault, Denied) else found
 
 
 def failed(fault: Exception) -> Found:
