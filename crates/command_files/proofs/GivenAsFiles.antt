@@ -13,7 +13,8 @@ use Rattle.command_files.proofs.GivenLoads.{since-is, held-known}
 own-first : (name bytes : List ℕ) (fs : Files) → file_of ((name, bytes) ∷ fs) name ≡ Some bytes
 own-first name bytes fs = go (bytes_eq name name) ((bytes_eq-Decides name name).1)
   where
-    go : (b : Bool) → (name ≡ name → b ≡ true) → option_map (λ (f : List ℕ × List ℕ). f.1) (if b then Some (name, bytes) else find (λ f. bytes_eq f.0 name) fs) ≡ Some bytes
+    go : (b : Bool) → (name ≡ name → b ≡ true)
+        → option_map (λ (f : List ℕ × List ℕ). f.1) (if b then Some (name, bytes) else find (λ f. bytes_eq f.0 name) fs) ≡ Some bytes
     go true is = refl
     go false is = absurd (true≢false (sym (is refl)))
 

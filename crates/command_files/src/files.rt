@@ -36,8 +36,9 @@ pub fn load_file<S: Shelf>(
     name: &str,
     shelf: &mut S,
 ) -> Result<Vec<u8>, Status>
-    ensures step { ForFiles (S.shows shelf.old) (S.shows shelf.new) (IsLoadStep (one_file file name.now (bytes_at file name.now))
-        (S.shows shelf.old) (S.shows shelf.new) result (λ v. v.items)) }
+    ensures step { ForFiles (S.shows shelf.old) (S.shows shelf.new)
+        (IsLoadStep (one_file file name.now (bytes_at file name.now)) (S.shows shelf.old) (S.shows shelf.new) result
+        (λ v. v.items)) }
     ensures of_file { IfErr result IsOfFile }
 {
     let most = longest(file);

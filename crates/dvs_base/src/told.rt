@@ -1,5 +1,5 @@
 // Histories: what a shelf gave and what a sink took. Only clauses read them; they take no memory.
-ghost use Rattle.std.specs.Prelude.{◌≡◌, ℕ, List, [], ◌∷◌, ◌++◌};
+ghost use Rattle.std.specs.Prelude.{◌≡◌, ℕ, List, [], ◌∷◌, ◌++◌, take};
 ghost use Rattle.std.specs.Borrow.{ftrue};
 ghost use Rattle.dvs_base.specs.Loaded.{Load};
 
@@ -23,9 +23,9 @@ impl Taken {
         Taken {}
     }
 
-    /// These bytes, and then the piece.
-    pub fn and(&self, _piece: &[u8]) -> Taken
-        ensures { result.bytes ≡ self.now.bytes ++ _piece.now }
+    /// These bytes, and then the first `_count` bytes of the piece, or all of it if it has fewer.
+    pub fn and_first(&self, _piece: &[u8], _count: usize) -> Taken
+        ensures { result.bytes ≡ self.now.bytes ++ take _count _piece.now }
     {
         Taken {}
     }

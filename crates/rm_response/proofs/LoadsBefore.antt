@@ -50,7 +50,8 @@ joined-low p lim x y n is_load same some within served rate =
     let own : held n y ≡ y.worst = ap (λ m. m * y.worst) one ∙ omega arith in
     let point = lim.machine.each (last_entry p.machine) (let m = lim.machine.some in omega arith) in
     let speed : top_speed p ≤ TOP_SPEED = omega (arith, point.low_speed) in
-    let most : top_speed p * n ≤ TOP_SPEED * LONGEST_PERIOD = mul-le (top_speed p) n TOP_SPEED LONGEST_PERIOD speed (omega (arith, within, is_load.low_period)) in
+    let most : top_speed p * n ≤ TOP_SPEED * LONGEST_PERIOD =
+    mul-le (top_speed p) n TOP_SPEED LONGEST_PERIOD speed (omega (arith, within, is_load.low_period)) in
     let low : y.worst ≤ 2 ^ 60 = omega (arith, own, served, most) in
     let units : y.worst * hyper p ≤ 2 ^ 60 * LONGEST_HYPERPERIOD = mul-le y.worst (hyper p) (2 ^ 60) LONGEST_HYPERPERIOD low (low_hyper p lim) in
     let few : y.rate * 1 ≤ y.rate * y.period = mul-le-mul_left y.rate (omega (arith, same, is_load.some_period)) in

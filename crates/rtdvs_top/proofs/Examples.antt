@@ -154,7 +154,8 @@ second_load : LoadFailed None (shelf 0 1) (shelf 1 0) (Ok admit_words) (Load Mac
 second_load = inr (refl, inl (refl, inr (omega arith, omega arith)))
 
 -- but not if it was sure of two, with any files
-sure_of_two : (files held : Option Files) → LoadFailed files (record { held = held; gave = []; faults = 0; sure = 2 }) (shelf 1 1) (Ok admit_words) (Load Machine) → ⊥
+sure_of_two : (files held : Option Files)
+    → LoadFailed files (record { held = held; gave = []; faults = 0; sure = 2 }) (shelf 1 1) (Ok admit_words) (Load Machine) → ⊥
 sure_of_two files held (inl tasks) = absurd (let same = tasks.0 in cc)
 sure_of_two files held (inr (passed, inl (same, inl lacks))) = omega (arith, lacks.1)
 sure_of_two files held (inr (passed, inl (same, inr failed))) = omega (arith, failed.1)
@@ -169,7 +170,8 @@ sure_of_three (inr (passed, inr (read, inl (same, inr failed)))) = omega (arith,
 sure_of_three (inr (passed, inr (read, inr none))) = none.1
 
 -- a load of the machine shows that the tasks were read
-read_first : (files : Files) (new : ShelfView) → LoadFailed (Some files) (record { held = Some files; gave = []; faults = 0; sure = 0 }) new (Ok admit_words) (Load Machine)
+read_first : (files : Files) (new : ShelfView)
+    → LoadFailed (Some files) (record { held = Some files; gave = []; faults = 0; sure = 0 }) new (Ok admit_words) (Load Machine)
     → IsTrue (is_ok (tasks_at (codes "t") files))
 read_first files new (inl tasks) = absurd (let same = tasks.0 in cc)
 read_first files new (inr later) = later.0

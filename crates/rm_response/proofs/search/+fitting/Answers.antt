@@ -76,7 +76,11 @@ fitting-found-requires t c =
               omega (arith, c.max.ensures),
               (
                 omega (arith, c.max.ensures, within, c.requires.some_ticks, is.from, is.within),
-                (c.requires.low_ticks, nodes-later s c.args.loads.now c.args.nodes.now x xs c.later_nodes-later.result.now parts c.later_nodes-later.ensures c.requires.nodes),
+                (
+                  c.requires.low_ticks,
+                  nodes-later s c.args.loads.now c.args.nodes.now x xs c.later_nodes-later.result.now parts
+                      c.later_nodes-later.ensures c.requires.nodes,
+                ),
               ),
             ),
           ),
@@ -104,7 +108,11 @@ fitting-requires-2 t c =
               (let from = c.in-From.ensures.from in omega (arith, from, c.requires.some_ticks)),
               (
                 c.if-release-first.false,
-                (omega (arith, within, c.requires.low_ticks), nodes-later s c.args.loads.now c.args.nodes.now x xs c.later_nodes-later.result.now parts c.later_nodes-later.ensures c.requires.nodes),
+                (
+                  omega (arith, within, c.requires.low_ticks),
+                  nodes-later s c.args.loads.now c.args.nodes.now x xs c.later_nodes-later.result.now parts
+                      c.later_nodes-later.ensures c.requires.nodes,
+                ),
               ),
             ),
           ),

@@ -16,7 +16,12 @@ returns-in_err-served g c files known read =
     c.from_residual-in_err-served.ensures.1
     (record {
       prepared = tt;
-      refused = record { ended = search (rules, p, read); tested = search (rules, p, read); named = search (rules, p, read); shown = c.in_err-served.ensures.step.shown };
+      refused = record {
+        ended = search (rules, p, read);
+        tested = search (rules, p, read);
+        named = search (rules, p, read);
+        shown = c.in_err-served.ensures.step.shown;
+      };
       failed = search (rules, p, read);
       loads = search (rules, p, read);
       counts = search (rules, p, read);

@@ -29,7 +29,12 @@ returns-in_err-totals g c files known read =
     c.from_residual-in_err-totals.ensures.1
     (record {
       prepared = tt;
-      refused = record { ended = search (rules, p, read); tested = search (rules, p, read); named = search (rules, p, read); shown = c.in_err-totals.ensures.step.shown };
+      refused = record {
+        ended = search (rules, p, read);
+        tested = search (rules, p, read);
+        named = search (rules, p, read);
+        shown = c.in_err-totals.ensures.step.shown;
+      };
       failed = search (rules, p, read);
       loads = search (rules, p, read);
       counts = search (rules, p, read);

@@ -1,8 +1,8 @@
--- `and` makes the empty struct again, and picks its bytes.
-use Rattle.std.proofs.Common.{List, [], ◌∷◌, ◌++◌, refl, length}
+-- `and_first` makes the empty struct again, and picks its bytes.
+use Rattle.std.proofs.Common.{List, [], ◌∷◌, ◌++◌, refl, length, take, w64}
 use seplogic.Ra.Ura.{Ura}
 use mir.Syntax.{Fn}
-use mir.Val.{Val, vptr, vstruct, vnil}
+use mir.Val.{Val, vptr, vint, vstruct, vnil}
 use base.Logic.{SProp, ent}
 use prog.Memory.{Memory}
 use prog.Routine.{Routine}
@@ -17,7 +17,7 @@ use types.Run.{enter, returns, no_more}
 use types.ByLocal.{alloc_all, pass_all, free_all, look_at, sets}
 use denote.Exit.{yes}
 use denote.RattleType.{owns}
-use denote.Builtin.{u8, RefOf, SliceRefOf}
+use denote.Builtin.{u8, usize, RefOf, SliceRefOf}
 use denote.Slice.{slice_val}
 use denote.Shadow.{pure_i}
 use denote.Signature.{plain, types_at}
@@ -28,10 +28,10 @@ use denote.Triple.Spec.{Meets, triple_of}
 use denote.Triple.Table.{entered}
 use denote.Triple.Walked.{says, Stays, stay_dropped, walk_of, ends_at, walk_Meets, Goes-dropped}
 use Rattle.dvs_base.specs.contracts.told.Taken as taken
-use Rattle.dvs_base.specs.contracts.told.Taken.and as F
-use Rattle.dvs_base.specs.contracts.told.Taken.and.Key.{name as #self}
-use Rattle.dvs_base.proofs.told.Taken.and.Statement as stated
-use Rattle.dvs_base.proofs.told.Taken.and.Code as code
+use Rattle.dvs_base.specs.contracts.told.Taken.and_first as F
+use Rattle.dvs_base.specs.contracts.told.Taken.and_first.Key.{name as #self}
+use Rattle.dvs_base.proofs.told.Taken.and_first.Statement as stated
+use Rattle.dvs_base.proofs.told.Taken.and_first.Code as code
 
 abbrev function : Fn
 function = code.function
@@ -40,7 +40,7 @@ abbrev ended : Ended
 ended = F.ended
 
 abbrev stayed : Stays ended.signature.params ended.kept
-stayed = (stay_dropped _ yes, (stay_dropped _ yes, tt))
+stayed = (stay_dropped _ yes, (stay_dropped _ yes, (stay_dropped _ yes, tt)))
 
 module _ {M : Type 1} {𝓤 : Ura M} (𝓛 : Logic 𝓤) (at_mem : Memory → SProp 𝓤) (run : Routine → Fun 𝓤) where
   open 𝓛 use {H}
@@ -62,31 +62,38 @@ module _ {M : Type 1} {𝓤 : Ura M} (𝓛 : Logic 𝓤) (at_mem : Memory → SP
         let bytes = a.1.0.now in
         let u : Val = vptr a.0.ref_ptr.0 a.0.ref_ptr.1 in
         let v : Val = slice_val (a.1.0.ref_ptr.0, a.1.0.ref_ptr.1) (length bytes) in
-        let made : (taken.the_row).Denot = record { bytes = a.0.now.bytes ++ bytes } in
+        let m : Val = vint w64 a.1.1.0 in
+        let made : (taken.the_row).Denot = record { bytes = a.0.now.bytes ++ take a.1.1.0 bytes } in
         qed 𝓛 ((raw toks ⊛ ‵ (owns (types_at ended.signature.params z.0.0) a vss)) ∷ raw ((held z.0.0 a).requires z.1) ∷ []) ∵
         keep ! (0 ∷ []) $ split ! $ move ! (1 ∷ []) $
         fsplit ! $ fsplit ! $ feq_l ! (λ is₀. drop ! $
-        fsplit ! $ fsplit ! $ fsplit ! $ feq_l ! (λ is₁. fsplit ! $ flt_l ! (λ count. flt_l ! (λ size. drop ! $ drop ! $
-        regoal ! (λ (us : List Val). prop (WpFn 𝓤 H C Λ function (us ++ (vss.1.0 ++ [])) Post)) is₀ refl $
-        regoal ! (λ (us : List Val). prop (WpFn 𝓤 H C Λ function ((u ∷ []) ++ (us ++ [])) Post)) is₁ refl $
-        enter ! C Λ function (u ∷ v ∷ []) Post $ alloc_all ! (λ l. pass_all ! refl ((tt, tt), ((tt, (tt, (record { fits = count }, tt))), tt)) $
+        fsplit ! $ fsplit ! $ fsplit ! $ feq_l ! (λ is₁. fsplit ! $ flt_l ! (λ count. flt_l ! (λ size. drop ! $
+        fsplit ! $ fsplit ! $ feq_l ! (λ is₂. flt_l ! (λ fits. drop ! $
+        regoal ! (λ (us : List Val). prop (WpFn 𝓤 H C Λ function (us ++ (vss.1.0 ++ (vss.1.1.0 ++ []))) Post)) is₀ refl $
+        regoal ! (λ (us : List Val). prop (WpFn 𝓤 H C Λ function ((u ∷ []) ++ (us ++ (vss.1.1.0 ++ []))) Post)) is₁ refl $
+        regoal ! (λ (us : List Val). prop (WpFn 𝓤 H C Λ function ((u ∷ v ∷ []) ++ (us ++ [])) Post)) is₂ refl $
+        enter ! C Λ function (u ∷ v ∷ m ∷ []) Post $
+        alloc_all ! (λ l. pass_all ! refl ((tt, tt), ((tt, (tt, (record { fits = count }, tt))), ((tt, record { fits = fits }), tt))) $
         sets ! (agg ! (no_more !)) refl (tt, tt) $
         returns ! (look_at ! 0 refl) $ free_all ! refl $
-        suffices ! _ (ends_at 𝓛 ended stayed held z (vstruct vnil) made (tt, (tt, tt)) (tt, (tt, tt))) $ says ! refl $
+        suffices ! _ (ends_at 𝓛 ended stayed held z (vstruct vnil) made (tt, (tt, (tt, tt))) (tt, (tt, (tt, tt)))) $ says ! refl $
         pure_i ! (taken.the_row.own_val made (vstruct vnil ∷ [])) ((λ vss. (tt, tt)), tt) ((tt, (refl, tt)), tt) $
-        nothing ! $ nothing ! $ fjoin ! $ nothing ! $ fjoin ! $ move ! (2 ∷ 0 ∷ 1 ∷ []) $ done !)))))
+        nothing ! $ nothing ! $ fjoin ! $ nothing ! $ fjoin ! $ nothing ! $ fjoin ! $ move ! (2 ∷ 0 ∷ 1 ∷ []) $ done !)))))))
 
   meets : (𝓣 : Tables 𝓤 H) → Meets 𝓛 ended.signature (WpFn 𝓤 H 𝓣.C 𝓣.Λ function) (closing 𝓛 ended held)
   meets 𝓣 =
       walk_Meets 𝓛 ended stayed (
         Goes-dropped 𝓛 2 (RefOf (0 ∷ []) tt (plain (λ _. taken.the_row)) (λ _. tt)) yes (λ κs x f. refl),
-        (Goes-dropped 𝓛 2 (SliceRefOf (1 ∷ []) tt (plain (λ _. u8)) (λ _. tt)) yes (λ κs x f. refl), tt),
+        (
+          Goes-dropped 𝓛 2 (SliceRefOf (1 ∷ []) tt (plain (λ _. u8)) (λ _. tt)) yes (λ κs x f. refl),
+          (Goes-dropped 𝓛 2 (plain (λ _. usize)) yes (λ κs x f. refl), tt),
+        ),
       ) held
       (WpFn 𝓤 H 𝓣.C 𝓣.Λ function) (WpFn-mono 𝓤 H 𝓛.laws 𝓣 function) (walks 𝓣.C 𝓣.Λ)
 
-pub and_spec : {M : Type 1} → stated.statement M
+pub and_first_spec : {M : Type 1} → stated.statement M
 unfolding tables_of
-and_spec 𝓤 𝓛 𝓜 𝓡 wired =
+and_first_spec 𝓤 𝓛 𝓜 𝓡 wired =
     let 𝓣 : Tables 𝓤 𝓛.H = tables_of 𝓤 𝓛.H 𝓜 (tables 𝓤 𝓛.H 𝓜 𝓡 𝓡.env) in
     entered 𝓤 𝓛.H (triple_of 𝓛 ended.signature (closing 𝓛 ended (held 𝓛 𝓜.mem 𝓡.returns))) 𝓣.C 𝓣.Λ #self function
     (code.unfolded 𝓤 𝓛.H 𝓜 𝓡 wired) (meets 𝓛 𝓜.mem 𝓡.returns 𝓣)
