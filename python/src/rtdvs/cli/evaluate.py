@@ -17,8 +17,8 @@ from pathlib import Path
 
 from rtdvs._files import write_whole
 from rtdvs.cli.options import (
-    SCHEDULERS, Commands, add_engine_options, add_parser, engine_of, exact_fraction, processes_of, progress,
-    whole_number,
+    SCHEDULERS, Commands, add_engine_options, add_jobs, add_parser, engine_of, exact_fraction, processes_of,
+    progress, whole_number,
 )
 from rtdvs.errors import BadValue
 from rtdvs.model import MOST_TASKS, Machine
@@ -56,7 +56,8 @@ def add_command(commands: Commands) -> None:
                         help="functions of files of Python, as for rtdvs.simulate")
     parser.add_argument("--traces", type=Path, nargs="+", default=[], metavar="FOLDER",
                         help="traces by other simulators")
-    add_engine_options(parser, jobs=True)
+    add_engine_options(parser)
+    add_jobs(parser)
 
 
 def tenth(word: str) -> int:

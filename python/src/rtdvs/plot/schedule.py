@@ -55,6 +55,21 @@ TIP_ABOVE, TIP_BELOW = 6, 7     # matplotlib's carets with their tip at the plac
 
 
 @dataclass(frozen=True, slots=True)
+class _Arrow:
+    """The arrows of one kind: their colour, their height, and the height and the mark of their tip."""
+
+    kind: str
+    colour: str
+    high: int
+    tip: int
+    marker: int
+
+
+RELEASES = _Arrow("release", INK, 48, 48, TIP_ABOVE)
+DEADLINES = _Arrow("deadline", DEADLINE, DUE, 0, TIP_BELOW)
+
+
+@dataclass(frozen=True, slots=True)
 class View:
     """What of a trace is drawn.
 
@@ -320,9 +335,8 @@ def _draw_rows(frame: _Frame) -> None:
         frame.axes.hlines(floor, frame.first, frame.last, color=INK, linewidth=POINT)
         _beside(frame, floor + (24 if facts else 16), name, fontsize=TEXT, family="monospace")
         _beside(frame, floor + 10, facts)
-        _draw_arrows(frame, row, [job.release for job in jobs[name]], is_due=False)
-        due = [job.deadline for job in jobs[name] if job.deadline is not None]
-        _draw_arrows(frame, row, due, is_due=True)
+        _draw_arrows(frame, row, RELEASES, [job.release for job in jobs[name]])
+        _draw_arrows(frame, row, DEADLINES, [job.deadline for job in jobs[name] if job.deadline is not None])
         _draw_misses(frame, row, [miss.due for miss in frame.misses if miss.task == name])
         places = set(frame.thinned(done.at for done in complete[name]))
         kept = [done for done in complete[name] if done.at in places]
@@ -331,16 +345,13 @@ def _draw_rows(frame: _Frame) -> None:
             _label_completion(frame, floor, done, f"{work(done.used)}{worst.get(name, '')}")
 
 
-def _draw_arrows(frame: _Frame, row: int, ticks: Sequence[int], is_due: bool) -> None:
+def _draw_arrows(frame: _Frame, row: int, arrow: _Arrow, ticks: Sequence[int]) -> None:
     """Draws a task's releases, or its deadlines."""
-    floor, high = frame.floor(row), DUE if is_due else 48
-    style: dict[str, Any] = {"color": DEADLINE if is_due else INK, "zorder": 2.2, "clip_on": False}
-    kept = frame.thinned(ticks)
-    frame.axes.vlines(kept, floor, floor + high, linewidth=1.6 * POINT, **style)
-    frame.axes.plot(kept, [floor if is_due else floor + high] * len(kept), linestyle="none", fillstyle="none",
-                    marker=TIP_BELOW if is_due else TIP_ABOVE, markersize=6 * POINT,
-                    markeredgewidth=1.6 * POINT,
-                    gid=f"{'deadline' if is_due else 'release'}-{frame.names[row]}", **style)
+    floor, kept = frame.floor(row), frame.thinned(ticks)
+    style: dict[str, Any] = {"color": arrow.colour, "zorder": 2.2, "clip_on": False}
+    frame.axes.vlines(kept, floor, floor + arrow.high, linewidth=1.6 * POINT, **style)
+    frame.axes.plot(kept, [floor + arrow.tip] * len(kept), linestyle="none", fillstyle="none", marker=arrow.marker,
+                    markersize=6 * POINT, markeredgewidth=1.6 * POINT, gid=f"{arrow.kind}-{frame.names[row]}", **style)
 
 
 def _draw_misses(frame: _Frame, row: int, ticks: Sequence[int]) -> None:

@@ -247,7 +247,8 @@ def _all_energies(engine: Engine, sweep: Sweep, name: SetName, case: Case,
                   kind: str) -> Iterator[tuple[str, Fraction | None]]:
     """The energies of the pairs, and those of the user's own curves, unless their scheduler denies the set."""
     denied = set[str]()
-    for curve, energy in _energies(engine, case, name.number == 1):
+    texts = runs(engine, case, PAIRS)
+    for curve, energy in _energies(engine, case, _recounted(case.machine, texts) if name.number == 1 else texts):
         if energy is None:
             denied.add(curve.split(" ")[0])
         yield curve, energy
@@ -257,17 +258,24 @@ def _all_energies(engine: Engine, sweep: Sweep, name: SetName, case: Case,
         yield from sweep.own.energies(case, kind, name)
 
 
-def _energies(engine: Engine, case: Case, recounted: bool = False) -> Iterator[tuple[str, Fraction | None]]:
-    """The energy of each curve: the seven pairs, and the bound for their units, which all pairs share."""
-    for (scheduler, governor), text in zip(PAIRS, runs(engine, case, PAIRS)):
+def _recounted(machine: Machine, texts: Iterable[str | Denied]) -> Iterator[str | Denied]:
+    """The same texts, each recounted before it is handed on."""
+    for text in texts:
+        if isinstance(text, str):
+            recount(machine, text)
+        yield text
+
+
+def _energies(engine: Engine, case: Case,
+              texts: Iterable[str | Denied]) -> Iterator[tuple[str, Fraction | None]]:
+    """The energy of each curve: the seven pairs, by their texts, and the bound for their units, which all share."""
+    for (scheduler, governor), text in zip(PAIRS, texts):
         if isinstance(text, Denied):
             if scheduler == "edf" and not case.machine.charge:
                 raise text
             yield from ((("bound", None),) if (scheduler, governor) == PAIRS[0] else ())
             yield f"{scheduler} {governor}", None
             continue
-        if recounted:
-            recount(case.machine, text)
         if (scheduler, governor) == PAIRS[0]:
             least = engine.least(case.machine, units_of_text(text), case.ticks)
             yield "bound", Fraction(least.energy, least.rounds)
