@@ -69,8 +69,7 @@ def _run_uunifast(args: argparse.Namespace) -> int:
 def _add_published(kinds: Commands) -> None:
     parser = add_parser(kinds, "published", _run_published, "a set of the published evaluation",
                         "generate published --count 8 --tenths 7 --number 1")
-    parser.add_argument("--count", type=int, choices=PUBLISHED_COUNTS, required=True,
-                        help="the number of tasks")
+    parser.add_argument("--count", type=int, choices=PUBLISHED_COUNTS, required=True, help="the number of tasks")
     for name, most, about in (("tenths", 10, "the utilisation in tenths"),
                               ("number", 999, "the set's number among these")):
         parser.add_argument(f"--{name}", type=whole_number(1, most), required=True, metavar="N", help=about)
@@ -105,8 +104,7 @@ def _run_demands(args: argparse.Namespace) -> int:
     """Prints a demand file for all jobs of a run; with a seed each job draws its own share."""
     tasks, share = read_tasks(args), args.share
     require(share is None or share <= 1, "share is 0 to 1")
-    demands = (taken_uniform(tasks, args.seed, args.ticks) if share is None
-               else taken(tasks, share, args.ticks))
+    demands = taken_uniform(tasks, args.seed, args.ticks) if share is None else taken(tasks, share, args.ticks)
     write_output(args, demands.text())
     return 0
 

@@ -74,8 +74,7 @@ def add_ticks(parser: argparse.ArgumentParser) -> None:
                         help="the length of the run")
 
 
-def add_pair(parser: argparse.ArgumentParser, scheduler: str | None = None,
-             governor: str | None = None) -> None:
+def add_pair(parser: argparse.ArgumentParser, scheduler: str | None = None, governor: str | None = None) -> None:
     """Adds `--scheduler` and `--governor`, which are required without a default.
 
     >>> parser = argparse.ArgumentParser()

@@ -100,8 +100,7 @@ def words(axes: "Axes", x: float, y: float, text: str, **style: Any) -> None:
     axes.text(x, y, text, **{"fontsize": SMALL, "color": INK, **style})
 
 
-def beside(axes: "Axes", place: tuple[float, float], offset: tuple[float, float], text: str,
-           **style: Any) -> None:
+def beside(axes: "Axes", place: tuple[float, float], offset: tuple[float, float], text: str, **style: Any) -> None:
     """A text outside of the axes, some pixels from a place.
 
     >>> axes = new_figure(96, 96).add_subplot()

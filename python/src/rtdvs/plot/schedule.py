@@ -16,12 +16,9 @@ from rtdvs.board import Units
 from rtdvs.errors import BadValue
 from rtdvs.plot._labels import Labels, labels_of, late_parts, title_parts
 from rtdvs.plot._style import (
-    INK, PIXEL, POINT, SMALL, TEXT, TITLE, bare, beside, drawn, legend, new_figure, patch, save, settings, sign,
-    words,
+    INK, PIXEL, POINT, SMALL, TEXT, TITLE, bare, beside, drawn, legend, new_figure, patch, save, settings, sign, words,
 )
-from rtdvs.plot._thinning import (
-    Bar, Completion, bars, by_task, completions, join_narrow, steps, thin,
-)
+from rtdvs.plot._thinning import Bar, Completion, bars, by_task, completions, join_narrow, steps, thin
 from rtdvs.trace import Decision, Miss, Trace
 
 if TYPE_CHECKING:
@@ -229,8 +226,7 @@ def trace_height(trace: Trace, view: View = View()) -> float:
     return _frame(trace, None, view).floor(0) + ROW
 
 
-def save_trace(trace: Trace, path: Path, view: View = View(), width: int = 1000,
-               background: str = "none") -> None:
+def save_trace(trace: Trace, path: Path, view: View = View(), width: int = 1000, background: str = "none") -> None:
     """Draws a trace into a file, `width` pixels wide; raises BadValue, OSError.
 
     >>> from rtdvs.trace import SAMPLE
@@ -257,8 +253,7 @@ def svg_text(trace: Trace, view: View = View(), width: int = 1000, background: s
 def _figure(trace: Trace, view: View, width: int) -> "Figure":
     names = trace.names
     facts = [_facts(trace, name, view) for name in names]
-    left = max([100, *(18 + NAME_LETTER * len(name) for name in names),
-                *(18 + LETTER * len(fact) for fact in facts)])
+    left = max([100, *(18 + NAME_LETTER * len(name) for name in names), *(18 + LETTER * len(fact) for fact in facts)])
     if width < left + 220:
         raise BadValue(f"--width has to be at least {math.ceil(left + 220)}")
     high = trace_height(trace, view) + TICKS
@@ -300,8 +295,7 @@ def _title_lines(trace: Trace, view: View, width: float) -> list[str]:
 
 def _head_lines(trace: Trace, view: View, width: float) -> list[str]:
     late = late_parts(trace)
-    return [*(_wrapped(late, width / 6.9) if late else []),
-            *_wrapped(labels_of(view.units).energy(trace), width / 6.9)]
+    return [*(_wrapped(late, width / 6.9) if late else []), *_wrapped(labels_of(view.units).energy(trace), width / 6.9)]
 
 
 def _wrapped(parts: Sequence[str], letters: float) -> list[str]:
@@ -363,8 +357,7 @@ def _draw_misses(frame: _Frame, row: int, ticks: Sequence[int]) -> None:
                         clip_on=False, gid=f"miss-{frame.names[row]}")
 
 
-def _draw_bars(frame: _Frame, shown: Iterable[Bar], floor: float, unit: float, name: str,
-               **style: Any) -> None:
+def _draw_bars(frame: _Frame, shown: Iterable[Bar], floor: float, unit: float, name: str, **style: Any) -> None:
     """Draws bars on a floor, so high for each unit of speed; narrow ones over the arrows, others below."""
     from matplotlib.collections import PolyCollection
 
@@ -395,8 +388,7 @@ def _label_completion(frame: _Frame, floor: float, done: Completion, text: str) 
     """The units, between release and deadline: above the bars before the completion, or after it, or not."""
     room = LETTER * len(text) + 10
     if frame.room(done.release, done.at) >= room:
-        words(frame.axes, done.at - 4 / frame.scale, floor + frame.bar_height(done.highest) + 4, text,
-              ha="right")
+        words(frame.axes, done.at - 4 / frame.scale, floor + frame.bar_height(done.highest) + 4, text, ha="right")
     elif frame.room(done.at, frame.last if done.due is None else done.due) >= room:
         words(frame.axes, done.at + 5 / frame.scale, floor + frame.bar_height(done.speed) + 4, text)
 

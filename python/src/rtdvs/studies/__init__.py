@@ -5,9 +5,8 @@ from rtdvs.studies.comparison import (
     runs, table, text_or_denial, units_of,
 )
 from rtdvs.studies.evaluation import (
-    CURVES, DRAWS, FIGURES, MACHINES, TENTHS, Panel, Record, Sweep, broken, demands_of, evaluate, faults,
-    figure_table, finished, machine, measure, panels_of, point, read_records, recount, result_of, result_text,
-    shares, summary,
+    CURVES, DRAWS, FIGURES, MACHINES, TENTHS, Panel, Record, Sweep, broken, demands_of, evaluate, faults, figure_table,
+    finished, machine, measure, panels_of, point, read_records, recount, result_of, result_text, shares, summary,
     units_of_text,
 )
 from rtdvs.studies.exercises import BOARD, Exercise, exercise, small_sets
