@@ -62,8 +62,8 @@ def changed(node: ast.AST) -> ast.AST | None:
             made.ops = [COMPARISONS[type(first)](), *rest]
         case ast.BoolOp(op=ast.And() | ast.Or()):
             made.op = ast.Or() if isinstance(made.op, ast.And) else ast.And()
-        case ast.Constant(value=int()) if not isinstance(made.value, bool):
-            made.value += 1
+        case ast.Constant(value=int(number)) if not isinstance(number, bool):
+            made.value = number + 1
         case ast.Constant(value=bool()):
             made.value = not made.value
         case ast.If() | ast.IfExp() | ast.While():

@@ -3,7 +3,7 @@
 from collections.abc import Sequence
 from io import BytesIO
 from pathlib import Path
-from typing import TYPE_CHECKING, Any, Union
+from typing import TYPE_CHECKING, Any, Literal, Union
 
 from rtdvs._files import write_whole
 from rtdvs.errors import BadValue
@@ -73,7 +73,7 @@ def drawn(figure: "Figure", kind: str, background: str) -> bytes:
     return file.getvalue()
 
 
-def bare(axes: "Axes", grid: str) -> None:
+def bare(axes: "Axes", grid: Literal["x", "y"]) -> None:
     """Leaves nothing of the axes' frame but faint lines at the ticks of x or of y.
 
     >>> axes = new_figure(96, 96).add_subplot()
@@ -87,6 +87,16 @@ def bare(axes: "Axes", grid: str) -> None:
     axes.set_axisbelow(True)
     for spine in axes.spines.values():
         spine.set_visible(False)
+
+
+def pixels(axes: "Axes") -> float:
+    """The width of axes in pixels.
+
+    >>> from matplotlib.figure import Figure
+    >>> round(pixels(Figure(figsize=(2, 1)).add_axes((0, 0, 0.5, 1))))
+    96
+    """
+    return float(axes.get_position().width * axes.figure.figure.get_figwidth() / PIXEL)
 
 
 def words(axes: "Axes", x: float, y: float, text: str, **style: Any) -> None:

@@ -16,7 +16,8 @@ from rtdvs.board import Units
 from rtdvs.errors import BadValue
 from rtdvs.plot._labels import Labels, labels_of, late_parts, title_parts
 from rtdvs.plot._style import (
-    INK, PIXEL, POINT, SMALL, TEXT, TITLE, bare, beside, drawn, legend, new_figure, patch, save, settings, sign, words,
+    INK, PIXEL, POINT, SMALL, TEXT, TITLE, bare, beside, drawn, legend, new_figure, patch, pixels, save, settings, sign,
+    words,
 )
 from rtdvs.plot._thinning import Bar, Completion, bars, by_task, completions, join_narrow, steps, thin
 from rtdvs.trace import Decision, Miss, Trace
@@ -143,7 +144,7 @@ class _Frame:
     @cached_property
     def width(self) -> float:
         """The pixels of all ticks in view."""
-        return float(self.axes.get_position().width * self.axes.figure.get_figwidth() / PIXEL)
+        return pixels(self.axes)
 
     @cached_property
     def scale(self) -> float:
@@ -262,7 +263,7 @@ def _figure(trace: Trace, view: View, width: int) -> "Figure":
     figure = new_figure(width, above + high + 26)
     axes = figure.add_axes((left / width, 0, 1 - (left + 20) / width, 1))
     plot_trace(trace, axes, view)
-    signs = axes.get_legend()
+    signs: Any = axes.get_legend()
     below = 26 + 15 * -(-len(signs.get_texts()) // int(signs._ncols))
     tall = above + high + below
     figure.set_size_inches(width * PIXEL, tall * PIXEL)
