@@ -29,6 +29,10 @@ RELEASE, DEADLINE = 48, 28                  # arrows
 Spot = tuple[float, float]
 
 
+def has_places(line: Any) -> bool:
+    return len(line.get_xdata()) > 0
+
+
 def seen(module: ModuleType, draw: Callable[[Path], None], look: Callable[[Any], Found]) -> Found:
     """What is seen of a picture in place of its file, with the fonts that it is drawn with."""
     from matplotlib.backends.backend_agg import FigureCanvasAgg
@@ -90,7 +94,7 @@ def faults(figure: Any) -> list[str]:
     plates = [box("axes", axes) for axes in figure.axes]
     names = [box(text.get_text(), text) for text in outer]
     marks = [each for axes in figure.axes for each in axes.get_children()
-             if isinstance(each, Line2D) and len(each.get_xydata()) or isinstance(each, Collection) and each.get_paths()]
+             if isinstance(each, Line2D) and has_places(each) or isinstance(each, Collection) and each.get_paths()]
     every = [*plates, *names, *(box("legend", legend) for legend in legends),
              *(box(text.get_text(), text) for text in [*signs, *inner]),
              *(box(str(each.get_gid()), each) for each in marks)]
