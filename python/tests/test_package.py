@@ -5,6 +5,7 @@ import re
 import subprocess
 import sys
 import tomllib
+from dataclasses import is_dataclass
 from importlib import import_module
 from pathlib import Path
 from types import ModuleType
@@ -146,6 +147,20 @@ def test_classes_have_fewer_than_ten_attributes(module: Path) -> None:
     for kind in ast.walk(ast.parse(module.read_text())):
         if isinstance(kind, ast.ClassDef):
             assert len(attributes(kind)) < 10, f"{kind.name}: {sorted(attributes(kind))}"
+
+
+CHANGING = {"_Begun", "_Tree", "Node", "Latest", "Late", "Moments", "State", "Summary", "OnMachine", "Guard", "Stop", "Visit"}
+"""The dataclasses whose values change, beside the exceptions."""
+
+
+@pytest.mark.parametrize("module", [module for module in MODULES if module.stem not in FRONT], ids=dotted)
+def test_dataclasses_are_frozen(module: Path) -> None:
+    """Two equal values stay equal, and each has a hash."""
+    name = f"rtdvs.{dotted(module)}"
+    for kind in vars(import_module(name)).values():
+        if isinstance(kind, type) and kind.__module__ == name and is_dataclass(kind):
+            is_frozen = getattr(kind, "__dataclass_params__").frozen
+            assert is_frozen == (kind.__name__ not in CHANGING and not issubclass(kind, Exception)), kind.__name__
 
 
 @pytest.mark.parametrize("module", [*MODULES, *TESTS], ids=lambda path: str(path.relative_to(TOP / "python")))

@@ -4,9 +4,10 @@
 
 A change is one of these: another comparison, a number greater by one, `and` in place of `or`, a condition turned, a
 call left out, None in place of what a function returns. Changes are drawn by the seed from all that can be planted. For
-each one the docstrings of its module and the tests that import it, or a module that does, are run up to the first that
-fails. It is planted in a copy of the folder, so nothing here is changed; `--jobs` is the number of copies that are used
-at a time. A survivor may be right all the same: a reader has to judge it. The status is 1 if there are survivors.
+each one the docstrings of its module, then the tests that import it, or its package, and those that look at all modules
+are run up to the first that fails. It is planted in a copy of the folder, so nothing here is changed; `--jobs` is the
+number of copies that are used at a time. A survivor may be right all the same: a reader has to judge it. The status is 1
+if there are survivors.
 """
 
 import argparse
@@ -26,6 +27,8 @@ from queue import SimpleQueue
 from tempfile import TemporaryDirectory
 
 TOP = Path(__file__).resolve().parents[1]
+OF_ALL = "test_package.py"  # looks at each module, and imports none by its name
+NO_TESTS = 5  # pytest's status
 COMPARISONS: dict[type[ast.cmpop], type[ast.cmpop]] = {
     ast.Lt: ast.LtE, ast.LtE: ast.Lt, ast.Gt: ast.GtE, ast.GtE: ast.Gt, ast.Eq: ast.NotEq, ast.NotEq: ast.Eq,
     ast.In: ast.NotIn, ast.NotIn: ast.In, ast.Is: ast.IsNot, ast.IsNot: ast.Is}
@@ -62,8 +65,8 @@ def changed(node: ast.AST) -> ast.AST | None:
             made.ops = [COMPARISONS[type(first)](), *rest]
         case ast.BoolOp(op=ast.And() | ast.Or()):
             made.op = ast.Or() if isinstance(made.op, ast.And) else ast.And()
-        case ast.Constant(value=int()) if not isinstance(made.value, bool):
-            made.value += 1
+        case ast.Constant(value=int(number)) if not isinstance(number, bool):
+            made.value = number + 1
         case ast.Constant(value=bool()):
             made.value = not made.value
         case ast.If() | ast.IfExp() | ast.While():
@@ -139,11 +142,18 @@ def imported(path: Path) -> set[str]:
 
 
 def judges(module: Path, root: Path = TOP) -> list[Path]:
-    """The module, for its docstrings, and the tests that import it: in their package's folder first, then others."""
+    """The module, for its docstrings, the tests that import it, in their package's folder first, and those of all."""
     name, package = dotted(module, root), module.parent.name
     names = {name, name.rpartition(".")[0]} - {"rtdvs"}
-    files = [path for path in sorted((root / "tests").rglob("test_*.py")) if names & imported(path)]
-    return [module, *sorted(files, key=lambda path: path.parent.name != package)]
+    files = [path for path in sorted((root / "tests").rglob("test_*.py"))
+             if path.name == OF_ALL or names & imported(path)]
+    return [module, *sorted(files, key=lambda path: (path.name == OF_ALL, path.parent.name != package))]
+
+
+def _status(tests: Sequence[Path], root: Path, seconds: float) -> int:
+    words = [sys.executable, "-m", "pytest", "-q", "-x", *map(str, tests)]
+    surroundings = os.environ | {"PYTHONDONTWRITEBYTECODE": "1"}
+    return subprocess.run(words, cwd=root, capture_output=True, timeout=seconds, env=surroundings).returncode
 
 
 def survives(change: Change, root: Path, seconds: float) -> bool:
@@ -151,11 +161,8 @@ def survives(change: Change, root: Path, seconds: float) -> bool:
     module = root / change.module
     text, tests = module.read_text(encoding="utf-8"), judges(module, root)
     module.write_text(planted(text, change.node), encoding="utf-8")
-    words = [sys.executable, "-m", "pytest", "-q", "-x", *map(str, tests)]
     try:
-        ran = subprocess.run(words, cwd=root, capture_output=True, timeout=seconds, env=os.environ | {
-            "PYTHONDONTWRITEBYTECODE": "1"})
-        return ran.returncode == 0
+        return all(_status(some, root, seconds) in (0, NO_TESTS) for some in (tests[:1], tests[1:]) if some)
     except subprocess.TimeoutExpired:
         return False
     finally:

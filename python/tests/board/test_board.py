@@ -43,6 +43,19 @@ def test_tick(periods: tuple[str, ...], tick: str) -> None:
     assert choose_tick(Board(tasks, ())) == Fraction(tick)
 
 
+@pytest.mark.parametrize(("longest", "tick"), [
+    pytest.param("281474976710656.3", 1, id="2^48"), pytest.param("281474976710672.3", None, id="2^48 + 16"),
+])
+def test_tick_of_the_longest_hyperperiod(longest: str, tick: int | None) -> None:
+    """Only a tick of 1 ms can do: with a finer one 16.5 ms are 33 ticks or 82, which no power of two has as a part."""
+    board = Board((BoardTask("a", Fraction("16.5"), Fraction(1)), BoardTask("b", Fraction(longest), Fraction(1))), ())
+    if tick is None:
+        with pytest.raises(BadValue, match="no common multiple up to 2.48 ticks"):
+            choose_tick(board)
+    else:
+        assert choose_tick(board) == tick
+
+
 def test_roundings_are_said() -> None:
     board = Board.parse(TASKS.replace("period_ms = 40", "period_ms = 33.333\noffset_ms = 0.25")
                         + "[[point]]\nmhz = 747.5\nvolts = 1.18725")

@@ -155,7 +155,7 @@ def test_a_task_may_grow_to_its_limit(tasks: list[tuple[int, int]], scheduler: s
     for place, load in enumerate(loads):
         most = Asked(loads, Fraction(3)).most(place, scheduler)
         for more in (0, 1) if most is not None else ():
-            grown = replace(load, cycles=(most or 0) + more)
+            grown = replace(load, cycles=(most or Fraction(0)) + more)
             asked = Asked((*loads[:place], grown, *loads[place + 1:]), Fraction(3))
             assert (not asked.late_under_rm() if scheduler == "rm" else asked.utilisation <= 1) == (not more)
 

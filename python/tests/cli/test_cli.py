@@ -53,7 +53,8 @@ def parsed(*words: str) -> argparse.Namespace:
 def add_options(parser: argparse.ArgumentParser, required: list[str], optional: list[str]) -> None:
     commandline.add_files(parser, required, optional)
     commandline.add_output(parser)
-    commandline.add_engine_options(parser, jobs=True)
+    commandline.add_engine_options(parser)
+    commandline.add_jobs(parser)
 
 
 def standard_input(content: bytes) -> io.TextIOWrapper:

@@ -476,11 +476,11 @@ def test_an_evaluation_of_one_s_own(tmp_path: Path, capsys: Captured, monkeypatc
     rows = [line.split("\t") for line in (tmp_path / "sweep" / "own.tsv").read_text().splitlines()]
     assert [row[:5] for row in rows if row[2:4] == ["0.5", "1"] and row[4] == "1.0000"] == [
         ["1 tasks, mine", curve, "0.5", "1", "1.0000"] for curve in ("edf none", "rm none", "edf full", "edf other")]
-    (tmp_path / "governor.py").write_text("def full(view): return 1 // 0\n")
+    (tmp_path / "governor.py").write_text("def full(view): raise ValueError('no speed')\n")
     assert "it has results of" in refusal(capsys, words)
     words[2] = str(tmp_path / "again")
     assert refusal(capsys, words) == (
-        "rtdvs: governor full at tick 0: ZeroDivisionError: integer division or modulo by zero\n")
+        "rtdvs: governor full at tick 0: ValueError: no speed\n")
 
 
 def test_wrong_results_are_printed(tmp_path: Path, capsys: Captured, monkeypatch: pytest.MonkeyPatch) -> None:

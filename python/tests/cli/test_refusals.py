@@ -1,12 +1,24 @@
 """Words of commands that are refused, and files that a command can't read: a line each, with status 2."""
 
 import re
+from argparse import ArgumentError, ArgumentParser
 from pathlib import Path
 
 import pytest
 
 from tests.shared.examples import DATA, TOP, Captured, refusal
 
+
+def not_five() -> str:
+    """What argparse of this Python says of a 6 where a 5 is the only choice: not all versions quote the 6."""
+    parser = ArgumentParser(exit_on_error=False)
+    parser.add_argument("--count", type=int, choices=[5])
+    with pytest.raises(ArgumentError) as refused:
+        parser.parse_args(["--count", "6"])
+    return refused.value.message.partition(" (")[0]
+
+
+NOT_FIVE = not_five()
 USAGE = {
     "convert": [
         ("--to vcd --table jobs --trace PAPER/edf_cc_with_demands.trace",
@@ -61,7 +73,7 @@ USAGE = {
         ("uunifast --count 1 --utilisation 1 --seed 1 --top 2000000",
          "argument --top: a whole number from 1 to 1000000, not 2000000"),
         ("published --count 5 --tenths 1 --number 5 --sets 4", "number is 1 to 4"),
-        ("published --count 6 --tenths 1 --number 1", "argument --count: invalid choice: 6"),
+        ("published --count 6 --tenths 1 --number 1", f"argument --count: {NOT_FIVE}"),
         ("demands --tasks absent --ticks 10 --share 0.5", "absent: No such file or directory"),
         ("demands --tasks absent --ticks 10", "one of the arguments --share --seed is required"),
         ("other", "argument KIND: invalid choice: 'other'"),

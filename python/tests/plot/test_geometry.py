@@ -29,6 +29,10 @@ RELEASE, DEADLINE = 48, 28                  # arrows
 Spot = tuple[float, float]
 
 
+def has_places(line: Any) -> bool:
+    return len(line.get_xdata()) > 0
+
+
 def seen(module: ModuleType, draw: Callable[[Path], None], look: Callable[[Any], Found]) -> Found:
     """What is seen of a picture in place of its file, with the fonts that it is drawn with."""
     from matplotlib.backends.backend_agg import FigureCanvasAgg
@@ -36,7 +40,8 @@ def seen(module: ModuleType, draw: Callable[[Path], None], look: Callable[[Any],
     found: list[Found] = []
 
     def keep(figure: Any, path: Path, background: str) -> None:
-        FigureCanvasAgg(figure).draw()
+        canvas: Any = FigureCanvasAgg(figure)
+        canvas.draw()
         found.append(look(figure))
 
     with pytest.MonkeyPatch.context() as patch:
@@ -89,7 +94,7 @@ def faults(figure: Any) -> list[str]:
     plates = [box("axes", axes) for axes in figure.axes]
     names = [box(text.get_text(), text) for text in outer]
     marks = [each for axes in figure.axes for each in axes.get_children()
-             if isinstance(each, Line2D) and len(each.get_xdata()) or isinstance(each, Collection) and each.get_paths()]
+             if isinstance(each, Line2D) and has_places(each) or isinstance(each, Collection) and each.get_paths()]
     every = [*plates, *names, *(box("legend", legend) for legend in legends),
              *(box(text.get_text(), text) for text in [*signs, *inner]),
              *(box(str(each.get_gid()), each) for each in marks)]
@@ -155,7 +160,8 @@ def shafts(axes: Any) -> list[tuple[float, float, float]]:
     """The upright lines: their ticks, lower ends and upper ends."""
     from matplotlib.collections import LineCollection
 
-    ends = [path.vertices for each in axes.collections if isinstance(each, LineCollection) for path in each.get_paths()]
+    ends: list[Any] = [path.vertices for each in axes.collections if isinstance(each, LineCollection)
+                       for path in each.get_paths()]
     return [(low[0], low[1], high[1]) for low, high in ends if low[0] == high[0]]
 
 

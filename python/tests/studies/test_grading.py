@@ -152,12 +152,12 @@ def test_a_folder(tmp_path: Path) -> None:
     (tmp_path / "notes.txt").write_text("notes")
     assert handed_in(tmp_path)[1] == [tmp_path / "notes.txt"]
     found = grades(ASKED, tmp_path)
-    assert found == (Grade("anna.trace", 33, 33, 8, 8, mended=("CRLF",)), Grade("ben/x.TRACE", 33, 33, 8, 8))
     assert found.text().splitlines() == [
         "file         lines    right  decisions    right  first fault",
         "anna.trace   33/33  100.0 %        8/8  100.0 %  none (mended: CRLF)",
         "ben/x.TRACE  33/33  100.0 %        8/8  100.0 %  none",
     ]
+    assert found == (Grade("anna.trace", 33, 33, 8, 8, mended=("CRLF",)), Grade("ben/x.TRACE", 33, 33, 8, 8))
 
 
 def test_csv_quotes() -> None:

@@ -26,7 +26,7 @@ from fractions import Fraction
 def static(view): return Fraction(*view.plan.static)
 def half_way(view): return 40 if view.now == 0 else 20
 def slow(view): return 1
-def raises(view): return 1 // (view.now - view.now)
+def raises(view): raise ValueError("no speed")
 def wrong(view): return 0.5
 value = 3
 """
@@ -54,7 +54,7 @@ def test_an_own_governor_is_a_curve(scheduler: str, file: Path) -> None:
 
 
 @pytest.mark.parametrize(("name", "line"), [
-    ("raises", "governor raises at tick 0: ZeroDivisionError: integer division or modulo by zero"),
+    ("raises", "governor raises at tick 0: ValueError: no speed"),
     ("wrong", "governor wrong at tick 0: a whole number, a fraction or a pair"),
     ("slow", "governor slow: a job 1 was due at 720720 and is not complete: it has had 14414400 units"),
     ("absent", "mine.py: it has no function absent"), ("value", "mine.py: it has no function value")])

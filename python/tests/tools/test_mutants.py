@@ -60,11 +60,12 @@ def test_a_seed_draws_the_same_changes() -> None:
 
 
 def test_tests_of_a_module() -> None:
-    """Those in its own folder come first; a test that imports the package alone has the module too."""
+    """Those in its own folder come first; a test that imports the package alone has the module too, and so has one of all."""
     found = [path.relative_to(mutants.TOP).as_posix() for path in mutants.judges(
         mutants.TOP / "src" / "rtdvs" / "export" / "vcd.py")]
     assert found[:2] == ["src/rtdvs/export/vcd.py", "tests/export/test_convert.py"]
     assert "tests/cli/test_outputs.py" in found and "tests/model/test_files.py" not in found
+    assert found[-1] == "tests/test_package.py"
 
 
 def test_a_survivor_is_what_no_test_sees(tmp_path: Path) -> None:

@@ -98,8 +98,7 @@ def points_of(points: Iterable[OperatingPoint]) -> tuple[BoardPoint, ...]:
     >>> points_of([OperatingPoint("a", 600_000_000, 950_000)])[0].volts
     Fraction(19, 20)
     """
-    return tuple(BoardPoint(Fraction(point.hertz, 10**6), Fraction(point.microvolts, 10**6))
-                 for point in points)
+    return tuple(BoardPoint(Fraction(point.hertz, 10**6), Fraction(point.microvolts, 10**6)) for point in points)
 
 
 def is_measured(points: Iterable[BoardPoint]) -> bool:
@@ -145,8 +144,7 @@ def _check_keys(where: str, table: Mapping[str, Any], known: set[str]) -> None:
         raise board_fault(f"{where}unknown key {unknown}")
 
 
-def _quantity(where: str, table: Mapping[str, Any], key: str,
-              least: Fraction | None = None) -> Fraction | None:
+def _quantity(where: str, table: Mapping[str, Any], key: str, least: Fraction | None = None) -> Fraction | None:
     """The number at a key, from `least` on, or above 0; None if the key is absent."""
     value = table.get(key)
     if value is None:
@@ -166,8 +164,7 @@ def _needed(where: str, table: Mapping[str, Any], key: str) -> Fraction:
 
 
 def _task(where: str, table: Mapping[str, Any]) -> BoardTask:
-    _check_keys(where, table,
-                {"name", "period_ms", "offset_ms", "worst_cycles", "worst_ms", "at_mhz", "usual_cycles"})
+    _check_keys(where, table, {"name", "period_ms", "offset_ms", "worst_cycles", "worst_ms", "at_mhz", "usual_cycles"})
     name = table.get("name")
     if not isinstance(name, str):
         raise board_fault(f"{where}missing name" if name is None else f"{where}name is not text")

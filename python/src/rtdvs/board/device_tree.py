@@ -117,8 +117,7 @@ def _chosen(nodes: Sequence[Node], name: str) -> Node:
     tables = [node for node in nodes if "operating-points" in node.properties or node.path in parents]
     names = ", ".join(dict.fromkeys(table.key for table in tables)) or "none"
     if not name and len(tables) != 1:
-        raise tree_fault(f"one table has to be chosen of these: {names}" if tables
-                         else "no table of operating points")
+        raise tree_fault(f"one table has to be chosen of these: {names}" if tables else "no table of operating points")
     for table in tables:
         if name in ("", table.key, table.place):
             return table

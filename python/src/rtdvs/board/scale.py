@@ -12,9 +12,7 @@ from fractions import Fraction
 
 from rtdvs._numbers import plain
 from rtdvs.board.description import Board, BoardPoint, BoardTask, board_fault, is_measured
-from rtdvs.model import (
-    LONGEST_HYPERPERIOD, MOST_MILLIVOLTS, MOST_SPEED, Demands, Machine, TaskSet, jobs_of,
-)
+from rtdvs.model import LONGEST_HYPERPERIOD, MOST_MILLIVOLTS, MOST_SPEED, Demands, Machine, TaskSet, jobs_of
 
 _SAID = r"[0-9]{1,99}(?:\.[0-9]{1,99}|/0*[1-9][0-9]{0,99})?"
 

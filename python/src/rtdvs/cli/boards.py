@@ -90,8 +90,7 @@ def add_tree(parser: argparse.ArgumentParser) -> None:
     group.add_argument("--supported-hw", type=_hardware, default=(), metavar="N[,N..]",
                        help="the hardware's version, level by level, for opp-supported-hw")
     group.add_argument("--suffix", default="", help="takes opp-microvolt-SUFFIX")
-    group.add_argument("--supply", type=whole_number(1), default=1, metavar="N",
-                       help="which supply; 1 by default")
+    group.add_argument("--supply", type=whole_number(1), default=1, metavar="N", help="which supply; 1 by default")
     group.add_argument("--turbo", action="store_true", help="takes points of turbo-mode too, which need boost")
 
 

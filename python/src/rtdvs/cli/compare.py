@@ -24,8 +24,8 @@ from rtdvs._numbers import aligned, decimal, plain, rounded
 from rtdvs.board import Units
 from rtdvs.cli.boards import add_board, read_given, ticks_of
 from rtdvs.cli.options import (
-    Commands, Input, add_engine_options, add_files, add_parser, add_ticks, add_unchecked, check_first, engine_of,
-    executor_of, input_path, progress, read_text, whole_number,
+    Commands, Input, add_engine_options, add_files, add_jobs, add_parser, add_ticks, add_unchecked, check_first,
+    engine_of, executor_of, input_path, progress, read_text, whole_number,
 )
 from rtdvs.errors import BadValue, TraceFault
 from rtdvs.studies import PAIRS, Case, Row, compare, finer_energies, finer_table, table
@@ -50,7 +50,8 @@ def add_command(commands: Commands) -> None:
     add_unchecked(parser)
     parser.add_argument("--finer", type=whole_number(1), nargs="+", default=[], metavar="N",
                         help="the energies in ticks N times finer too, as shares of those in the ticks given")
-    add_engine_options(parser, jobs=True)
+    add_engine_options(parser)
+    add_jobs(parser)
     add_board(parser)
 
 

@@ -10,8 +10,7 @@ The trace is checked first, by --machine and, in version 1, by --tasks. It is re
 import argparse
 
 from rtdvs.cli.options import (
-    Commands, add_files, add_output, add_parser, add_unchecked, note_charge, trace_file, whole_number,
-    write_output,
+    Commands, add_files, add_output, add_parser, add_unchecked, note_charge, trace_file, whole_number, write_output,
 )
 from rtdvs.errors import BadValue
 from rtdvs.export import event_lines, wave_lines

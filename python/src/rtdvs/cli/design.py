@@ -78,8 +78,7 @@ def add_command(commands: Commands) -> None:
 
 
 def _add_settle_options(parser: argparse.ArgumentParser) -> None:
-    group = parser.add_argument_group("the tick",
-                                      "halves the tick until the energy of a run moves by at most 1 %")
+    group = parser.add_argument_group("the tick", "halves the tick until the energy of a run moves by at most 1 %")
     group.add_argument("--settle-ms", type=exact_fraction, metavar="MS", help="the time of each run")
     add_pair(parser, "edf", "cc")
     add_engine_options(parser)

@@ -17,8 +17,8 @@ from pathlib import Path
 
 from rtdvs._files import write_whole
 from rtdvs.cli.options import (
-    SCHEDULERS, Commands, add_engine_options, add_parser, engine_of, exact_fraction, processes_of, progress,
-    whole_number,
+    SCHEDULERS, Commands, add_engine_options, add_jobs, add_parser, engine_of, exact_fraction, processes_of,
+    progress, whole_number,
 )
 from rtdvs.errors import BadValue
 from rtdvs.model import MOST_TASKS, Machine
@@ -48,15 +48,14 @@ def add_command(commands: Commands) -> None:
                         help="the numbers of tasks; 5, 8, 10 and 15 unless given")
     parser.add_argument("--utilisations", type=tenth, nargs="+", default=TENTHS, metavar="U",
                         help="tenths from 0.1 to 1; all unless given")
-    parser.add_argument("--machine", type=Path, nargs="+", default=[], metavar="FILE",
-                        help="machine files of your own")
-    parser.add_argument("--scheduler", choices=SCHEDULERS, default="edf",
-                        help="that of the next two; edf unless given")
+    parser.add_argument("--machine", type=Path, nargs="+", default=[], metavar="FILE", help="machine files of your own")
+    parser.add_argument("--scheduler", choices=SCHEDULERS, default="edf", help="that of the next two; edf unless given")
     parser.add_argument("--governor", nargs="+", default=[], metavar="FILE.py:NAME",
                         help="functions of files of Python, as for rtdvs.simulate")
     parser.add_argument("--traces", type=Path, nargs="+", default=[], metavar="FOLDER",
                         help="traces by other simulators")
-    add_engine_options(parser, jobs=True)
+    add_engine_options(parser)
+    add_jobs(parser)
 
 
 def tenth(word: str) -> int:

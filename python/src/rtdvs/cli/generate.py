@@ -2,6 +2,7 @@
 
 import argparse
 from pathlib import Path
+from typing import Any
 
 from rtdvs.cli.options import (
     Commands, add_engine_options, add_files, add_output, add_pair, add_parser, add_ticks, engine_of,
@@ -31,11 +32,8 @@ def add_command(commands: Commands) -> None:
         add(kinds)
 
 
-def _add_seed(parser: argparse._ActionsContainer, default: int | None = None, required: bool = True) -> None:
-    """Adds `--seed`; with a default it isn't required."""
-    parser.add_argument("--seed", type=whole_number(1, MOST_SEED), default=default, metavar="N",
-                        required=required and default is None,
-                        help=None if default is None else f"{default} unless given")
+def _add_seed(parser: argparse._ActionsContainer, **option: Any) -> None:
+    parser.add_argument("--seed", type=whole_number(1, MOST_SEED), metavar="N", **option)
 
 
 def _add_uunifast(kinds: Commands) -> None:
@@ -45,7 +43,7 @@ def _add_uunifast(kinds: Commands) -> None:
                         help="the number of tasks")
     parser.add_argument("--utilisation", type=exact_fraction, required=True, metavar="U",
                         help="of the whole set, above 0 and at most 1, as 0.7 or 7/10")
-    _add_seed(parser)
+    _add_seed(parser, required=True)
     parser.add_argument("--top", type=whole_number(1, MOST_SPEED), default=1000, metavar="N",
                         help="the highest speed in work units per tick; 1000 unless given")
     parser.add_argument("--periods", type=whole_number(1, LONGEST_TIME), nargs="+", metavar="N",
@@ -71,14 +69,13 @@ def _run_uunifast(args: argparse.Namespace) -> int:
 def _add_published(kinds: Commands) -> None:
     parser = add_parser(kinds, "published", _run_published, "a set of the published evaluation",
                         "generate published --count 8 --tenths 7 --number 1")
-    parser.add_argument("--count", type=int, choices=PUBLISHED_COUNTS, required=True,
-                        help="the number of tasks")
+    parser.add_argument("--count", type=int, choices=PUBLISHED_COUNTS, required=True, help="the number of tasks")
     for name, most, about in (("tenths", 10, "the utilisation in tenths"),
                               ("number", 999, "the set's number among these")):
         parser.add_argument(f"--{name}", type=whole_number(1, most), required=True, metavar="N", help=about)
     parser.add_argument("--sets", type=whole_number(1, 999), default=100, metavar="N",
                         help="how many there are of each kind; 100 unless given")
-    _add_seed(parser, PUBLISHED_SEED)
+    _add_seed(parser, default=PUBLISHED_SEED, help=f"{PUBLISHED_SEED} unless given")
     add_output(parser)
 
 
@@ -99,7 +96,7 @@ def _add_demands(kinds: Commands) -> None:
     which = parser.add_mutually_exclusive_group(required=True)
     which.add_argument("--share", type=exact_fraction, metavar="S",
                        help="what each job takes of its worst case, 0 to 1")
-    _add_seed(which, required=False)
+    _add_seed(which)
     add_output(parser)
 
 
@@ -107,8 +104,7 @@ def _run_demands(args: argparse.Namespace) -> int:
     """Prints a demand file for all jobs of a run; with a seed each job draws its own share."""
     tasks, share = read_tasks(args), args.share
     require(share is None or share <= 1, "share is 0 to 1")
-    demands = (taken_uniform(tasks, args.seed, args.ticks) if share is None
-               else taken(tasks, share, args.ticks))
+    demands = taken_uniform(tasks, args.seed, args.ticks) if share is None else taken(tasks, share, args.ticks)
     write_output(args, demands.text())
     return 0
 
@@ -116,7 +112,7 @@ def _run_demands(args: argparse.Namespace) -> int:
 def _add_exercise(kinds: Commands) -> None:
     parser = add_parser(kinds, "exercise", _run_exercise, "an exercise with its solution",
                         "generate exercise --seed 7 --scheduler edf --governor la --folder seven")
-    _add_seed(parser)
+    _add_seed(parser, required=True)
     add_pair(parser, "edf", "cc")
     parser.add_argument("--folder", type=Path, required=True, help="where the files are written")
     add_engine_options(parser)

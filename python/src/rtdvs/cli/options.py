@@ -74,8 +74,7 @@ def add_ticks(parser: argparse.ArgumentParser) -> None:
                         help="the length of the run")
 
 
-def add_pair(parser: argparse.ArgumentParser, scheduler: str | None = None,
-             governor: str | None = None) -> None:
+def add_pair(parser: argparse.ArgumentParser, scheduler: str | None = None, governor: str | None = None) -> None:
     """Adds `--scheduler` and `--governor`, which are required without a default.
 
     >>> parser = argparse.ArgumentParser()
@@ -112,20 +111,29 @@ def add_output(parser: argparse.ArgumentParser) -> None:
     parser.add_argument("-o", "--output", type=Path, metavar="FILE", help="write to this file, and print nothing")
 
 
-def add_engine_options(parser: argparse.ArgumentParser, jobs: bool = False) -> None:
-    """Adds `--program` and `--timeout` (seconds), and with `jobs` also `--jobs`, the number of calls at a time.
+def add_engine_options(parser: argparse.ArgumentParser) -> None:
+    """Adds `--program` and `--timeout` (seconds).
 
     >>> parser = argparse.ArgumentParser()
-    >>> add_engine_options(parser, jobs=True)
-    >>> parser.parse_args(["--timeout", "0.5", "--jobs", "4"])
-    Namespace(program=None, timeout=0.5, jobs=4)
+    >>> add_engine_options(parser)
+    >>> parser.parse_args(["--timeout", "0.5"])
+    Namespace(program=None, timeout=0.5)
     """
     about = "the program rtdvs or its library librtdvs.so; without it that of $RTDVS, a built one, or rtdvs on the path"
     parser.add_argument("--program", type=Path, metavar="FILE", help=about)
     parser.add_argument("--timeout", type=seconds, metavar="SECONDS", help="the longest that a call may take")
-    if jobs:
-        parser.add_argument("--jobs", type=whole_number(1, 1024), default=1, metavar="N",
-                            help="calls of the program at a time (default: 1)")
+
+
+def add_jobs(parser: argparse.ArgumentParser) -> None:
+    """Adds `--jobs`, the number of calls of the program at a time.
+
+    >>> parser = argparse.ArgumentParser()
+    >>> add_jobs(parser)
+    >>> parser.parse_args(["--jobs", "4"])
+    Namespace(jobs=4)
+    """
+    parser.add_argument("--jobs", type=whole_number(1, 1024), default=1, metavar="N",
+                        help="calls of the program at a time (default: 1)")
 
 
 def add_unchecked(parser: argparse.ArgumentParser) -> None:

@@ -7,7 +7,7 @@ speeds. The last row is the paper's own.
 import argparse
 
 from rtdvs.cli.options import (
-    Commands, add_engine_options, add_parser, engine_of, executor_of, progress, whole_number,
+    Commands, add_engine_options, add_jobs, add_parser, engine_of, executor_of, progress, whole_number,
 )
 from rtdvs.studies import FINER, paper_lines, paper_shares
 
@@ -25,7 +25,8 @@ def add_command(commands: Commands) -> None:
                         "paper-table --finer 3 30")
     parser.add_argument("--finer", type=whole_number(1), nargs="+", default=FINER, metavar="K",
                         help="a row for each; 1, 3, 10 and 100 unless given")
-    add_engine_options(parser, jobs=True)
+    add_engine_options(parser)
+    add_jobs(parser)
 
 
 def _handle(args: argparse.Namespace) -> int:

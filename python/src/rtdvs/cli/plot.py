@@ -51,14 +51,12 @@ def add_command(commands: Commands) -> None:
     _add_file(pairs, _run_compare)
     means = kinds.add_parser("evaluation", help="a table of the evaluation")
     means.add_argument("--table", type=input_path, required=True, metavar="FILE", help="the table")
-    means.add_argument("--columns", type=whole_number(1), default=3, metavar="N",
-                       help="panels in a row; 3 by default")
+    means.add_argument("--columns", type=whole_number(1), default=3, metavar="N", help="panels in a row; 3 by default")
     _add_file(means, _run_means)
 
 
 def _add_file(parser: argparse.ArgumentParser, draw: Callable[[argparse.Namespace], None]) -> None:
-    parser.add_argument("--output", type=Path, required=True, metavar="FILE",
-                        help="the picture: .svg, .pdf or .png")
+    parser.add_argument("--output", type=Path, required=True, metavar="FILE", help="the picture: .svg, .pdf or .png")
     parser.add_argument("--background", default="none", metavar="COLOUR", help="none by default")
     parser.set_defaults(draw=draw)
 

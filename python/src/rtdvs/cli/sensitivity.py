@@ -19,7 +19,7 @@ from rtdvs._numbers import aligned, plain, rounded
 from rtdvs.board import Units
 from rtdvs.cli.boards import add_board, read_given
 from rtdvs.cli.options import (
-    Commands, add_engine_options, add_files, add_parser, engine_of, executor_of, progress,
+    Commands, add_engine_options, add_files, add_jobs, add_parser, engine_of, executor_of, progress,
 )
 from rtdvs.studies import TESTS, Limits, Question, limits_of, limits_table
 
@@ -37,7 +37,8 @@ def add_command(commands: Commands) -> None:
     add_files(parser, ["tasks", "machine"])
     parser.add_argument("--test", choices=TESTS, default=TESTS[0],
                         help="edf or rm: the test of admit; response: the exact one under RM (default: edf)")
-    add_engine_options(parser, jobs=True)
+    add_engine_options(parser)
+    add_jobs(parser)
     add_board(parser)
 
 

@@ -5,16 +5,4 @@ from rtdvs.hints.second import second_line
 from rtdvs.hints.table import SECTIONS, Row
 from rtdvs.hints.words import COMMANDS, FILES, FLAGS, VALUES, Usage
 
-__all__ = [
-    "COMMANDS",
-    "FILES",
-    "FLAGS",
-    "Given",
-    "Row",
-    "SECTIONS",
-    "Source",
-    "Usage",
-    "VALUES",
-    "Word",
-    "second_line",
-]
+__all__ = ["COMMANDS", "FILES", "FLAGS", "Given", "Row", "SECTIONS", "Source", "Usage", "VALUES", "Word", "second_line"]

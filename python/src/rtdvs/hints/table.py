@@ -6,9 +6,7 @@ docs/MESSAGES.md is made of this table by tools/messages.py, and second_line fil
 import re
 from dataclasses import dataclass, field
 
-from rtdvs.model import (
-    LONGEST_HYPERPERIOD, MOST_CHARGE, MOST_IDLE, MOST_JOBS, MOST_MILLIVOLTS, MOST_SPEED, MOST_WORK,
-)
+from rtdvs.model import LONGEST_HYPERPERIOD, MOST_CHARGE, MOST_IDLE, MOST_JOBS, MOST_MILLIVOLTS, MOST_SPEED, MOST_WORK
 
 NUMBER, WORD = r"\d+", r"[^ ]*"
 PARTS = {"word": ".*", "key": ".*", "option": "--[a-z]+", "task": WORD, "field": WORD, "line": ".*"}

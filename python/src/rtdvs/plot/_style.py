@@ -3,7 +3,7 @@
 from collections.abc import Sequence
 from io import BytesIO
 from pathlib import Path
-from typing import TYPE_CHECKING, Any, Union
+from typing import TYPE_CHECKING, Any, Literal, Union
 
 from rtdvs._files import write_whole
 from rtdvs.errors import BadValue
@@ -73,7 +73,7 @@ def drawn(figure: "Figure", kind: str, background: str) -> bytes:
     return file.getvalue()
 
 
-def bare(axes: "Axes", grid: str) -> None:
+def bare(axes: "Axes", grid: Literal["x", "y"]) -> None:
     """Leaves nothing of the axes' frame but faint lines at the ticks of x or of y.
 
     >>> axes = new_figure(96, 96).add_subplot()
@@ -89,6 +89,16 @@ def bare(axes: "Axes", grid: str) -> None:
         spine.set_visible(False)
 
 
+def pixels(axes: "Axes") -> float:
+    """The width of axes in pixels.
+
+    >>> from matplotlib.figure import Figure
+    >>> round(pixels(Figure(figsize=(2, 1)).add_axes((0, 0, 0.5, 1))))
+    96
+    """
+    return float(axes.get_position().width * axes.figure.figure.get_figwidth() / PIXEL)
+
+
 def words(axes: "Axes", x: float, y: float, text: str, **style: Any) -> None:
     """A text at a place of the axes, small unless the style says otherwise.
 
@@ -100,8 +110,7 @@ def words(axes: "Axes", x: float, y: float, text: str, **style: Any) -> None:
     axes.text(x, y, text, **{"fontsize": SMALL, "color": INK, **style})
 
 
-def beside(axes: "Axes", place: tuple[float, float], offset: tuple[float, float], text: str,
-           **style: Any) -> None:
+def beside(axes: "Axes", place: tuple[float, float], offset: tuple[float, float], text: str, **style: Any) -> None:
     """A text outside of the axes, some pixels from a place.
 
     >>> axes = new_figure(96, 96).add_subplot()

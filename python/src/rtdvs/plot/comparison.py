@@ -33,8 +33,7 @@ def plot_compare(rows: Sequence[Row], energy: "Axes", time: "Axes", units: Units
         axes.set_title(title, loc="left", fontsize=SMALL, color=INK)
         axes.set(xlim=(0, 1), ylim=(len(rows) - 0.5, -0.5), yticks=[])
         axes.set_xticks([0, 0.25, 0.5, 0.75, 1], ["0.00", "0.25", "0.50", "0.75", "1.00"], fontsize=SMALL)
-    energy.set_yticks(range(len(rows)), [f"{row.scheduler.upper()} {row.governor}" for row in rows],
-                      fontsize=TEXT)
+    energy.set_yticks(range(len(rows)), [f"{row.scheduler.upper()} {row.governor}" for row in rows], fontsize=TEXT)
     speeds = sorted({speed for row in rows if row.result for speed in row.result.residency})
     shades = {speed: 0.7 if len(speeds) == 1 else 0.3 + 0.6 * place / (len(speeds) - 1)
               for place, speed in enumerate(speeds)}
@@ -91,6 +90,5 @@ def _draw_times(axes: "Axes", place: int, row: Row, shades: Mapping[int, float])
     for speed, shade in shades.items():
         time = row.result.residency.get(speed, Fraction(0)) if row.result else Fraction(0)
         if time:
-            axes.barh(place, float(time), left=float(begin), height=2 / 3, color=TIME, alpha=shade,
-                      linewidth=0)
+            axes.barh(place, float(time), left=float(begin), height=2 / 3, color=TIME, alpha=shade, linewidth=0)
         begin += time

@@ -10,9 +10,7 @@ from typing import TYPE_CHECKING, Any
 
 from rtdvs._numbers import decimal
 from rtdvs.errors import BadValue
-from rtdvs.plot._style import (
-    INK, PIXEL, POINT, SMALL, TEXT, bare, beside, legend, new_figure, save, settings, sign,
-)
+from rtdvs.plot._style import INK, POINT, SMALL, TEXT, bare, beside, legend, new_figure, pixels, save, settings, sign
 from rtdvs.plot.comparison import BOUND, ENERGY, TIME
 
 if TYPE_CHECKING:
@@ -115,12 +113,12 @@ def plot_means(means: Sequence[Mean], axes: "Axes", curves: Mapping[str, Look] |
 
 def _draw_curve(axes: "Axes", curve: str, look: Look, means: Sequence[Mean]) -> None:
     colour, _, _, shift = look
-    width = axes.get_position().width * axes.figure.get_figwidth() / PIXEL / 1.03
+    width = pixels(axes) / 1.03
     places = [float(mean.utilisation) + shift / width for mean in means]
     bars = [(place, *map(float, mean.energies[1:])) for place, mean in zip(places, means)
             if curve != "bound" and mean.energies[2] - mean.energies[1] >= Fraction(1, 230)]
-    axes.vlines(*(zip(*bars) if bars else ([], [], [])), color=colour, alpha=0.75, linewidth=1.2 * POINT,
-                clip_on=False)
+    middles, lows, highs = zip(*bars) if bars else ([], [], [])
+    axes.vlines(middles, lows, highs, color=colour, alpha=0.75, linewidth=1.2 * POINT, clip_on=False)
     axes.plot(places, [float(mean.energies[0]) for mean in means], color=colour, clip_on=False,
               gid=curve.replace(" ", "-"), **_style(curve, look))
 

@@ -16,12 +16,10 @@ from rtdvs.board import Units
 from rtdvs.errors import BadValue
 from rtdvs.plot._labels import Labels, labels_of, late_parts, title_parts
 from rtdvs.plot._style import (
-    INK, PIXEL, POINT, SMALL, TEXT, TITLE, bare, beside, drawn, legend, new_figure, patch, save, settings, sign,
+    INK, PIXEL, POINT, SMALL, TEXT, TITLE, bare, beside, drawn, legend, new_figure, patch, pixels, save, settings, sign,
     words,
 )
-from rtdvs.plot._thinning import (
-    Bar, Completion, bars, by_task, completions, join_narrow, steps, thin,
-)
+from rtdvs.plot._thinning import Bar, Completion, bars, by_task, completions, join_narrow, steps, thin
 from rtdvs.trace import Decision, Miss, Trace
 
 if TYPE_CHECKING:
@@ -52,6 +50,21 @@ RIM = "#555555"
 COLOURS = ("#3f83c8", "#d07a1f", "#2f9e74", "#9a6dd0", "#a08a00", "#2a9fb5", "#9c7350", "#6f7fd8")
 DOTS = (0, (1, 1.6))
 TIP_ABOVE, TIP_BELOW = 6, 7     # matplotlib's carets with their tip at the place
+
+
+@dataclass(frozen=True, slots=True)
+class _Arrow:
+    """The arrows of one kind: their colour, their height, and the height and the mark of their tip."""
+
+    kind: str
+    colour: str
+    high: int
+    tip: int
+    marker: int
+
+
+RELEASES = _Arrow("release", INK, 48, 48, TIP_ABOVE)
+DEADLINES = _Arrow("deadline", DEADLINE, DUE, 0, TIP_BELOW)
 
 
 @dataclass(frozen=True, slots=True)
@@ -131,7 +144,7 @@ class _Frame:
     @cached_property
     def width(self) -> float:
         """The pixels of all ticks in view."""
-        return float(self.axes.get_position().width * self.axes.figure.get_figwidth() / PIXEL)
+        return pixels(self.axes)
 
     @cached_property
     def scale(self) -> float:
@@ -214,8 +227,7 @@ def trace_height(trace: Trace, view: View = View()) -> float:
     return _frame(trace, None, view).floor(0) + ROW
 
 
-def save_trace(trace: Trace, path: Path, view: View = View(), width: int = 1000,
-               background: str = "none") -> None:
+def save_trace(trace: Trace, path: Path, view: View = View(), width: int = 1000, background: str = "none") -> None:
     """Draws a trace into a file, `width` pixels wide; raises BadValue, OSError.
 
     >>> from rtdvs.trace import SAMPLE
@@ -242,8 +254,7 @@ def svg_text(trace: Trace, view: View = View(), width: int = 1000, background: s
 def _figure(trace: Trace, view: View, width: int) -> "Figure":
     names = trace.names
     facts = [_facts(trace, name, view) for name in names]
-    left = max([100, *(18 + NAME_LETTER * len(name) for name in names),
-                *(18 + LETTER * len(fact) for fact in facts)])
+    left = max([100, *(18 + NAME_LETTER * len(name) for name in names), *(18 + LETTER * len(fact) for fact in facts)])
     if width < left + 220:
         raise BadValue(f"--width has to be at least {math.ceil(left + 220)}")
     high = trace_height(trace, view) + TICKS
@@ -252,7 +263,7 @@ def _figure(trace: Trace, view: View, width: int) -> "Figure":
     figure = new_figure(width, above + high + 26)
     axes = figure.add_axes((left / width, 0, 1 - (left + 20) / width, 1))
     plot_trace(trace, axes, view)
-    signs = axes.get_legend()
+    signs: Any = axes.get_legend()
     below = 26 + 15 * -(-len(signs.get_texts()) // int(signs._ncols))
     tall = above + high + below
     figure.set_size_inches(width * PIXEL, tall * PIXEL)
@@ -285,8 +296,7 @@ def _title_lines(trace: Trace, view: View, width: float) -> list[str]:
 
 def _head_lines(trace: Trace, view: View, width: float) -> list[str]:
     late = late_parts(trace)
-    return [*(_wrapped(late, width / 6.9) if late else []),
-            *_wrapped(labels_of(view.units).energy(trace), width / 6.9)]
+    return [*(_wrapped(late, width / 6.9) if late else []), *_wrapped(labels_of(view.units).energy(trace), width / 6.9)]
 
 
 def _wrapped(parts: Sequence[str], letters: float) -> list[str]:
@@ -320,9 +330,8 @@ def _draw_rows(frame: _Frame) -> None:
         frame.axes.hlines(floor, frame.first, frame.last, color=INK, linewidth=POINT)
         _beside(frame, floor + (24 if facts else 16), name, fontsize=TEXT, family="monospace")
         _beside(frame, floor + 10, facts)
-        _draw_arrows(frame, row, [job.release for job in jobs[name]], is_due=False)
-        due = [job.deadline for job in jobs[name] if job.deadline is not None]
-        _draw_arrows(frame, row, due, is_due=True)
+        _draw_arrows(frame, row, RELEASES, [job.release for job in jobs[name]])
+        _draw_arrows(frame, row, DEADLINES, [job.deadline for job in jobs[name] if job.deadline is not None])
         _draw_misses(frame, row, [miss.due for miss in frame.misses if miss.task == name])
         places = set(frame.thinned(done.at for done in complete[name]))
         kept = [done for done in complete[name] if done.at in places]
@@ -331,16 +340,13 @@ def _draw_rows(frame: _Frame) -> None:
             _label_completion(frame, floor, done, f"{work(done.used)}{worst.get(name, '')}")
 
 
-def _draw_arrows(frame: _Frame, row: int, ticks: Sequence[int], is_due: bool) -> None:
+def _draw_arrows(frame: _Frame, row: int, arrow: _Arrow, ticks: Sequence[int]) -> None:
     """Draws a task's releases, or its deadlines."""
-    floor, high = frame.floor(row), DUE if is_due else 48
-    style: dict[str, Any] = {"color": DEADLINE if is_due else INK, "zorder": 2.2, "clip_on": False}
-    kept = frame.thinned(ticks)
-    frame.axes.vlines(kept, floor, floor + high, linewidth=1.6 * POINT, **style)
-    frame.axes.plot(kept, [floor if is_due else floor + high] * len(kept), linestyle="none", fillstyle="none",
-                    marker=TIP_BELOW if is_due else TIP_ABOVE, markersize=6 * POINT,
-                    markeredgewidth=1.6 * POINT,
-                    gid=f"{'deadline' if is_due else 'release'}-{frame.names[row]}", **style)
+    floor, kept = frame.floor(row), frame.thinned(ticks)
+    style: dict[str, Any] = {"color": arrow.colour, "zorder": 2.2, "clip_on": False}
+    frame.axes.vlines(kept, floor, floor + arrow.high, linewidth=1.6 * POINT, **style)
+    frame.axes.plot(kept, [floor + arrow.tip] * len(kept), linestyle="none", fillstyle="none", marker=arrow.marker,
+                    markersize=6 * POINT, markeredgewidth=1.6 * POINT, gid=f"{arrow.kind}-{frame.names[row]}", **style)
 
 
 def _draw_misses(frame: _Frame, row: int, ticks: Sequence[int]) -> None:
@@ -352,8 +358,7 @@ def _draw_misses(frame: _Frame, row: int, ticks: Sequence[int]) -> None:
                         clip_on=False, gid=f"miss-{frame.names[row]}")
 
 
-def _draw_bars(frame: _Frame, shown: Iterable[Bar], floor: float, unit: float, name: str,
-               **style: Any) -> None:
+def _draw_bars(frame: _Frame, shown: Iterable[Bar], floor: float, unit: float, name: str, **style: Any) -> None:
     """Draws bars on a floor, so high for each unit of speed; narrow ones over the arrows, others below."""
     from matplotlib.collections import PolyCollection
 
@@ -384,8 +389,7 @@ def _label_completion(frame: _Frame, floor: float, done: Completion, text: str) 
     """The units, between release and deadline: above the bars before the completion, or after it, or not."""
     room = LETTER * len(text) + 10
     if frame.room(done.release, done.at) >= room:
-        words(frame.axes, done.at - 4 / frame.scale, floor + frame.bar_height(done.highest) + 4, text,
-              ha="right")
+        words(frame.axes, done.at - 4 / frame.scale, floor + frame.bar_height(done.highest) + 4, text, ha="right")
     elif frame.room(done.at, frame.last if done.due is None else done.due) >= room:
         words(frame.axes, done.at + 5 / frame.scale, floor + frame.bar_height(done.speed) + 4, text)
 

@@ -9,16 +9,6 @@ from rtdvs.rules.state import View
 from rtdvs.rules.step import Summary
 
 __all__ = [
-    "Chooser",
-    "GOVERNORS",
-    "JobView",
-    "Plan",
-    "Priority",
-    "Summary",
-    "View",
-    "Walk",
-    "check",
-    "explain",
-    "last_line",
+    "Chooser", "GOVERNORS", "JobView", "Plan", "Priority", "Summary", "View", "Walk", "check", "explain", "last_line",
     "simulate",
 ]

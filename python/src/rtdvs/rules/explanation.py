@@ -42,8 +42,7 @@ def cause(tick: int, events: Sequence[Release | Done]) -> str:
     done = [(note.task, note.job) for note in events if isinstance(note, Done)]
     causes = ["the start"] if tick == 0 and not released else []
     if released:
-        words = [f"{task} job {job}" + " (it needs nothing)" * ((task, job) in done)
-                 for task, job in released]
+        words = [f"{task} job {job}" + " (it needs nothing)" * ((task, job) in done) for task, job in released]
         causes.append(f"release of {_listed(words)}")
     words = [f"{task} job {job}" for task, job in done if (task, job) not in released]
     if words:

@@ -15,8 +15,7 @@ from rtdvs.trace import Ran, Run, Trace, task_statistics
 PAIRS = (("edf", "none"), ("edf", "static"), ("edf", "cc"), ("edf", "la"),
          ("rm", "none"), ("rm", "static"), ("rm", "cc"))
 
-HEADING = ("scheduler", "governor", "energy", "of_none", "above_bound", "switches", "idle", "least_laxity",
-           "jitter")
+HEADING = ("scheduler", "governor", "energy", "of_none", "above_bound", "switches", "idle", "least_laxity", "jitter")
 
 
 @dataclass(frozen=True, slots=True)

@@ -17,8 +17,7 @@ from rtdvs.model import Demands, Machine, Point, TaskSet
 from rtdvs.studies.comparison import PAIRS, Case, energy_of, runs
 from rtdvs.studies.own import Own, scaled_to
 from rtdvs.studies.published import (
-    PUBLISHED_COUNTS, PUBLISHED_SEED, PUBLISHED_TOP, SetName, published_sets,
-    uunifast_sets,
+    PUBLISHED_COUNTS, PUBLISHED_SEED, PUBLISHED_TOP, SetName, published_sets, uunifast_sets,
 )
 from rtdvs.studies.random_sets import PUBLISHED_TICKS, taken, taken_uniform
 from rtdvs.trace import Done, Idle, Release, Run, Trace
@@ -247,7 +246,8 @@ def _all_energies(engine: Engine, sweep: Sweep, name: SetName, case: Case,
                   kind: str) -> Iterator[tuple[str, Fraction | None]]:
     """The energies of the pairs, and those of the user's own curves, unless their scheduler denies the set."""
     denied = set[str]()
-    for curve, energy in _energies(engine, case, name.number == 1):
+    texts = runs(engine, case, PAIRS)
+    for curve, energy in _energies(engine, case, _recounted(case.machine, texts) if name.number == 1 else texts):
         if energy is None:
             denied.add(curve.split(" ")[0])
         yield curve, energy
@@ -257,17 +257,23 @@ def _all_energies(engine: Engine, sweep: Sweep, name: SetName, case: Case,
         yield from sweep.own.energies(case, kind, name)
 
 
-def _energies(engine: Engine, case: Case, recounted: bool = False) -> Iterator[tuple[str, Fraction | None]]:
-    """The energy of each curve: the seven pairs, and the bound for their units, which all pairs share."""
-    for (scheduler, governor), text in zip(PAIRS, runs(engine, case, PAIRS)):
+def _recounted(machine: Machine, texts: Iterable[str | Denied]) -> Iterator[str | Denied]:
+    """The same texts, each recounted before it is handed on."""
+    for text in texts:
+        if isinstance(text, str):
+            recount(machine, text)
+        yield text
+
+
+def _energies(engine: Engine, case: Case, texts: Iterable[str | Denied]) -> Iterator[tuple[str, Fraction | None]]:
+    """The energy of each curve: the seven pairs, by their texts, and the bound for their units, which all share."""
+    for (scheduler, governor), text in zip(PAIRS, texts):
         if isinstance(text, Denied):
             if scheduler == "edf" and not case.machine.charge:
                 raise text
             yield from ((("bound", None),) if (scheduler, governor) == PAIRS[0] else ())
             yield f"{scheduler} {governor}", None
             continue
-        if recounted:
-            recount(case.machine, text)
         if (scheduler, governor) == PAIRS[0]:
             least = engine.least(case.machine, units_of_text(text), case.ticks)
             yield "bound", Fraction(least.energy, least.rounds)
@@ -283,8 +289,7 @@ def units_of_text(trace: str) -> int:
     return sum(int(line.split(" ", 6)[5]) for line in trace.split("\n") if line.startswith("run "))
 
 
-def evaluate(engine: Engine, folder: Path, sweep: Sweep,
-             executor: Executor) -> Generator[SetName, None, None]:
+def evaluate(engine: Engine, folder: Path, sweep: Sweep, executor: Executor) -> Generator[SetName, None, None]:
     """Runs the sets of a sweep that have no whole results in the folder; yields each name with results.
 
     The executor's workers have to reach the program; the caller's process writes the results. The first
@@ -431,8 +436,7 @@ def shares(records: Iterable[Record]) -> dict[Place, list[Fraction]]:
     return {point: sorted(energies) for point, energies in found.items()}
 
 
-def figure_table(panels: Iterable[Panel], found: Mapping[Place, list[Fraction]],
-                 curves: Iterable[str] = CURVES) -> str:
+def figure_table(panels: Iterable[Panel], found: Mapping[Place, list[Fraction]], curves: Iterable[str] = CURVES) -> str:
     r"""The table of a figure: a line for each panel, curve and utilisation.
 
     It has the number of sets that were admitted, the mean over them and the ends of the middle 80 %, each

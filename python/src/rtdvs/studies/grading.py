@@ -118,8 +118,7 @@ class Asked:
             own = Reader(lines).head
         except TraceFault:
             return self.plan
-        return own if self.plan is None else Head(
-            own.version, self.plan.scheduler, self.plan.governor, self.plan.ticks)
+        return own if self.plan is None else Head(own.version, self.plan.scheduler, self.plan.governor, self.plan.ticks)
 
 
 def said_demands(tasks: TaskSet, machine: Machine, ticks: int, lines: Sequence[str]) -> Demands:
@@ -208,8 +207,7 @@ class Grades(tuple[Grade, ...], Shown):
     def text(self) -> str:
         """The table for a terminal: shares are percent, and the fault and what was mended are at the end."""
         rows = [("file", "lines", "right", "decisions", "right")]
-        rows += [(each.name, *_of(each.lines, each.of_lines), *_of(each.decisions, each.of_decisions))
-                 for each in self]
+        rows += [(each.name, *_of(each.lines, each.of_lines), *_of(each.decisions, each.of_decisions)) for each in self]
         ends = ["first fault", *(_end(each) for each in self)]
         return "".join(f"{row}  {end}\n" for row, end in zip(aligned(rows).splitlines(), ends, strict=True))
 

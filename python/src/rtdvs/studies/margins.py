@@ -6,7 +6,7 @@ A limit is computed, and then the program is asked for it and for the next numbe
 from collections.abc import Callable, Collection, Iterable, Iterator, Mapping, Sequence
 from concurrent.futures import Executor
 from dataclasses import dataclass, replace
-from functools import partial
+from functools import partial, reduce
 from math import lcm
 from operator import mul
 from typing import Self
@@ -124,8 +124,9 @@ def demands_by_level(periods: Sequence[int], test: str) -> list[list[Demand]]:
 class Guess:
     """A limit by formula: for each level the best of its demands, and of these the one that decides.
 
-    `of` gives the last number that a demand allows. `learn` takes the responses of a set that was admitted, by
-    which a limit that was too low rises.
+    `of` gives the last number that a demand allows. Without `within` and `across` it is the greatest that is allowed
+    by one demand of each level. `learn` takes the responses of a set that was admitted, by which a limit that was too
+    low rises.
 
     >>> from rtdvs import Point, Task, find_engine
     >>> tasks = TaskSet((Task("a", 8, 12), Task("b", 10, 12), Task("c", 14, 4)))
@@ -135,10 +136,10 @@ class Guess:
     """
 
     def __init__(self, question: Question, levels: Sequence[Sequence[Demand]], of: Callable[[Demand], int | None],
-                 is_slow: bool = False) -> None:
+                 within: Callable[[int, int], int] = max, across: Callable[[int, int], int] = min) -> None:
         self.periods = [task.period for task in question.tasks]
         self.ranks = {question.tasks[place].name: rank for rank, place in enumerate(self._order())}
-        self.of, self.within, self.across = of, *((min, max) if is_slow else (max, min))
+        self.of, self.within, self.across = of, within, across
         self.best = [self._of_level(level) for level in levels]
 
     def _order(self) -> list[int]:
@@ -146,12 +147,11 @@ class Guess:
 
     def _of_level(self, level: Iterable[Demand]) -> int | None:
         """The number that one of the demands allows; None if each allows any number."""
-        numbers = [number for demand in level if (number := self.of(demand)) is not None]
-        return self.within(numbers, default=None)
+        return _joined(self.within, map(self.of, level))
 
     def number(self) -> int:
         """The last number that all levels allow."""
-        return self.across((number for number in self.best if number is not None), default=0)
+        return _joined(self.across, self.best) or 0
 
     def learn(self, responses: Mapping[str, int]) -> None:
         """Takes the demands up to the responses of a set that was admitted."""
@@ -159,8 +159,13 @@ class Guess:
         for task, time in responses.items():
             rank = self.ranks[task]
             found = self.of(Demand.by(time, self.periods, order[:rank + 1]))
-            both = [number for number in (self.best[rank], found) if number is not None]
-            self.best[rank] = self.within(both, default=None)
+            self.best[rank] = _joined(self.within, (self.best[rank], found))
+
+
+def _joined(of_two: Callable[[int, int], int], numbers: Iterable[int | None]) -> int | None:
+    """The numbers that aren't None, joined two by two; None if there is none."""
+    known = [number for number in numbers if number is not None]
+    return reduce(of_two, known) if known else None
 
 
 def charged(question: Question) -> list[int]:
@@ -319,7 +324,7 @@ def least_speed(question: Question, levels: Sequence[Sequence[Demand]] | None = 
     >>> least_speed(question)
     1
     """
-    guess = Guess(question, levels or levels_of(question), partial(slow_within, question), is_slow=True)
+    guess = Guess(question, levels or levels_of(question), partial(slow_within, question), min, max)
 
     def too_slow(speed: int) -> bool:
         alone = Machine((Point(speed, 1),), 0, question.machine.charge)

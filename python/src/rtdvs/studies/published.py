@@ -7,8 +7,7 @@ from math import floor
 
 from rtdvs.model import TaskSet
 from rtdvs.studies.random_sets import (
-    MODULUS, PUBLISHED_TICKS, LogUniform, divisors, drawn, nearest, numbered, states, unrelated_states,
-    uunifast,
+    MODULUS, PUBLISHED_TICKS, LogUniform, divisors, drawn, nearest, numbered, states, unrelated_states, uunifast,
 )
 
 PUBLISHED_SEED = 2001

@@ -13,9 +13,7 @@ from itertools import islice
 from math import exp, floor, isqrt, lcm, log
 
 from rtdvs.errors import DrawFault
-from rtdvs.model import (
-    LONGEST_HYPERPERIOD, LONGEST_TIME, MOST_SPEED, MOST_TASKS, Demands, Task, TaskSet, jobs_of,
-)
+from rtdvs.model import LONGEST_HYPERPERIOD, LONGEST_TIME, MOST_SPEED, MOST_TASKS, Demands, Task, TaskSet, jobs_of
 
 MODULUS = 2**31 - 1
 FACTOR = 48271
@@ -125,8 +123,7 @@ class LogUniform:
     multiple: int = PUBLISHED_TICKS
 
     def __post_init__(self) -> None:
-        require(1 <= self.low <= self.high <= LONGEST_TIME,
-                f"low is 1 to high, and high at most {LONGEST_TIME}")
+        require(1 <= self.low <= self.high <= LONGEST_TIME, f"low is 1 to high, and high at most {LONGEST_TIME}")
         require(1 <= self.multiple <= LONGEST_HYPERPERIOD, f"multiple is 1 to {LONGEST_HYPERPERIOD}")
 
     def draw(self, count: int, stream: Iterator[int]) -> list[int]:
@@ -176,8 +173,7 @@ def uunifast(count: int, utilisation: Fraction, seed: int, periods: Listed | Log
     longest = max(range(count), key=lambda place: (times[place], place))
     others = sum(Fraction(worsts[place], times[place]) for place in range(count) if place != longest)
     worsts[longest] = floor((utilisation * top - others) * times[longest])
-    require(worsts[longest] >= 1,
-            "no unit is left for the task with the longest period; a higher top may leave one")
+    require(worsts[longest] >= 1, "no unit is left for the task with the longest period; a higher top may leave one")
     return numbered(times, worsts)
 
 

@@ -10,53 +10,16 @@ from rtdvs.trace._noted import Noted
 from rtdvs.trace.file import TraceFile
 from rtdvs.trace.jobs import Job, Ran, ran_at
 from rtdvs.trace.misses import Miss, Missed, split_governor
-from rtdvs.trace.notes import (
-    Decision, Done, End, Head, Idle, Line, Note, Position, Release, Run, TaskEnergy, task_text,
-)
+from rtdvs.trace.notes import Decision, Done, End, Head, Idle, Line, Note, Position, Release, Run, TaskEnergy, task_text
 from rtdvs.trace.reader import NO_FRACTION, Reader, closing_fault, lines_of, parse_lines
 from rtdvs.trace.per_task import COLUMNS, Statistics, TaskStatistics, task_statistics
 from rtdvs.trace.tables import REALS, TABLES, csv_lines, csv_text, frame, rows, ticks
 from rtdvs.trace.whole import SAMPLE, Trace
 
 __all__ = [
-    "COLUMNS",
-    "Decision",
-    "Done",
-    "End",
-    "Head",
-    "Idle",
-    "Job",
-    "Line",
-    "Miss",
-    "Missed",
-    "NO_FRACTION",
-    "Note",
-    "Noted",
-    "Position",
-    "REALS",
-    "Ran",
-    "Reader",
-    "Release",
-    "Run",
-    "SAMPLE",
-    "Statistics",
-    "TABLES",
-    "TaskEnergy",
-    "TaskStatistics",
-    "Trace",
-    "TraceFile",
-    "closing_fault",
-    "csv_lines",
-    "csv_text",
-    "frame",
-    "lines_of",
-    "parse_lines",
-    "ran_at",
-    "rows",
-    "split_governor",
-    "task_statistics",
-    "task_text",
-    "ticks",
-    "wrong_energy",
+    "COLUMNS", "Decision", "Done", "End", "Head", "Idle", "Job", "Line", "Miss", "Missed", "NO_FRACTION", "Note",
+    "Noted", "Position", "REALS", "Ran", "Reader", "Release", "Run", "SAMPLE", "Statistics", "TABLES", "TaskEnergy",
+    "TaskStatistics", "Trace", "TraceFile", "closing_fault", "csv_lines", "csv_text", "frame", "lines_of",
+    "parse_lines", "ran_at", "rows", "split_governor", "task_statistics", "task_text", "ticks", "wrong_energy",
     "wrong_sums",
 ]

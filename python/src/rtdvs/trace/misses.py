@@ -83,8 +83,7 @@ def late_jobs(notes: Iterable[Placed], jobs: Iterable[Job], ticks: int) -> tuple
     >>> late_jobs([], [Job("a", 1, 0, deadline=4), Job("a", 2, 4, deadline=8)], ticks=4)
     (Miss(task='a', job=1, due=4, used=0),)
     """
-    due = {(job.task, job.number): job.deadline for job in jobs
-           if job.deadline is not None and is_late(job, ticks)}
+    due = {(job.task, job.number): job.deadline for job in jobs if job.deadline is not None and is_late(job, ticks)}
     used = dict.fromkeys(due, 0)
     for _, note, _ in notes:
         if isinstance(note, Run) and (note.task, note.job) in due and note.end <= (due[note.task, note.job], 0):

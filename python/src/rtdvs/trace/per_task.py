@@ -1,6 +1,6 @@
 """Statistics of a trace: a line for each task."""
 
-from collections.abc import Iterable, Iterator, Mapping
+from collections.abc import Iterator, Mapping
 from dataclasses import dataclass
 from fractions import Fraction
 
@@ -38,7 +38,7 @@ class TaskStatistics:
 
     `complete` are the jobs that are complete within the run, and `missed` those that weren't at their deadlines.
 
-    >>> statistics_of("t", [Job("t", 1, 0, 4, completion=Fraction(5, 2))], ticks=4).row(1)
+    >>> TaskStatistics("t").plus(Job("t", 1, 0, 4, completion=Fraction(5, 2)), ticks=4).row(1)
     ('t', '1', '1', '0', '2.5', '2.5', '0.0', '1.5', '0', '0')
     """
 
@@ -51,7 +51,12 @@ class TaskStatistics:
     energy: int = 0
 
     def plus(self, job: Job, ticks: int) -> "TaskStatistics":
-        """With one more job, of a run of these ticks."""
+        """With one more job, of a run of these ticks.
+
+        >>> one = TaskStatistics("t").plus(Job("t", 1, 0, 4, completion=Fraction(5, 2)), ticks=6)
+        >>> one.plus(Job("t", 2, 4, 8), ticks=6).mean_response
+        Fraction(5, 2)
+        """
         response, laxity, least = job.response, job.laxity, self.least_laxity
         return TaskStatistics(
             self.task, self.jobs + 1, self.missed + is_late(job, ticks),
@@ -96,22 +101,10 @@ KINDS = {"task": "object", "jobs": "int64", "complete": "int64", "missed": "int6
 COLUMNS = tuple(KINDS)
 
 
-def statistics_of(task: str, jobs: Iterable[Job], ticks: int) -> TaskStatistics:
-    """The statistics of some jobs of a task, of a run of these ticks.
-
-    >>> statistics_of("t", [Job("t", 1, 0, 4, completion=Fraction(5, 2)), Job("t", 2, 4, 8)], 6).mean_response
-    Fraction(5, 2)
-    """
-    found = TaskStatistics(task)
-    for job in jobs:
-        found = found.plus(job, ticks)
-    return found
-
-
 class Statistics(tuple[TaskStatistics, ...], Shown):
     """The statistics of each task, as a tuple that a notebook shows as a table.
 
-    >>> Statistics([statistics_of("t", [Job("t", 1, 0, 4)], 0)]).frame()["jobs"].tolist()
+    >>> Statistics([TaskStatistics("t", jobs=1)]).frame()["jobs"].tolist()
     [1]
     """
 

@@ -6,13 +6,8 @@ from functools import cache, lru_cache, partial
 from typing import TextIO
 
 from rtdvs.errors import TraceFault
-from rtdvs.model import (
-    GREATEST, LONGEST_LINE, LONGEST_TIME, MOST_LINES, MOST_TASKS, MOST_TICKS, MOST_WORK, Task,
-)
-from rtdvs.trace.notes import (
-    TASK_FORM, Decision, Done, End, Head, Idle, Item, Line, Position,
-    Release, Run, TaskEnergy,
-)
+from rtdvs.model import GREATEST, LONGEST_LINE, LONGEST_TIME, MOST_LINES, MOST_TASKS, MOST_TICKS, MOST_WORK, Task
+from rtdvs.trace.notes import TASK_FORM, Decision, Done, End, Head, Idle, Item, Line, Position, Release, Run, TaskEnergy
 
 
 def _up_to(limit: int) -> str:

@@ -104,8 +104,7 @@ def _cell_text(cell: Cell, table: str) -> str:
     return "" if cell is None else str(cell)
 
 
-def frame(trace: Noted, table: str = "segments", joule: Fraction | None = None,
-          charge: int = 0) -> "pandas.DataFrame":
+def frame(trace: Noted, table: str = "segments", joule: Fraction | None = None, charge: int = 0) -> "pandas.DataFrame":
     """A table of a trace as a pandas frame; ImportError without pandas.
 
     Times are floats of ticks. Energies are Python's integers, so their sums are exact. With `joule`, the

@@ -60,8 +60,7 @@ class Example:
     def files(self) -> dict[str, str]:
         """The files, in which a field that isn't a whole number stays a text, so that it is refused there."""
         settings = [f"{name} = {_value(self.single[name])}" for name in ("idle", "charge") if self.single[name]]
-        files = {"tasks": _tables("task", self.tasks),
-                 "machine": "\n".join([*settings, _tables("point", self.points)])}
+        files = {"tasks": _tables("task", self.tasks), "machine": "\n".join([*settings, _tables("point", self.points)])}
         if self.demands:
             worsts = {task["name"]: task["worst"] for task in self.tasks}
             rows = [",".join(map(_quoted, (row["task"], row["job"], _units(row["units"], worsts.get(row["task"], "")))))

@@ -230,6 +230,7 @@ class _Timely(RawIOBase):
 class _Handler(BaseHTTPRequestHandler):
     """Answers one request."""
 
+    rfile: BufferedReader
     server: PageServer
     server_version, sys_version = "rtdvs", ""
     requestline = command = ""
@@ -332,7 +333,7 @@ class _Handler(BaseHTTPRequestHandler):
         self._answer(status, {"refused": line or status.phrase, "field": ""})
         left = min(length, 16 * MOST_BODY)
         try:
-            while left > 0 and (part := self.rfile.read1(min(left, 2**16))):  # type: ignore[attr-defined]
+            while left > 0 and (part := self.rfile.read1(min(left, 2**16))):
                 left -= len(part)
         except OSError:
             pass
