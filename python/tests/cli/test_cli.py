@@ -74,7 +74,8 @@ def test_help_of_each_command(command: str, capsys: Captured) -> None:
 
 @pytest.mark.parametrize("command", COMMANDS)
 def test_unknown_option_of_each_command(command: str, capsys: Captured) -> None:
-    assert refusal(capsys, [command, "--foo"]).startswith("usage: python3 -m rtdvs ")
+    of_board = ["--board", "board.toml"] if command in PROGRAM else []
+    assert refusal(capsys, [command, *of_board, "--foo"]).startswith("usage: python3 -m rtdvs ")
 
 
 def test_no_word(capsys: Captured) -> None:

@@ -587,7 +587,7 @@ def option_words(parser: argparse.ArgumentParser, path: tuple[str, ...] = ()) ->
             yield " ".join(path), action.option_strings[-1]
 
 
-WITH_BOARDS = {"compare", "statistics", "sensitivity", "plot trace", "plot compare"}
+WITH_BOARDS = {"compare", "statistics", "response", "sensitivity", "plot trace", "plot compare", "page"}
 
 
 def test_each_option_is_in_a_row() -> None:
@@ -598,6 +598,7 @@ def test_each_option_is_in_a_row() -> None:
               *(words for words, *_ in EVALUATIONS), GRADES, OWN, *UNCHECKED, "serve --port"]
     shared = {"--program", "--timeout", "--version"}
     of_boards = {"--ms", *(option for _, option in option_words(boards))}
+    called.append("response --tasks --machine")    # test_program.py calls the program
     for command, option in option_words(cli.parser()):
         if command in WITH_BOARDS and option in of_boards or option in ("--missed", "--lesson"):
             continue
