@@ -44,10 +44,10 @@ def _traces_data(args: argparse.Namespace) -> dict[str, object]:
     traces: list[Input] = args.trace
     if not 1 <= len(traces) <= 2:
         raise BadValue(f"{len(traces)} traces, at most 2" if traces else "a trace or two, or --lesson")
-    given = read_given(args)
     for kind in ("tasks", "machine"):
-        if getattr(given, kind) is None:
-            raise BadValue(f"a page of traces needs --{kind}, or --board")
+        if args.board is None and getattr(args, kind) is None:
+            raise BadValue(f"a page of traces needs --{kind}")
+    given = read_given(args)
     assert given.tasks and given.machine
     labels = ("A", "B") if len(traces) == 2 else ("",)
     texts = {label: read_text(source, "trace") for label, source in zip(labels, traces, strict=True)}
