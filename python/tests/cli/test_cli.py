@@ -104,6 +104,16 @@ def test_usage(words: list[str], stub: Stub, capsys: Captured) -> None:
     assert "python3 -m rtdvs" in refusal(capsys, words)
 
 
+@pytest.mark.parametrize(("word", "line"), [
+    ("Compare", "no command Compare; near it is compare; --help lists all"),
+    ("replays", "no command replays; near it is replay; --help lists all"),
+    ("xyz", "no command xyz; --help lists all"),
+])
+def test_unknown_command(word: str, line: str, capsys: Captured) -> None:
+    """What is near is found among the package's commands and the program's."""
+    assert refusal(capsys, [word]).endswith(f": error: {line}\n")
+
+
 def test_two_files_from_one_input(stub: Stub, capsys: Captured, monkeypatch: pytest.MonkeyPatch) -> None:
     stub(lambda args: 0)
     monkeypatch.setattr(sys, "stdin", standard_input(b"x"))

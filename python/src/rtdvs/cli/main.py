@@ -6,6 +6,7 @@ import signal
 import sys
 from collections.abc import Iterator, Sequence
 from contextlib import contextmanager
+from difflib import get_close_matches
 from importlib import import_module
 from pathlib import Path
 
@@ -84,6 +85,8 @@ def _handled(words: Sequence[str], name: str, args: argparse.Namespace) -> int:
             program = import_module("rtdvs.cli.program")
             return int(program.hand_on(words, engine_of(argparse.Namespace(program=None, timeout=None))))
         top = parser(name, *words[:1])
+        if words and words[0] not in COMMANDS and not words[0].startswith("-"):
+            top.error(_unknown(words[0]))
         top.parse_args(words or ["--help"], args)
         lists = (value if isinstance(value, list) else [value] for value in vars(args).values())
         if sum(isinstance(value, bytes) for values in lists for value in values) > 1:
@@ -91,6 +94,16 @@ def _handled(words: Sequence[str], name: str, args: argparse.Namespace) -> int:
         return int(args.handler(args))
     except SystemExit as end:
         return end.code if isinstance(end.code, int) else 0
+
+
+def _unknown(word: str) -> str:
+    """What is said of a word that is no command.
+
+    >>> _unknown("Compare"), _unknown("x")
+    ('no command Compare; near it is compare; --help lists all', 'no command x; --help lists all')
+    """
+    near = get_close_matches(word.lower(), [*COMMANDS, *PROGRAM], 1)
+    return "; ".join([f"no command {word}", *(f"near it is {each}" for each in near), "--help lists all"])
 
 
 def _is_of_board(words: Sequence[str]) -> bool:
