@@ -225,6 +225,7 @@ def first_window(traces: Mapping[str, Trace], tasks: int) -> int:
 def page_data(texts: Mapping[str, str], shown: Shown, notes: Mapping[str, str] = {}) -> dict[str, object]:
     """The data of a page of traces, by their labels, some with a note; raises TraceFault, WrongTrace and Denied."""
     charge, traces = 2 * shown.machine.charge, {label: Trace.parse(text) for label, text in texts.items()}
+    first, *others = traces.values()
     return {
         "tasks": [{"name": task.name, "period": task.period, "worst": str(task.worst + charge)}
                   for task in shown.tasks],
@@ -234,7 +235,7 @@ def page_data(texts: Mapping[str, str], shown: Shown, notes: Mapping[str, str] =
         "window": first_window(traces, len(shown.tasks)),
         "sheets": [sheet(texts[label], trace, replace(shown, note=notes.get(label, "")), label)
                    for label, trace in traces.items()],
-        "apart": apart(*traces.values(), units=shown.units) if len(traces) == 2 else None,
+        "apart": apart(first, others[0], shown.units) if others else None,
     }
 
 
