@@ -165,25 +165,30 @@ def test_picture_of_a_trace() -> None:
     assert found[1] == []
 
 
+@pytest.fixture
+def picture(board: Path, capsys: Captured) -> list[str]:
+    """The words of a picture of 8 ms, in ticks of 0.5 ms: 500 MHz are 250 units a tick."""
+    pytest.importorskip("matplotlib")
+    made, trace = board.parent / "half", board.parent / "half.trace"
+    printed(capsys, ["design", "--board", board, "--tick-ms", "0.5", "--unit-cycles", "1000", "--folder", made])
+    words = ["simulate", *options(made), "--scheduler", "edf", "--governor", "static", "--ticks", "16"]
+    trace.write_text(printed(capsys, words))
+    return ["plot", "trace", *map(str, ("--board", board, "--folder", made, "--trace", trace)),
+            "--output", str(board.parent / "a.svg")]
+
+
 @pytest.mark.parametrize(("words", "title", "top"), [
     pytest.param(["--from", "1.5", "--to", "6.5", "--top", "1000"], "edf, static: ms 1.5 to 6.5 of 8", "1000", id="ticks"),
     pytest.param(["--from", "1.75", "--to", "6.1"], "edf, static: ms 1.5 to 6.5 of 8", "500", id="within ticks"),
     pytest.param(["--from", "0", "--to", "8", "--top", "700.5"], "edf, static: 8 ms", "702", id="all"),
 ])
-def test_times_of_a_picture(words: list[str], title: str, top: str, board: Path, run: Path, capsys: Captured,
+def test_times_of_a_picture(words: list[str], title: str, top: str, picture: list[str], capsys: Captured,
                             monkeypatch: pytest.MonkeyPatch) -> None:
     """With a board they are milliseconds and MHz, of which each part of a tick counts, of 0.5 ms and 2 MHz here."""
-    pytest.importorskip("matplotlib")
-    scale = ["--tick-ms", "0.5", "--unit-cycles", "1000"]
-    made = board.parent / "half"
-    printed(capsys, ["design", "--board", board, *scale, "--folder", made])
-    trace = printed(capsys, ["simulate", *options(made), "--scheduler", "edf", "--governor", "static", "--ticks", "16"])
-    run.write_text(trace)
-    given, path = ["--board", str(board), "--folder", str(made), "--trace", str(run)], board.parent / "a.svg"
     monkeypatch.setattr("rtdvs.plot.schedule.save", lambda figure, path, background: path.write_text(
         "\n".join(text.get_text() for text in texts(figure))))
-    printed(capsys, ["plot", "trace", *given, *words, "--output", path])
-    said = path.read_text()
+    printed(capsys, [*picture, *words])
+    said = Path(picture[-1]).read_text()
     assert title in said and f"run (full height: {top})" in said
 
 
@@ -194,10 +199,8 @@ def test_times_of_a_picture(words: list[str], title: str, top: str, board: Path,
     (["--charge", "0"], "--charge has no place beside --board, which has it"),
     (["--from", "-1"], "a whole number from 0 on, not -1"),
 ], ids=" ".join)
-def test_refusals_of_a_picture(words: list[str], line: str, board: Path, run: Path, capsys: Captured) -> None:
-    pytest.importorskip("matplotlib")
-    given = ["--board", board, "--folder", board.parent / "made", "--trace", run, "--output", board.parent / "a.svg"]
-    assert line in refusal(capsys, ["plot", "trace", *given, *words])
+def test_refusals_of_a_picture(words: list[str], line: str, picture: list[str], capsys: Captured) -> None:
+    assert line in refusal(capsys, [*picture, *words])
 
 
 @pytest.mark.parametrize("usual", ["", "usual_cycles = 750_000\n"], ids=["worst", "usual"])
