@@ -193,12 +193,12 @@ def test_times_of_a_picture(words: list[str], title: str, top: str, picture: lis
 
 
 @pytest.mark.parametrize(("words", "line"), [
-    (["--to", "8.5"], "--to has to be at most 8, the ms of the run"),
-    (["--from", "6", "--to", "6"], "--from has to be below 6"),
-    (["--top", "499"], "--top has to be at least 500, the fastest speed"),
-    (["--charge", "0"], "--charge has no place beside --board, which has it"),
-    (["--from", "-1"], "a whole number from 0 on, not -1"),
-], ids=" ".join)
+    pytest.param(["--to", "8.5"], "--to has to be at most 8, the ms of the run", id="beyond the end"),
+    pytest.param(["--from", "6", "--to", "6"], "--from has to be below 6", id="nothing"),
+    pytest.param(["--top", "498"], "--top has to be at least 500, the fastest speed", id="too low"),
+    pytest.param(["--charge", "0"], "--charge has no place beside --board, which has it", id="charge"),
+    pytest.param(["--from", "-1"], "a whole number from 0 on, not -1", id="below 0"),
+])
 def test_refusals_of_a_picture(words: list[str], line: str, picture: list[str], capsys: Captured) -> None:
     assert line in refusal(capsys, [*picture, *words])
 
