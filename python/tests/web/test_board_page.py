@@ -18,7 +18,7 @@ from rtdvs.rules import simulate
 from rtdvs.trace import Trace
 from rtdvs.web import Shown, page_data
 from tests.board.test_energy import VOLTS
-from tests.shared.browsing import Browser, click, open_data, text, until
+from tests.shared.browsing import Browser, click, open_data, sized, text, until
 from tests.shared.examples import Captured, options, printed, refusal
 from tests.web.test_data import data_of, sheet_of, unpacked
 
@@ -97,6 +97,15 @@ def test_sentences(units: Units, browser: Browser, tmp_path: Path) -> None:
         "done": "a job 1 is complete at 6 (3 ms) with 1500 of 1500 units (1500 kcycles)",
         "idle": "idle from 6 (3 ms) to 8 (4 ms) at speed 250 (500 MHz): 500 units (500 kcycles)",
         "decision": "decision at tick 0 (0 ms): speed 250 (500 MHz) for 1500/8 (375 MHz)"}
+
+
+def test_a_narrow_window(units: Units, browser: Browser, tmp_path: Path) -> None:
+    """No text of the picture begins left of it, and the line of times is whole."""
+    sized(browser, 390, 900)
+    opened_page(browser, tmp_path, page_data({"": run(units).text()}, shown(units)))
+    edges = browser.execute_script("return [...document.querySelectorAll('.small, .name, .axis text, #where')].map("
+                                   "(each) => each.getBoundingClientRect()).map(({ left, right }) => [left, right])")
+    assert len(edges) > 8 and all(left >= 0 and right <= 390 for left, right in edges)
 
 
 def test_where_two_schedules_part(units: Units) -> None:

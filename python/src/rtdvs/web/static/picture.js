@@ -127,9 +127,11 @@ function drawRow(pen, row, place) {
   const name = draw(group, "text", { class: "name", x: pen.left - 10, y: floor - 18, "text-anchor": "end" });
   name.textContent = task.name.length > most ? `${task.name.slice(0, most - 1)}…` : task.name;
   draw(name, "title", {}).textContent = task.name;
-  const period = `period ${beside(task.period, "ms")}`, facts = `${period}, worst ${task.worst}`;
+  const isNarrow = pen.left !== GUTTER, { board } = state.data;
+  const period = board && isNarrow ? `${inBoard(task.period, "ms")} ms` : `period ${beside(task.period, "ms")}`;
+  const facts = `${period}, worst ${task.worst}`;
   draw(group, "text", { class: "small", x: pen.left - 10, y: floor - 3, "text-anchor": "end" }).textContent =
-    facts.length > 23 || most < 15 ? period : facts;
+    facts.length > 23 || isNarrow ? period : facts;
   drawMarks(inner, "run", row.runs, RUNS, (run) =>
     bar(pen.x(run.begin), pen.rightOf(run), floor, height(run.speed)));
   drawMarks(inner, "release", row.jobs, RELEASES, (job) => arrowUp(pen.x(job.release), floor));
