@@ -13,7 +13,7 @@ use Rattle.statuses.specs.declared.status.Status.{Status}
 use Rattle.statuses.specs.declared.status.Status.TheVariants as status
 use Rattle.statuses.specs.Status.{code_of, CountsPuts, IsShown, Leaves}
 use Rattle.rtdvs_c.specs.declared.files.CallShelf.{CallShelf}
-use Rattle.rtdvs_c.specs.declared.text.GrownText.{GrownText}
+use Rattle.rtdvs_c.specs.Texts.{TextView}
 use Rattle.std.specs.Prelude.{IfOk, IsOk}
 use Rattle.statuses.specs.StatusLines.{status_text}
 use Rattle.statuses.specs.ProbeLines.{probe_lines}
@@ -29,7 +29,8 @@ use Rattle.rtdvs_top.specs.Asked.{with_files}
 use Rattle.rtdvs_top.specs.Promised.{Promised, outside_of}
 use Rattle.rtdvs_top.specs.Promises.{answer_of_command, Answers, Writes, IsDoneOrDenied, ProvesRun, AdmitsByTest, ProvesTests, ProvesPoll, ProvesLeast, TellsProbes}
 use Rattle.rtdvs_c.specs.declared.TheConstants.{NO_MEMORY}
-use Rattle.rtdvs_c.specs.Replies.{ReplyView, shown_shelf, reply_from, status_of, text_of, told_by, probes_after}
+use Rattle.rtdvs_c.specs.declared.reply.Reply.{Reply}
+use Rattle.rtdvs_c.specs.Replies.{ReplyView, Shows, shown_shelf, reply_from, status_of, text_of, told_by, probes_after}
 use Rattle.rtdvs_c.specs.Proves.{holding, status_at, answered, IsAnsweredOrDenied, ProvesCommand, Proves, IsReply}
 
 -- what the top call promises over these files, if both texts were empty and no put failed
@@ -207,10 +208,10 @@ if-ok (Ok value) f h = f refl value h
 if-ok (Err e) f h = tt
 
 -- what the sink of the answer is left with, if no put failed
-pub left-none : (s : Status) (old new : GrownText) → s ≢ status.Write → old.bytes.items ≡ [] → Leaves s old new → HasNoText s new.bytes.items
+pub left-none : (s : Status) (old new : TextView) → s ≢ status.Write → old.bytes ≡ [] → Leaves s old new → HasNoText s new.bytes
 left-none status.Done old new written empty leaves = tt
 left-none status.Write old new written empty leaves = absurd (written refl)
-left-none s old new written empty leaves = ap (λ (t : GrownText). t.bytes.items) leaves ∙ empty
+left-none s old new written empty leaves = ap (λ (t : TextView). t.bytes) leaves ∙ empty
 
 -- what a text that is written shows
 abbrev pub grown : List ℕ → ℕ → SinkView
@@ -256,10 +257,10 @@ code-memory (status.Differs line wanted found) memory = λ e. absurd (cc)
 code-memory status.Write memory = λ e. absurd (cc)
 
 pub is-reply : (files : Files) (asked : Result CommandView WordFault) (s : Status) (text noted : List ℕ) (old new : CallShelf)
-    (after : List ProbeView) (r : ReplyView) → Left s text → PromisedWhole files asked old new text noted after s
-    → IsShown s → r ≡ record { code = code_of s; text = text; notes = noted } → IsReply files (Some asked) r
-is-reply files asked s text noted old new after r left p shown is = record {
-  reply = is ∙ replies-of files asked s text noted old new after left p;
+    (after : List ProbeView) (most : ℕ) (r : Reply) → Left s text → PromisedWhole files asked old new text noted after s
+    → IsShown s → Shows most r (record { code = code_of s; text = text; notes = noted }) → IsReply files (Some asked) most r
+is-reply files asked s text noted old new after most r left p shown is = record {
+  reply = subst (Shows most r) (replies-of files asked s text noted old new after left p) is;
   proves = proves-of files asked s text noted old new after shown left p;
-  memory = λ e. code-memory s left.memory (sym (ap (λ (x : ReplyView). x.code) is) ∙ e);
+  memory = λ e. code-memory s left.memory (sym is.code ∙ e);
 }

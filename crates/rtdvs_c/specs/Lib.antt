@@ -1,3 +1,4 @@
 pub mod WordList
 pub mod Replies
 pub mod Proves
+pub mod Texts

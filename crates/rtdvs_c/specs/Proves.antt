@@ -22,7 +22,8 @@ use Rattle.rtdvs_top.specs.Response.{MeansPlan, RespondsOrIsDenied}
 use Rattle.rtdvs_top.specs.Trace.{AcceptsScheduleTexts}
 use Rattle.rtdvs_top.specs.Promises.{answer_of_command, MeansRun, IsDeniedBy, ProvesRun, AdmitsByTest, ProvesTests, ProvesPoll, ProvesLeast}
 use Rattle.rtdvs_c.specs.declared.TheConstants.{NO_MEMORY}
-use Rattle.rtdvs_c.specs.Replies.{ReplyView, reply_if, status_of, text_of}
+use Rattle.rtdvs_c.specs.declared.reply.Reply.{Reply}
+use Rattle.rtdvs_c.specs.Replies.{Shows, reply_if, status_of, text_of}
 
 -- the status of a command's answer
 abbrev pub status_at : Files → CommandView → Status
@@ -88,7 +89,7 @@ Proves files (Some (Ok c)) = ProvesCommand files c
 Proves files asked = ⊤
 
 -- a reply to these words, over these files: what it is, and what its answer proves; memory did not run out
-pub record IsReply (files : Files) (asked : Option (Result CommandView WordFault)) (r : ReplyView) : Type 0 where
-  pub reply : r ≡ reply_if asked files
+pub record IsReply (files : Files) (asked : Option (Result CommandView WordFault)) (most : ℕ) (r : Reply) : Type 0 where
+  pub reply : Shows most r (reply_if asked files)
   pub proves : Proves files asked
   pub memory : r.code ≢ NO_MEMORY

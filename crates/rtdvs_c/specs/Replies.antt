@@ -1,5 +1,5 @@
 -- What a call replies, as a function of its words and its files.
-use Rattle.std.specs.Prelude.{ℕ, ◌-◌, List, [], ◌∷◌, ◌++◌, codes, length, take, drop, nat_le, if◌then◌else◌, Option, Some, None, Result, Ok, Err}
+use Rattle.std.specs.Prelude.{ℕ, ◌-◌, ◌≡◌, List, [], ◌∷◌, ◌++◌, codes, length, take, drop, nat_le, if◌then◌else◌, Option, Some, None, Result, Ok, Err}
 use Rattle.dvs_base.specs.Outside.{Files, ShelfView}
 use Rattle.dvs_base.specs.Widths.{u64_end}
 use Rattle.dvs_base.specs.Checks.{◌>>=◌}
@@ -25,6 +25,7 @@ use Rattle.rtdvs_c.specs.declared.files.CallFiles.{CallFiles}
 use Rattle.rtdvs_c.specs.declared.files.CallShelf.{CallShelf}
 use Rattle.rtdvs_c.specs.declared.reply.Reply.{Reply}
 use Rattle.rtdvs_c.specs.WordList.{asked_by}
+use Rattle.rtdvs_c.specs.Texts.{last}
 
 -- the files of a call by their names; the third has four names, one for each option that it can be the file of
 abbrev pub call_files : List ℕ → List ℕ → List ℕ → Files
@@ -100,6 +101,9 @@ lengths_of r = record { out = length r.text; notes = length r.notes }
 abbrev pub filled : List ℕ → List ℕ → List ℕ
 filled room text = take (length room) text ++ drop (length text) room
 
--- what a reply of the code shows
-abbrev pub shown_reply : Reply → ReplyView
-shown_reply r = record { code = r.code; text = r.text.items; notes = r.notes.items }
+-- what the code keeps of a reply: the last `most` bytes of the answer's text, its length, and all else
+pub record Shows (most : ℕ) (kept : Reply) (r : ReplyView) : Type 0 where
+  pub code : kept.code ≡ r.code
+  pub end : kept.end.items ≡ last most r.text
+  pub len : kept.len ≡ length r.text
+  pub notes : kept.notes.items ≡ r.notes

@@ -10,11 +10,12 @@
 //! of each answer. Nothing is opened, read, written or printed.
 #![tactic(auto)]
 
-ghost use Rattle.std.specs.Prelude.{◌≡◌, ◌≢◌, length};
-ghost use Rattle.rtdvs_c.specs.Replies.{call_files, code_for, filled, lengths_of, reply_of, shown_reply};
+ghost use Rattle.std.specs.Prelude.{◌≡◌, ◌≢◌, length, nat_le, if◌then◌else◌};
+ghost use Rattle.rtdvs_c.specs.Replies.{call_files, code_for, filled, lengths_of, reply_of};
 ghost use Rattle.rtdvs_c.specs.WordList.{asked_by};
 ghost use Rattle.rtdvs_c.specs.Proves.{Proves};
 
+mod end;
 mod files;
 mod reply;
 #[cfg(test)]
@@ -43,21 +44,33 @@ pub struct Lengths {
     pub notes: usize,
 }
 
-// Copies as much of the text as there is room for, and returns the text's length.
-fn fill(room: &mut [u8], text: &[u8]) -> usize
-    ensures room { room.new ≡ filled room.old text.now }
-    ensures len { result ≡ length text.now }
+// Copies as much of the text as there is room for.
+fn fill(room: &mut [u8], text: &[u8])
+    ensures { room.new ≡ filled room.old text.now }
 {
     let len = room.len().min(text.len());
     room[..len].copy_from_slice(&text[..len]);
-    text.len()
+}
+
+// Gives as much of the texts of a reply as there is room for, and returns the lengths of the whole answer and notes.
+pub(crate) fn give(reply: &Reply, out: &mut [u8], notes: &mut [u8]) -> Lengths
+    ensures out { out.new ≡ filled out.old reply.now.end.items }
+    ensures notes { notes.new ≡ filled notes.old reply.now.notes.items }
+    ensures lengths { result ≡ record { out = reply.now.len; notes = length reply.now.notes.items } }
+{
+    fill(out, &reply.end);
+    fill(notes, &reply.notes);
+    Lengths {
+        out: reply.len,
+        notes: reply.notes.len(),
+    }
 }
 
 // The exit status, if there is room for this many bytes of the answer.
 fn code_of(reply: &Reply, room: usize) -> u8
-    ensures { result ≡ code_for room (shown_reply reply.now) }
+    ensures { result ≡ (if nat_le reply.now.len room then reply.now.code else NO_ROOM) }
 {
-    if reply.text.len() <= room {
+    if reply.len <= room {
         reply.code
     } else {
         NO_ROOM
@@ -106,12 +119,9 @@ pub extern "C" fn rtdvs_call(
         machine,
         list,
     };
-    match reply_to(alloc, words, files) {
+    match reply_to(alloc, words, files, usize::MAX) {
         Ok(reply) => {
-            *lengths = Lengths {
-                out: fill(out, &reply.text),
-                notes: fill(notes, &reply.notes),
-            };
+            *lengths = give(&reply, out, notes);
             code_of(&reply, out.len())
         }
         Err(AllocError) => {

@@ -3,45 +3,49 @@ ghost use Rattle.std.specs.Prelude.{◌≡◌, ◌≢◌, map, string_bytes, IfO
 ghost use Rattle.statuses.specs.Status.{code_of};
 ghost use Rattle.probes.specs.Program.{program_probes};
 ghost use Rattle.words.specs.Reading.{command_of};
-ghost use Rattle.rtdvs_c.specs.Replies.{held_by, shown_reply};
+ghost use Rattle.rtdvs_c.specs.Replies.{held_by, Shows};
 ghost use Rattle.rtdvs_c.specs.WordList.{asked_by};
 ghost use Rattle.rtdvs_c.specs.Proves.{IsReply};
 
 use crate::NO_WORDS;
 use crate::files::{CallFiles, CallShelf};
-use crate::text::GrownText;
+use crate::text::EndText;
 use crate::word_list::{WordsFault, read_words};
 use dvs_base::Loaded;
 use probes::{Probe, ProgramProbes};
 use rtdvs_top::{Status, rtdvs};
 use std::alloc::{AllocError, Global};
 
-/// What a call replies: its exit status, the answer's text, and the lines of the notes.
+/// What a call replies: its exit status, the end of the answer's text and the length of the whole, and the lines of the
+/// notes.
 #[derive(Drop)]
 pub(crate) struct Reply {
     pub(crate) code: u8,
-    pub(crate) text: Vec<u8>,
+    pub(crate) end: Vec<u8>,
+    pub(crate) len: usize,
     pub(crate) notes: Vec<u8>,
 }
 
-// The reply of a call that ended with this status, and with these texts. It fails if memory ran out, which is the
-// one reason why a put of these texts fails.
-fn ended(status: Status, out: GrownText, notes: GrownText) -> Result<Reply, AllocError>
-    ensures reply { IfOk result (λ reply. shown_reply reply
-        ≡ record { code = code_of status; text = out.bytes.items; notes = notes.bytes.items }) }
+// The reply of a call that ended with this status, and with these texts, of which the last `most` bytes of the answer are
+// asked for. It fails if memory ran out, which is the one reason why a put of these texts fails.
+fn ended(status: Status, out: EndText, notes: EndText, most: usize) -> Result<Reply, AllocError>
+    ensures reply { IfOk result (λ reply. Shows most reply
+        (record { code = code_of status; text = out.bytes; notes = notes.bytes })) }
     ensures written { IsOk result → status ≢ Status.Write }
     ensures memory { IsOk result → status ≢ Status.NoMemory }
     ensures noted { IsOk result → notes.faults ≡ 0 }
 {
-    if notes.faults > 0 {
+    if notes.faults() > 0 {
         return Err(AllocError);
     }
+    let len = out.len();
     match status {
         Status::Write | Status::NoMemory => Err(AllocError),
         status => Ok(Reply {
             code: status.code(),
-            text: out.bytes,
-            notes: notes.bytes,
+            end: out.into_last(most)?,
+            len,
+            notes: notes.into_last(usize::MAX)?,
         }),
     }
 }
@@ -51,20 +55,21 @@ fn reply_with(
     alloc: Global,
     words: &[String],
     files: CallFiles<'_>,
+    most: usize,
     probes: &mut Vec<Box<dyn Probe>>,
 ) -> Result<Reply, AllocError>
     requires { map (λ b. seen b) probes.old.items ≡ program_probes }
     ensures { IfOk result (λ reply. IsReply (held_by files.entry) (Some (command_of (map string_bytes words.now)))
-        (shown_reply reply)) }
+        most reply) }
 {
     let mut shelf = CallShelf {
         files,
         loaded: Loaded::new(),
     };
-    let mut out = GrownText::new(alloc);
-    let mut notes = GrownText::new(alloc);
+    let mut out = EndText::new(alloc, most);
+    let mut notes = EndText::new(alloc, usize::MAX);
     let status = rtdvs(alloc, words, &mut shelf, &mut out, &mut notes, probes);
-    ended(status, out, notes)
+    ended(status, out, notes, most)
 }
 
 // The reply to words that are UTF-8.
@@ -72,9 +77,10 @@ fn reply_to_texts(
     alloc: Global,
     words: &[String],
     files: CallFiles<'_>,
+    most: usize,
 ) -> Result<Reply, AllocError>
     ensures { IfOk result (λ reply. IsReply (held_by files.entry) (Some (command_of (map string_bytes words.now)))
-        (shown_reply reply)) }
+        most reply) }
 {
     let ProgramProbes {
         speeds,
@@ -85,22 +91,25 @@ fn reply_to_texts(
     probes.push(Box::new(alloc, speeds)?)?;
     probes.push(Box::new(alloc, units)?)?;
     probes.push(Box::new(alloc, dones)?)?;
-    reply_with(alloc, words, files, &mut probes)
+    reply_with(alloc, words, files, most, &mut probes)
 }
 
-/// The reply to the words that the bytes are. It fails only if memory runs out.
+/// The reply to the words that the bytes are, with the last `most` bytes of the answer. It fails only if memory runs
+/// out.
 pub(crate) fn reply_to(
     alloc: Global,
     words: &[u8],
     files: CallFiles<'_>,
+    most: usize,
 ) -> Result<Reply, AllocError>
-    ensures { IfOk result (λ reply. IsReply (held_by files.entry) (asked_by words.now) (shown_reply reply)) }
+    ensures { IfOk result (λ reply. IsReply (held_by files.entry) (asked_by words.now) most reply) }
 {
     match read_words(alloc, words) {
-        Ok(words) => reply_to_texts(alloc, &words, files),
+        Ok(words) => reply_to_texts(alloc, &words, files, most),
         Err(WordsFault::NotUtf8) => Ok(Reply {
             code: NO_WORDS,
-            text: Vec::new(alloc),
+            end: Vec::new(alloc),
+            len: 0,
             notes: Vec::new(alloc),
         }),
         Err(WordsFault::NoMemory) => Err(AllocError),
