@@ -1,7 +1,7 @@
 // What a caller gives.
 
 /// The numbers of a task: its period in ticks, its worst case in work units, the tick of its first release, and its
-/// relative deadline in ticks, which only the test of deadlines below the periods reads.
+/// relative deadline in ticks, which is not read here.
 #[derive(Clone, Copy, Debug, PartialEq, Eq)]
 #[repr(C)]
 pub struct GivenTask {

@@ -1,3 +1,5 @@
 pub mod WordList
 pub mod Replies
 pub mod Proves
+pub mod Numbers
+pub mod NumberReplies

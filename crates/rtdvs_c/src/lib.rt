@@ -15,8 +15,14 @@ ghost use Rattle.rtdvs_c.specs.Replies.{call_files, code_for, filled, lengths_of
 ghost use Rattle.rtdvs_c.specs.WordList.{asked_by};
 ghost use Rattle.rtdvs_c.specs.Proves.{Proves};
 
+mod admit;
+mod causes;
 mod files;
+mod number_sets;
+mod numbers;
+mod refusals;
 mod reply;
+mod response;
 #[cfg(test)]
 mod tests;
 mod text;
