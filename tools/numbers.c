@@ -1,8 +1,8 @@
 /* numbers.c: the calls that take numbers against rtdvs_call, for check_library.sh and speed_library.py:
  *     ./numbers compare SEED SETS     random sets, some outside the limits: the same status, numbers and places
  *     ./numbers admit|response|admit-text|response-text CALLS     so many calls for one set, by numbers or by text
- * It ends with 1, and says where, if an answer differs from the program's text. With 9 it says that memory ran out: then
- * the answer has to be empty. All memory is as long as what it holds, so that a tool sees a read or a write outside of
+ * It ends with 1, and says where, if an answer differs from the program's text, and with 9 if memory ran out; the answer
+ * has to be empty then. All memory is as long as what it holds, so that a tool sees a read or a write outside of
  * it. */
 #include "../library/rtdvs.h"
 
@@ -175,14 +175,32 @@ static void put_refusal(struct text *text, const struct rtdvs_refusal *r)
     }
 }
 
+/* The two calls. If memory ran out, the answer has to be empty. */
+static uint8_t admission(struct rtdvs_admission *a)
+{
+    static const struct rtdvs_admission none;
+    memset(a, 0xA5, sizeof *a);
+    uint8_t status = rtdvs_admit(tasks, task_count, points, point_count, &settings, a);
+    if (status == RTDVS_NO_MEMORY)
+        exit(memcmp(a, &none, sizeof none) == 0 ? 9 : 1);
+    return status;
+}
+
+static uint8_t responses(struct rtdvs_responses *r)
+{
+    static const struct rtdvs_responses none;
+    memset(r, 0xA5, sizeof *r);
+    uint8_t status = rtdvs_response(tasks, task_count, points, point_count, &settings, r);
+    if (status == RTDVS_NO_MEMORY)
+        exit(memcmp(r, &none, sizeof none) == 0 ? 9 : 1);
+    return status;
+}
+
 static void admit(const char *scheduler)
 {
     struct rtdvs_admission a;
-    memset(&a, 0xA5, sizeof a);
     settings.scheduler = scheduler[0] == 'e' ? RTDVS_EDF : RTDVS_RM;
-    uint8_t status = rtdvs_admit(tasks, task_count, points, point_count, &settings, &a);
-    if (status == RTDVS_NO_MEMORY)
-        exit(a.speed + a.num.low + a.den.low + a.refusal.cause == 0 ? 9 : 1);
+    uint8_t status = admission(&a);
     if (status != by_text("admit", scheduler))
         fail("admit: another status");
     clear(&wanted);
@@ -204,10 +222,7 @@ static void admit(const char *scheduler)
 static void response(void)
 {
     struct rtdvs_responses r;
-    memset(&r, 0xA5, sizeof r);
-    uint8_t status = rtdvs_response(tasks, task_count, points, point_count, &settings, &r);
-    if (status == RTDVS_NO_MEMORY)
-        exit(r.ticks[0] + r.refusal.cause == 0 ? 9 : 1);
+    uint8_t status = responses(&r);
     if (status != by_text("response", NULL))
         fail("response: another status");
     clear(&wanted);
@@ -253,15 +268,19 @@ static void repeat(const char *how, uint64_t calls)
     struct rtdvs_responses r;
     tasks = given, task_count = 3, points = entry, point_count = 3;
     write_files();
-    for (uint64_t i = 0; i < calls; i++)
+    for (uint64_t i = 0; i < calls; i++) {
+        uint8_t status;
         if (strcmp(how, "admit") == 0)
-            rtdvs_admit(given, 3, entry, 3, &settings, &a);
+            status = admission(&a);
         else if (strcmp(how, "response") == 0)
-            rtdvs_response(given, 3, entry, 3, &settings, &r);
+            status = responses(&r);
         else if (strcmp(how, "admit-text") == 0)
-            by_text("admit", "edf");
+            status = by_text("admit", "edf");
         else
-            by_text("response", NULL);
+            status = by_text("response", NULL);
+        if (status != RTDVS_DONE)
+            exit(status);
+    }
 }
 
 int main(int count, char **arguments)

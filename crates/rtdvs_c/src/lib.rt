@@ -19,6 +19,8 @@ mod admit;
 mod causes;
 mod files;
 mod number_sets;
+#[cfg(test)]
+mod number_tests;
 mod numbers;
 mod refusals;
 mod reply;
