@@ -257,7 +257,7 @@ holds 'the stack of least' fits paper $devices/null least --machine machine --un
 numbered_fails() {
     n=1
     while : > "$work/hit" && FAILS=alloc AT=$n LD_LIBRARY_PATH="$lib:$work" LD_PRELOAD=fails.so "$work/numbers" "$1" 1 3> "$work/hit"; s=$?; [ -s "$work/hit" ]; do
-        same $s 9 || return
+        case $s in 0 | 9) ;; *) same $s 9; return ;; esac
         n=$((n + 1))
     done
     same $s 0 && { [ $n -gt 5 ] || { echo "only $n allocations"; return 1; }; }

@@ -65,7 +65,7 @@ static uint64_t number(uint64_t usual, uint64_t limit)
     case 0: return 0;
     case 1: return limit;
     case 2: return limit + 1;
-    default: return 1 + draw() % usual;
+    default: return usual > 0 ? 1 + draw() % usual : 1;
     }
 }
 
@@ -259,7 +259,8 @@ static void compare(uint64_t seed, uint64_t sets)
     printf("%" PRIu64 " sets\n", sets);
 }
 
-/* So many calls for the set of three tasks of Pillai and Shin 2001. */
+/* So many calls for the three tasks of Pillai and Shin 2001. In 280 ticks they ask for 105, 84 and 20 units; at speed 4 the
+ * first job of each is done by tick 1, 2 and 2. */
 static void repeat(const char *how, uint64_t calls)
 {
     static struct rtdvs_task given[] = { { 8, 3, 0, 0 }, { 10, 3, 0, 0 }, { 14, 1, 0, 0 } };
@@ -280,6 +281,10 @@ static void repeat(const char *how, uint64_t calls)
             status = by_text("response", NULL);
         if (status != RTDVS_DONE)
             exit(status);
+        if (strcmp(how, "admit") == 0 && (a.num.low != 209 || a.num.high != 0 || a.den.low != 280 || a.speed != 1))
+            fail("another admission");
+        if (strcmp(how, "response") == 0 && (r.ticks[0] != 1 || r.ticks[1] != 2 || r.ticks[2] != 2 || r.ticks[3] != 0))
+            fail("other responses");
     }
 }
 

@@ -15,18 +15,25 @@ use Rattle.sched_model.specs.Plan.{Plan, plan_of}
 use Rattle.rm_response.specs.Denials.{exact_answer}
 use Rattle.rm_response.specs.declared.response.ResponseFault.{ResponseFault}
 use Rattle.rm_response.specs.declared.response.ResponseFault.TheVariants as response_fault
-use Rattle.words.specs.Commands.{AdmitView, ResponseView, admit, response}
+use Rattle.energy_bound.specs.declared.least.Least.{Least}
+use Rattle.energy_bound.specs.declared.least.Over.{Over}
+use Rattle.energy_bound.specs.FirstPairs.{least_energy_of}
+use Rattle.words.specs.Commands.{AdmitView, ResponseView, LeastView, admit, response, least}
 use Rattle.statuses.specs.declared.status.Denied.{Denied}
 use Rattle.statuses.specs.declared.status.Status.{Status}
 use Rattle.statuses.specs.declared.status.Status.TheVariants as status
 use Rattle.statuses.specs.Status.{code_of}
 use Rattle.statuses.specs.Steps.{IsTestStep}
 use Rattle.statuses.specs.Refused.{or_status, task_status, machine_status}
+use Rattle.command_files.specs.Meanings.{machine_at}
 use Rattle.command_files.specs.Admissions.{admission}
 use Rattle.rtdvs_top.specs.Admit.{admitted_text}
 use Rattle.rtdvs_top.specs.Response.{responses_on, responses_text, response_status}
+use Rattle.rtdvs_top.specs.Least.{least_text, least_from, least_on}
 use Rattle.rtdvs_top.specs.Promises.{answer_of_command, AdmitsOrDenies}
 use Rattle.rtdvs_top.proofs.DeniedPlans.{Decides, decides, denied-plan}
+use Rattle.rtdvs_c.specs.declared.numbers.Work.{Work}
+use Rattle.rtdvs_c.specs.LeastNumbers.{over_status, least_by, least_of_numbers}
 use Rattle.rtdvs_c.specs.NumberReplies.{NumbersView, tasks_on, machine_on, sets_on, plan_on, admission_on, padded, ticks_on, ends, Describe, FailsOn}
 
 -- the status of tasks or of a machine that are refused, unless memory ran out
@@ -152,15 +159,55 @@ denied_of n (status.Differs line wanted found) is fails one = absurd (omega (ari
 denied_of n status.Write is fails one = absurd (omega (arith, one))
 denied_of n status.NoMemory is fails one = absurd (omega (arith, one))
 
--- no refusal has exit status 0
+-- only an answer has exit status 0
+zero-is-done : (s : Status) → code_of s ≡ 0 → s ≡ status.Done
+zero-is-done status.Done zero = refl
+zero-is-done (status.NotAdmitted why) zero = absurd (omega (arith, zero))
+zero-is-done (status.Words why) zero = absurd (omega (arith, zero))
+zero-is-done (status.Load kind) zero = absurd (omega (arith, zero))
+zero-is-done (status.Text why) zero = absurd (omega (arith, zero))
+zero-is-done (status.Limit jobs) zero = absurd (omega (arith, zero))
+zero-is-done (status.OverWorst task job units worst) zero = absurd (omega (arith, zero))
+zero-is-done (status.Differs line wanted found) zero = absurd (omega (arith, zero))
+zero-is-done status.Write zero = absurd (omega (arith, zero))
+zero-is-done status.NoMemory zero = absurd (omega (arith, zero))
+
+-- a step that never ends with the status of an answer has no exit status 0
+never-done : {A : Type 0} (step : Result A Status) (s : Status) → (step ≡ Err status.Done → ⊥)
+    → (s ≢ status.NoMemory → step ≡ Err s) → code_of s ≡ 0 → ⊥
+never-done {A} step s undone is zero =
+    let done : s ≡ status.Done = zero-is-done s zero in
+    undone (subst (λ (t : Status). step ≡ Err t) done (is (λ q. let both : status.Done ≡ status.NoMemory = sym done ∙ q in absurd (cc))))
+
 pub done_of : (n : NumbersView) (s : Status) → (s ≢ status.NoMemory → ticks_on n ≡ Err s) → code_of s ≡ 0 → ⊥
-done_of n status.Done is zero = ticks_undone n (is (λ q. cc))
-done_of n (status.NotAdmitted why) is zero = omega (arith, zero)
-done_of n (status.Words why) is zero = omega (arith, zero)
-done_of n (status.Load kind) is zero = omega (arith, zero)
-done_of n (status.Text why) is zero = omega (arith, zero)
-done_of n (status.Limit jobs) is zero = omega (arith, zero)
-done_of n (status.OverWorst task job units worst) is zero = omega (arith, zero)
-done_of n (status.Differs line wanted found) is zero = omega (arith, zero)
-done_of n status.Write is zero = omega (arith, zero)
-done_of n status.NoMemory is zero = omega (arith, zero)
+done_of n s is zero = never-done (ticks_on n) s (ticks_undone n) is zero
+
+-- the same of the least energy
+least-undone : (n : NumbersView) (w : Work) → least_of_numbers n w ≡ Err status.Done → ⊥
+least-undone n w = go (machine_of_given n.settings.idle n.settings.charge n.points)
+  where
+    test : (r : Result Least Over) → or_status over_status r ≡ Err status.Done → ⊥
+    test (Ok a) q = absurd (cc)
+    test (Err e) q = absurd (cc)
+
+    go : (m : Result Table MachineFault) → and_then (or_status machine_status m) (λ m. least_by m w) ≡ Err status.Done → ⊥
+    go (Ok m) = test (least_energy_of m w.units w.ticks)
+    go (Err e) = λ q. let same : machine_status e ≡ status.Done = cc in machine-undone e same
+
+pub least_done_of : (n : NumbersView) (w : Work) (s : Status) → (s ≢ status.NoMemory → least_of_numbers n w ≡ Err s) → code_of s ≡ 0 → ⊥
+least_done_of n w s is zero = never-done (least_of_numbers n w) s (least-undone n w) is zero
+
+pub least_as_files : (n : NumbersView) (w : Work) (l : LeastView) (files : Files) → machine_at l.machine files ≡ machine_on n
+    → l.units ≡ w.units → l.ticks ≡ w.ticks
+    → answer_of_command (least l) files ≡ and_then (least_of_numbers n w) (λ a. Ok (least_text a))
+unfolding least_on
+least_as_files n w l files machine units ticks = rw (machine, units, ticks) (go (machine_on n))
+  where
+    text : (r : Result Least Over) → least_from r ≡ and_then (or_status over_status r) (λ a. Ok (least_text a))
+    text (Ok a) = refl
+    text (Err e) = refl
+
+    go : (m : Result Table Status) → and_then m (λ m. least_from (least_energy_of m w.units w.ticks))
+        ≡ and_then (and_then m (λ m. least_by m w)) (λ a. Ok (least_text a))
+    go (Ok m) = text (least_energy_of m w.units w.ticks)
+    go (Err s) = refl

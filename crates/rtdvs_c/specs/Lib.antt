@@ -3,3 +3,4 @@ pub mod Replies
 pub mod Proves
 pub mod Numbers
 pub mod NumberReplies
+pub mod LeastNumbers

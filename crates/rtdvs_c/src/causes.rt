@@ -63,6 +63,9 @@ pub const DEMAND: u64 = 19;
 /// More units than the highest speed does in the ticks.
 pub const UNITS: u64 = 20;
 
+/// The ticks of a least energy are not 1 to 2^40.
+pub const TICKS: u64 = 21;
+
 /// The number of EDF among the schedulers.
 pub const EDF: u64 = 0;
 
@@ -71,3 +74,6 @@ pub const RM: u64 = 1;
 
 /// The exit status if the number of the scheduler is none.
 pub const NO_SCHEDULER: u8 = 2;
+
+/// The exit status if the ticks of a least energy are out of range.
+pub const NO_TICKS: u8 = 2;

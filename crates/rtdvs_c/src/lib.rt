@@ -18,6 +18,7 @@ ghost use Rattle.rtdvs_c.specs.Proves.{Proves};
 mod admit;
 mod causes;
 mod files;
+mod least;
 mod number_sets;
 #[cfg(test)]
 mod number_tests;

@@ -54,6 +54,33 @@ pub struct Responses {
     pub refusal: Refusal,
 }
 
+/// The work whose least energy is asked for: so many work units in so many ticks.
+#[derive(Clone, Copy, Debug, PartialEq, Eq)]
+#[repr(C)]
+pub struct Work {
+    pub units: u64,
+    pub ticks: u64,
+}
+
+/// The least energy, in units times millivolts squared times thousandths, with its certificate: over `rounds` repetitions
+/// of the ticks, `low_ticks` ticks at the corner with `low` units a tick and `high_ticks` at the one with `high` do the
+/// units and cost `energy`. The prices, that of a tick below 0 if `tick_minus` is 1, show that nothing costs less. All
+/// are 0 if there is a refusal.
+#[derive(Clone, Copy, Debug, PartialEq, Eq)]
+#[repr(C)]
+pub struct LeastEnergy {
+    pub rounds: u64,
+    pub low: u64,
+    pub low_ticks: u64,
+    pub high: u64,
+    pub high_ticks: u64,
+    pub energy: Wide,
+    pub unit_price: Wide,
+    pub tick_price: Wide,
+    pub tick_minus: u64,
+    pub refusal: Refusal,
+}
+
 /// A number by its two halves.
 pub(crate) fn halves_of(n: u128) -> Wide
     ensures { result ≡ halves_of n }
