@@ -102,8 +102,8 @@ uint8_t rtdvs_call(const uint8_t *words, size_t words_len, const uint8_t *tasks,
 /* Calls that take and answer numbers, for callers that ask often: no file is read and no text written.
  *
  * Their results are the program's exit statuses: RTDVS_DONE, RTDVS_NOT_ADMITTED if a test denies the tasks, RTDVS_TEXT if
- * a number is outside the limits of the files, RTDVS_WORDS if the scheduler is none, and RTDVS_NO_MEMORY. The answer and
- * the result depend on the numbers only. What is said above of the stack, of threads and of memory holds here too; the
+ * a number is outside the limits of the files, RTDVS_WORDS if the scheduler is none or the ticks are out of range, and
+ * RTDVS_NO_MEMORY. The answer and the result depend on the numbers only. What is said above of the stack, of threads and of memory holds here too; the
  * pointers are not NULL, except those of no tasks or no points. */
 
 /* A number below 2^128: low + 2^64 * high. */
@@ -159,7 +159,9 @@ enum rtdvs_cause {
     RTDVS_EDF_TEST = 15,       /* the work of a hyperperiod is more than the highest speed does in it */
     RTDVS_RM_TEST = 16,        /* the work that a task's level asks for in its period is more than that */
     RTDVS_FIRST_RELEASE = 17,  /* rtdvs_response: a task has an offset */
-    RTDVS_NO_RESPONSE = 18     /* rtdvs_response: a task has no response; the work is its level's in its period */
+    RTDVS_NO_RESPONSE = 18,    /* rtdvs_response: a task has no response; the work is its level's in its period */
+    RTDVS_UNITS = 20,          /* rtdvs_least: the units are more than the highest speed does in the ticks */
+    RTDVS_TICKS = 21           /* rtdvs_least: the ticks are out of range */
 };
 
 /* The cause; the number of its task or point, from 1 on, or 0; and of a test the work units that are asked for, and those
@@ -187,6 +189,29 @@ struct rtdvs_responses {
     struct rtdvs_refusal refusal;
 };
 
+/* So many work units in so many ticks, 1 to 2^40. */
+struct rtdvs_work {
+    uint64_t units;
+    uint64_t ticks;
+};
+
+/* The least energy, in units times millivolts squared times thousandths, with its certificate: over `rounds` repetitions
+ * of the ticks, `low_ticks` ticks at `low` units a tick and `high_ticks` at `high` do the units and cost `energy`. The
+ * prices of a unit and of a tick show that nothing costs less; that of a tick is below 0 if `tick_minus` is 1. All are 0
+ * without an answer. */
+struct rtdvs_least_energy {
+    uint64_t rounds;
+    uint64_t low;
+    uint64_t low_ticks;
+    uint64_t high;
+    uint64_t high_ticks;
+    struct rtdvs_wide energy;
+    struct rtdvs_wide unit_price;
+    struct rtdvs_wide tick_price;
+    uint64_t tick_minus;
+    struct rtdvs_refusal refusal;
+};
+
 /* Admits the tasks by the scheduler's test, as `rtdvs admit` does for files of these numbers. */
 uint8_t rtdvs_admit(const struct rtdvs_task *tasks, size_t tasks_len, const struct rtdvs_point *points, size_t points_len,
                     const struct rtdvs_settings *settings, struct rtdvs_admission *answer);
@@ -195,6 +220,10 @@ uint8_t rtdvs_admit(const struct rtdvs_task *tasks, size_t tasks_len, const stru
  * known on its time. */
 uint8_t rtdvs_response(const struct rtdvs_task *tasks, size_t tasks_len, const struct rtdvs_point *points,
                        size_t points_len, const struct rtdvs_settings *settings, struct rtdvs_responses *answer);
+
+/* Gives the least energy for the work, as `rtdvs least` does for a file of these numbers. */
+uint8_t rtdvs_least(const struct rtdvs_point *points, size_t points_len, const struct rtdvs_settings *settings,
+                    const struct rtdvs_work *work, struct rtdvs_least_energy *answer);
 
 #ifdef __cplusplus
 }

@@ -116,19 +116,24 @@ static void write_files(void)
         put(&machine_file, "[[point]]\nspeed = %" PRIu64 "\nmillivolts = %" PRIu64 "\n", points[i].speed, points[i].millivolts);
 }
 
-/* The program's answer for the files to these words. */
-static uint8_t by_text(const char *command, const char *scheduler)
+/* The program's answer for the files to the words. */
+static uint8_t by_words(void)
 {
     struct rtdvs_lengths lengths = { 0, 0 };
-    clear(&words);
-    put(&words, "%s%c--tasks%ctasks%c--machine%cmachine%c", command, 0, 0, 0, 0, 0);
-    if (scheduler != NULL)
-        put(&words, "--scheduler%c%s%c", 0, scheduler, 0);
     uint8_t status = rtdvs_call((uint8_t *)words.at, words.len, (uint8_t *)task_file.at, task_file.len,
                                 (uint8_t *)machine_file.at, machine_file.len, NULL, 0, (uint8_t *)out.at, ROOM - 1,
                                 (uint8_t *)notes.at, ROOM - 1, &lengths);
     out.at[lengths.out] = notes.at[lengths.notes] = 0;
     return status;
+}
+
+static uint8_t by_text(const char *command, const char *scheduler)
+{
+    clear(&words);
+    put(&words, "%s%c--tasks%ctasks%c--machine%cmachine%c", command, 0, 0, 0, 0, 0);
+    if (scheduler != NULL)
+        put(&words, "--scheduler%c%s%c", 0, scheduler, 0);
+    return by_words();
 }
 
 static void put_wide(struct text *text, struct rtdvs_wide n)
@@ -164,10 +169,11 @@ static void put_refusal(struct text *text, const struct rtdvs_refusal *r)
     case RTDVS_EDF_TEST: put(text, "denied edf "); break;
     case RTDVS_RM_TEST: put(text, "denied rm %" PRIu64 " ", r->place); break;
     case RTDVS_FIRST_RELEASE: put(text, "denied offset %" PRIu64 "\n", r->place); break;
+    case RTDVS_UNITS: put(text, "denied units "); break;
     case RTDVS_NO_RESPONSE: put(text, "misses %" PRIu64 " ", r->place); break;
     default: fail("an unknown cause");
     }
-    if (r->cause == RTDVS_EDF_TEST || r->cause == RTDVS_RM_TEST || r->cause == RTDVS_NO_RESPONSE) {
+    if (r->cause == RTDVS_EDF_TEST || r->cause == RTDVS_RM_TEST || r->cause == RTDVS_NO_RESPONSE || r->cause == RTDVS_UNITS) {
         put_wide(text, r->num);
         put(text, " ");
         put_wide(text, r->cap);
@@ -240,6 +246,41 @@ static void response(void)
     }
 }
 
+static void least(void)
+{
+    static const struct rtdvs_least_energy none;
+    struct rtdvs_least_energy a;
+    struct rtdvs_work work = { draw() % 5 == 0 ? draw() >> 8 : draw() % 3000, number(200, UINT64_C(1) << 40) };
+    memset(&a, 0xA5, sizeof a);
+    uint8_t status = rtdvs_least(points, point_count, &settings, &work, &a);
+    if (status == RTDVS_NO_MEMORY)
+        exit(memcmp(&a, &none, sizeof none) == 0 ? 9 : 1);
+    clear(&words);
+    put(&words, "least%c--machine%cmachine%c--units%c%" PRIu64 "%c--ticks%c%" PRIu64 "%c", 0, 0, 0, 0, work.units, 0, 0,
+        work.ticks, 0);
+    if (status != by_words())
+        fail("least: another status");
+    clear(&wanted);
+    if (status == RTDVS_DONE) {
+        put(&wanted, "least %" PRIu64 " %" PRIu64 " %" PRIu64 " %" PRIu64 " %" PRIu64 " ", a.rounds, a.low, a.low_ticks, a.high,
+            a.high_ticks);
+        put_wide(&wanted, a.energy);
+        put(&wanted, "\nprices ");
+        put_wide(&wanted, a.unit_price);
+        put(&wanted, a.tick_minus == 1 ? " minus " : " plus ");
+        put_wide(&wanted, a.tick_price);
+        put(&wanted, "\n");
+    } else if (a.refusal.cause == RTDVS_TICKS) {
+        put(&wanted, "words: 7: bad value %" PRIu64 "\n", work.ticks);
+    } else {
+        put_refusal(&wanted, &a.refusal);
+    }
+    if (strcmp(wanted.at, status == RTDVS_DONE ? out.at : notes.at) != 0) {
+        fprintf(stderr, "by numbers: %sby text: %s%s", wanted.at, out.at, notes.at);
+        fail("least: another answer");
+    }
+}
+
 static void compare(uint64_t seed, uint64_t sets)
 {
     for (; seed > 0; seed--)
@@ -251,6 +292,7 @@ static void compare(uint64_t seed, uint64_t sets)
         admit("edf");
         admit("rm");
         response();
+        least();
     }
     settings.scheduler = 2;
     struct rtdvs_admission a;

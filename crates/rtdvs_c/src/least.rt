@@ -88,7 +88,7 @@ fn least_of(
 /// numbers. The result is the program's exit status: 0 if there is an answer, 1 if the units are more than the highest
 /// speed does in the ticks, 4 if numbers are refused, 2 if the ticks are, and 9 if memory ran out. The scheduler of the
 /// settings is not read.
-#[tactic(auto, using(crate::proofs::NumberSteps::least_as_files, crate::proofs::NumberSteps::least_done_of))]
+#[tactic(auto, using(crate::proofs::NumberSteps::least_done_of))]
 #[unsafe(no_mangle)]
 pub extern "C" fn rtdvs_least(
     alloc: Global,

@@ -1,7 +1,8 @@
 // Calls with numbers as C makes them. The answers are worked out by hand.
 use super::admit::rtdvs_admit;
 use super::causes::*;
-use super::numbers::{Admission, Refusal, Responses, Settings, Wide};
+use super::least::rtdvs_least;
+use super::numbers::{Admission, LeastEnergy, Refusal, Responses, Settings, Wide, Work};
 use super::response::rtdvs_response;
 use dvs_base::MOST_TASKS;
 use freq_table::TOP_SPEED;
@@ -121,5 +122,83 @@ fn responds_by_ticks(rt: HostRuntime) -> Result<(), Fail> {
     assert_eq!(rt; code, 0);
     assert_eq!(rt; &answer.ticks[..4], [1, 10, 3, 0].as_slice());
     assert_eq!(rt; answer.refusal, NONE);
+    Ok(())
+}
+
+// The exit status and the least energy for units in two ticks, at 1000 millivolts a unit a tick, at 2000 two.
+fn least(alloc: Global, units: u64) -> (u8, LeastEnergy) {
+    let points = [
+        GivenPoint {
+            speed: 1,
+            millivolts: 1000,
+        },
+        GivenPoint {
+            speed: 2,
+            millivolts: 2000,
+        },
+    ];
+    let settings = Settings {
+        idle: 0,
+        charge: 0,
+        scheduler: 0,
+    };
+    let mut answer = LeastEnergy {
+        rounds: 9,
+        low: 9,
+        low_ticks: 9,
+        high: 9,
+        high_ticks: 9,
+        energy: ZERO,
+        unit_price: ZERO,
+        tick_price: ZERO,
+        tick_minus: 9,
+        refusal: NONE,
+    };
+    let work = Work { units, ticks: 2 };
+    let code = rtdvs_least(alloc, &points, &settings, &work, &mut answer);
+    (code, answer)
+}
+
+// Three units in two ticks: a tick with 1 unit costs 10^9, one with 2 units 8 * 10^9. At 7 * 10^9 a unit and minus
+// 6 * 10^9 a tick both cost what they do, and a tick without a unit costs less than 0.
+#[test]
+fn least_by_two_corners(rt: HostRuntime) -> Result<(), Fail> {
+    let (code, answer) = least(rt.alloc(), 3);
+    assert_eq!(rt; code, 0);
+    assert_eq!(rt; (answer.low, answer.low_ticks), (1, 1));
+    assert_eq!(rt; (answer.high, answer.high_ticks), (2, 1));
+    assert_eq!(rt;
+        answer.energy,
+        Wide {
+            low: 9_000_000_000,
+            high: 0
+        }
+    );
+    assert_eq!(rt;
+        answer.unit_price,
+        Wide {
+            low: 7_000_000_000,
+            high: 0
+        }
+    );
+    assert_eq!(rt;
+        answer.tick_price,
+        Wide {
+            low: 6_000_000_000,
+            high: 0
+        }
+    );
+    assert_eq!(rt; answer.tick_minus, 1);
+    assert_eq!(rt; answer.refusal, NONE);
+    Ok(())
+}
+
+#[test]
+fn denies_too_many_units(rt: HostRuntime) -> Result<(), Fail> {
+    let (code, answer) = least(rt.alloc(), 5);
+    assert_eq!(rt; code, 1);
+    assert_eq!(rt; answer.refusal.cause, UNITS);
+    assert_eq!(rt; answer.refusal.num, Wide { low: 5, high: 0 });
+    assert_eq!(rt; answer.refusal.cap, Wide { low: 4, high: 0 });
     Ok(())
 }
