@@ -99,6 +99,132 @@ uint8_t rtdvs_call(const uint8_t *words, size_t words_len, const uint8_t *tasks,
                    const uint8_t *machine, size_t machine_len, const uint8_t *list, size_t list_len,
                    uint8_t *out, size_t out_len, uint8_t *notes, size_t notes_len, struct rtdvs_lengths *lengths);
 
+/* Calls that take and answer numbers, for callers that ask often: no file is read and no text written.
+ *
+ * Their results are the program's exit statuses: RTDVS_DONE, RTDVS_NOT_ADMITTED if a test denies the tasks, RTDVS_TEXT if
+ * a number is outside the limits of the files, RTDVS_WORDS if the scheduler is none or the ticks are out of range, and
+ * RTDVS_NO_MEMORY. The answer and the result depend on the numbers only. What is said above of the stack, of threads and of memory holds here too; the
+ * pointers are not NULL, except those of no tasks or no points. */
+
+/* A number below 2^128: low + 2^64 * high. */
+struct rtdvs_wide {
+    uint64_t low;
+    uint64_t high;
+};
+
+/* A task: period, offset and relative deadline in ticks, worst case in work units. No call reads the deadline yet. */
+struct rtdvs_task {
+    uint64_t period;
+    uint64_t worst_case;
+    uint64_t offset;
+    uint64_t deadline;
+};
+
+/* An entry of the machine: its speed in work units per tick, and its voltage. */
+struct rtdvs_point {
+    uint64_t speed;
+    uint64_t millivolts;
+};
+
+enum rtdvs_scheduler {
+    RTDVS_EDF = 0,
+    RTDVS_RM = 1
+};
+
+/* The cost of an idle unit in thousandths of a running one, the cost of a switch of speed in work units, and an
+ * rtdvs_scheduler, which only rtdvs_admit reads. */
+struct rtdvs_settings {
+    uint64_t idle;
+    uint64_t charge;
+    uint64_t scheduler;
+};
+
+/* Why there is no answer. The limits are those of the files (docs/FORMATS.md). */
+enum rtdvs_cause {
+    RTDVS_NO_CAUSE = 0,        /* there is an answer, or memory ran out */
+    RTDVS_NO_TASKS = 1,        /* there are no tasks */
+    RTDVS_TOO_MANY_TASKS = 2,  /* there are more than RTDVS_MOST_TASKS */
+    RTDVS_PERIOD = 3,          /* a period is out of range */
+    RTDVS_WORST_CASE = 4,      /* a worst case is out of range */
+    RTDVS_OFFSET = 5,          /* an offset is out of range */
+    RTDVS_HYPERPERIOD = 6,     /* the least common multiple of the periods is above its limit */
+    RTDVS_IDLE = 7,            /* the cost of an idle unit is out of range */
+    RTDVS_CHARGE = 8,          /* the cost of a switch is out of range */
+    RTDVS_NO_POINTS = 9,       /* there are no points */
+    RTDVS_TOO_MANY_POINTS = 10, /* there are more than 32 */
+    RTDVS_SPEED = 11,          /* a speed is out of range */
+    RTDVS_MILLIVOLTS = 12,     /* a voltage is out of range */
+    RTDVS_NOT_RISING = 13,     /* a speed is not above the one before, or a voltage is below it */
+    RTDVS_SCHEDULER = 14,      /* the scheduler is none */
+    RTDVS_EDF_TEST = 15,       /* the work of a hyperperiod is more than the highest speed does in it */
+    RTDVS_RM_TEST = 16,        /* the work that a task's level asks for in its period is more than that */
+    RTDVS_FIRST_RELEASE = 17,  /* rtdvs_response: a task has an offset */
+    RTDVS_NO_RESPONSE = 18,    /* rtdvs_response: a task has no response; the work is its level's in its period */
+    RTDVS_UNITS = 20,          /* rtdvs_least: the units are more than the highest speed does in the ticks */
+    RTDVS_TICKS = 21           /* rtdvs_least: the ticks are out of range */
+};
+
+/* The cause; the number of its task or point, from 1 on, or 0; and of a test the work units that are asked for, and those
+ * that can be done. */
+struct rtdvs_refusal {
+    uint64_t cause;
+    uint64_t place;
+    struct rtdvs_wide num;
+    struct rtdvs_wide cap;
+};
+
+/* The static demand num/den in work units per tick, not reduced, and the lowest speed that meets it; all 0 without one. */
+struct rtdvs_admission {
+    struct rtdvs_wide num;
+    struct rtdvs_wide den;
+    uint64_t speed;
+    struct rtdvs_refusal refusal;
+};
+
+#define RTDVS_MOST_TASKS 64
+
+/* The response of each task in ticks, in order, and 0 past the last one; all 0 without an answer. */
+struct rtdvs_responses {
+    uint64_t ticks[RTDVS_MOST_TASKS];
+    struct rtdvs_refusal refusal;
+};
+
+/* So many work units in so many ticks, 1 to 2^40. */
+struct rtdvs_work {
+    uint64_t units;
+    uint64_t ticks;
+};
+
+/* The least energy, in units times millivolts squared times thousandths, with its certificate: over `rounds` repetitions
+ * of the ticks, `low_ticks` ticks at `low` units a tick and `high_ticks` at `high` do the units and cost `energy`. The
+ * prices of a unit and of a tick show that nothing costs less; that of a tick is below 0 if `tick_minus` is 1. All are 0
+ * without an answer. */
+struct rtdvs_least_energy {
+    uint64_t rounds;
+    uint64_t low;
+    uint64_t low_ticks;
+    uint64_t high;
+    uint64_t high_ticks;
+    struct rtdvs_wide energy;
+    struct rtdvs_wide unit_price;
+    struct rtdvs_wide tick_price;
+    uint64_t tick_minus;
+    struct rtdvs_refusal refusal;
+};
+
+/* Admits the tasks by the scheduler's test, as `rtdvs admit` does for files of these numbers. */
+uint8_t rtdvs_admit(const struct rtdvs_task *tasks, size_t tasks_len, const struct rtdvs_point *points, size_t points_len,
+                    const struct rtdvs_settings *settings, struct rtdvs_admission *answer);
+
+/* Gives the responses under RM at the highest speed, as `rtdvs response` does for files of these numbers. No bound is
+ * known on its time. */
+uint8_t rtdvs_response(const struct rtdvs_task *tasks, size_t tasks_len, const struct rtdvs_point *points,
+                       size_t points_len, const struct rtdvs_settings *settings, struct rtdvs_responses *answer);
+
+/* Gives the least energy for the work, as `rtdvs least` does for a file of these numbers. */
+uint8_t rtdvs_least(const struct rtdvs_point *points, size_t points_len, const struct rtdvs_settings *settings,
+                    const struct rtdvs_work *work, struct rtdvs_least_energy *answer);
+
 #ifdef __cplusplus
 }
 #endif

@@ -34,8 +34,9 @@ same() { [ "$1" = "$2" ] || { echo "found $1, wanted $2"; return 1; }; }
 compiles() { cc -O2 -Wall -Wextra -Werror -I "$top/library" "$@"; }
 
 # The names
-public() { same "$(nm -D --defined-only "$lib/librtdvs.so" | awk '$2 != "A" { print $3 }')" rtdvs_call; }
-public_of_static() { same "$(nm -g --defined-only "$lib/librtdvs.a" | awk 'NF == 3 { print $3 }')" rtdvs_call; }
+calls='rtdvs_admit rtdvs_call rtdvs_least rtdvs_response '
+public() { same "$(nm -D --defined-only "$lib/librtdvs.so" | awk '$2 != "A" { print $3 }' | sort | tr '\n' ' ')" "$calls"; }
+public_of_static() { same "$(nm -g --defined-only "$lib/librtdvs.a" | awk 'NF == 3 { print $3 }' | sort | tr '\n' ' ')" "$calls"; }
 needed() {
     same "$(nm -D --undefined-only "$lib/librtdvs.so" | awk '$1 == "U" { sub("@.*", "", $2); print $2 }' |
         grep -v -x -e malloc -e realloc -e free -e memcpy -e memmove -e memset -e memcmp -e bcmp)" ''
@@ -77,7 +78,7 @@ installs() (
 statuses() {
     sed -n 's/^| \([0-9]*\) | `\(RTDVS_[A-Z_]*\)` |.*/\2 \1/p' docs/FORMATS.md > "$work/rows"
     { echo '#include <rtdvs.h>'; sed 's/\(.*\) \(.*\)/_Static_assert(\1 == \2, "\1");/' "$work/rows"; } > "$work/rows.c"
-    same "$(sed -n 's/^ *\(RTDVS_[A-Z_]*\) = .*/\1/p' library/rtdvs.h)" "$(cut -d ' ' -f 1 "$work/rows")" &&
+    same "$(sed -n '/^enum rtdvs_status/,/^};/s/^ *\(RTDVS_[A-Z_]*\) = .*/\1/p' library/rtdvs.h)" "$(cut -d ' ' -f 1 "$work/rows")" &&
         same "$(wc -l < "$work/rows")" 11 && compiles -std=c11 -fsyntax-only "$work/rows.c"
 }
 as_cpp() {
@@ -250,6 +251,34 @@ holds 'the stack of constrain' fits deadlines long/deadlines.csv constrain $word
 holds 'the stack of poll' fits server long/requests.csv poll $words --requests requests --server s --scheduler edf --governor none --ticks 15
 holds 'the stack of workload' fits paper $devices/null workload --seed 1
 holds 'the stack of least' fits paper $devices/null least --machine machine --units 28 --ticks 16
+
+# The calls that take numbers. numbers.c compares each answer and each refusal with the program's text for files of the
+# same numbers, some of which are outside the limits; of a call that gets no memory the answer is empty.
+numbered_fails() {
+    n=1
+    while : > "$work/hit" && FAILS=alloc AT=$n LD_LIBRARY_PATH="$lib:$work" LD_PRELOAD=fails.so "$work/numbers" "$1" 1 3> "$work/hit"; s=$?; [ -s "$work/hit" ]; do
+        case $s in 0 | 9) ;; *) same $s 9; return ;; esac
+        n=$((n + 1))
+    done
+    same $s 0 && { [ $n -gt 5 ] || { echo "only $n allocations"; return 1; }; }
+}
+fails_by_numbers() {
+    cc -O2 -shared -fPIC "$top/tools/fails.c" -o "$work/fails.so" && numbered_fails admit && numbered_fails response
+}
+swept() {
+    compiles -std=c11 -pedantic "$top/library/sweep.c" "$lib/librtdvs.so" -o "$work/sweep" &&
+        "$work/sweep" 1000 | grep -q '^of 1000 sets: EDF [1-9][0-9]*, RM [1-9][0-9]*, RM by response times [1-9][0-9]*$'
+}
+holds 'numbers.c' compiles -std=c11 "$top/tools/numbers.c" "$lib/librtdvs.so" -o "$work/numbers"
+holds 'numbers.c with the sanitizers' compiles -g $checked -std=c11 "$top/tools/numbers.c" "$lib/librtdvs.a" -o "$work/numbers_checked"
+holds 'random numbers, run' calls '' '20000 sets' "$work/numbers_checked" compare 1 20000
+if [ -n "$(command -v valgrind)" ]; then
+    holds 'random numbers, valgrind' calls "$valgrind" '300 sets' "$work/numbers" compare 2 300
+else
+    skip valgrind 1
+fi
+holds 'an allocation that fails, by numbers' fails_by_numbers
+holds 'sweep.c' swept
 
 echo "library: $cases cases, $bad differ$([ $skips = 0 ] || echo ", $skips skipped (${lacks# })")"
 [ $bad = 0 ]

@@ -6,7 +6,7 @@
 # is there, and makes it only if nothing is: the library into PREFIX/lib, rtdvs.h into PREFIX/include, and rtdvs.pc for
 # pkg-config into PREFIX/lib/pkgconfig. It puts DESTDIR before PREFIX, if that is set, but not into rtdvs.pc.
 # VERSION is the first version of CHANGELOG.md; its first number is the one of the shared library's name. The shared
-# library has one public name, rtdvs_call, and takes memory by malloc, realloc and free. Each file is whole or as before,
+# library's public names are its calls; it takes memory by malloc, realloc and free. Each file is whole or as before,
 # also if a signal ends this script.
 set -eu
 . "$(dirname "$0")/work.sh"

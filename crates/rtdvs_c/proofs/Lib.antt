@@ -1,3 +1,4 @@
 mod TopCall
 mod Words
 pub mod EndedWords
+pub mod NumberSteps

@@ -15,9 +15,18 @@ ghost use Rattle.rtdvs_c.specs.Replies.{call_files, code_for, filled, lengths_of
 ghost use Rattle.rtdvs_c.specs.WordList.{asked_by};
 ghost use Rattle.rtdvs_c.specs.Proves.{Proves};
 
+mod admit;
+mod causes;
 mod end;
 mod files;
+mod least;
+mod number_sets;
+#[cfg(test)]
+mod number_tests;
+mod numbers;
+mod refusals;
 mod reply;
+mod response;
 #[cfg(test)]
 mod tests;
 mod text;
