@@ -1,11 +1,12 @@
 -- What an answer shows of the scheduler's test, from how it ends and what is known of its plan.
-use Rattle.std.proofs.Common.{◌≡◌, Option, Some, Result, Ok, Err, refl, sym, ◌∙◌, ap, subst, true≢false}
+use Rattle.std.proofs.Common.{◌≡◌, List, Option, Some, Result, Ok, Err, refl, sym, ◌∙◌, ap, subst, true≢false}
 use Rattle.dvs_base.specs.Outside.{Files, SinkView}
 use Rattle.dvs_base.specs.Checks.{and_then}
+use Rattle.task_model.specs.declared.task.Task.{Task}
 use Rattle.sched_model.specs.Plan.{Plan, plan_of}
 use Rattle.sched_model.specs.Admission.{PassesTest, IsAdmitted}
 use Rattle.sched_model.specs.StaticDemand.{static_demand}
-use Rattle.freq_table.specs.Tables.{lowest_entry}
+use Rattle.freq_table.specs.Tables.{Table, lowest_entry}
 use Rattle.static_gov.specs.StaticSpeed.{IsLowestEnough}
 use Rattle.sched_model.specs.Jobs.{demand_of, released_jobs}
 use Rattle.trace_writer.specs.RunText.{run_text_in}
@@ -114,14 +115,18 @@ shows-test files c plan old new s tests ends = tt
 abbrev PassesAtSpeed : Plan → Type 0
 PassesAtSpeed p = PassesTest p.scheduler p × IsLowestEnough p (lowest_entry p.machine (static_demand p))
 
+-- the plan of `admit` is of the tasks and the machine that its files mean
+plan-is : (files : Files) (a : AdmitView) (tasks : List Task) (machine : Table) → tasks_at a.tasks files ≡ Ok tasks
+    → machine_at a.machine files ≡ Ok machine → admit_plan a files ≡ Ok (plan_of tasks machine a.scheduler)
+plan-is files a tasks machine read m = rw (read, m) refl
+
 admits-at-speed : (files : Files) (a : AdmitView) → IsKnownDone (Some files) (admit a) → HasPlan PassesAtSpeed (admit_plan a files)
 admits-at-speed files a (tasks, read, p, gives, adm) =
     let m = given-both (machine_at a.machine files) _ p gives in
     let q : Plan = plan_of tasks m.0 a.scheduler in
     let same : p ≡ q = (admission-gives q p m.2).0 in
-    let plan : admit_plan a files ≡ Ok q = rw (read, m.1) refl in
     let admitted : IsAdmitted q = subst IsAdmitted same adm in
-    (q, plan, (admitted.test, lowest-enough q admitted))
+    (q, plan-is files a tasks m.0 read m.1, (admitted.test, lowest-enough q admitted))
 
 shows-speed : (files : Files) (a : AdmitView) (old new : SinkView) (s : Status) → EndsAs old new (Some files) (answer_of_command (admit a)) s
     → ProvesDone (Some files) (admit a) s → AdmitsOrDenies PassesAtSpeed (admit_plan a files) s
