@@ -38,9 +38,14 @@ if second:
     exit "$status"
 }
 
-case ${1-} in
+# `response` of a board is the package's.
+case "$* " in
+'response '*'--board'[\ =]* | 'response --help '* | 'response -h '*) door=--board ;;
+*) door=${1-} ;;
+esac
+case $door in
 -h | --help | help | --version | explain | simulate | statistics | compare | sensitivity | generate | evaluate | \
-    paper-table | design | plot | convert | page | serve)
+    paper-table | design | plot | convert | page | serve | --board)
     if has_package && with_package '' 2>&-; then
         [ "$1" != help ] || set -- --help
         PYTHONPATH=$package${PYTHONPATH:+:$PYTHONPATH}

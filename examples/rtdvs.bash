@@ -7,12 +7,18 @@ _rtdvs_options() {
         admit) echo --tasks --machine --scheduler ;;
         replay | migrate) echo --tasks --machine --trace ;;
         workload) echo --seed ;;
-        response) echo --tasks --machine ;;
+        response) [ "${COMP_WORDS[0]##*/}" != rtdvs ] || echo --tasks --machine; _rtdvs_more "$1" ;;
         constrain) echo --tasks --machine --deadlines ;;
         poll) echo --tasks --machine --requests --server --scheduler --governor --ticks ;;
         least) echo --machine --units --ticks ;;
-        *) [ "${COMP_WORDS[0]##*/}" = rtdvs ] || echo $(_rtdvs_help "$1" | grep -o -e '--[a-z][a-z-]*' | grep -v -x -e --help | sort -u) ;;
+        *) _rtdvs_more "$1" ;;
     esac
+}
+
+# The options of a command of rtdvs-tools.
+_rtdvs_more() {
+    [ "${COMP_WORDS[0]##*/}" = rtdvs ] ||
+        echo $(_rtdvs_help "$1" | grep -o -e '--[a-z][a-z-]*' | grep -v -x -e --help | sort -u)
 }
 
 # The help of a command of rtdvs-tools, or of all.
@@ -21,7 +27,7 @@ _rtdvs_help() { "${COMP_WORDS[0]}" ${1:+"$1"} --help 2>&-; }
 # The commands: the program's, and for rtdvs-tools those of its help, which begin after four blanks.
 _rtdvs_commands() {
     echo run admit replay migrate workload response constrain poll least
-    [ "${COMP_WORDS[0]##*/}" = rtdvs ] || _rtdvs_help | sed -n 's/^    \([a-z][a-z-]*\).*/\1/p'
+    [ "${COMP_WORDS[0]##*/}" = rtdvs ] || _rtdvs_help | sed -n 's/^    \([a-z][a-z-]*\).*/\1/p' | grep -v -x response
 }
 
 # Files with an ending, and folders; any file where there are none.

@@ -139,9 +139,12 @@ if python3 -P -c 'import tomllib' 2>&-; then
     leaves tool 0 "$(cat "$work/tool.out")" ''
     cases=$((cases + 1))
     grep -q '^usage: sh rtdvs.sh' "$work/tool.out" || { echo 'wrapper: no help by Python'; bad=$((bad + 1)); }
+    printf '[[task]]\nname = "a"\nperiod_ms = 4\nworst_cycles = 1000\n[[point]]\nmhz = 1\nvolts = 1\n' > board.toml
+    RTDVS=$program PATH=$work/with-python:$work/tools call tool sh "$work/built/rtdvs.sh" response --board board.toml --tick-ms 0.5
+    leaves tool 0 "$(printf 'task  response_ms  ticks  period_ms  laxity_ms\na               1      2          4          3')" ''
     for tree in built bare; do rm "$work/$tree/python"; done
 else
-    skipped=", 16 skipped (no Python 3.11)"
+    skipped=", 17 skipped (no Python 3.11)"
 fi
 
 # Through links, by the run bit, as a shell calls a file that names none: one with the whole path, one to that with a relative one.

@@ -43,7 +43,7 @@ SECTIONS = {
         ("Tasks, machines, demands", "freq_table task_model demand_list csv_text"),
         ("The model", "sched_model"),
         ("The text of a run", "trace_text trace_reader sched_model/RunNotes note_laws trace_writer trace_laws"),
-        ("The tests under RM", "rm_admit governor rm_response_laws rm_response"),
+        ("Tests and static speeds", "rm_admit governor static_gov rm_response_laws rm_response"),
         ("Probes", "probes"),
         ("The promise", "event_kernel statuses command_files rtdvs_top"),
     ),
@@ -70,6 +70,7 @@ FACTS = (
     ("sched_model/Schedule:HasNoOther", "there is no other"),
     ("sched_model/Schedule:IsTheSchedule", "these ticks are that schedule"),
     ("sched_model/Schedule:AlwaysMeets", "some entry meets each published demand"),
+    ("static_gov/StaticSpeed:IsLowestEnough", "no entry below is enough"),
     ("trace_laws/DoneLines:TellsDeadlines", "the text has each job's completion, in time"),
     ("rtdvs_top/Promises:IsDeniedBy", "the test fails, by the two numbers"),
 )

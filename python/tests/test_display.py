@@ -1,5 +1,6 @@
 """What a notebook shows of values, and the frames of pandas: each cell by the files' own numbers."""
 
+import base64
 import sys
 from collections.abc import Callable
 from fractions import Fraction
@@ -82,6 +83,29 @@ def test_a_trace_in_a_notebook() -> None:
     assert found.tag.endswith("svg")
     words = {(text.text or "").strip() for text in found.iter("{http://www.w3.org/2000/svg}text")}
     assert {"t1", "t2", "t3"} <= words
+
+
+def test_a_trace_in_a_converted_notebook() -> None:
+    """Debian's nbconvert takes the HTML of an output as it is, with its SVG, and leaves no path in an SVG of its own.
+
+    It prefers an SVG to a PNG beside it.
+    """
+    pytest.importorskip("matplotlib")
+    nbconvert, nbformat = (pytest.importorskip(name) for name in ("nbconvert", "nbformat"))
+    trace = Trace.read(WORKED)
+    svg, png = str(trace._repr_svg_()), base64.b64encode(b"\x89PNG").decode()
+
+    def converted(kinds: dict[str, str]) -> str:
+        output = nbformat.v4.new_output("execute_result", kinds)
+        book = nbformat.v4.new_notebook(cells=[nbformat.v4.new_code_cell("trace", outputs=[output])])
+        return str(nbconvert.HTMLExporter().from_notebook_node(book)[0])
+
+    paths = svg.count("<path ")
+    assert paths > 20 and converted({"image/svg+xml": svg, "text/html": trace._repr_html_()}).count("<path ") == paths
+    beside = converted({"image/svg+xml": svg, "image/png": png})
+    if nbconvert.__version__.startswith("6.5"):
+        assert "<path " not in beside and png not in beside
+    assert png in converted({"image/png": png})
 
 
 def test_a_trace_without_a_picture(monkeypatch: pytest.MonkeyPatch) -> None:

@@ -80,8 +80,19 @@ def test_citation() -> None:
     first = re.search(r"^## ([0-9.]+) \(([0-9-]+)\)", (TOP / "CHANGELOG.md").read_text(), re.MULTILINE)
     assert first is not None and (said["version"], said["date-released"], said["title"]) == (*first.groups(), "rtdvs")
     assert re.search(r"^authors:\n  - name: The rtdvs project\nreferences:\n", text, re.MULTILINE)
-    assert re.findall(r"^    year: (\d+)$", text, re.MULTILINE) == ["1973", "2001"]
-    assert re.findall(r"family-names: (\S+)", text) == ["Liu", "Layland", "Pillai", "Shin"]
+    assert re.findall(r"family-names: (\S+)\n +given-names: (.+)", text) == [
+        ("Liu", "C. L."), ("Layland", "James W."), ("Pillai", "Padmanabhan"), ("Shin", "Kang G.")]
+    _, *papers = (dict(re.findall(r"^ +(\S+): (.+)$", paper, re.MULTILINE)) for paper in text.split("  - type: "))
+    facts = "title", "start", "end", "year", "doi"
+    assert [[paper[fact] for fact in facts] for paper in papers] == [
+        ["Scheduling Algorithms for Multiprogramming in a Hard-Real-Time Environment", "46", "61", "1973",
+         "10.1145/321738.321743"],
+        ["Real-Time Dynamic Voltage Scaling for Low-Power Embedded Operating Systems", "89", "102", "2001",
+         "10.1145/502034.502044"]]
+    assert [papers[0][fact] for fact in ("journal", "volume", "issue")] == ["Journal of the ACM", "20", "1"]
+    assert papers[1]["name"] == "SOSP '01"
+    assert papers[1]["collection-title"] == (
+        "Proceedings of the Eighteenth ACM Symposium on Operating Systems Principles")
 
 
 def test_public_names() -> None:

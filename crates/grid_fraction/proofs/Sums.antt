@@ -18,6 +18,12 @@ sum_below-limit zero most f h = omega arith
 sum_below-limit (suc n) most f h =
     omega (arith, sum_below-limit n most f (λ k lt. h k (omega arith)), h n (omega arith))
 
+-- a sum of n terms that are at least `least` is at least n * least
+pub sum_below-least : (n least : ℕ) (f : ℕ → ℕ) → ((k : ℕ) → k < n → least ≤ f k) → n * least ≤ sum_below n f
+sum_below-least zero least f h = omega arith
+sum_below-least (suc n) least f h =
+    omega (arith, sum_below-least n least f (λ k lt. h k (omega arith)), h n (omega arith))
+
 pub sum_below-le : (n : ℕ) (f g : ℕ → ℕ) → ((k : ℕ) → k < n → f k ≤ g k) → sum_below n f ≤ sum_below n g
 sum_below-le zero f g h = omega arith
 sum_below-le (suc n) f g h = omega (arith, sum_below-le n f g (λ k lt. h k (omega arith)), h n (omega arith))

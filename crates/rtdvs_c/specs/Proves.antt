@@ -68,7 +68,8 @@ pub record ProvesCommand (files : Files) (c : CommandView) : Type 0 where
   pub headline : IsAnsweredOrDenied files c
   -- admission, text, deadlines, speeds and energies of a run that is done or denied
   pub run : ProvesRun (with_files files c) (holding []) (answered files c) (status_at files c)
-  -- the scheduler's test of `run`, `admit`, `replay`, `migrate` and `poll`, as sums and products
+  -- the scheduler's test of `run`, `admit`, `replay`, `migrate` and `poll`, as sums and products; and that no lower speed
+  -- than the one that `admit` prints is enough
   pub admitted : AdmitsByTest (with_files files c) (status_at files c)
   -- which trace files are replayed and migrated: exactly those of a schedule, and for which demands
   pub exact : AcceptsScheduleTexts (with_files files c) ⊥ ⊥ (status_at files c)

@@ -1,10 +1,15 @@
--- What an answer shows of the scheduler's test, from how it ends.
-use Rattle.std.proofs.Common.{◌≡◌, Option, Some, Result, Ok, Err, refl, sym, ◌∙◌, ap, true≢false}
+-- What an answer shows of the scheduler's test, from how it ends and what is known of its plan.
+use Rattle.std.proofs.Common.{◌≡◌, Option, Some, Result, Ok, Err, refl, sym, ◌∙◌, ap, subst, true≢false}
 use Rattle.dvs_base.specs.Outside.{Files, SinkView}
 use Rattle.dvs_base.specs.Checks.{and_then}
 use Rattle.sched_model.specs.Plan.{Plan, plan_of}
+use Rattle.sched_model.specs.Admission.{PassesTest, IsAdmitted}
+use Rattle.sched_model.specs.StaticDemand.{static_demand}
+use Rattle.freq_table.specs.Tables.{lowest_entry}
+use Rattle.static_gov.specs.StaticSpeed.{IsLowestEnough}
 use Rattle.sched_model.specs.Jobs.{demand_of, released_jobs}
 use Rattle.trace_writer.specs.RunText.{run_text_in}
+use Rattle.static_gov.proofs.StaticSpeed.{lowest-enough}
 use Rattle.poll_server.specs.ServerJobs.{server_of}
 use Rattle.words.specs.Commands.{RunView, AdmitView, TracedView, PollView, CommandView, run, admit, traced, poll}
 use Rattle.command_files.specs.Meanings.{tasks_at, machine_at, demands_at, server_at}
@@ -15,19 +20,23 @@ use Rattle.rtdvs_top.specs.Run.{answer_of_prepared, run_answer}
 use Rattle.request_list.specs.RequestFile.{request_file}
 use Rattle.rtdvs_top.specs.Trace.{trace_of, trace_at, answer_of_traced, trace_answer}
 use Rattle.rtdvs_top.specs.Poll.{requests_at, polling_served, polled_text, answer_of_polling, poll_answer}
-use Rattle.rtdvs_top.specs.Promises.{answer_of_command, run_plan, admit_plan, traced_plan, poll_plan, Passes, AdmitsOrDenies, AdmitsByTest}
-use Rattle.rtdvs_top.specs.Prepared.{EndsAs}
+use Rattle.rtdvs_top.specs.Promises.{answer_of_command, run_plan, admit_plan, traced_plan, poll_plan, HasPlan, AdmitsOrDenies, AdmitsByTest}
+use Rattle.rtdvs_top.specs.Prepared.{EndsAs, IsKnownDone, ProvesDone}
 use Rattle.statuses.specs.declared.status.Denied.{Denied}
 use Rattle.statuses.specs.declared.status.FileKind.TheVariants as file
 use Rattle.statuses.specs.declared.status.TextFault.TheVariants as text
 use Rattle.statuses.specs.declared.status.Status.{Status}
 use Rattle.statuses.specs.declared.status.Status.TheVariants as status
-use Rattle.rtdvs_top.proofs.DeniedPlans.{DeniesNot, is_denial, status_of, file-denies-not, tasks_at-denies-not, machine_at-denies-not, demands_at-denies-not, server_at-denies-not, within-denies-not, traced-denies-not, admission-gives, denied-plan}
+use Rattle.rtdvs_top.proofs.DeniedPlans.{DeniesNot, is_denial, status_of, file-denies-not, given-both, tasks_at-denies-not, machine_at-denies-not, demands_at-denies-not, server_at-denies-not, within-denies-not, traced-denies-not, admission-gives, denied-plan}
+
+-- the plan passes its own scheduler's test
+abbrev PassesOwn : Plan → Type 0
+PassesOwn p = PassesTest p.scheduler p
 
 -- a step gives a value only if the plan passes its test, and denies only if it fails it
 record Tests {A : Type 0} (step : Result A Status) (plan : Result Plan Status) : Type 0 where
-  given : (a : A) → step ≡ Ok a → Passes plan
-  denied : (why : Denied) → step ≡ Err (status.NotAdmitted why) → AdmitsOrDenies plan (status.NotAdmitted why)
+  given : (a : A) → step ≡ Ok a → HasPlan PassesOwn plan
+  denied : (why : Denied) → step ≡ Err (status.NotAdmitted why) → AdmitsOrDenies PassesOwn plan (status.NotAdmitted why)
 
 admission-tests : (p : Plan) → Tests (admission p) (Ok p)
 admission-tests p = record {
@@ -95,16 +104,35 @@ poll-tests q files =
 
 -- what the end of an answer that tests its plan shows
 shows-test : (files : Files) (c : CommandView) (plan : Result Plan Status) (old new : SinkView) (s : Status)
-    → Tests (answer_of_command c files) plan → EndsAs old new (Some files) (answer_of_command c) s → AdmitsOrDenies plan s
+    → Tests (answer_of_command c files) plan → EndsAs old new (Some files) (answer_of_command c) s → AdmitsOrDenies PassesOwn plan s
 shows-test files c plan old new status.Done tests ends = tests.given ends.0 ends.1
 shows-test files c plan old new status.Write tests ends = tests.given ends.0 ends.1
 shows-test files c plan old new (status.NotAdmitted why) tests ends = tests.denied why ends
 shows-test files c plan old new s tests ends = tt
 
+-- the plan passes its own test, and the entry of its static demand is the lowest that is enough
+abbrev PassesAtSpeed : Plan → Type 0
+PassesAtSpeed p = PassesTest p.scheduler p × IsLowestEnough p (lowest_entry p.machine (static_demand p))
+
+admits-at-speed : (files : Files) (a : AdmitView) → IsKnownDone (Some files) (admit a) → HasPlan PassesAtSpeed (admit_plan a files)
+admits-at-speed files a (tasks, read, p, gives, adm) =
+    let m = given-both (machine_at a.machine files) _ p gives in
+    let q : Plan = plan_of tasks m.0 a.scheduler in
+    let same : p ≡ q = (admission-gives q p m.2).0 in
+    let plan : admit_plan a files ≡ Ok q = rw (read, m.1) refl in
+    let admitted : IsAdmitted q = subst IsAdmitted same adm in
+    (q, plan, (admitted.test, lowest-enough q admitted))
+
+shows-speed : (files : Files) (a : AdmitView) (old new : SinkView) (s : Status) → EndsAs old new (Some files) (answer_of_command (admit a)) s
+    → ProvesDone (Some files) (admit a) s → AdmitsOrDenies PassesAtSpeed (admit_plan a files) s
+shows-speed files a old new status.Done ends met = admits-at-speed files a met
+shows-speed files a old new status.Write ends met = admits-at-speed files a met
+shows-speed files a old new s ends met = shows-test files (admit a) (admit_plan a files) old new s (admit-tests a files) ends
+
 pub admits-by-test : (files : Option Files) (c : CommandView) (old new : SinkView) (s : Status)
-    → EndsAs old new files (answer_of_command c) s → AdmitsByTest (asked_with files c) s
-admits-by-test (Some files) (run r) old new s ends = shows-test files (run r) (run_plan r files) old new s (run-tests r files) ends
-admits-by-test (Some files) (admit a) old new s ends = shows-test files (admit a) (admit_plan a files) old new s (admit-tests a files) ends
-admits-by-test (Some files) (traced r) old new s ends = shows-test files (traced r) (traced_plan r files) old new s (traced-tests r files) ends
-admits-by-test (Some files) (poll q) old new s ends = shows-test files (poll q) (poll_plan q files) old new s (poll-tests q files) ends
-admits-by-test files c old new s ends = tt
+    → EndsAs old new files (answer_of_command c) s → ProvesDone files c s → AdmitsByTest (asked_with files c) s
+admits-by-test (Some files) (run r) old new s ends met = shows-test files (run r) (run_plan r files) old new s (run-tests r files) ends
+admits-by-test (Some files) (admit a) old new s ends met = shows-speed files a old new s ends met
+admits-by-test (Some files) (traced r) old new s ends met = shows-test files (traced r) (traced_plan r files) old new s (traced-tests r files) ends
+admits-by-test (Some files) (poll q) old new s ends met = shows-test files (poll q) (poll_plan q files) old new s (poll-tests q files) ends
+admits-by-test files c old new s ends met = tt

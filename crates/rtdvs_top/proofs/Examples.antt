@@ -258,8 +258,8 @@ as_many_jobs files r tasks machine demands out means jobs none headline =
     neither (inr (why, same, by)) = absurd (cc)
 
 -- a first part of an answer was put only if there is a plan, which is admitted
-put_in_part : (why : Status) → AdmitsOrDenies (Err why) Write → ⊥
-put_in_part why passes = absurd (let same = passes.1 in cc)
+put_in_part : (P : Plan → Type 0) (why : Status) → AdmitsOrDenies P (Err why) Write → ⊥
+put_in_part P why passes = absurd (let same = passes.1 in cc)
 
 -- a task that is denied isn't complete at its period
 late_at_its_period : (p : Plan) → FailsToRespond p (Response 0 5 4) → is_first_done p 0 (period p 0) ≡ false

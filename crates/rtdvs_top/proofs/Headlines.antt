@@ -101,11 +101,11 @@ module _ (r : RunView) (files : Files) (tasks : List Task) (machine : Table) (de
 pub proves-run : (files : Option Files) (c : CommandView) (s : Status) (old new : SinkView)
     → EndsAs old new files (answer_of_command c) s → ProvesDone files c s → ProvesRun (asked_with files c) old new s
 proves-run (Some files) (run r) status.Done old new ends met =
-    let m = run-means (λ p. PassesTest p.scheduler p) r files (admits-by-test (Some files) (run r) old new status.Done ends) in
+    let m = run-means (λ p. PassesTest p.scheduler p) r files (admits-by-test (Some files) (run r) old new status.Done ends met) in
     let done = done-run r files m.0 m.1 m.2 m.3 old new ends m.4 met in
     (m.0, m.1, m.2, m.3, done.0, done.1)
 proves-run (Some files) (run r) (status.NotAdmitted why) old new ends met =
-    run-means (λ p. IsDeniedBy p why) r files (admits-by-test (Some files) (run r) old new (status.NotAdmitted why) ends)
+    run-means (λ p. IsDeniedBy p why) r files (admits-by-test (Some files) (run r) old new (status.NotAdmitted why) ends met)
 proves-run files c s old new ends met = tt
 
 -- the headline, from what holds of each run and from whose answer the status is

@@ -63,6 +63,7 @@ refused-ends files old new step s refusal refuses = refuses
 
 refused-met : (files : Option Files) (c : CommandView) (s : Status) → IsRefusal s → ProvesDone files c s
 refused-met files c status.Done refusal = absurd refusal
+refused-met files c status.Write refusal = absurd refusal
 refused-met files c s refusal = tt
 
 refused-told : (files : Option Files) (c : CommandView) (old new : SinkView) (before after : List ProbeView) (s : Status)
@@ -146,7 +147,7 @@ module _ (c : CommandView) (old mid new : ShelfView) (tasks : Option (List Task)
       let ends = put.ends in
       record {
         ended = put-ends files c (shows out.0) (shows out.1) (answer_of p) s prepared.answer put.ended;
-        met = put-cases (answer_of p) s (ProvesDone files c) ends prepared.met tt tt (λ jobs. tt);
+        met = put-cases (answer_of p) s (ProvesDone files c) ends prepared.met prepared.met tt (λ jobs. tt);
         tested = prepared.tested s ends;
         named = put-named files c tasks (answer_of p) s ends prepared.named;
         failed = put-cases (answer_of p) s (LoadFailed files old new (Ok c)) ends tt tt tt (λ jobs. tt);

@@ -29,6 +29,7 @@ use Rattle.sched_model.proofs.Schedules.{schedule_exists, schedule_unique}
 use Rattle.sched_model.specs.Totals.{totals_of}
 use Rattle.governor.specs.Meanings.{OwnDemand}
 use Rattle.governor.specs.Schedule.{ask_of, Publishes}
+use Rattle.static_gov.proofs.StaticSpeed.{lowest-enough}
 use Rattle.rtdvs_top.specs.Generated.{run_totals}
 use Rattle.rtdvs_top.specs.ToldRuns.{TellsRun}
 use Rattle.rtdvs_top.specs.Prepared.{answer_of_run, Ends, status_of_writing}
@@ -122,6 +123,7 @@ module _ (demand : OwnDemand) (kind : GovernorKind) (p : Plan) (d : DemandsView)
         deadlines = met;
         told = text-tells p adm.limits v kind dem ticks low_ticks met;
         speeds = λ n t lt. met-there t (own_met.demands n t lt);
+        lowest = λ fixed. lowest-enough p adm;
         exists = schedule_exists p;
         unique = schedule_unique p;
       }

@@ -7,7 +7,7 @@ use Rattle.task_model.specs.declared.task.Task.{Task}
 use Rattle.sched_model.specs.Plan.{Plan, count}
 use Rattle.event_kernel.specs.Runs.{Run}
 use Rattle.dvs_base.specs.declared.limits.TheConstants.{MOST_TICKS}
-use Rattle.words.specs.Commands.{CommandView, asks_probes, tasks_name, run, traced, poll, least}
+use Rattle.words.specs.Commands.{CommandView, asks_probes, tasks_name, run, admit, traced, poll, least}
 use Rattle.statuses.specs.declared.status.Status.{Status}
 use Rattle.statuses.specs.declared.status.Status.TheVariants as status
 use Rattle.task_model.specs.Tasks.{names_of}
@@ -34,6 +34,7 @@ use Rattle.statuses.specs.StatusLines.{status_text}
 use Rattle.rtdvs_top.specs.Asked.{asked_with}
 use Rattle.rtdvs_top.specs.ToldRuns.{IfAsked, TellsRun}
 use Rattle.rtdvs_top.specs.Run.{answer_of_plan}
+use Rattle.rtdvs_top.specs.Admit.{admitted_of}
 use Rattle.command_files.specs.PlannedRuns.{run_with, prepared_of, IsRunnable, IsReadyRun}
 use Rattle.rtdvs_top.specs.Promises.{ProvesTests, TellsProbes, LoadFailed, answer_of_command}
 use Rattle.rtdvs_top.specs.Constrain.{FailsToKeep}
@@ -73,13 +74,16 @@ EndsAs old new files answer status.Done = (text : List ℕ) × Gives files answe
 EndsAs old new files answer status.Write = (text : List ℕ) × Gives files answer text × WroteSome old new text
 EndsAs old new files answer s = Refuses files answer s
 
--- What is known of a command that is done, with the tasks of its file. A run is of the plan and the demands that were
--- prepared; a replay or a migration has compared a trace with the schedule of an admitted plan; a `poll` run has kept the
+-- What is known of a command whose answer was put, with the tasks of its file. A run is of the plan and the demands that
+-- were prepared; the plan of `admit` is admitted; a replay or a migration has compared a trace with the schedule of an admitted plan; a `poll` run has kept the
 -- outcomes, their order and the bound, for the server of its files; `least` has its bound, for the machine of its file.
 abbrev pub IsKnownDone : Option Files → CommandView → Type 0
 IsKnownDone files (run r) =
     (tasks : List Task) × Gives files (tasks_at r.tasks) tasks
     × (p : Plan) × (d : DemandsView) × Gives files (prepared_of r tasks) (p, d) × IsReadyRun r.governor (run_with r p d)
+IsKnownDone files (admit a) =
+    (tasks : List Task) × Gives files (tasks_at a.tasks) tasks
+    × (p : Plan) × Gives files (admitted_of a tasks) p × IsAdmitted p
 IsKnownDone files (traced r) =
     (tasks : List Task) × Gives files (tasks_at r.tasks) tasks
     × (p : Plan) × (t : TraceView) × Gives files (traced_of r tasks) (p, t) × IsAdmitted p
@@ -92,6 +96,7 @@ IsKnownDone files c = ⊤
 -- what is known of a command that ended with this status
 abbrev pub ProvesDone : Option Files → CommandView → Status → Type 0
 ProvesDone files c status.Done = IsKnownDone files c
+ProvesDone files c status.Write = IsKnownDone files c
 ProvesDone files c s = ⊤
 
 -- The lines of a status have the names that these files give the command's tasks. If a command that asks for probes is

@@ -4,6 +4,8 @@ use Rattle.dvs_base.specs.Checks.{◌>>=◌}
 use Rattle.dvs_base.specs.Outside.{Files, SinkView, ShelfView, Rose, Takes}
 use Rattle.sched_model.specs.Plan.{Plan, plan_of, period, hyper, top_speed}
 use Rattle.sched_model.specs.Admission.{PassesTest}
+use Rattle.sched_model.specs.StaticDemand.{static_demand}
+use Rattle.static_gov.specs.StaticSpeed.{IsLowestEnough}
 use Rattle.words.specs.Commands.{RunView, AdmitView, TracedView, PollView, CommandView, run, admit, traced, poll, workload, response, constrain, least, asks_probes}
 use Rattle.words.specs.declared.command.WordFault.{WordFault}
 use Rattle.statuses.specs.declared.status.Denied.{Denied}
@@ -15,7 +17,7 @@ use Rattle.dvs_base.specs.declared.kind.Version.{Version}
 use Rattle.dvs_base.specs.declared.kind.Scheduler.TheVariants.{Edf, Rm}
 use Rattle.task_model.specs.declared.task.Task.{Task}
 use Rattle.demand_list.specs.Demands.{DemandsView}
-use Rattle.freq_table.specs.Tables.{Table}
+use Rattle.freq_table.specs.Tables.{Table, lowest_entry}
 use Rattle.sched_model.specs.Tests.{total_rate, level_work}
 use Rattle.sched_model.specs.Jobs.{released_jobs}
 use Rattle.rm_admit.specs.Denials.{IsFirstOverloaded}
@@ -75,9 +77,9 @@ poll_plan q files = do
   requests ← requests_at q.requests files
   Ok (plan_of tasks machine q.scheduler)
 
--- there is a plan, and it passes its scheduler's test
-abbrev pub Passes : Result Plan Status → Type 0
-Passes plan = (p : Plan) × (plan ≡ Ok p) × PassesTest p.scheduler p
+-- there is a plan, of which this holds
+abbrev pub HasPlan : (Plan → Type 0) → Result Plan Status → Type 0
+HasPlan P plan = (p : Plan) × (plan ≡ Ok p) × P p
 
 -- A plan fails its scheduler's test by these two numbers: under EDF the work of a hyperperiod, and what the highest
 -- speed does in it; under RM those of the period of the first task in RM order that fails.
@@ -94,19 +96,23 @@ pub record IsDeniedBy (p : Plan) (why : Denied) : Type 0 where
   pub by : IsDenial p why
   pub fails : PassesTest p.scheduler p → ⊥
 
--- an answer is written, whole or in part, only if its plan passes the test, and denied only if its plan fails it
-abbrev pub AdmitsOrDenies : Result Plan Status → Status → Type 0
-AdmitsOrDenies plan status.Done = Passes plan
-AdmitsOrDenies plan status.Write = Passes plan
-AdmitsOrDenies plan (status.NotAdmitted why) = (p : Plan) × (plan ≡ Ok p) × IsDeniedBy p why
-AdmitsOrDenies plan s = ⊤
+-- an answer is written, whole or in part, only if P holds of its plan, and denied only if its plan fails the test
+abbrev pub AdmitsOrDenies : (Plan → Type 0) → Result Plan Status → Status → Type 0
+AdmitsOrDenies P plan status.Done = HasPlan P plan
+AdmitsOrDenies P plan status.Write = HasPlan P plan
+AdmitsOrDenies P plan (status.NotAdmitted why) = HasPlan (λ p. IsDeniedBy p why) plan
+AdmitsOrDenies P plan s = ⊤
 
--- what the answer of `run`, `admit`, `replay`, `migrate` or `poll` over these files shows of its scheduler's test
+-- What the answer of `run`, `admit`, `replay`, `migrate` or `poll` over these files shows: that its plan passes its
+-- scheduler's test. Besides, the entry whose speed `admit` prints is the lowest that is enough: with it every job meets
+-- its deadline at worst, with each lower one the test fails, and under EDF some job misses its deadline.
 abbrev pub AdmitsByTest : Asked → Status → Type 0
-AdmitsByTest (with_files files (run r)) s = AdmitsOrDenies (run_plan r files) s
-AdmitsByTest (with_files files (admit a)) s = AdmitsOrDenies (admit_plan a files) s
-AdmitsByTest (with_files files (traced r)) s = AdmitsOrDenies (traced_plan r files) s
-AdmitsByTest (with_files files (poll q)) s = AdmitsOrDenies (poll_plan q files) s
+AdmitsByTest (with_files files (run r)) s = AdmitsOrDenies (λ p. PassesTest p.scheduler p) (run_plan r files) s
+AdmitsByTest (with_files files (admit a)) s =
+    AdmitsOrDenies (λ p. PassesTest p.scheduler p × IsLowestEnough p (lowest_entry p.machine (static_demand p)))
+    (admit_plan a files) s
+AdmitsByTest (with_files files (traced r)) s = AdmitsOrDenies (λ p. PassesTest p.scheduler p) (traced_plan r files) s
+AdmitsByTest (with_files files (poll q)) s = AdmitsOrDenies (λ p. PassesTest p.scheduler p) (poll_plan q files) s
 AdmitsByTest a s = ⊤
 
 -- the answer of a command

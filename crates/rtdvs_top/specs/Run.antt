@@ -1,8 +1,9 @@
 -- The answer of `run`, and what a run that is done has met.
-use Rattle.std.specs.Prelude.{ℕ, List, nat_lt, Result, Ok, Err, if◌then◌else◌, Option}
+use Rattle.std.specs.Prelude.{◌≡◌, ℕ, List, nat_lt, Result, Ok, Err, if◌then◌else◌, Option}
 use Rattle.dvs_base.specs.Checks.{◌>>=◌}
 use Rattle.dvs_base.specs.Outside.{Files, SinkView}
 use Rattle.dvs_base.specs.declared.kind.GovernorKind.{GovernorKind}
+use Rattle.dvs_base.specs.declared.kind.GovernorKind.TheVariants.{Fixed}
 use Rattle.dvs_base.specs.declared.kind.Version.{Version}
 use Rattle.task_model.specs.declared.task.Task.{Task}
 use Rattle.demand_list.specs.Demands.{DemandsView}
@@ -18,6 +19,9 @@ use Rattle.statuses.specs.declared.status.Status.{Status}
 use Rattle.statuses.specs.declared.status.Status.TheVariants as status
 use Rattle.sched_model.specs.Ticks.{Tick, IsMet}
 use Rattle.sched_model.specs.Admission.{PassesTest}
+use Rattle.sched_model.specs.StaticDemand.{static_demand}
+use Rattle.freq_table.specs.Tables.{lowest_entry}
+use Rattle.static_gov.specs.StaticSpeed.{IsLowestEnough}
 use Rattle.sched_model.specs.Schedule.{schedule, AlwaysMeets, HasSchedule, HasNoOther, IsTheSchedule}
 use Rattle.trace_laws.specs.DoneLines.{TellsDeadlines}
 use Rattle.statuses.specs.Steps.{Gives}
@@ -75,6 +79,8 @@ pub record HasMet (v : Version) (kind : GovernorKind) (r : Run) : Type 0 where
   pub told : TellsDeadlines r.plan r.ticks (text_under v kind r)
   -- some entry of the table meets each published demand, unless the governor looks ahead
   pub speeds : IsAlwaysMet kind → AlwaysMeets r.plan kind (job_demands r) r.ticks
+  -- under `static`, no lower speed is enough
+  pub lowest : kind ≡ Fixed → IsLowestEnough r.plan (lowest_entry r.plan.machine (static_demand r.plan))
   -- for any published demand, the plan has one schedule of each length
   pub exists : HasSchedule r.plan
   pub unique : HasNoOther r.plan

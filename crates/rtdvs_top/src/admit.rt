@@ -30,6 +30,7 @@ pub(crate) fn prepare_admit<'a, S: Shelf>(
 {
     let machine = load_machine(alloc, words.machine, shelf)?;
     let plan = admit(alloc, words.scheduler, tasks, &machine)?;
+    let _admitted = plan.scheduler();
     Ok(Prepared::Line(admitted_line(&plan)))
 }
 

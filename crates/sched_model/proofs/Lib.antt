@@ -11,6 +11,7 @@ pub mod Limits
 pub mod SortedKeys
 pub mod StaticShare
 pub mod Schedules
+pub mod Served
 pub mod Units
 pub mod Spans
 pub mod Walk

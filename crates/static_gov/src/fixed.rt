@@ -11,6 +11,7 @@ ghost use Rattle.governor.specs.Worst.{MeetsAtWorst};
 ghost use Rattle.governor.specs.OneSpeed.{CalmAt, SafeAt};
 ghost use Rattle.governor.proofs.OneSpeedLaws.{pairs_fixed, static_laws};
 ghost use Rattle.governor.proofs.Worst.{fixed_publishing};
+ghost use Rattle.static_gov.specs.StaticSpeed.{IsLowestEnough};
 
 use dvs_base::{GovernorKind, NoMemory};
 use governor::{Choice, Governor, Publishing, chosen};
@@ -26,11 +27,13 @@ pub struct Static {
 
 impl Static {
     /// The governor for a plan, before the first release. It takes no memory and never fails.
-    /// With every job at its worst case its schedule meets every deadline, for each number of ticks.
+    /// With every job at its worst case its schedule meets every deadline, for each number of ticks. At each lower speed
+    /// the scheduler's test fails, and under EDF some job then misses its deadline.
     pub fn new(_alloc: Global, plan: &Admitted) -> Result<Static, NoMemory>
         ensures made { IsOk result }
         ensures stands { IfOk result (λ g. ⟦<Static as Governor>⟧.stands g plan.now (opening plan.now)) }
         ensures worst { MeetsAtWorst plan.now }
+        ensures lowest { IsLowestEnough plan.now (lowest_entry plan.now.machine (static_demand plan.now)) }
     {
         let _admitted = plan.scheduler();
         Ok(Static {

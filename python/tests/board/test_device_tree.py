@@ -273,6 +273,16 @@ def test_sums_as_the_compiler_has_them(term: str) -> None:
 
 
 @needs_dtc
+@pytest.mark.parametrize("label", ["one", "two"])
+def test_each_label_of_a_table(label: str) -> None:
+    """A table may have several; the source and the blob have them in another order."""
+    text = ("/ { one: opp { a { opp-hz = /bits/ 64 <7000000>; opp-microvolt = <900000>; }; }; "
+            "other { b { opp-hz = /bits/ 64 <8000000>; opp-microvolt = <900000>; }; }; }; two: &one { };")
+    for source in (text, compiled(text, "-@")):
+        assert [point.hertz for point in operating_points(source, Choice(label)).points] == [7_000_000]
+
+
+@needs_dtc
 @pytest.mark.parametrize("text", [BOARD, PLAIN, DA850, TURBO], ids=["board", "chips", "da850", "r8a77961"])
 def test_blobs_by_another_reader(text: str) -> None:
     libfdt = pytest.importorskip("libfdt")

@@ -1,6 +1,7 @@
 """Joules, mean power and hours of runs: worked out by hand in the comments. The runs are simulated."""
 
 from collections.abc import Sequence
+from decimal import Context, Decimal
 from fractions import Fraction
 from pathlib import Path
 
@@ -15,6 +16,7 @@ from rtdvs.model import Demands, Machine, TaskSet
 from rtdvs.rules import check
 from rtdvs.trace import Trace
 from tests.shared.examples import TEST_DATA, Captured, printed, refusal
+from tests.shared.simulated import Simulated
 
 
 
@@ -81,6 +83,52 @@ def made(words: Sequence[object], capsys: Captured) -> str:
 def test_boards_by_hand(board: str, words: list[str], ticks: int, lines: list[str], tmp_path: Path,
                         capsys: Captured) -> None:
     assert energy_of(board, words, ticks, tmp_path, capsys).splitlines() == lines
+
+
+def digits(number: Fraction) -> str:
+    """A number with six digits, rounded once, without the zeros at its end."""
+    return f"{Context(prec=6).divide(Decimal(number.numerator), Decimal(number.denominator)).normalize():f}"
+
+
+# Milliseconds, the battery's mWh, and joules as cycles times nanojoules, under `none` and `static`.
+# MEASURED: in 100 ms 20 jobs of 1.2 million cycles, 3 of 16 million, and 0.1 ms of the next one. A cycle takes
+# 1600/1000 nJ at 1000 MHz and 900/800 at 800.
+# VOLTS: in 8 ms two jobs of 1.5 million, 0.8 nJ at 2 V and a quarter of it at 1 V. Idle cycles take a tenth: of each
+# 4 ms 2.5 at 1000 MHz, or 1 at 500.
+# TREE: in 100 ms ten jobs of 1.5 million, 360/300 nJ at 300 MHz and 1.2 V, and (1.1/1.2)^2 of it at 200 MHz.
+SEEN = [
+    pytest.param(MEASURED, [], 100, 3700, [
+        (24_000_000 + 48_000_000 + 100_000) * Fraction(1600, 1000) / 10**9,
+        (24_000_000 + 48_000_000 + 80_000) * Fraction(900, 800) / 10**9], id="measured"),
+    pytest.param(VOLTS, ["--tick-ms", "0.5"], 8, 1000, [
+        (3_000_000 + Fraction(5_000_000, 10)) * Fraction(800, 1000) / 10**9,
+        (3_000_000 + Fraction(1_000_000, 10)) * Fraction(800, 1000) / 4 / 10**9], id="volts"),
+    pytest.param(TREE, [*DA850, "--tick-ms", "0.5"], 100, 5000, [
+        15_000_000 * Fraction(360, 300) / 10**9,
+        15_000_000 * Fraction(360, 300) * Fraction(11, 12)**2 / 10**9], id="device tree"),
+]
+
+
+@pytest.mark.parametrize(("board", "words", "milliseconds", "battery", "joules"), SEEN)
+def test_all_digits_of_three_boards(board: str, words: list[str], milliseconds: int, battery: int,
+                                    joules: list[Fraction], tmp_path: Path, capsys: Captured,
+                                    monkeypatch: pytest.MonkeyPatch) -> None:
+    """Joules, milliwatts and hours of `compare`, of `statistics` and of `design --trace`."""
+    monkeypatch.setattr("rtdvs.cli.compare.engine_of", lambda args: Simulated(tmp_path))
+    (tmp_path / "board.toml").write_text(board)
+    given, folder = ["--board", tmp_path / "board.toml", *words], tmp_path / "made"
+    rows = [line.split() for line in made(["compare", *given, "--ms", milliseconds], capsys).splitlines()[1:3]]
+    made(["design", *given, "--folder", folder], capsys)
+    scale = Scale.parse((folder / "tasks.toml").read_text())
+    assert scale is not None
+    for row, governor, each in zip(rows, ("none", "static"), joules, strict=True):
+        milliwatts = each * 1000 / Fraction(milliseconds, 1000)
+        wanted = [digits(each), digits(milliwatts), digits(battery / milliwatts)]
+        assert row[:5] == ["edf", governor, *wanted]
+        (tmp_path / "run.trace").write_text(run_of(folder, int(milliseconds / scale.tick), capsys, governor))
+        for command in ("design", "statistics"):
+            lines = made([command, *given, "--folder", folder, "--trace", tmp_path / "run.trace"], capsys).splitlines()
+            assert [line.split()[0] for line in lines[-3:]] == wanted
 
 
 @pytest.mark.parametrize("words", [[], ["--tick-ms", "0.05"], ["--tick-ms", "0.5", "--unit-cycles", "100"],

@@ -30,7 +30,7 @@ NONE = 2 * JOB * TOP + 2 * 2_500 * 1000 * TOP / 10        # 2 times 2.5 ms idle 
 
 @pytest.fixture(autouse=True)
 def simulated(monkeypatch: pytest.MonkeyPatch) -> None:
-    for module in ("compare", "plot", "design", "sensitivity"):
+    for module in ("compare", "plot", "design", "response", "sensitivity"):
         monkeypatch.setattr(f"rtdvs.cli.{module}.engine_of", lambda args: Simulated(Path("simulated")))
 
 
@@ -116,6 +116,39 @@ def test_sensitivity(board: Path, capsys: Captured) -> None:
         "task a, ms at 1000 MHz: 1.5 4", "highest speed, MHz: 1000 375"]
 
 
+def test_response(tmp_path: Path, capsys: Captured) -> None:
+    """By hand at 1000 MHz: `control` takes 1.2 ms. Five jobs of it are released in the 22 ms that `decode` takes:
+    16 + 5 * 1.2. In ticks of 0.1 ms these are 12 and 220, of 333; the period is rounded down to 33.3 ms.
+    """
+    (tmp_path / "board.toml").write_text(MEASURED)
+    words: list[object] = ["response", "--board", tmp_path / "board.toml"]
+    assert list(map(str.split, printed(capsys, words).splitlines())) == [
+        ["task", "response_ms", "ticks", "period_ms", "laxity_ms"],
+        ["control", "1.2", "12", "5", "3.8"],
+        ["decode", "22", "220", "33.3", "11.3"]]
+    # In ticks of 0.5 ms: `control` ends within its third tick, and `decode` at 22 ms, in 66 ticks, 33 ms.
+    assert list(map(str.split, printed(capsys, [*words, "--tick-ms", "0.5"]).splitlines()))[1:] == [
+        ["control", "1.5", "3", "5", "3.5"], ["decode", "22", "44", "33", "11"]]
+
+
+@pytest.mark.parametrize(("words", "line"), [
+    pytest.param(["--folder", "made"], "--folder needs --board", id="no board"),
+    pytest.param(["--board", "board.toml", "--tasks", "t", "--machine", "m"], "give either --board or --tasks", id="both"),
+    pytest.param(["--board", "late.toml"], "misses b 7 5\n  By the deadline of its first job, `b` and those before it "
+                 "ask for 7 units; the highest speed does 5. ", id="late"),
+])
+def test_refusals_of_response(words: list[str], line: str, tmp_path: Path, capsys: Captured,
+                              monkeypatch: pytest.MonkeyPatch) -> None:
+    """By hand: in 5 ms at 1 MHz two jobs of a and one of b take 7000 cycles, in 4 ms one of each 5000."""
+    monkeypatch.chdir(tmp_path)
+    Path("board.toml").write_text(VOLTS)
+    Path("late.toml").write_text(TASKS.format("a", 4, 2000) + TASKS.format("b", 5, 3000)
+                                 + "[[point]]\nmhz = 1\nvolts = 1\n")
+    scale = ["--tick-ms", "1", "--unit-cycles", "1000"]
+    status, (out, err) = rtdvs.cli.main.main(["response", *words, *scale]), capsys.readouterr()
+    assert (status, out) == (2, "") and f"rtdvs: {line}" in err
+
+
 # Pictures
 
 def test_picture_of_a_trace() -> None:
@@ -130,6 +163,44 @@ def test_picture_of_a_trace() -> None:
                  "period 4 ms, worst 1500 kcycles", "MHz", "run (full height: 500)", "1500/1500", "375"):
         assert part in said, part
     assert found[1] == []
+
+
+@pytest.fixture
+def picture(board: Path, capsys: Captured) -> list[str]:
+    """The words of a picture of 8 ms, in ticks of 0.5 ms: 500 MHz are 250 units a tick."""
+    pytest.importorskip("matplotlib")
+    made, trace = board.parent / "half", board.parent / "half.trace"
+    printed(capsys, ["design", "--board", board, "--tick-ms", "0.5", "--unit-cycles", "1000", "--folder", made])
+    words = ["simulate", *options(made), "--scheduler", "edf", "--governor", "static", "--ticks", "16"]
+    trace.write_text(printed(capsys, words))
+    return ["plot", "trace", *map(str, ("--board", board, "--folder", made, "--trace", trace)),
+            "--output", str(board.parent / "a.svg")]
+
+
+@pytest.mark.parametrize(("words", "title", "top"), [
+    pytest.param(["--from", "1.5", "--to", "6.5", "--top", "1000"], "edf, static: ms 1.5 to 6.5 of 8", "1000", id="ticks"),
+    pytest.param(["--from", "1.75", "--to", "6.1"], "edf, static: ms 1.5 to 6.5 of 8", "500", id="within ticks"),
+    pytest.param(["--from", "0", "--to", "8", "--top", "700.5"], "edf, static: 8 ms", "702", id="all"),
+])
+def test_times_of_a_picture(words: list[str], title: str, top: str, picture: list[str], capsys: Captured,
+                            monkeypatch: pytest.MonkeyPatch) -> None:
+    """With a board they are milliseconds and MHz, of which each part of a tick counts, of 0.5 ms and 2 MHz here."""
+    monkeypatch.setattr("rtdvs.plot.schedule.save", lambda figure, path, background: path.write_text(
+        "\n".join(text.get_text() for text in texts(figure))))
+    printed(capsys, [*picture, *words])
+    said = Path(picture[-1]).read_text()
+    assert title in said and f"run (full height: {top})" in said
+
+
+@pytest.mark.parametrize(("words", "line"), [
+    pytest.param(["--to", "8.5"], "--to has to be at most 8, the ms of the run", id="beyond the end"),
+    pytest.param(["--from", "6", "--to", "6"], "--from has to be below 6", id="nothing"),
+    pytest.param(["--top", "498"], "--top has to be at least 500, the fastest speed", id="too low"),
+    pytest.param(["--charge", "0"], "--charge has no place beside --board, which has it", id="charge"),
+    pytest.param(["--from", "-1"], "a whole number from 0 on, not -1", id="below 0"),
+])
+def test_refusals_of_a_picture(words: list[str], line: str, picture: list[str], capsys: Captured) -> None:
+    assert line in refusal(capsys, [*picture, *words])
 
 
 @pytest.mark.parametrize("usual", ["", "usual_cycles = 750_000\n"], ids=["worst", "usual"])

@@ -75,7 +75,8 @@ def test_help_of_each_command(command: str, capsys: Captured) -> None:
 
 @pytest.mark.parametrize("command", COMMANDS)
 def test_unknown_option_of_each_command(command: str, capsys: Captured) -> None:
-    assert refusal(capsys, [command, "--foo"]).startswith("usage: python3 -m rtdvs ")
+    of_board = ["--board", "board.toml"] if command in PROGRAM else []
+    assert refusal(capsys, [command, *of_board, "--foo"]).startswith("usage: python3 -m rtdvs ")
 
 
 def test_no_word(capsys: Captured) -> None:
@@ -102,6 +103,16 @@ def test_another_name(name: str, capsys: Captured) -> None:
 def test_usage(words: list[str], stub: Stub, capsys: Captured) -> None:
     stub(lambda args: 0)
     assert "python3 -m rtdvs" in refusal(capsys, words)
+
+
+@pytest.mark.parametrize(("word", "line"), [
+    ("Compare", "no command Compare; near it is compare; --help lists all"),
+    ("replays", "no command replays; near it is replay; --help lists all"),
+    ("xyz", "no command xyz; --help lists all"),
+])
+def test_unknown_command(word: str, line: str, capsys: Captured) -> None:
+    """What is near is found among the package's commands and the program's."""
+    assert refusal(capsys, [word]).endswith(f": error: {line}\n")
 
 
 def test_two_files_from_one_input(stub: Stub, capsys: Captured, monkeypatch: pytest.MonkeyPatch) -> None:

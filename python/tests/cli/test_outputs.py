@@ -469,7 +469,10 @@ def test_an_evaluation_of_one_s_own(tmp_path: Path, capsys: Captured, monkeypatc
     (tmp_path / "governor.py").write_text("def full(view): return view.plan.machine.top_speed\n")
     words, trace = OWN.replace("OUT", str(tmp_path)).split(), tmp_path / "other" / "mine" / "1_5_1.trace"
     assert refusal(capsys, words) == (
-        f"rtdvs: {trace} is missing, and 0 more; the task file of each is there\n")
+        f"rtdvs: {trace} is missing; its task file is there: runs of 720720 ticks under edf\n")
+    two = ["0.5", *(word for word in "0.6 0.7".split())]
+    assert refusal(capsys, [*words[:words.index("0.5")], *two, *words[words.index("0.5") + 1:]]) == (
+        f"rtdvs: {trace} is missing, and 2 more; the task file of each is there: runs of 720720 ticks under edf\n")
     machine = Machine.parse(MY_MACHINE)
     trace.write_text(simulate(TaskSet.read(trace.with_suffix(".toml")), machine, "edf", 720720, "none").text())
     assert printed(capsys, words) == "10 lines, 1 groups, 0 denied under RM, 0 faults\n"
@@ -587,7 +590,7 @@ def option_words(parser: argparse.ArgumentParser, path: tuple[str, ...] = ()) ->
             yield " ".join(path), action.option_strings[-1]
 
 
-WITH_BOARDS = {"compare", "statistics", "sensitivity", "plot trace", "plot compare"}
+WITH_BOARDS = {"compare", "statistics", "response", "sensitivity", "plot trace", "plot compare", "page"}
 
 
 def test_each_option_is_in_a_row() -> None:
@@ -598,6 +601,7 @@ def test_each_option_is_in_a_row() -> None:
               *(words for words, *_ in EVALUATIONS), GRADES, OWN, *UNCHECKED, "serve --port"]
     shared = {"--program", "--timeout", "--version"}
     of_boards = {"--ms", *(option for _, option in option_words(boards))}
+    called.append("response --tasks --machine")    # test_program.py calls the program
     for command, option in option_words(cli.parser()):
         if command in WITH_BOARDS and option in of_boards or option in ("--missed", "--lesson"):
             continue

@@ -4,6 +4,7 @@ import random
 import string
 from collections.abc import Callable, Iterator
 from pathlib import Path
+from typing import Any
 
 import pytest
 from hypothesis import given
@@ -203,6 +204,12 @@ def test_demands_and_deadlines_come_back(tasks: TaskSet, data: st.DataObject) ->
 @given(st.binary(max_size=60), st.sampled_from([*READERS]))
 def test_random_bytes_are_refused(content: bytes, kind: str) -> None:
     assert (file_line(kind, content) or f"{kind}: ").startswith(f"{kind}: ")
+
+
+def test_the_name_of_a_file_as_text(monkeypatch: pytest.MonkeyPatch) -> None:
+    monkeypatch.chdir(DATA / "paper")
+    named: Any = "tasks.toml"
+    assert TaskSet.read(named) == TaskSet.read(DATA / "paper" / "tasks.toml")
 
 
 @pytest.mark.parametrize("folder", ["paper", "offsets", "controller", "server"])

@@ -271,6 +271,19 @@ def table_of(*panels: str) -> str:
         "\t".join([*row, "9", f"0.{place % 9 + 1}", "0.1", "0.9"]) + "\n" for place, row in enumerate(rows))
 
 
+def test_how_many_sets_rm_admits(tmp_path: Path, monkeypatch: pytest.MonkeyPatch) -> None:
+    """Of three sets at 0.1 two, of three at 0.2 none; there is no set at 0.3, nor in the table beyond it."""
+    rows = [("edf none", "0.1", 3), ("rm none", "0.1", 2), ("edf none", "0.2", 3), ("rm none", "0.2", 0),
+            ("edf none", "0.3", 0), ("rm none", "0.3", 0)]
+    text = "panel\tcurve\tutilisation\tsets\tmean\tlow\thigh\n" + "".join(
+        "\t".join(["a", curve, tenth, str(sets), *(3 * "1" if sets else 3 * [""])]) + "\n" for curve, tenth, sets in rows)
+    made: list[Any] = []
+    monkeypatch.setattr("rtdvs.plot.evaluation.save", lambda figure, *rest: made.append(figure))
+    save_means(parse_means(text), tmp_path / "a.svg", 1)
+    labels = [label.get_text().split("\n")[1] for label in made[0].axes[0].get_xticklabels()]
+    assert labels == ["2", "0", *8 * "–"]
+
+
 @pytest.mark.parametrize("panels", [("5 tasks",), (LONG,), (LONG, "a", "b", "c")], ids=["one", "long", "four"])
 @pytest.mark.parametrize("columns", [1, 2, 3, 7])
 def test_each_curve_is_drawn_and_no_text_is_cut(panels: tuple[str, ...], columns: int, tmp_path: Path,

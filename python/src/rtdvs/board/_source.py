@@ -67,7 +67,7 @@ class _Tree:
         node = self.nodes.setdefault(path, Node(path, name.partition("&")[2]))
         for label, mark in zip(words, words[1:]):
             if mark == ":":
-                node.label = node.label or label
+                node.name(label)
                 self.labels[label] = path
         return node
 

@@ -14,7 +14,7 @@ def tree_fault(reason: str) -> BadValue:
 
 @dataclass(slots=True)
 class Node:
-    """A node without those in it: its path, its first label, and what gives the bytes of each property.
+    """A node without those in it: its path, its first label and others, and what gives the bytes of each property.
 
     The bytes are made when they are asked for: a value that isn't used may need a macro.
 
@@ -25,6 +25,12 @@ class Node:
     path: PurePosixPath
     label: str = ""
     properties: dict[str, Callable[[], bytes]] = field(default_factory=dict)
+    labels: list[str] = field(default_factory=list)
+
+    def name(self, label: str) -> None:
+        """Gives it a label more."""
+        self.label = self.label or label
+        self.labels.append(label)
 
     @property
     def key(self) -> str:

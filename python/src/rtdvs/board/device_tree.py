@@ -97,7 +97,7 @@ def _nodes(source: str | bytes) -> list[Node]:
     symbols = of_path["/__symbols__"].properties if "/__symbols__" in of_path else {}
     for label, path in symbols.items():
         if named := of_path.get(_first_word(path())):
-            named.label = named.label or label
+            named.name(label)
     return nodes
 
 
@@ -119,7 +119,7 @@ def _chosen(nodes: Sequence[Node], name: str) -> Node:
     if not name and len(tables) != 1:
         raise tree_fault(f"one table has to be chosen of these: {names}" if tables else "no table of operating points")
     for table in tables:
-        if name in ("", table.key, table.place):
+        if name in ("", table.key, table.place, *table.labels):
             return table
     raise tree_fault(f"no table {name}; the tables are: {names}")
 

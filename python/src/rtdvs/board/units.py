@@ -75,6 +75,15 @@ class Units:
         """
         return self.spent_at(trace.ran())
 
+    def job_joules(self, trace: Trace) -> dict[tuple[str, int], Fraction]:
+        """The joules of each job that runs, by its task and number; raises BadValue as `joules` does."""
+        nanojoules = dict[tuple[str, int], Fraction]()
+        for note, speed in trace.at_speeds():
+            if isinstance(note, Run):
+                job = note.task, note.job
+                nanojoules[job] = nanojoules.get(job, Fraction(0)) + note.units * self._costs[speed]
+        return {job: self.cycles(cost) / 10**9 for job, cost in nanojoules.items()}
+
     def lines(self, trace: Trace) -> Iterator[str]:
         """What a run takes, in lines: joules, milliwatts, and the hours of a battery; raises BadValue as `joules`."""
         run, battery = self.spent(trace), self.board.battery

@@ -3,7 +3,7 @@
 import argparse
 import re
 import sys
-from collections.abc import Sequence
+from collections.abc import Callable, Sequence
 from dataclasses import dataclass
 from fractions import Fraction
 from pathlib import Path
@@ -68,6 +68,23 @@ def add_board(parser: argparse.ArgumentParser) -> None:
     if any(action.dest == "ticks" for action in parser._actions):
         group.add_argument("--ms", type=exact_fraction, metavar="MS",
                            help="the length of the run; without it a hyperperiod, or some 2000 jobs")
+
+
+def measure(least: int) -> Callable[[str], Fraction]:
+    """For argparse's `type`: ticks or units from there on; with a board a decimal above 0 is some ms or MHz.
+
+    >>> measure(1)("0.5"), measure(1)("16")
+    (Fraction(1, 2), Fraction(16, 1))
+    >>> measure(1)("0")
+    Traceback (most recent call last):
+    argparse.ArgumentTypeError: a whole number from 1 on, not 0
+    """
+    def number(word: str) -> Fraction:
+        if re.fullmatch(r"[0-9]{1,99}\.[0-9]{1,99}", word) and Fraction(word) > 0:
+            return Fraction(word)
+        return Fraction(whole_number(least)(word))
+
+    return number
 
 
 def add_scale(group: "argparse._ActionsContainer") -> None:

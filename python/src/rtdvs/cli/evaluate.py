@@ -23,8 +23,8 @@ from rtdvs.cli.options import (
 from rtdvs.errors import BadValue
 from rtdvs.model import MOST_TASKS, Machine
 from rtdvs.studies import (
-    DRAWS, PUBLISHED_COUNTS, TENTHS, Own, OwnGovernor, OwnTraces, Sweep, broken, evaluate, faults, figure_table,
-    finished, read_records, shares, summary,
+    DRAWS, PUBLISHED_COUNTS, PUBLISHED_TICKS, TENTHS, Own, OwnGovernor, OwnTraces, Sweep, broken, evaluate,
+    faults, figure_table, finished, read_records, shares, summary,
 )
 
 
@@ -90,7 +90,8 @@ def own_of(args: argparse.Namespace) -> Own:
 def _handle(args: argparse.Namespace) -> int:
     sweep = Sweep(args.draws, args.sets, counts=args.counts, tenths=args.utilisations, own=own_of(args))
     if missing := sweep.missing():
-        raise BadValue(f"{missing[0]} is missing, and {len(missing) - 1} more; the task file of each is there")
+        more = f", and {len(missing) - 1} more; the task file of each is there" if missing[1:] else "; its task file is there"
+        raise BadValue(f"{missing[0]} is missing{more}: runs of {PUBLISHED_TICKS} ticks under {args.scheduler}")
     total = len(set(args.counts)) * len(set(args.utilisations)) * args.sets
     for line in broken(args.folder, sweep):
         print(f"{line}; it is made again if the sweep has it", file=sys.stderr)

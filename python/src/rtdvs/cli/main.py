@@ -6,6 +6,7 @@ import signal
 import sys
 from collections.abc import Iterator, Sequence
 from contextlib import contextmanager
+from difflib import get_close_matches
 from importlib import import_module
 from pathlib import Path
 
@@ -20,11 +21,11 @@ PERIOD = 0.25  # seconds after which a process that waits looks for signals agai
 GRACE = 2.0  # seconds for an orderly end
 COMMANDS = {
     "explain": "explain", "simulate": "simulate", "statistics": "per_task", "compare": "compare",
-    "sensitivity": "sensitivity", "generate": "generate", "evaluate": "evaluate", "paper-table": "paper_table",
+    "response": "response", "sensitivity": "sensitivity", "generate": "generate", "evaluate": "evaluate", "paper-table": "paper_table",
     "design": "design", "plot": "plot", "convert": "convert", "page": "page", "serve": "serve",
 }
-"""The module of each command."""
-
+"""The module of each command. `response` is the program's too."""
+OF_BOARDS = {"--board", "--folder", "--device-tree"}
 
 MODULE = "python3 -m rtdvs"
 EPILOG = f"""commands of the program, with its options, output and exit status:
@@ -80,10 +81,12 @@ def main(words: Sequence[str] | None = None, name: str = MODULE) -> int:
 def _handled(words: Sequence[str], name: str, args: argparse.Namespace) -> int:
     """The exit status of a command, whose arguments are put into `args`, or of argparse's own answer."""
     try:
-        if words and words[0] in PROGRAM:
+        if words and words[0] in PROGRAM and not _is_of_board(words):
             program = import_module("rtdvs.cli.program")
             return int(program.hand_on(words, engine_of(argparse.Namespace(program=None, timeout=None))))
         top = parser(name, *words[:1])
+        if words and words[0] not in COMMANDS and not words[0].startswith("-"):
+            top.error(_unknown(words[0]))
         top.parse_args(words or ["--help"], args)
         lists = (value if isinstance(value, list) else [value] for value in vars(args).values())
         if sum(isinstance(value, bytes) for values in lists for value in values) > 1:
@@ -91,6 +94,26 @@ def _handled(words: Sequence[str], name: str, args: argparse.Namespace) -> int:
         return int(args.handler(args))
     except SystemExit as end:
         return end.code if isinstance(end.code, int) else 0
+
+
+def _unknown(word: str) -> str:
+    """What is said of a word that is no command.
+
+    >>> _unknown("Compare"), _unknown("x")
+    ('no command Compare; near it is compare; --help lists all', 'no command x; --help lists all')
+    """
+    near = get_close_matches(word.lower(), [*COMMANDS, *PROGRAM], 1)
+    return "; ".join([f"no command {word}", *(f"near it is {each}" for each in near), "--help lists all"])
+
+
+def _is_of_board(words: Sequence[str]) -> bool:
+    """Whether a command that the program has too is the package's here: it is of a board, or its help is asked for.
+
+    >>> _is_of_board(["response", "--board=a.toml"]), _is_of_board(["response", "--tasks", "a.toml"])
+    (True, False)
+    """
+    names = {word.partition("=")[0] for word in words}
+    return words[0] in COMMANDS and (bool(names & OF_BOARDS) or words[1:2] in (["-h"], ["--help"]))
 
 
 def _second(fault: Exception, args: argparse.Namespace) -> str:

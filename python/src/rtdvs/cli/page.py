@@ -7,6 +7,9 @@ All jobs, runs and decisions are in the file, compressed. Explanations are in it
 for each trace; the page says where they end. A trace of a governor that isn't one of docs/RULES.md is checked
 as by `explain --any`, and has no explanations.
 
+With --board there are milliseconds beside ticks, MHz beside units a tick, thousands of cycles beside units, and in
+place of energies joules, mean milliwatts and hours.
+
 A lesson is a TOML file with examples, pairs and a text for each. The program makes all its runs, and the page has
 menus for them. Its address names what is shown, as `#example=paper&pair=edf-cc&tick=4`, so the file can be put on
 any web site, or be opened by itself, and links lead to a place in it.
@@ -18,11 +21,13 @@ import argparse
 import sys
 from pathlib import Path
 
+from rtdvs.cli.boards import add_board, read_given
 from rtdvs.cli.options import (
-    Commands, Input, add_engine_options, add_files, add_output, add_parser, engine_of, input_path, read_files,
-    read_text, whole_number, write_output,
+    Commands, Input, add_engine_options, add_files, add_output, add_parser, engine_of, input_path, read_text,
+    whole_number, write_output,
 )
 from rtdvs.errors import BadValue, WrongTrace
+from rtdvs.trace import Trace
 from rtdvs.web import MOST_TEXT, Lesson, Shown, in_one_file, lesson_data, page_data
 
 
@@ -40,15 +45,20 @@ def _traces_data(args: argparse.Namespace) -> dict[str, object]:
     if not 1 <= len(traces) <= 2:
         raise BadValue(f"{len(traces)} traces, at most 2" if traces else "a trace or two, or --lesson")
     for kind in ("tasks", "machine"):
-        if getattr(args, kind) is None:
+        if args.board is None and getattr(args, kind) is None:
             raise BadValue(f"a page of traces needs --{kind}")
-    shown = Shown(*read_files(args), args.most)
+    given = read_given(args)
+    assert given.tasks and given.machine
     labels = ("A", "B") if len(traces) == 2 else ("",)
-    return page_data({label: read_text(source, "trace") for label, source in zip(labels, traces, strict=True)}, shown)
+    texts = {label: read_text(source, "trace") for label, source in zip(labels, traces, strict=True)}
+    for text in texts.values():
+        given.check(Trace.parse(text))
+    return page_data(texts, Shown(given.tasks, given.machine, given.demands, args.most, units=given.units))
 
 
 def _lesson_data(args: argparse.Namespace) -> dict[str, object]:
-    others = ["a trace"] if args.trace else [f"--{kind}" for kind in ("tasks", "machine", "demands")
+    kinds = ("tasks", "machine", "demands", "board", "folder", "device_tree", "tick_ms", "unit_cycles")
+    others = ["a trace"] if args.trace else [f"--{kind.replace('_', '-')}" for kind in kinds
                                              if getattr(args, kind) is not None]
     if others:
         raise BadValue(f"--lesson names its files, so {others[0]} has no place beside it")
@@ -59,6 +69,7 @@ def add_command(commands: Commands) -> None:
     """Adds the command `page`."""
     parser = add_parser(commands, "page", _handle, "write traces or a lesson as a page for a browser",
                         "page run.trace --tasks tasks.toml --machine machine.toml > page.html\n"
+                        "page run.trace --board board.toml --folder made -o page.html\n"
                         "page --lesson examples/lesson/lesson.toml -o lesson.html")
     parser.add_argument("trace", type=input_path, nargs="*", metavar="TRACE",
                         help="the trace, or two of one task set; - is standard input")
@@ -68,3 +79,4 @@ def add_command(commands: Commands) -> None:
                         help=f"the most mebibytes of explanations of a trace (default: {MOST_TEXT})")
     add_output(parser)
     add_engine_options(parser)
+    add_board(parser)

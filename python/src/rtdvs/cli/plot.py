@@ -7,9 +7,13 @@ background, and colours that can be read on white and on dark. With --board it i
 import argparse
 import sys
 from collections.abc import Callable
+from fractions import Fraction
+from math import ceil, floor
 from pathlib import Path
 
-from rtdvs.cli.boards import add_board, read_given, ticks_of
+from rtdvs._numbers import plain
+from rtdvs.board import Units
+from rtdvs.cli.boards import add_board, measure, read_given, ticks_of
 from rtdvs.cli.options import (
     Commands, add_engine_options, add_files, add_parser, add_ticks, add_unchecked, check_first, engine_of, input_path,
     note_charge, read_text, read_trace, whole_number,
@@ -35,9 +39,11 @@ def add_command(commands: Commands) -> None:
     kinds = parser.add_subparsers(metavar="PICTURE", required=True)
     trace = kinds.add_parser("trace", help="a trace, task by task, with the speed and the demand")
     add_files(trace, ("trace",), ("tasks", "machine"))
-    for option, least, text in (("--from", 0, "the first tick"), ("--to", 1, "the last tick"),
-                                ("--top", 1, "the speed of full height; the fastest by default"),
-                                ("--charge", 0, "the machine's charge, which a trace doesn't name"),
+    for option, least, text in (("--from", 0, "the first tick; with --board in ms"),
+                                ("--to", 1, "the last tick; with --board in ms"),
+                                ("--top", 1, "the speed of full height, the fastest by default; with --board in MHz")):
+        trace.add_argument(option, type=measure(least), metavar="N", help=text)
+    for option, least, text in (("--charge", 0, "the machine's charge, which a trace doesn't name"),
                                 ("--width", 1, "pixels; 1000 by default")):
         trace.add_argument(option, type=whole_number(least), metavar="N", help=text)
     add_unchecked(trace)
@@ -88,14 +94,32 @@ def _run_trace(args: argparse.Namespace) -> None:
     if args.board is None:
         (trace, charge), units = read_trace(args), read_given(args).units
     else:
+        if args.charge is not None:
+            raise BadValue("--charge has no place beside --board, which has it")
         given, trace = read_given(args), Trace.parse(read_text(args.trace, "trace"))
         given.check(trace)
         check_first(args, trace, given.tasks, given.machine)
         assert given.machine
         units, charge = given.units, given.machine.charge
-    view = View(getattr(args, "from") or 0, args.to, args.top, charge, units)
+    view = View(*_window(args, units), charge, units)
     note_charge(trace, view.charge)
     save_trace(trace, args.output, view, args.width or 1000, args.background)
+
+
+def _window(args: argparse.Namespace, units: Units | None) -> tuple[int, int | None, int | None]:
+    """The first tick, the last one and the speed of full height; with a board by ms and MHz. Raises BadValue.
+
+    A time within a tick takes all of it.
+    """
+    given: dict[str, Fraction | None] = {name: getattr(args, name) for name in ("from", "to", "top")}
+    if units is None:
+        for name, number in given.items():
+            if number is not None and number.denominator > 1:
+                raise BadValue(f"--{name}: a whole number, not {plain(number)}; with --board it can be a decimal")
+    ones = dict.fromkeys(given, Fraction(1)) if units is None else {
+        "from": units.milliseconds(1), "to": units.milliseconds(1), "top": units.megahertz(1)}
+    first, last, top = (None if number is None else number / ones[name] for name, number in given.items())
+    return floor(first or 0), None if last is None else ceil(last), None if top is None else ceil(top)
 
 
 def _run_compare(args: argparse.Namespace) -> None:

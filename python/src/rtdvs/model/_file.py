@@ -33,7 +33,7 @@ def load(path: Path) -> bytes:
     >>> len(load(Path("/dev/zero")))
     16777217
     """
-    with path.open("rb") as file:
+    with open(path, "rb") as file:
         return file.read(LONGEST_FILE + 1)
 
 

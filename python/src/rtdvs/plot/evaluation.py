@@ -85,7 +85,7 @@ def plot_means(means: Sequence[Mean], axes: "Axes", curves: Mapping[str, Look] |
     """Draws a panel of the evaluation: mean energies over utilisation, the middle 80 % as bars, the sets
     that RM admits.
 
-    A curve has no point if fewer than a tenth of the sets are admitted. `curves` are those of the whole figure,
+    A curve has no point if fewer than a tenth of the sets are admitted; a dash is where there is no set. `curves` are those of the whole figure,
     by `looks`, so that each has one colour in all panels.
 
     >>> axes = new_figure(96, 96).add_subplot()
@@ -98,8 +98,9 @@ def plot_means(means: Sequence[Mean], axes: "Axes", curves: Mapping[str, Look] |
     admitted, sets = ({mean.utilisation: mean.sets for mean in means if mean.curve == curve}
                       for curve in ("rm none", "edf none"))
     tenths = [Fraction(place, 10) for place in range(1, 11)]
+    numbers = [admitted.get(tenth, 0) if sets.get(tenth) else "–" for tenth in tenths]
     axes.set_xticks([float(tenth) for tenth in tenths],
-                    [f"{decimal(tenth, 1)}\n{admitted.get(tenth, 0)}" for tenth in tenths], fontsize=SMALL)
+                    [f"{decimal(tenth, 1)}\n{number}" for tenth, number in zip(tenths, numbers)], fontsize=SMALL)
     axes.set_yticks([0, 0.2, 0.4, 0.6, 0.8, 1], ["0.0", "0.2", "0.4", "0.6", "0.8", "1.0"], fontsize=SMALL)
     beside(axes, (0, 0), (-6, -24), "RM", ha="right")
     title = means[0].panel if means else ""

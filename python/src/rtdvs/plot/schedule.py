@@ -95,12 +95,12 @@ def settled(trace: Trace, view: View) -> View:
     """
     fastest = max((decision.speed for decision in trace.decisions), default=0)
     last = trace.ticks if view.last is None else view.last
-    top = fastest if view.top is None else view.top
+    top, labels = fastest if view.top is None else view.top, labels_of(view.units)
     for is_wrong, reason in (
             (not fastest, "trace: no decision, so nothing can be drawn"),
-            (last > trace.ticks, f"--to has to be at most {trace.ticks}, the ticks of the run"),
-            (view.first >= last, f"--from has to be below {last}"),
-            (top < fastest, f"--top has to be at least {fastest}, the fastest speed")):
+            (last > trace.ticks, f"--to has to be at most {labels.time(trace.ticks)}, the {labels.time_unit} of the run"),
+            (view.first >= last, f"--from has to be below {labels.time(last)}"),
+            (top < fastest, f"--top has to be at least {labels.speed(fastest)}, the fastest speed")):
         if is_wrong:
             raise BadValue(reason)
     return replace(view, last=last, top=top)

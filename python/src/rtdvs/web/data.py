@@ -16,17 +16,19 @@ from fractions import Fraction
 from itertools import islice
 from pathlib import Path
 
-from rtdvs._numbers import decimal
+from rtdvs.board import Units
 from rtdvs.model import Demands, Machine, TaskSet
 from rtdvs.rules import GOVERNORS, Walk, explain
-from rtdvs.trace import COLUMNS, Decision, Idle, Release, Run, Trace, split_governor, task_statistics
-from rtdvs.web.marks import mark_pieces, time_of
+from rtdvs.trace import Decision, Idle, Release, Run, Trace, split_governor
+from rtdvs.web.marks import mark_pieces
+from rtdvs.web.measures import (
+    energy_text, factors, job_energy, length_text, question_tables, tick_text, trace_tables,
+)
 
 WEB = Path(__file__).parent / "static"
 MEBIBYTE = 2**20
 MOST_TEXT = 8       # mebibytes of explanations of a trace, unless said otherwise
 CHUNK = 2**17       # characters that are compressed together
-MOST_ROWS = 60      # of demands on paper
 SCRIPTS = ("trace.js", "picture.js", "save.js", "view.js", "lesson.js", "editor.js", "page.js")
 """The modules of the page, each after those that it imports from; the last one starts the page."""
 FIRST_JOBS = 20     # jobs in the window of a page that is opened, and three more for each task
@@ -41,7 +43,7 @@ class Shown:
     """What a page is of: the files, and the most mebibytes of explanations of each trace.
 
     With a `note` a trace is of a set that isn't admitted, whose jobs are given up at their deadlines; the page
-    has the note.
+    has the note. With `units` of a board it has milliseconds beside ticks, and joules.
     """
 
     tasks: TaskSet
@@ -49,6 +51,7 @@ class Shown:
     demands: Demands | None = None
     most: int = MOST_TEXT
     note: str = ""
+    units: Units | None = None
 
 
 class _Full(Exception):
@@ -105,21 +108,21 @@ def chunks(boards: Sequence[str], size: int = CHUNK) -> Iterator[dict[str, objec
 
 def sheet(text: str, trace: Trace, shown: Shown, label: str) -> dict[str, object]:
     """What the page has of a trace and its text; raises TraceFault, WrongTrace and Denied."""
-    pair = f"{trace.scheduler} {trace.governor}"
+    pair, units = f"{trace.scheduler} {trace.governor}", shown.units
+    head = f"{label}: {pair}" if label else pair
     boards, left = explanations(text, trace, shown)
     trace.belongs_to(shown.tasks, shown.machine)  # also what no explanation has checked
-    energy = f"energy {trace.energy}: {trace.run_energy} running, {trace.idle_energy} idle"
+    pieces = mark_pieces(trace, shown.tasks, energy=job_energy(trace, units))
     return {
         "label": label or pair,
-        "title": f"{label}{': ' if label else ''}{pair}, {trace.ticks} ticks{', not admitted' if shown.note else ''}",
+        "title": f"{head}, {length_text(trace.ticks, units)}{', not admitted' if shown.note else ''}",
         "note": shown.note,
-        "energy": f"{energy}, in units × mV² × 1000; switches of the speed: {trace.switches}",
+        "energy": energy_text(trace, units),
         "ticks": trace.ticks,
-        "pieces": [pack(json.dumps(piece, separators=(",", ":"))) for piece in mark_pieces(trace, shown.tasks)],
+        "pieces": [pack(json.dumps(piece, separators=(",", ":"))) for piece in pieces],
         "boards": [*chunks(boards)],
         "left": left,
-        "residency": residency(trace),
-        "statistics": [each.row() for each in task_statistics(trace, shown.tasks)],
+        "tables": trace_tables(label or pair, trace, shown.tasks, units),
     }
 
 
@@ -129,19 +132,6 @@ def explanations(text: str, trace: Trace, shown: Shown) -> tuple[list[str], str]
     walk = Walk(shown.tasks, shown.machine, text.splitlines(keepends=True), shown.demands, not known)
     boards, whole = boards_of(walk, shown.most * MEBIBYTE)
     return boards, NO_RULE if not known else LEFT_OUT if not whole else ""
-
-
-def residency(trace: Trace) -> list[tuple[str, str, str]]:
-    """The ticks at each speed, from the slowest on, then the idle ones; with their shares of the run.
-
-    >>> from rtdvs.trace import SAMPLE
-    >>> residency(Trace.parse(SAMPLE))
-    [('2', '1', '0.5000'), ('3', '1', '0.5000'), ('idle', '0.5000', '0.2500')]
-    """
-    times = sorted(trace.residency().items())
-    idle = trace.idle_time
-    rows = [(str(speed), str(ticks), decimal(ticks / trace.ticks, 4)) for speed, ticks in times]
-    return [*rows, ("idle", decimal(idle, 4), decimal(idle / trace.ticks, 4))]
 
 
 def segments(trace: Trace) -> Iterator[tuple[Fraction, Fraction, str]]:
@@ -186,7 +176,7 @@ def _after(first: Trace, second: Trace, time: Fraction) -> tuple[Fraction, str, 
     return time, does[0], does[1]
 
 
-def apart(first: Trace, second: Trace) -> dict[str, object]:
+def apart(first: Trace, second: Trace, units: Units | None = None) -> dict[str, object]:
     """Where two schedules part: the tick, and a sentence; the first demands that differ are a sentence of their own.
 
     >>> from rtdvs.trace import SAMPLE
@@ -199,10 +189,10 @@ def apart(first: Trace, second: Trace) -> dict[str, object]:
     found = parting(first, second)
     text = "The schedules are the same."
     if found:
-        text = f"The schedules part at tick {time_of(found[0])}: {found[1]}, and {found[2]}."
+        text = f"The schedules part at tick {tick_text(found[0], units)}: {found[1]}, and {found[2]}."
     if differ := other_demands(first, second):
         tick, *asked = differ
-        text += f" The published demands differ from tick {tick} on: {' and '.join(asked)}."
+        text += f" The published demands differ from tick {tick_text(tick, units)} on: {' and '.join(asked)}."
     return {"tick": int(found[0]) if found else 0, "parts": found is not None, "text": text}
 
 
@@ -232,41 +222,20 @@ def first_window(traces: Mapping[str, Trace], tasks: int) -> int:
     return max(min(next(islice(releases, FIRST_JOBS + 3 * tasks, None), ticks), ticks), 1)
 
 
-def question(shown: Shown) -> list[dict[str, object]]:
-    """The tables of tasks, machine and demands, which are printed above the schedule.
-
-    >>> from rtdvs.model import Point, Task
-    >>> [table["caption"] for table in question(Shown(TaskSet((Task("a", 4, 4),)), Machine((Point(2, 1000),))))]
-    ['Tasks', 'Machine: idle share 0 thousandths, charge 0 units']
-    """
-    tasks, machine = shown.tasks, shown.machine
-    settings = f"Machine: idle share {machine.idle} thousandths, charge {machine.charge} units"
-    tables: list[dict[str, object]] = [
-        {"caption": "Tasks", "heading": ["task", "period", "worst case", "offset"],
-         "rows": [[task.name, task.period, task.worst, task.offset] for task in tasks]},
-        {"caption": settings, "heading": ["speed", "millivolts"],
-         "rows": [[point.speed, point.millivolts] for point in machine.points]},
-    ]
-    rows = [[task, job, units] for (task, job), units in (shown.demands.units if shown.demands else {}).items()]
-    if rows:
-        more = f", the first {MOST_ROWS} of {len(rows)}" if len(rows) > MOST_ROWS else ""
-        tables.append({"caption": f"Demands{more}", "heading": ["task", "job", "units"], "rows": rows[:MOST_ROWS]})
-    return tables
-
-
 def page_data(texts: Mapping[str, str], shown: Shown, notes: Mapping[str, str] = {}) -> dict[str, object]:
     """The data of a page of traces, by their labels, some with a note; raises TraceFault, WrongTrace and Denied."""
     charge, traces = 2 * shown.machine.charge, {label: Trace.parse(text) for label, text in texts.items()}
+    first, *others = traces.values()
     return {
         "tasks": [{"name": task.name, "period": task.period, "worst": str(task.worst + charge)}
                   for task in shown.tasks],
-        "question": question(shown),
+        "question": question_tables(shown.tasks, shown.machine, shown.demands, shown.units),
+        "board": factors(shown.units),
         "top": shown.machine.top_speed,
-        "columns": [name.replace("_", " ") for name in COLUMNS],
         "window": first_window(traces, len(shown.tasks)),
         "sheets": [sheet(texts[label], trace, replace(shown, note=notes.get(label, "")), label)
                    for label, trace in traces.items()],
-        "apart": apart(*traces.values()) if len(traces) == 2 else None,
+        "apart": apart(first, others[0], shown.units) if others else None,
     }
 
 

@@ -4,7 +4,7 @@ The facts are worked out here; the page only writes them. A time is a whole numb
 "2 2/3".
 """
 
-from collections.abc import Iterator, Mapping
+from collections.abc import Callable, Iterator, Mapping
 from dataclasses import dataclass, field
 from fractions import Fraction
 from math import gcd
@@ -71,7 +71,16 @@ class Piece:
         return {"jobs": self.jobs, "runs": self.runs, "idles": self.idles, "decisions": self.decisions}
 
 
-def job_row(job: Job, place: int, speed: int, ticks: int) -> Row:
+def raw_energy(job: Job) -> str:
+    """A job's energy as the trace has it.
+
+    >>> raw_energy(Job("t", 1, 0, 8, energy=500))
+    '500'
+    """
+    return str(job.energy)
+
+
+def job_row(job: Job, place: int, speed: int, ticks: int, energy: Callable[[Job], str] = raw_energy) -> Row:
     """A job: its task's place, number, release, deadline, completion, response, laxity, units, energy, the speed
     at its completion, and whether it misses its deadline.
 
@@ -79,11 +88,12 @@ def job_row(job: Job, place: int, speed: int, ticks: int) -> Row:
     [0, 1, 0, 8, '2 2/3', '2 2/3', '5 1/3', 8, '500', 3, 0]
     """
     times = (time_of(time) for time in (job.completion, job.response, job.laxity))
-    return [place, job.number, job.release, job.deadline, *times, job.units, str(job.energy), speed,
+    return [place, job.number, job.release, job.deadline, *times, job.units, energy(job), speed,
             int(is_missed(job, ticks))]
 
 
-def mark_pieces(trace: Trace, tasks: TaskSet, size: int = PIECE) -> Iterator[dict[str, list[Row]]]:
+def mark_pieces(trace: Trace, tasks: TaskSet, size: int = PIECE,
+                energy: Callable[[Job], str] = raw_energy) -> Iterator[dict[str, list[Row]]]:
     """The marks of a trace in pieces of about that many. Raises TraceFault for a job that can't be.
 
     >>> from rtdvs.model import Task
@@ -100,7 +110,8 @@ def mark_pieces(trace: Trace, tasks: TaskSet, size: int = PIECE) -> Iterator[dic
     for line, note, speed in trace.numbered():
         match note:
             case Release(task=task, job=number):
-                piece.jobs.append(job_row(jobs[task, number], rows[task], speeds.get((task, number), 0), trace.ticks))
+                last = speeds.get((task, number), 0)
+                piece.jobs.append(job_row(jobs[task, number], rows[task], last, trace.ticks, energy))
             case Run():
                 piece.runs.append(_segment(note, speed, places))
             case Idle():

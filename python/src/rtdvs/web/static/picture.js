@@ -1,9 +1,10 @@
 // The picture of a sheet: its marks as paths, in pixels. Only what lies in the window is in the document.
 
-import { COMPLETIONS, DEADLINES, DECISIONS, RELEASES, RUNS, SAYS, lower, state, within } from "./trace.js";
+import { COMPLETIONS, DEADLINES, DECISIONS, RELEASES, RUNS, SAYS, beside, inBoard, lower, state, within } from "./trace.js";
 
 export const ROW = 50;      // of a task
 export const AXIS = 22;     // the ticks' numbers
+const BELOW = 16;           // the milliseconds below them
 export const SPEED = 96;    // the row of speeds
 const GUTTER = 150;         // pixels left of the ticks, for names
 const NARROW = 84;          // the same in a picture of less than LEAST pixels
@@ -126,9 +127,11 @@ function drawRow(pen, row, place) {
   const name = draw(group, "text", { class: "name", x: pen.left - 10, y: floor - 18, "text-anchor": "end" });
   name.textContent = task.name.length > most ? `${task.name.slice(0, most - 1)}…` : task.name;
   draw(name, "title", {}).textContent = task.name;
-  const facts = `period ${task.period}, worst ${task.worst}`;
+  const isNarrow = pen.left !== GUTTER, { board } = state.data;
+  const period = board && isNarrow ? `${inBoard(task.period, "ms")} ms` : `period ${beside(task.period, "ms")}`;
+  const facts = `${period}, worst ${task.worst}`;
   draw(group, "text", { class: "small", x: pen.left - 10, y: floor - 3, "text-anchor": "end" }).textContent =
-    facts.length > 23 || most < 15 ? `period ${task.period}` : facts;
+    facts.length > 23 || isNarrow ? period : facts;
   drawMarks(inner, "run", row.runs, RUNS, (run) =>
     bar(pen.x(run.begin), pen.rightOf(run), floor, height(run.speed)));
   drawMarks(inner, "release", row.jobs, RELEASES, (job) => arrowUp(pen.x(job.release), floor));
@@ -157,7 +160,7 @@ function drawSpeeds(pen, floor) {
     draw(group, "text", { class: name, x: pen.left - 10, y, "text-anchor": "end" }).textContent = text;
   };
   label(floor - FULL / 2 + 5, "speed", "name");
-  label(floor - FULL + 4, state.data.top, "small");
+  label(floor - FULL + 4, state.data.board ? `${inBoard(state.data.top, "MHz")} MHz` : state.data.top, "small");
   label(floor, "0", "small");
   draw(group, "path", { class: "floor", d: `M${pen.left} ${floor}H${round(pen.x(state.to))}` });
   drawMarks(inner, "idle", idles, RUNS, (idle) =>
@@ -176,17 +179,22 @@ function drawSpeeds(pen, floor) {
     diamond(pen.x(each.tick), floor - height(each.speed)));
 }
 
-/** Draws the numbers of the ticks, 1, 2 or 5 times a power of ten apart, and their lines. */
+/** Draws the numbers of the ticks, 1, 2 or 5 times a power of ten apart, and their lines; of a board also the ms. */
 function drawTicks(pen, floor, axis) {
-  const most = 60 / pen.scale, power = 10 ** Math.floor(Math.log10(most));
+  const { board } = state.data, most = (board ? 90 : 60) / pen.scale, power = 10 ** Math.floor(Math.log10(most));
   const apart = Math.max(1, power * ([1, 2, 5].find((factor) => factor * power >= most) ?? 10));
   const numbers = document.createDocumentFragment();
+  const write = (x, y, text, anchor) => {
+    draw(numbers, "text", { x: round(x), y, "text-anchor": anchor }).textContent = text;
+  };
   let path = "";
   for (let tick = Math.ceil(state.from / apart) * apart; tick <= state.to; tick += apart) {
     path += `M${round(pen.x(tick))} 0V${floor}`;
-    draw(numbers, "text", { x: round(pen.x(tick)), y: AXIS - 6, "text-anchor": "middle" }).textContent = tick;
+    write(pen.x(tick), AXIS - 6, tick, "middle");
+    if (board) write(pen.x(tick), AXIS + BELOW - 6, inBoard(tick, "ms"), "middle");
   }
+  if (board) ["tick", "ms"].forEach((unit, row) => write(pen.left - 18, AXIS - 6 + row * BELOW, unit, "end"));
   draw(pen.parent, "path", { class: "grid", d: path });
-  axis.setAttribute("viewBox", `0 0 ${pen.sheet.width} ${AXIS}`);
+  axis.setAttribute("viewBox", `0 0 ${pen.sheet.width} ${AXIS + (board ? BELOW : 0)}`);
   axis.replaceChildren(numbers);
 }

@@ -40,12 +40,19 @@ export async function unpack(packed) {
   return new Response(new Blob([bytes]).stream().pipeThrough(new DecompressionStream("deflate"))).text();
 }
 
-/** Gives a time, a number or a text such as "2 2/3", as a number of ticks. */
+/** Gives a number, or a text such as "2 2/3", as a number. */
 export function ticksOf(time) {
   if (typeof time === "number") return time;
-  const words = time.split(" "), [num, den] = words.pop().split("/");
+  const words = time.split(" "), [num, den = 1] = words.pop().split("/");
   return Number(words[0] ?? 0) + num / den;
 }
+
+/** Gives ticks in ms, units a tick in MHz, or units in kcycles of the board; to six decimals. */
+export const inBoard = (number, unit) => Math.round(ticksOf(number) * state.data.board[unit] * 1e6) / 1e6;
+
+/** Gives a text of a number, and if the page is of a board, the number in the board's unit beside it. */
+export const beside = (number, unit, text = number) =>
+  state.data.board ? `${text} (${inBoard(number, unit)} ${unit})` : `${text}`;
 
 /** Begins a trace without marks. */
 export function emptyTrace(tasks, ticks) {
@@ -89,25 +96,31 @@ export function decisionAt(sheet, tick, before = false) {
 // Words
 
 /** Writes a number of work units. */
-const counted = (units) => `${units} ${String(units) === "1" ? "unit" : "units"}`;
+const counted = (units) => beside(units, "kcycles", `${units} ${String(units) === "1" ? "unit" : "units"}`);
+const at = (time) => beside(time, "ms");
+const speedOf = (speed) => beside(speed, "MHz");
+const ran = ({ from, until, speed, units }) =>
+  `from ${at(from)} to ${at(until)} at speed ${speedOf(speed)}: ${counted(units)}`;
 const titled = (job) => `${job.row.task.name} job ${job.number}`;
 
 // The words of a mark
 export const SAYS = {
-  release: (job) => `${titled(job)} is released at ${job.release}, due at ${job.due}`,
-  deadline: (job) => `${titled(job)} is due at ${job.due}`,
-  miss: (job) => `${titled(job)} misses its deadline at ${job.due}: ${job.units} of ${counted(job.row.task.worst)}`,
-  done: (job) => `${titled(job)} is complete at ${job.completion} with ${job.units} of ${counted(job.row.task.worst)}`,
-  run: (run) => `${titled(run.job)} runs from ${run.from} to ${run.until} at speed ${run.speed}: ${counted(run.units)}`,
-  idle: (idle) => `idle from ${idle.from} to ${idle.until} at speed ${idle.speed}: ${counted(idle.units)}`,
-  decision: (decision) => `decision at tick ${decision.tick}: speed ${decision.speed} for ${decision.demand}`,
+  release: (job) => `${titled(job)} is released at ${at(job.release)}, due at ${at(job.due)}`,
+  deadline: (job) => `${titled(job)} is due at ${at(job.due)}`,
+  miss: (job) => `${titled(job)} misses its deadline at ${at(job.due)}: ${job.units} of ${counted(job.row.task.worst)}`,
+  done: (job) => `${titled(job)} is complete at ${at(job.completion)} with ${job.units} of ${counted(job.row.task.worst)}`,
+  run: (run) => `${titled(run.job)} runs ${ran(run)}`,
+  idle: (idle) => `idle ${ran(idle)}`,
+  decision: ({ tick, speed, demand }) => `decision at tick ${at(tick)}: speed ${speedOf(speed)} for ${speedOf(demand)}`,
 };
 
-/** Lists a job's facts: times in ticks, work units, and the unit of the trace's energies. */
+/** Lists a job's facts: times in ticks, work units, and the unit of the trace's energies; of a board also in its own. */
 export function jobFacts(job) {
   return [
-    ["job", `${job.row.task.name} ${job.number}`], ["release", job.release], ["deadline", job.due],
-    ["completion", job.completion ?? (job.missed ? "missed" : "not in this run")], ["response", job.response ?? "–"],
-    ["laxity", job.laxity ?? "–"], ["units", `${job.units} of ${job.row.task.worst}`], ["energy", job.energy],
+    ["job", `${job.row.task.name} ${job.number}`], ["release", at(job.release)], ["deadline", at(job.due)],
+    ["completion", job.completion === null ? (job.missed ? "missed" : "not in this run") : at(job.completion)],
+    ["response", job.response === null ? "–" : at(job.response)],
+    ["laxity", job.laxity === null ? "–" : at(job.laxity)],
+    ["units", `${job.units} of ${beside(job.row.task.worst, "kcycles")}`], ["energy", job.energy],
   ];
 }

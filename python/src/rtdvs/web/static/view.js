@@ -1,7 +1,7 @@
 // What the reader sees and does: the window of ticks, the chosen mark with its explanation, pointers and keys.
 
 import { draw, drawSheet, fillTable, find, gutter, make, ROW, scaleOf, SPEED } from "./picture.js";
-import { addPiece, decisionAt, emptyTrace, jobFacts, lower, RELEASES, RUNS, SAYS, state, unpack } from "./trace.js";
+import { addPiece, beside, decisionAt, emptyTrace, jobFacts, lower, RELEASES, RUNS, SAYS, state, unpack } from "./trace.js";
 import { saveButtons } from "./save.js";
 
 const MOST_JOBS = 60;       // lines of the table of jobs
@@ -57,12 +57,9 @@ function build() {
     watched.observe(part);
     return part;
   }));
-  find("#numbers").replaceChildren(...sheets.flatMap((sheet) => [
-    fillTable(make("table"), ["speed", "ticks", "share"], sheet.residency, `${sheet.label}: ticks at each speed`),
-    fillTable(make("table"), data.columns, sheet.statistics, `${sheet.label}: tasks, in ticks`),
-  ]));
-  find("#question").replaceChildren(...(data.question ?? []).map(({ caption, heading, rows }) =>
-    fillTable(make("table"), heading, rows, caption)));
+  const filled = ({ caption, heading, rows }) => fillTable(make("table"), heading, rows, caption);
+  find("#numbers").replaceChildren(...sheets.flatMap(({ tables }) => tables.map(filled)));
+  find("#question").replaceChildren(...(data.question ?? []).map(filled));
   tellParting(data.apart);
   document.body.classList.remove("whole");
   redraw();
@@ -72,7 +69,7 @@ function build() {
 function tellParting(apart) {
   find("#apart").hidden = !apart;
   if (!apart) return;
-  const go = make("button", { type: "button" }, `Go to tick ${apart.tick}`);
+  const go = make("button", { type: "button" }, `Go to tick ${beside(apart.tick, "ms")}`);
   go.addEventListener("click", () => show(state.sheets[0], decisionAt(state.sheets[0], apart.tick)));
   find("#apart").replaceChildren(`${apart.text} `, ...(apart.parts ? [go] : []));
 }
@@ -162,9 +159,10 @@ export function drawAll() {
   state.frame = 0;
   state.hidden = false;
   state.sheets.forEach(drawSheet);
-  const ticks = `ticks ${tenth(state.from)} to ${tenth(state.to)} of ${state.ticks}`;
+  const [from, to] = [state.from, state.to].map((tick) => beside(tenth(tick), "ms"));
+  const ticks = `ticks ${from} to ${to} of ${beside(state.ticks, "ms")}`;
   const more = state.hidden ? "; zoom in for single jobs and decisions" : "";
-  find("#where").textContent = `${ticks}; cursor at ${state.cursor}${more}`;
+  find("#where").textContent = `${ticks}; cursor at ${beside(state.cursor, "ms")}${more}`;
   clearTimeout(state.later);
   state.later = setTimeout(listJobs, 250);
 }

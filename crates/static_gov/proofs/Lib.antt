@@ -1,0 +1,2 @@
+pub mod StaticSpeed
+pub mod Examples
