@@ -62,7 +62,9 @@ holds 'no verdict' 1 '1 edits refused (1 goal), 1 faults' "$(printf '%s' "$verdi
 $goal"
 says 'which verdict' 'two: no verdict'
 holds 'no edit' 1 '0 edits refused (none), 1 faults' "$verdicts"
-says 'that there is none' 'no must-fail edit was refused'
+says 'that there is none' 'one: no must-fail edit was refused'
+holds 'all is kept' 0 '0 edits refused (none), 0 faults' 'rt: one is kept: an earlier run
+rt: two is kept: an earlier run'
 holds 'nothing' 1 '0 edits refused (none), 3 faults' ''
 
 holds 'a goal of another function' 1 '1 edits refused (1 goal), 1 faults' "$verdicts
