@@ -99,8 +99,10 @@ def axiom_faults(found: dict[str, int], kept: set[str], page: str) -> Iterator[s
 
 
 def function_at(path: pathlib.Path, number: int) -> str:
-    """The function of the code that a line is in."""
+    """The function of the code that a line is in; of an attribute's line, the one below it."""
     lines = path.read_text(encoding="utf-8").split("\n") if path.exists() else []
+    while number < len(lines) and lines[number - 1].lstrip().startswith("#["):
+        number += 1
     names = [match[1] for match in map(FUNCTION.match, lines[:number]) if match]
     return names[-1] if names else ""
 
