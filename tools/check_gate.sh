@@ -7,8 +7,7 @@ mkdir -p "$work/docs" "$work/crates/one/src" "$work/crates/one/must-fail" || exi
 cd "$work" || exit 2
 printf '%s\n' '| Proof | Functions |' '|---|---|' '| the program, `one` | 39 |' '| the library, `two` | 3 |' \
     > docs/PROVED.md
-printf '%s\n' 'pub fn adds(a: u8) -> u8' '    ensures sum { result = a }' '{' '    a' '}' '' 'fn other() {' '}' '' \
-    '#[inline]' 'fn third() {' '}' \
+printf '%s\n' 'pub fn adds(a: u8) -> u8' '    ensures sum { result = a }' '{' '    a' '}' '' '#[tactic(auto)]' 'fn other() {' '}' \
     > crates/one/src/lib.rt
 printf '# why: ensures sum of adds: the sum\nfile: src/lib.rt\nold: a\nnew: 0\n' > crates/one/must-fail/sum.edit
 printf '# a sum that is another\n# why: ensures sum of adds\nfile: src/lib.rt\n# other\n' \
@@ -63,17 +62,17 @@ holds 'no verdict' 1 '1 edits refused (1 goal), 1 faults' "$(printf '%s' "$verdi
 $goal"
 says 'which verdict' 'two: no verdict'
 holds 'no edit' 1 '0 edits refused (none), 1 faults' "$verdicts"
-says 'that there is none' 'no must-fail edit was refused'
+says 'that there is none' 'one: no must-fail edit was refused'
+holds 'all is kept' 0 '0 edits refused (none), 0 faults' 'rt: one is kept: an earlier run
+rt: two is kept: an earlier run'
 holds 'nothing' 1 '0 edits refused (none), 3 faults' ''
 
 holds 'a goal of another function' 1 '1 edits refused (1 goal), 1 faults' "$verdicts
 $(printf '%s' "$goal" | sed s/2:17/8:1/)"
 says 'which function' \
     'one/sum.edit: refused in other, which its first lines don'\''t name: ./src/lib.rt:8:1: error: no proof of goal.sum'
-holds 'a goal at an attribute' 1 '1 edits refused (1 goal), 1 faults' "$verdicts
-$(printf '%s' "$goal" | sed s/2:17/10:1/)"
-says 'the function below it' \
-    'one/sum.edit: refused in third, which its first lines don'\''t name: ./src/lib.rt:10:1: error: no proof of goal.sum'
+holds 'the attribute of another function' 1 '1 edits refused (1 goal), 1 faults' "$verdicts
+$(printf '%s' "$goal" | sed s/2:17/7:1/)"
 holds 'a function whose name begins the same' 1 '1 edits refused (1 goal), 1 faults' "$verdicts
 $(printf '%s' "$goal" | sed 's/sum.edit/others.edit/; s/2:17/8:1/')"
 holds 'the second line names it, and a later one nothing' 1 '2 edits refused (2 goal), 1 faults' "$verdicts

@@ -41,7 +41,7 @@ import published as public_names
 CRATES = pathlib.Path("crates")
 TOP = ("rtdvs_top", "statuses", "command_files")
 TESTS = {"test_inputs", "text_tests", "trace_tests", "file_tests", "model_tests", "run_tests", "call_tests",
-         "kernel_tests", "stored_calls", "example_runs"}
+         "promise_tests", "kernel_tests", "stored_calls", "example_runs"}
 # Tasks, lines, speeds, charges, millivolts, jobs, ticks, bytes of a file, hyperperiods.
 LIMITS = r"(?<![\w.#])(?:64|800_?00[01]|1_?000_?000|20_?000|100_?000|1099511627776|16777216|281474976710656)(?![\w.])"
 # The bytes of a name, where they bound or measure something (32 is also the blank), of a line, and of parts of a line.

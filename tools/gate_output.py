@@ -4,10 +4,11 @@
     rt ci > FILE; python3 tools/gate_output.py FILE
     rt ci | python3 tools/gate_output.py
 
-It compares two things, and ends with 1 if one differs:
+It compares three things, and ends with 1 if one differs:
 
 - On how many C functions each proof rests: the word `axioms=N` of the verdict with the table of docs/PROVED.md. A
   proof that is kept from an earlier run prints no verdict, and isn't compared.
+- That an edit was refused of each crate that has some, unless its proof is kept.
 - Where each must-fail edit was refused: the function with the goal that wasn't proved is one that the first lines of
   the edit name, those that begin with `#`.
 
@@ -98,7 +99,7 @@ def axiom_faults(found: dict[str, int], kept: set[str], page: str) -> Iterator[s
 
 
 def function_at(path: pathlib.Path, number: int) -> str:
-    """The function of the code that a line is in; a line with an attribute is in the function below it."""
+    """The function of the code that a line is in; of an attribute's line, the one below it."""
     lines = path.read_text(encoding="utf-8").split("\n") if path.exists() else []
     while number < len(lines) and lines[number - 1].lstrip().startswith("#["):
         number += 1
@@ -124,6 +125,11 @@ def refusal(crate: str, edit: str, rest: str) -> Refusal:
     return Refusal(crate, edit, "limit" if head else kind, function, message)
 
 
+def with_edits() -> set[str]:
+    """The crates that have must-fail edits."""
+    return {path.parts[-3] for path in CRATES.glob("*/must-fail/*.edit")}
+
+
 def report(lines: list[str], page: str) -> tuple[list[str], int]:
     """What is printed, and how many faults there are."""
     found, kept = axioms(lines)
@@ -132,8 +138,8 @@ def report(lines: list[str], page: str) -> tuple[list[str], int]:
     faults = [*axiom_faults(found, kept, page),
               *(f"{it.crate}/{it.edit}: refused in {it.function}, which its first lines don't name: {it.message}"
                 for it in others)]
-    if not refusals:
-        faults.append("no must-fail edit was refused")
+    faults += [f"{crate}: no must-fail edit was refused"
+               for crate in sorted(with_edits() - kept - {it.crate for it in refusals})]
     kinds = collections.Counter(it.kind for it in refusals)
     said = sorted(f"{it.kind}: {it}" for it in refusals if it.kind != "goal")
     numbers = ", ".join(f"{count} {kind}" for kind, count in kinds.most_common())

@@ -12,7 +12,7 @@
 
 ghost use Rattle.std.specs.Prelude.{◌≡◌, ◌≢◌, length, nat_le, if◌then◌else◌};
 ghost use Rattle.rtdvs_c.specs.Replies.{call_files, code_for, filled, lengths_of, reply_of};
-ghost use Rattle.rtdvs_c.specs.WordList.{asked_by};
+ghost use Rattle.rtdvs_c.specs.WordList.{ReadsEnded, asked_by};
 ghost use Rattle.rtdvs_c.specs.Proves.{Proves};
 
 mod admit;
@@ -94,6 +94,7 @@ fn code_of(reply: &Reply, room: usize) -> u8
 /// gets the answer and `notes` the lines of the status, or of the probes, each as far as there is room; `lengths` gets
 /// the length of each. Status 8 says that the answer is longer than `out`, 9 that memory ran out, and 10 that a word is
 /// not UTF-8.
+#[tactic(auto, using(crate::proofs::EndedWords::reads_ended))]
 #[unsafe(no_mangle)]
 pub extern "C" fn rtdvs_call(
     alloc: Global,
@@ -119,6 +120,9 @@ pub extern "C" fn rtdvs_call(
     ensures no_out { result ≡ NO_MEMORY → out.new ≡ out.old }
     ensures no_notes { result ≡ NO_MEMORY → notes.new ≡ notes.old }
     ensures no_lengths { result ≡ NO_MEMORY → lengths.new ≡ record { out = 0; notes = 0 } }
+
+    // words with a zero byte after each are read as exactly these words
+    ensures ended { ReadsEnded words.now }
 
     // what the answer proves of these files
     ensures proves { result ≢ NO_MEMORY → Proves (call_files tasks.now machine.now list.now) (asked_by words.now) }

