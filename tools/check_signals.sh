@@ -2,7 +2,8 @@
 # the tools that they call; one of these calls signals the script, or its whole group of processes, before the tool does its
 # work or when a part is written. The calls are spread over all; those that write the file, and give it its name, signal in
 # each way. Then no file of the script's own is left, no process of it runs, the status isn't 0, and each file that it was
-# to write is whole or as before. group.py, which runs the parts of check_python.sh, ends what they started.
+# to write is whole or as before. Each other script that has files of its own is signalled when it makes their folder.
+# group.py, which runs the parts of check_python.sh, ends what they started.
 # It needs setsid, which makes a group, an env that knows --default-signal, and a compiler. A script takes no signal that
 # its caller lets it ignore, as `nohup` and a shell in the background do, so each call gets the signals back.
 . "$(dirname "$0")/work.sh"
@@ -118,6 +119,23 @@ signals() {
 signals "$work/top/crates/rtdvs_c/out/lib" "$work/top/tools/library.sh"
 signals "$work/into" "$work/top/tools/library.sh" "$work/into"
 signals "$work/into" "$work/top/tools/package.sh" "$program" "$work/into"
+
+# SCRIPT SIGNAL TO WHEN: a signal at the first call of a tool, which makes the folder of the script's own files
+begins() {
+    cases=$((cases + 1))
+    call "$2" "$3" "$4" 1 "$work/top/$1" "$program"
+    calls=$(tr '\n' ' ' < "$work/plain/calls")
+    [ $status != 0 ] && [ "$calls" = 'mkdir rm ' ] && [ -z "$(ls -A "$work/temp")" ] && ended && return
+    echo "signals: $1, $2 to the $3 $4 its first call: status $status, running: $(running), calls: $calls, left: $(ls -A "$work/temp")"
+    differs
+    rm -rf "$work/temp" && mkdir "$work/temp"
+}
+for script in $(grep -l '[$]work' tools/*.sh); do
+    case $script in */library.sh | */package.sh | */python_part.sh | */work.sh) continue ;; *"${ONLY-}") ;; *) continue ;; esac
+    begins $script HUP group before
+    begins $script INT group midway
+    begins $script TERM script midway
+done
 
 # group.py: what a command has started ends with the command, and with group.py itself.
 # WORD..: calls it over a command that starts another one
