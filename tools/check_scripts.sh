@@ -1,8 +1,8 @@
 # check_scripts.sh PROGRAM: the scripts of the repository themselves. check.sh over stand-ins for the checks; .ci/run and
 # setup.sh over stand-ins for what they call; library.sh over a stand-in for rt, which makes a library of
 # python/tests/stand_in.c; package.sh over that library; what each of them says of what it lacks; and checks, some of them
-# with only a few of their cases. The calls are made in
-# a copy of the repository whose path has blanks and quotes, from another folder, and with a CDPATH that leads elsewhere.
+# with only a few of their cases. The calls are made in a copy of the repository whose path has blanks and quotes, from
+# another folder, and with a CDPATH that leads elsewhere.
 . "$(dirname "$0")/work.sh"
 case ${1:?no program} in
 /*) program=$1 ;;
