@@ -246,7 +246,7 @@ forgets() {
 holds 'a CDPATH' forgets
 
 # The other checks, with none of their cases but those that all need, over the library of the stand-in
-for name in failing library package python scripts signals; do
+for name in failing package python scripts signals; do
     only=none
     [ $name != python ] || only=collected
     sets_out() {
