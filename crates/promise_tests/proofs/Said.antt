@@ -1,22 +1,18 @@
 -- What users say, each from one promise.
-use Rattle.std.proofs.Common.{◌≡◌, ◌≢◌, ℕ, ◌+◌, ◌≤◌, ◌<◌, ◌++◌, ◌⊎◌, inl, inr, Bool, true, List, [], ◌∷◌, length, length-append, Option, Some, None, Result, Ok, Err, refl, sym, ap, ◌∙◌, subst, arith}
-use Rattle.dvs_base.specs.Outside.{Files, ShelfView, SinkView, Rose, Lacks, file_of}
-use Rattle.dvs_base.specs.WritesText.{Wrote, WroteSome}
-use Rattle.words.specs.Commands.{CommandView, RunView, TracedView, ResponseView, PollView, LeastView, run, traced, response, poll, least, asks_probes}
+use Rattle.std.proofs.Common.{◌≡◌, ℕ, ◌+◌, inl, inr, Bool, List, [], ◌∷◌, length, length-append, Option, Some, Result, Ok, sym, ap, ◌∙◌, subst, arith}
+use Rattle.dvs_base.specs.Outside.{Files, ShelfView, Rose, Lacks}
+use Rattle.words.specs.Commands.{CommandView, TracedView, run, traced, response, poll, least}
 use Rattle.words.specs.declared.command.WordFault.{WordFault}
-use Rattle.statuses.specs.Noted.{NotedAs, noted_text}
-use Rattle.statuses.specs.declared.status.Denied.{Denied}
 use Rattle.statuses.specs.declared.status.FileKind.{FileKind}
 use Rattle.statuses.specs.declared.status.Status.{Status}
-use Rattle.statuses.specs.declared.status.Status.TheVariants as status
 use Rattle.sched_model.specs.Plan.{Plan}
 use Rattle.demand_list.specs.Demands.{DemandsView}
 use Rattle.probes.specs.Tallies.{told_notes}
-use Rattle.command_files.specs.Files.{NamedFile, FailsFrom, files_of, names_by, passes}
+use Rattle.command_files.specs.Files.{NamedFile, FailsFrom, files_of, passes}
 use Rattle.command_files.specs.PlannedRuns.{prepared_of, run_with}
 use Rattle.rtdvs_top.specs.Asked.{Asked, asked_of, with_files}
 use Rattle.rtdvs_top.specs.Promised.{Outside, Promised}
-use Rattle.rtdvs_top.specs.Promises.{Answers, AdmitsByTest, IsDoneOrDenied, IsSureOf, LoadFailed, ProvesLeast, ProvesPoll, ProvesRun, ProvesTests, PutsNotes, TellsProbes, Writes, WritesPart, answer_of_command}
+use Rattle.rtdvs_top.specs.Promises.{Answers, AdmitsByTest, IsDoneOrDenied, IsSureOf, LoadFailed, ProvesLeast, ProvesPoll, ProvesRun, ProvesTests, PutsNotes, TellsProbes, Writes, WritesPart}
 use Rattle.rtdvs_top.specs.ToldRuns.{IfAsked, notes_under}
 use Rattle.rtdvs_top.specs.Trace.{AcceptsScheduleTexts}
 use Rattle.promise_tests.specs.Said.{Stayed, IsDeniedByAnswer, LacksOne, LacksItsFile, HasWhole, HasBeginning, HasRoom, IsDecided, MissesNone, FailsItsTest, IsScheduled, NeverDiffers, HasResponses, ServesRequests, CostsLeast, HasNotes, CountsNotes, LoadsFew, Says}

@@ -1,10 +1,10 @@
 -- What users of the top call say of it: each of these follows from one promise.
-use Rattle.std.specs.Prelude.{◌≡◌, ◌≢◌, ℕ, ◌+◌, ◌-◌, ◌≤◌, ◌<◌, ◌++◌, ◌⊎◌, true, List, [], ◌∷◌, length, take, Option, Some, None, Result, Ok, Err}
+use Rattle.std.specs.Prelude.{◌≡◌, ◌≢◌, ℕ, ◌+◌, ◌-◌, ◌≤◌, ◌<◌, ◌++◌, ◌⊎◌, true, List, [], ◌∷◌, length, take, Some, None, Result, Ok, Err}
 use Rattle.dvs_base.specs.Widths.{u64_end}
-use Rattle.dvs_base.specs.Outside.{Files, ShelfView, SinkView, file_of}
+use Rattle.dvs_base.specs.Outside.{Files, file_of}
 use Rattle.dvs_base.specs.declared.limits.TheConstants.{MOST_JOBS}
 use Rattle.dvs_base.specs.declared.note.Note.{Note}
-use Rattle.dvs_base.specs.declared.kind.Scheduler.TheVariants.{Edf, Rm}
+use Rattle.dvs_base.specs.declared.kind.Scheduler.TheVariants.{Rm}
 use Rattle.task_model.specs.declared.task.Task.{Task}
 use Rattle.task_model.specs.DemandRows.{DemandRow}
 use Rattle.freq_table.specs.Tables.{Table}
@@ -17,7 +17,7 @@ use Rattle.energy_bound.specs.Schedules.{IsLeast}
 use Rattle.energy_bound.specs.declared.least.Least.{Least}
 use Rattle.event_kernel.specs.Runs.{Run}
 use Rattle.poll_server.specs.ServerJobs.{ServerView}
-use Rattle.probes.specs.Tallies.{ProbeView, told_notes}
+use Rattle.probes.specs.Tallies.{told_notes}
 use Rattle.words.specs.Commands.{CommandView, RunView, TracedView, ResponseView, PollView, LeastView, run, traced, response, poll, least, asks_probes}
 use Rattle.words.specs.declared.command.WordFault.{WordFault}
 use Rattle.statuses.specs.Noted.{noted_text}

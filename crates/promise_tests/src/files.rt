@@ -1,5 +1,5 @@
 // What a call says over all files that its shelf may hold.
-ghost use Rattle.std.specs.Prelude.{◌≡◌, map};
+ghost use Rattle.std.specs.Prelude.{map};
 ghost use Rattle.dvs_base.specs.Outside.{Files};
 ghost use Rattle.command_files.specs.GivenFiles.{MayHold};
 ghost use Rattle.rtdvs_top.specs.Asked.{command_asked};

@@ -1,5 +1,5 @@
 // What a call says of its probes.
-ghost use Rattle.std.specs.Prelude.{◌≡◌, ◌≢◌, false, map};
+ghost use Rattle.std.specs.Prelude.{◌≡◌, ◌≢◌, false};
 ghost use Rattle.rtdvs_top.specs.Asked.{command_asked, probes_asked};
 
 use dvs_base::{Shelf, Sink, VoidSink};
