@@ -24,7 +24,7 @@ export LD_LIBRARY_PATH
 holds() {
     what=$1
     shift
-    case $what in *"${ONLY-}"* | call*.c*) ;; *) return ;; esac
+    case $what in *"${ONLY-}"* | call*.c* | numbers.c*) ;; *) return ;; esac
     cases=$((cases + 1))
     "$@" > "$work/said" 2>&1 || { echo "library: $what"; head -n 5 "$work/said"; differs; }
 }
