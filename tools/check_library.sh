@@ -24,7 +24,7 @@ export LD_LIBRARY_PATH
 holds() {
     what=$1
     shift
-    case $what in *"${ONLY-}"* | call*.c*) ;; *) return ;; esac
+    case $what in *"${ONLY-}"* | call*.c* | numbers.c*) ;; *) return ;; esac
     cases=$((cases + 1))
     "$@" > "$work/said" 2>&1 || { echo "library: $what"; head -n 5 "$work/said"; differs; }
 }
@@ -265,9 +265,10 @@ numbered_fails() {
 fails_by_numbers() {
     cc -O2 -shared -fPIC "$top/tools/fails.c" -o "$work/fails.so" && numbered_fails admit && numbered_fails response
 }
+# The numbers of the sweep are those of the tests' definitions, by a program of their own.
 swept() {
     compiles -std=c11 -pedantic "$top/library/sweep.c" "$lib/librtdvs.so" -o "$work/sweep" &&
-        "$work/sweep" 1000 | grep -q '^of 1000 sets: EDF [1-9][0-9]*, RM [1-9][0-9]*, RM by response times [1-9][0-9]*$'
+        same "$("$work/sweep" 1000)" 'of 1000 sets: EDF 512, RM 384, RM by response times 441'
 }
 holds 'numbers.c' compiles -std=c11 "$top/tools/numbers.c" "$lib/librtdvs.so" -o "$work/numbers"
 holds 'numbers.c with the sanitizers' compiles -g $checked -std=c11 "$top/tools/numbers.c" "$lib/librtdvs.a" -o "$work/numbers_checked"
