@@ -34,7 +34,7 @@ same() { [ "$1" = "$2" ] || { echo "found $1, wanted $2"; return 1; }; }
 compiles() { cc -O2 -Wall -Wextra -Werror -I "$top/library" "$@"; }
 
 # The names
-calls='rtdvs_admit rtdvs_call rtdvs_least rtdvs_response '
+calls='rtdvs_admit rtdvs_call rtdvs_end rtdvs_least rtdvs_response '
 public() { same "$(nm -D --defined-only "$lib/librtdvs.so" | awk '$2 != "A" { print $3 }' | sort | tr '\n' ' ')" "$calls"; }
 public_of_static() { same "$(nm -g --defined-only "$lib/librtdvs.a" | awk 'NF == 3 { print $3 }' | sort | tr '\n' ' ')" "$calls"; }
 needed() {
