@@ -188,7 +188,7 @@ struct rtdvs_responses {
     struct rtdvs_refusal refusal;
 };
 
-/* So many work units in so many ticks, 1 to 2^40. */
+/* A number of work units, and of ticks to do them in, each 1 to 2^40. */
 struct rtdvs_work {
     uint64_t units;
     uint64_t ticks;
