@@ -33,7 +33,7 @@ use Rattle.rtdvs_top.specs.Least.{least_text, least_from, least_on}
 use Rattle.sched_model.specs.Admission.{PassesTest}
 use Rattle.rtdvs_top.specs.Promises.{answer_of_command, AdmitsOrDenies}
 use Rattle.rtdvs_top.proofs.DeniedPlans.{Decides, decides, denied-plan}
-use Rattle.rtdvs_c.specs.declared.numbers.Work.{Work}
+use Rattle.rtdvs_c.specs.declared.number_types.Work.{Work}
 use Rattle.rtdvs_c.specs.LeastNumbers.{over_status, least_by, least_of_numbers}
 use Rattle.rtdvs_c.specs.NumberReplies.{NumbersView, tasks_on, machine_on, sets_on, plan_on, admission_on, padded, ticks_on, ends, Describe, FailsOn}
 

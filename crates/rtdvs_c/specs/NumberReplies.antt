@@ -24,9 +24,9 @@ use Rattle.rtdvs_top.specs.Response.{responses_on, responses_text, Responds, Fai
 use Rattle.sched_model.specs.Admission.{PassesTest}
 use Rattle.rtdvs_top.specs.Promises.{answer_of_command, AdmitsOrDenies}
 use Rattle.rtdvs_c.specs.declared.causes.TheConstants.{NO_SCHEDULER, SCHEDULER}
-use Rattle.rtdvs_c.specs.declared.numbers.Settings.{Settings}
-use Rattle.rtdvs_c.specs.declared.numbers.Admission.{Admission}
-use Rattle.rtdvs_c.specs.declared.numbers.Responses.{Responses}
+use Rattle.rtdvs_c.specs.declared.number_types.Settings.{Settings}
+use Rattle.rtdvs_c.specs.declared.number_types.Admission.{Admission}
+use Rattle.rtdvs_c.specs.declared.number_types.Responses.{Responses}
 use Rattle.rtdvs_c.specs.Numbers.{refused_at, no_refusal, refusal_of, scheduler_from, admitted_numbers, refused_admission, refused_responses}
 
 -- the numbers of a call: tasks, points and settings

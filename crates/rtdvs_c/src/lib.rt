@@ -24,7 +24,7 @@ mod least;
 mod number_sets;
 #[cfg(test)]
 mod number_tests;
-mod numbers;
+mod number_types;
 mod refusals;
 mod reply;
 mod response;
