@@ -1,13 +1,13 @@
 """Comparisons, limits, random sets, the evaluation and exercises."""
 
 from rtdvs.studies.comparison import (
-    HEADING, PAIRS, Case, Comparison, Result, Row, cells, compare, energy_of, finer_energies, finer_table, result,
-    runs, table, text_or_denial, units_of,
+    HEADING, PAIRS, Case, Comparison, Result, Row, cells, compare, finer_energies, finer_table, result,
+    runs, table, text_or_denial, totals, totals_or_denial, units_of,
 )
 from rtdvs.studies.evaluation import (
     CURVES, DRAWS, FIGURES, MACHINES, TENTHS, Panel, Record, Sweep, broken, demands_of, evaluate, faults, figure_table,
     finished, machine, measure, panels_of, point, read_records, recount, result_of, result_text, shares, summary,
-    units_of_text,
+    units_at_top,
 )
 from rtdvs.studies.exercises import BOARD, Exercise, exercise, small_sets
 from rtdvs.studies.grading import Asked, Grade, Grades, expected, grade, grades, handed_in, mended
@@ -33,12 +33,12 @@ __all__ = [
     "HEADING", "Limits", "Listed", "LogUniform", "MACHINES", "MOST_SEED", "Own", "OwnGovernor", "OwnTraces", "PAIRS",
     "PAPER_EXAMPLE", "PAPER_PAIRS", "PUBLISHED", "PUBLISHED_COUNTS", "PUBLISHED_MILLISECOND", "PUBLISHED_SEED",
     "PUBLISHED_TICKS", "PUBLISHED_TOP", "Panel", "Question", "Record", "Result", "Row", "SetName", "Sweep", "TENTHS",
-    "TESTS", "broken", "cells", "compare", "confirmed", "demands_of", "divisors", "drawn", "energy_of", "evaluate",
-    "exercise", "expected", "faults", "figure_table", "finer_energies", "finer_table", "finished", "grade", "grades",
+    "TESTS", "broken", "cells", "compare", "confirmed", "demands_of", "divisors", "drawn", "evaluate", "exercise",
+    "expected", "faults", "figure_table", "finer_energies", "finer_table", "finished", "grade", "grades",
     "handed_in", "last", "least_speed", "limits_of", "limits_table", "machine", "measure", "mended", "most_thousandths",
     "most_worst", "nearest", "numbered", "panels_of", "paper_line", "paper_lines", "paper_shares", "point",
     "published_set", "published_sets", "published_time", "read_records", "recount", "require", "result", "result_of",
     "result_text", "runs", "scaled_to", "sensitivity", "set_names", "shares", "small_sets", "states", "summary",
-    "table", "taken", "taken_uniform", "text_or_denial", "units_of", "units_of_text", "unrelated_states", "uunifast",
-    "uunifast_sets", "uunifast_shares",
+    "table", "taken", "taken_uniform", "text_or_denial", "totals", "totals_or_denial", "units_at_top", "units_of",
+    "unrelated_states", "uunifast", "uunifast_sets", "uunifast_shares",
 ]
