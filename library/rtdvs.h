@@ -81,8 +81,7 @@ enum rtdvs_status {
  * machine  the content of the file `machine`.
  * list     the content of the files `demands`, `trace`, `deadlines` and `requests`: a command reads at most one of them.
  * out      gets what the program prints to standard output, as far as there is room. Bytes after it stay as they are.
- * notes    gets what the program prints to standard error, likewise. It has at most three lines of 256 bytes (no clause
- *          says so).
+ * notes    gets what the program prints to standard error, likewise. It has at most three lines of 256 bytes.
  * lengths  gets the whole length of both.
  * .._len   the size of the bytes before it. If it is 0, the pointer may be NULL (tested, not proved). A call with an
  *          `out` of size 0 only measures.
@@ -199,7 +198,7 @@ struct rtdvs_responses {
     struct rtdvs_refusal refusal;
 };
 
-/* So many work units in so many ticks, 1 to 2^40. */
+/* A number of work units, and of ticks to do them in, each 1 to 2^40. */
 struct rtdvs_work {
     uint64_t units;
     uint64_t ticks;

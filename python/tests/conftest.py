@@ -18,6 +18,7 @@ locale.setlocale(locale.LC_MESSAGES, "C")
 
 settings.register_profile("gate", derandomize=True, deadline=None, max_examples=30, database=None,
                           suppress_health_check=list(HealthCheck))
+settings.register_profile("few", settings.get_profile("gate"), max_examples=3)  # to see wrong code early
 settings.load_profile(os.environ.get("RTDVS_PROFILE", "gate"))
 
 

@@ -72,6 +72,10 @@ def test_a_long_table_is_cut() -> None:
     assert html.count("<td>") == 100 and html.endswith("<td>99</td></tr></table><p>3 more</p>")
 
 
+def test_a_trace_of_one_job() -> None:
+    assert repr(Trace.parse(SAMPLE)) == "<Trace: edf mine, 2 ticks, 1 job, energy 6000>"
+
+
 def test_a_trace_in_a_notebook() -> None:
     """A short line at a prompt, and the picture of `plot`; without matplotlib its segments."""
     pytest.importorskip("matplotlib")

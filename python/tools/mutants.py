@@ -4,10 +4,11 @@
 
 A change is one of these: another comparison, a number greater by one, `and` in place of `or`, a condition turned, a
 call left out, None in place of what a function returns. Changes are drawn by the seed from all that can be planted. For
-each one the docstrings of its module, then the tests that import it, or its package, and those that look at all modules
-are run up to the first that fails. It is planted in a copy of the folder, so nothing here is changed; `--jobs` is the
-number of copies that are used at a time. A survivor may be right all the same: a reader has to judge it. The status is 1
-if there are survivors.
+each one the docstrings of its module, the tests in the folder of its package, with few random values, and then all tests
+that import it or its package, and those that look at all modules, are run up to the first that fails. It is planted in a
+copy of the folder, so nothing here is changed; `--jobs` is the number of copies that are used at a time. The tests run
+in a fork of a process that has imported what is slow to import. A survivor may be right all the same: a reader has to
+judge it. The status is 1 if there are survivors.
 """
 
 import argparse
@@ -15,20 +16,27 @@ import ast
 import os
 import random
 import shutil
-import subprocess
+import signal
 import sys
+import time
 from collections.abc import Iterable, Iterator, Sequence
-from concurrent.futures import ThreadPoolExecutor
+from concurrent.futures import ProcessPoolExecutor
+from contextlib import suppress
 from copy import deepcopy
 from dataclasses import dataclass
-from functools import cache
+from functools import cache, partial
+from importlib import import_module
+from multiprocessing import get_context
 from pathlib import Path
-from queue import SimpleQueue
 from tempfile import TemporaryDirectory
+
+import pytest
 
 TOP = Path(__file__).resolve().parents[1]
 OF_ALL = "test_package.py"  # looks at each module, and imports none by its name
 NO_TESTS = 5  # pytest's status
+SLOW = "tests/rules/test_explain.py::test_random_plans"  # takes longer than all others of its package
+IMPORTED_ONCE = ("hypothesis.strategies", "matplotlib.figure", "numpy", "pandas", "unittest.mock")
 COMPARISONS: dict[type[ast.cmpop], type[ast.cmpop]] = {
     ast.Lt: ast.LtE, ast.LtE: ast.Lt, ast.Gt: ast.GtE, ast.GtE: ast.Gt, ast.Eq: ast.NotEq, ast.NotEq: ast.Eq,
     ast.In: ast.NotIn, ast.NotIn: ast.In, ast.Is: ast.IsNot, ast.IsNot: ast.Is}
@@ -150,21 +158,39 @@ def judges(module: Path, root: Path = TOP) -> list[Path]:
     return [module, *sorted(files, key=lambda path: (path.name == OF_ALL, path.parent.name != package))]
 
 
-def _status(tests: Sequence[Path], root: Path, seconds: float) -> int:
-    words = [sys.executable, "-m", "pytest", "-q", "-x", *map(str, tests)]
-    surroundings = os.environ | {"PYTHONDONTWRITEBYTECODE": "1"}
-    return subprocess.run(words, cwd=root, capture_output=True, timeout=seconds, env=surroundings).returncode
+def _status(words: Sequence[str], root: Path, seconds: float, profile: str) -> int:
+    """How pytest ends in a fork of this process; -9 if it takes longer."""
+    child = os.fork()
+    if not child:
+        os.setpgid(0, 0)
+        os.dup2(os.open(os.devnull, os.O_RDWR), 1)
+        os.dup2(1, 2)
+        os.chdir(root)
+        sys.path[:] = [path for path in sys.path if not Path(path).is_relative_to(TOP)]
+        os.environ["RTDVS_PROFILE"], sys.dont_write_bytecode = profile, True
+        try:
+            os._exit(pytest.main(["-q", "-x", *words]))
+        finally:
+            os._exit(1)
+    end = time.monotonic() + seconds
+    while not (ended := os.waitpid(child, os.WNOHANG))[0]:
+        if time.monotonic() > end:
+            os.killpg(child, signal.SIGKILL)
+            return os.waitstatus_to_exitcode(os.waitpid(child, 0)[1])
+        time.sleep(0.02)
+    return os.waitstatus_to_exitcode(ended[1])
 
 
 def survives(change: Change, root: Path, seconds: float) -> bool:
     """Whether a change, planted in the folder for this long, passes its tests. No end is no survivor."""
     module = root / change.module
     text, tests = module.read_text(encoding="utf-8"), judges(module, root)
+    docstrings, *others = map(str, tests)
+    likely = [str(path) for path in tests[1:] if path.parent.name == module.parent.name]
+    runs = (([docstrings], "few"), (likely and [*likely, f"--deselect={SLOW}"], "few"), (others, "gate"))
     module.write_text(planted(text, change.node), encoding="utf-8")
     try:
-        return all(_status(some, root, seconds) in (0, NO_TESTS) for some in (tests[:1], tests[1:]) if some)
-    except subprocess.TimeoutExpired:
-        return False
+        return all(_status(words, root, seconds, profile) in (0, NO_TESTS) for words, profile in runs if words)
     finally:
         module.write_text(text, encoding="utf-8")
 
@@ -186,21 +212,24 @@ def copied(folder: Path) -> Path:
     return copy
 
 
+def _warm(folder: str) -> None:
+    """Makes the copy of a process, in which it then is, and imports what no change can touch."""
+    for name in IMPORTED_ONCE:
+        with suppress(ImportError):
+            import_module(name)
+    os.chdir(copied(Path(folder, str(os.getpid()))))
+
+
+def _is_unseen(seconds: float, change: Change) -> bool:
+    return survives(change, Path.cwd(), seconds)
+
+
 def survivors(taken: Sequence[Change], jobs: int, seconds: float) -> Iterator[Change]:
     """Those of the changes that no test sees, in order."""
-    with TemporaryDirectory(prefix="mutants-") as folder, ThreadPoolExecutor(jobs) as pool:
-        roots = SimpleQueue[Path]()
-        for place in range(jobs):
-            roots.put(copied(Path(folder, str(place))))
-
-        def is_unseen(change: Change) -> bool:
-            root = roots.get()
-            try:
-                return survives(change, root, seconds)
-            finally:
-                roots.put(root)
-
-        yield from (change for change, unseen in zip(taken, pool.map(is_unseen, taken)) if unseen)
+    with TemporaryDirectory(prefix="mutants-") as folder, ProcessPoolExecutor(
+            jobs, get_context("spawn"), _warm, (folder,)) as pool:
+        unseen = pool.map(partial(_is_unseen, seconds), taken)
+        yield from (change for change, is_unseen in zip(taken, unseen) if is_unseen)
 
 
 def main(words: Sequence[str] | None = None) -> int:

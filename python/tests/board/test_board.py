@@ -35,7 +35,7 @@ def test_files_of_the_page() -> None:
 
 @pytest.mark.parametrize(("periods", "tick"), [
     (("5", "40"), "0.5"), (("2.5", "33.3", "100"), "0.1"), (("3", "7"), "0.25"), (("5", "33.333"), "0.2"),
-    (("1000",), "100"),
+    (("1000",), "100"), (("7.3",), "0.73"), (("0.125", "0.12599"), "0.0002"),
 ], ids=str)
 def test_tick(periods: tuple[str, ...], tick: str) -> None:
     tasks = tuple(BoardTask(f"t{place}", Fraction(period), Fraction(1000)) for place,

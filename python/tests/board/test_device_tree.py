@@ -142,6 +142,8 @@ def test_status(status: str, count: int) -> None:
     ("opp-hz = [00 00 0000 0102 03 ff]", 0x010203ff),
     ("opp-hz = /bits/ 16 <0 1>, <5>", 1 << 32 | 5),
     (r'opp-hz = "\0\0\0", "\x01\012\3"', 0x010a0300),
+    (r'opp-hz = "\0\0\0", "\x1\012\3"', 0x010a0300),
+    ("opp-hz = <0 0xffffffff>", 2**32 - 1),
     ('compatible = "a; { < b"; opp-hz = /bits/ 64 <200000000>', 200000000),
 ])
 def test_numbers(statement: str, hertz: int) -> None:

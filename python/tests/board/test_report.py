@@ -111,6 +111,12 @@ def test_responses(tasks: list[tuple[int, int]], times: list[int | None]) -> Non
     assert [asked.response(place) for place in range(len(tasks))] == times
 
 
+def test_a_response_of_less_than_a_millisecond() -> None:
+    """8 cycles at 10 a millisecond: the job's own 4, and one job of 4 before it."""
+    asked = Asked((Load("a", Fraction(1), Fraction(4)), Load("b", Fraction(2), Fraction(4))), Fraction(10))
+    assert asked.response(1) == Fraction(4, 5)
+
+
 @pytest.mark.parametrize(("tasks", "late"), [
     ([(4, 4)], ""), ([(4, 2), (8, 4)], ""), ([(4, 2), (8, 5)], "t1"), ([(8, 5), (4, 2)], "t0"),
     ([(4, 5), (8, 1)], "t0"),

@@ -23,7 +23,7 @@ from rtdvs.engine import Engine
 from rtdvs.errors import DeadlineMissed
 from rtdvs.export import event_lines, events_text, millionths, vcd_text, wave_lines
 from rtdvs.rules import GOVERNORS, simulate
-from rtdvs.trace import Position, Trace, TraceFile, csv_lines, csv_text, frame, task_statistics
+from rtdvs.trace import SAMPLE, Position, Trace, TraceFile, csv_lines, csv_text, frame, task_statistics
 from tests.shared.examples import (
     BOARD, DATA, PAPER, SHORT, TEMPLATE, TRACES, WORKED, Captured, Lines, path_id, refusal, version_1,
 )
@@ -206,6 +206,67 @@ def test_what_is_no_whole_trace_is_refused(change: str, tmp_path: Path, capsys: 
     words = ["convert", "--to", "vcd", "--trace", tmp_path / "broken", "--output", tmp_path / "out"]
     assert refusal(capsys, words).count("\n") == 1
     assert not (tmp_path / "out").exists()
+
+
+# What the small trace is as events and as waves, written by hand: a run of a tick, one of half a tick, idle time.
+EVENTS_BY_HAND = """\
+{"traceEvents":[
+{"pid":1,"ph":"M","name":"process_name","tid":0,"args":{"name":"edf mine"}},
+{"pid":1,"ph":"M","name":"thread_name","tid":65,"args":{"name":"idle"}},
+{"pid":1,"ph":"M","name":"thread_sort_index","tid":65,"args":{"sort_index":65}},
+{"pid":1,"ph":"M","name":"thread_name","tid":1,"args":{"name":"t"}},
+{"pid":1,"ph":"M","name":"thread_sort_index","tid":1,"args":{"sort_index":1}},
+{"pid":1,"ph":"i","name":"release 1","tid":1,"s":"t","ts":0},
+{"pid":1,"ph":"C","name":"speed","tid":0,"ts":0,"args":{"units per tick":3}},
+{"pid":1,"ph":"C","name":"demand","tid":0,"ts":0,"args":{"units per tick":3}},
+{"pid":1,"ph":"X","name":"t 1","tid":1,"ts":0,"dur":1,"args":{"units":3,"energy":"5000"}},
+{"pid":1,"ph":"C","name":"speed","tid":0,"ts":1,"args":{"units per tick":2}},
+{"pid":1,"ph":"C","name":"demand","tid":0,"ts":1,"args":{"units per tick":2}},
+{"pid":1,"ph":"X","name":"t 1","tid":1,"ts":1,"dur":0.500000,"args":{"units":1,"energy":"1000"}},
+{"pid":1,"ph":"i","name":"done 1","tid":1,"s":"t","ts":1.500000,"args":{"used":4}},
+{"pid":1,"ph":"X","name":"idle","tid":65,"ts":1.500000,"dur":0.500000,"args":{"units":1,"energy":"0"}}
+]}
+"""
+CHANGES_BY_HAND = """\
+#0
+$dumpvars
+1r0
+r0 j
+r0 s
+r0 d
+r0 e
+0r1
+0o1
+$end
+1o1
+r3 s
+r3 d
+r1 j
+0r0
+1r1
+#1000000
+r5000 e
+r2 s
+r2 d
+r1 j
+#1500000
+r6000 e
+0o1
+r0 j
+0r1
+1r0
+#2000000
+r6000 e
+"""
+
+
+def test_events_by_hand() -> None:
+    assert events_text(Trace.parse(SAMPLE)) == EVENTS_BY_HAND
+
+
+def test_waves_by_hand() -> None:
+    """After the definitions: each wire has a value at tick 0."""
+    assert vcd_text(Trace.parse(SAMPLE)).partition("$enddefinitions $end\n")[2] == CHANGES_BY_HAND
 
 
 @pytest.mark.parametrize(("units", "text"), [(2**53, 2**53), (2**53 + 1, f"{2**53 + 1}")])

@@ -102,6 +102,12 @@ def test_a_dropped_job_isn_t_interrupted() -> None:
     assert [job.preemptions for job in trace.jobs()] == [0, 0, 0]
 
 
+def test_what_a_late_job_had_by_its_deadline() -> None:
+    """Of 9 units 8 fit into 4 ticks; the last one ends at 4:1, and leaves 7 for the second job."""
+    trace = simulate(TaskSet((Task("a", 4, 9),)), Machine((Point(2, 1000),)), "edf", 8, "none", missed="continue")
+    assert trace.misses() == (Miss("a", 1, due=4, used=8), Miss("a", 2, due=8, used=7))
+
+
 def test_look_ahead_puts_off_no_less_than_nothing() -> None:
     """Rates of 40 and 8 units in 8 ticks are above 32: nothing can be put off past tick 4, and 20 + 8 units are open."""
     trace = simulate(TaskSet((Task("a", 4, 20), Task("b", 8, 8))), BOARD, "edf", 4, "la", missed="continue")

@@ -293,3 +293,22 @@ def test_nothing_is_given_up_of_a_set_that_is_admitted(pair: tuple[str, str]) ->
     scheduler, governor = pair
     stopped, dropped = (simulate(TASKS, BOARD, scheduler, 24, governor, missed=word) for word in ("stop", "drop"))
     assert stopped.notes == dropped.notes and dropped.misses() == ()
+
+
+def test_a_missed_deadline_is_said_before_a_missing_energy_line() -> None:
+    """At speed 1 the job has 4 of its 5 units by tick 4, where the run ends without the energy line of a."""
+    lines = ["trace 2", "plan edf mine 4", "task a 4 0 5", "release 0 a 1", "speed 0 1 1/1",
+             "run 0:0 4:0 a 1 4 4000000000", "end 4 4000000000 0"]
+    walk = Walk(TaskSet((Task("a", 4, 5),)), Machine((Point(1, 1000), Point(2, 1000))),
+                [f"{line}\n" for line in lines], any_governor=True)
+    with pytest.raises(WrongTrace, match="^line 7: a job 1 was due at 4 and is not complete: it has had 4 units$"):
+        explain(walk)
+
+
+def test_what_is_handed_out_is_never_less_than_nothing() -> None:
+    """cc under RM hands out 20 units up to tick 2: 18 to a, 2 to b. In tick 0 a needs one unit, and b has the other 9,
+    so at tick 1 nothing is left of either."""
+    tasks = TaskSet((Task("a", 2, 18), Task("b", 100, 50)))
+    machine = Machine((Point(1, 1000), Point(10, 1000)))
+    trace = simulate(tasks, machine, "rm", 2, "cc", Demands({("a", 1): 1}))
+    assert [(note.tick, note.speed, note.num, note.den) for note in trace.decisions] == [(0, 10, 20, 2), (1, 1, 0, 1)]

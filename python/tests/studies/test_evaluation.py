@@ -15,7 +15,7 @@ from hypothesis import strategies as st
 from rtdvs.cli.main import main
 from rtdvs.engine import Answer, Call, Engine, RunTotals
 from rtdvs.errors import BadValue, Crashed, Denied
-from rtdvs.model import Machine, TaskSet
+from rtdvs.model import Machine, Task, TaskSet
 from rtdvs.studies import (
     CURVES, FIGURES, MACHINES, PAIRS, Record, SetName, Sweep, broken, evaluate, faults, figure_table, finished, measure,
     panels_of, point, published_sets, read_records, recount, shares, summary, units_at_top, units_of,
@@ -104,6 +104,15 @@ def test_what_is_run_of_a_set() -> None:
     assert panels_of(SetName(5, 1, 1)) == (("table1_idle0", "1"),)
     assert len(panels_of(NAME)) == 10
     assert {kind for kind, _ in panels_of(NAME)} == set(MACHINES)
+
+
+@pytest.mark.parametrize(("number", "times"), [pytest.param(1, 7, id="first"), pytest.param(2, 0, id="second")])
+def test_the_first_set_is_recounted(number: int, times: int, engine: Engine, monkeypatch: pytest.MonkeyPatch) -> None:
+    """The trace of each of the seven pairs, on the one machine that the figures have for five tasks."""
+    counted: list[str] = []
+    monkeypatch.setattr("rtdvs.studies.evaluation.recount", lambda machine, text: counted.append(text))
+    measure(engine, SMALL, (SetName(5, 1, number), TaskSet((Task("a", 10010, 10**8),))))
+    assert len(counted) == times
 
 
 def test_a_sweep_that_is_stopped_goes_on(engine: Engine, tmp_path: Path) -> None:

@@ -34,7 +34,7 @@ def test_a_solution_is_right(engine: Engine, tmp_path: Path, scheduler: str, gov
     assert files(folder) == (one.tasks, BOARD, one.demands)
     with (folder / "solution.trace").open() as lines:
         summary = check(one.tasks, BOARD, lines, one.demands)
-    assert summary.complete == len(one.demands.units)
+    assert one.trace.startswith("trace 1\n") and summary.complete == len(one.demands.units)
     assert ("\n" + (folder / "explanation.txt").read_text()).count("\nline ") == summary.decisions
     question = (folder / "question.md").read_text()
     assert all(f"| `{task.name}` | {task.period} | {task.worst} |" in question for task in one.tasks)

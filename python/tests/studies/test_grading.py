@@ -143,6 +143,11 @@ def test_the_form_that_was_expected(number: int, line: str, wanted: str) -> None
     assert expected(number, line) == (wanted and f'it is "{line}", and not {wanted}')
 
 
+def test_a_long_line_is_said_up_to_its_80th_character() -> None:
+    assert expected(9, "end " + "1" * 76 + "2") == (
+        f'it is "end {"1" * 76}", and not end TICKS RUN_ENERGY IDLE_ENERGY in whole numbers')
+
+
 def test_a_folder(tmp_path: Path) -> None:
     with pytest.raises(BadValue, match="no file there has a name that ends with .trace"):
         grades(ASKED, tmp_path)

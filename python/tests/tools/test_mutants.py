@@ -1,6 +1,9 @@
 """Planted changes: each kind, the tests of a module, and that a survivor is one that no test sees."""
 
 import ast
+from concurrent.futures import ProcessPoolExecutor
+from functools import partial
+from multiprocessing import get_context
 from pathlib import Path
 
 import pytest
@@ -73,9 +76,10 @@ def test_a_survivor_is_what_no_test_sees(tmp_path: Path) -> None:
     root = folder(tmp_path)
     module = Path("src/rtdvs/rules/least.py")
     text = (root / module).read_text()
-    found = {change.text().split(": ", 1)[1]: mutants.survives(change, root, 60)
-             for change in ((mutants.Change(module, each.node, each.line, each.before, each.after)
-                             for each in mutants.changes(root / module)))
-             if change.before in ("a < b", "7", "return a")}
+    changes = [mutants.Change(module, each.node, each.line, each.before, each.after)
+               for each in mutants.changes(root / module) if each.before in ("a < b", "7", "return a")]
+    with ProcessPoolExecutor(1, get_context("spawn")) as pool:
+        found = dict(zip([change.text().split(": ", 1)[1] for change in changes],
+                         pool.map(partial(mutants.survives, root=root, seconds=60), changes)))
     assert found == {"a < b -> a <= b": True, "7 -> 8": True, "return a -> return None": False}
     assert (root / module).read_text() == text
