@@ -12,7 +12,7 @@ from math import ceil
 from pathlib import Path
 from typing import TypeVar
 
-from rtdvs.engine import library, numbers
+from rtdvs.engine import by_numbers, library
 from rtdvs.engine.answers import Admitted, Constrained, GovernorTotals, Least, Polled, Replayed
 from rtdvs.engine.calls import (
     Answer, Call, DeadlineSource, DemandSource, MachineSource, RequestSource, TaskSource, TraceSource, Word, admit_call,
@@ -221,7 +221,7 @@ class LibraryEngine(Engine):
         """
         found = None
         if self.timeout is None and isinstance(tasks, TaskSet) and isinstance(machine, Machine):
-            found = numbers.admitted(library.opened(self.program), tasks, machine, scheduler)
+            found = by_numbers.admitted(library.opened(self.program), tasks, machine, scheduler)
         return super().admit(tasks, machine, scheduler) if found is None else found
 
     def respond(self, tasks: TaskSource, machine: MachineSource) -> dict[str, int]:
@@ -233,7 +233,7 @@ class LibraryEngine(Engine):
         """
         found = None
         if self.timeout is None and isinstance(tasks, TaskSet) and isinstance(machine, Machine):
-            found = numbers.responses(library.opened(self.program), tasks, machine)
+            found = by_numbers.responses(library.opened(self.program), tasks, machine)
         return super().respond(tasks, machine) if found is None else found
 
     def least(self, machine: MachineSource, units: int, ticks: int) -> Least:
@@ -245,7 +245,7 @@ class LibraryEngine(Engine):
         """
         found = None
         if self.timeout is None and isinstance(machine, Machine):
-            found = numbers.least(library.opened(self.program), machine, units, ticks)
+            found = by_numbers.least(library.opened(self.program), machine, units, ticks)
         return super().least(machine, units, ticks) if found is None else found
 
 

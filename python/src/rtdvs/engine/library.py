@@ -14,7 +14,7 @@ from pathlib import Path
 from typing import Any, TypeAlias
 
 from rtdvs._version import __version__
-from rtdvs.engine import numbers
+from rtdvs.engine import by_numbers
 from rtdvs.engine.calls import Answer, Word, constrain_call
 from rtdvs.errors import Crashed, NoEngine
 from rtdvs.model import LONGEST_FILE, LONGEST_TRACE, Deadlines, Machine, Point, Task, TaskSet
@@ -67,7 +67,7 @@ build the library again (docs/LIBRARY.md), or name another one or the program by
         raise NoEngine(f"{path}: {why}: {WHAT_TO_DO}") from None
     texts: list[Any] = 6 * [ctypes.c_char_p, ctypes.c_size_t]
     with_texts = dict.fromkeys(("rtdvs_call", "rtdvs_end"), [*texts, ctypes.POINTER(Lengths)])
-    for name, arguments in {**with_texts, **numbers.CALLS}.items():
+    for name, arguments in {**with_texts, **by_numbers.CALLS}.items():
         try:
             call = getattr(library, name)
         except AttributeError:
