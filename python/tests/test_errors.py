@@ -12,8 +12,8 @@ from rtdvs import errors
 from rtdvs.engine import Engine
 from rtdvs.errors import (
     BadRequest, BadValue, Crashed, DeadlineMissed, Denied, Differs, DrawFault, EngineError, FileRefused, LoadFailed,
-    NoEngine, NoText, OutOfMemory, OverWorst, Refused, RtdvsError, SystemFault, TimedOut, TooManyJobs, TraceFault,
-    WordFault, WordsRefused, WriteFailed, Wrong, WrongTrace, error_of,
+    NoEngine, NoText, OutOfMemory, OverWorst, Reasoned, Refused, RtdvsError, SystemFault, TimedOut, TooManyJobs,
+    TraceFault, WordFault, WordsRefused, WriteFailed, Wrong, WrongTrace, error_of,
 )
 from rtdvs.model import Demands, Machine, Task, TaskSet
 from rtdvs.rules import Plan, check
@@ -23,6 +23,7 @@ from tests.test_package import MODULES, dotted
 
 EXAMPLES: dict[type[RtdvsError], tuple[RtdvsError, str]] = {
     RtdvsError: (RtdvsError(), ""),
+    Reasoned: (Reasoned("the trace is at 0:0"), "the trace is at 0:0"),
     Refused: (Refused(), ""),
     BadValue: (BadValue("ticks out of range"), "ticks out of range"),
     WordFault: (WordFault("a number, not x"), "a number, not x"),

@@ -49,6 +49,18 @@ class RtdvsError(Exception):
         return hash((type(self), self.args))
 
 
+@dataclass(eq=False)
+class Reasoned(RtdvsError):
+    """An exception whose only value is its text.
+
+    >>> str(Reasoned("the trace is at 0:0"))
+    'the trace is at 0:0'
+    """
+
+    form = "{0.reason}"
+    reason: str
+
+
 class Refused(RtdvsError, ValueError):
     """What was given is refused, by the program or by this package; the text is the line that the program prints.
 
@@ -57,17 +69,13 @@ class Refused(RtdvsError, ValueError):
     """
 
 
-@dataclass(eq=False)
-class BadValue(Refused):
+class BadValue(Reasoned, Refused):
     """An argument of a function isn't one that it takes; the text says why.
 
     >>> raise BadValue("ticks out of range")
     Traceback (most recent call last):
     rtdvs.errors.BadValue: ticks out of range
     """
-
-    form = "{0.reason}"
-    reason: str
 
 
 class WordFault(BadValue):
@@ -250,16 +258,12 @@ class NoText(EngineError):
     status, form = 10, "the arguments are not text for the system"
 
 
-@dataclass(eq=False)
-class NoEngine(EngineError):
+class NoEngine(Reasoned, EngineError):
     """No program or library is found, or it can't be started; the text says what to build or install.
 
     >>> str(NoEngine("/absent/rtdvs: no such program"))
     '/absent/rtdvs: no such program'
     """
-
-    form = "{0.reason}"
-    reason: str
 
 
 @dataclass(eq=False)
@@ -275,16 +279,12 @@ class SystemFault(EngineError):
     reason: str
 
 
-@dataclass(eq=False)
-class Crashed(EngineError):
+class Crashed(Reasoned, EngineError):
     """The program ended by a signal or with another status, or printed what it never prints.
 
     >>> error_of(42, b"")
     Crashed(reason='the program ended with status 42')
     """
-
-    form = "{0.reason}"
-    reason: str
 
 
 @dataclass(eq=False)
@@ -320,16 +320,12 @@ class WrongTrace(TraceFault):
     """
 
 
-@dataclass(eq=False)
-class Wrong(RtdvsError):
+class Wrong(Reasoned):
     """The note that is read is wrong; the text is why.
 
     >>> str(Wrong("the trace is at 0:0"))
     'the trace is at 0:0'
     """
-
-    form = "{0.reason}"
-    reason: str
 
 
 @dataclass(eq=False)

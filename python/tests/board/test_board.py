@@ -172,6 +172,13 @@ def test_an_effective_voltage_that_is_the_milliwatts() -> None:
         "point 1000 MHz: 20000 milliwatts taken as 20000 effective millivolts"]
 
 
+@pytest.mark.parametrize(("milliwatts", "millivolts"), [("200", 10000), ("200.000001", 10001)])
+def test_effective_voltages_are_rounded_up(milliwatts: str, millivolts: int) -> None:
+    """At 500 MHz a cycle takes a quarter of the 1.6 nJ of the last point, or a little more: half of 20000."""
+    points = f"[[point]]\nmhz = 500\nmilliwatts = {milliwatts}\n[[point]]\nmhz = 1000\nmilliwatts = 1600\n"
+    assert design(Board.parse(TASKS + points), MS).machine.points[0] == Point(500, millivolts)
+
+
 @pytest.mark.parametrize(("milliseconds", "ticks"), [("0.001", 1), ("1.999", 1), ("2", 2)])
 def test_whole_ticks(milliseconds: str, ticks: int) -> None:
     assert design(Board.parse(VOLTS), MS).ticks_of(Fraction(milliseconds)) == ticks

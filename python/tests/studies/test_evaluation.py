@@ -20,6 +20,7 @@ from rtdvs.studies import (
     CURVES, FIGURES, MACHINES, PAIRS, Record, SetName, Sweep, broken, evaluate, faults, figure_table, finished, measure,
     panels_of, point, published_sets, read_records, recount, shares, summary, units_at_top, units_of,
 )
+from rtdvs.studies.evaluation import demands_of
 from tests.shared.examples import MINE, MY_BOARD, TOP, Captured, machines, printed, task_sets, version_1
 
 NAME = SetName(8, 7, 1)
@@ -113,6 +114,14 @@ def test_the_first_set_is_recounted(number: int, times: int, engine: Engine, mon
     monkeypatch.setattr("rtdvs.studies.evaluation.recount", lambda machine, text: counted.append(text))
     measure(engine, SMALL, (SetName(5, 1, number), TaskSet((Task("a", 10010, 10**8),))))
     assert len(counted) == times
+
+
+def test_uniform_demands_are_by_the_seed_of_the_set() -> None:
+    """It is ((2001 * 20 + 8 tasks) * 11 + 7 tenths) * 1000 + 1. The generator's first ten states are left out."""
+    modulus = 2**31 - 1
+    found = demands_of(NAME, TaskSet((Task("a", 360360, 7),)), "uniform", 2001)
+    assert found is not None and dict(found.units) == {
+        ("a", job): 440315001 * pow(48271, 10 + job, modulus) % modulus * 8 // modulus for job in (1, 2)}
 
 
 def test_a_sweep_that_is_stopped_goes_on(engine: Engine, tmp_path: Path) -> None:
