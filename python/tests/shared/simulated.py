@@ -18,7 +18,8 @@ class Simulated(Engine):
 
     def answer(self, call: Call[Any]) -> Answer:
         options, files = plain(call.options), plain(call.files)
-        texts = {kind: file.read_text() if isinstance(file, Path) else file for kind, file in files.items()}
+        contents = {kind: file.read_bytes() if isinstance(file, Path) else file for kind, file in files.items()}
+        texts = {kind: file.decode() if isinstance(file, bytes) else file for kind, file in contents.items()}
         try:
             return Answer(0, ANSWERS[call.command](options, texts).encode(), b"")
         except Refused as refused:
