@@ -26,6 +26,13 @@ class Simulated(Engine):
             return Answer(refused.status or 99, b"", f"{refused}\n".encode())
 
 
+def written(file: object) -> str:
+    """The text of a file that is given by its path, as bytes or as a text."""
+    if isinstance(file, Path):
+        return file.read_text()
+    return file.decode() if isinstance(file, bytes) else str(file)
+
+
 def plain(pairs: Iterable[tuple[str, str | bytes | Path]]) -> dict[str, object]:
     """Options by their names, without dashes."""
     return {name.removeprefix("--"): value for name, value in pairs}
