@@ -55,7 +55,7 @@ on_the_page() {
     same "$(grep -o 'librtdvs\.so[.0-9]*[0-9]' docs/LIBRARY.md | sort -u | tr '\n' ' ')" "librtdvs.so.${version%%.*} librtdvs.so.$version " &&
         stack=$(($(sed -n 's/^#define RTDVS_STACK //p' library/rtdvs.h) >> 10)) &&
         grep -q "stack of at least $stack KiB (\`RTDVS_STACK\`)" docs/LIBRARY.md && grep -q "a call has $stack KiB of stack" README.md &&
-        grep -q "no trace of a run is longer than $((1 << $(sed -n 's/^pub const LONGEST_TRACE: u64 = 1 << \(.*\);$/\1/p' crates/dvs_base/src/limits.rt) >> 20)) MiB" docs/LIBRARY.md
+        grep -q "no answer is longer than $((1 << $(sed -n 's/^pub const LONGEST_TRACE: u64 = 1 << \(.*\);$/\1/p' crates/dvs_base/src/limits.rt) >> 20)) MiB" docs/LIBRARY.md
 }
 holds 'the number of the shared library' numbered
 holds 'names that are found when the library is loaded' at_once

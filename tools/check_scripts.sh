@@ -96,11 +96,16 @@ holds 'a home of its own' prints 0 /home env HOME="$gate/none" sh "$gate/tools/h
 holds 'no home' prints 0 /home env -u HOME sh "$gate/tools/home.sh"
 holds 'the home of a user' prints 0 "$gate" env HOME="$gate" sh "$gate/tools/home.sh"
 
-# .ci/run, over stand-ins for rt, setup.sh and check.sh
+# .ci/run, over stand-ins for rt, setup.sh, check.sh, plants.sh and what reads the gate's output
 mkdir -p "$away/gate/.ci" "$away/gate/tools"
 cp .ci/run "$away/gate/.ci"
 echo 'echo "check: TOOLS=$TOOLS, $(basename "$PWD")"; exit ${CHECK:-0}' > "$away/gate/tools/check.sh"
 echo 'echo "plants: TOOLS=$TOOLS, $*"; exit ${PLANTS:-0}' > "$away/gate/tools/plants.sh"
+cat > "$away/gate/tools/gate_output.py" << 'END'
+import os, pathlib, sys
+print("read:", pathlib.Path(sys.argv[1]).read_text().strip())
+sys.exit(int(os.environ.get("READ", 0)))
+END
 stand_in "$work/stand-in/rt" << 'END'
 [ "$*" = ci ] || exit 2
 echo "rt $* in $(basename "$PWD")"
@@ -118,24 +123,34 @@ runs() {
 }
 planted='plants: TOOLS=all, crates/rtdvs/out/rtdvs 3 1'
 holds 'the gate with all tools' runs 0 "rt ci in gate
+read: rt ci in gate
 check: TOOLS=all, gate
 $planted" 0
 holds 'the gate with some tools' runs 0 "rt ci in gate
+read: rt ci in gate
 check: TOOLS=some, gate
 plants: TOOLS=some, crates/rtdvs/out/rtdvs 3 1" 1
 holds 'the gate after a failed proof' runs 3 'rt ci in gate' 0 3
+READ=1
+export READ
+holds 'the gate with an edit that another goal refused' runs 1 'rt ci in gate
+read: rt ci in gate' 0
+unset READ
 USER_ID=1000
 holds 'the gate of another user' runs 0 "rt ci in gate
+read: rt ci in gate
 check: TOOLS=all, gate
 $planted" 0
 CHECK=1
 export CHECK
 holds 'the gate after a failed check' runs 1 'rt ci in gate
+read: rt ci in gate
 check: TOOLS=all, gate' 0
 unset CHECK
 PLANTS=1
 export PLANTS
 holds 'the gate with a fault that is not seen' runs 1 "rt ci in gate
+read: rt ci in gate
 check: TOOLS=all, gate
 $planted" 0
 unset PLANTS
