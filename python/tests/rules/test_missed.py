@@ -13,7 +13,7 @@ from rtdvs.cli.main import main
 from rtdvs.errors import BadValue, DeadlineMissed, Denied, WrongTrace
 from rtdvs.model import PAIRS, Demands, Machine, Point, Task, TaskSet
 from rtdvs.rules import View, Walk, check, explain, last_line, simulate
-from rtdvs.trace import Miss, Missed, Run, Trace, task_statistics
+from rtdvs.trace import Miss, Missed, Run, Trace, split_governor, task_statistics
 from tests.shared.examples import BOARD, PAPER, Captured, explained, machines, options, refusal, task_sets
 
 SLOW = Machine((Point(2, 3000), Point(3, 4000)))    # the paper's machine without its highest speed
@@ -272,6 +272,12 @@ def test_the_command(tmp_path: Path, capsys: Captured) -> None:
     assert capsys.readouterr() == (simulate(PAPER, SLOW, "rm", 32, "static", missed="drop").text(), "".join(
         f"note: {line}\n" for line in ("not a run of the program", FIRST.text(), SECOND.text())))
     assert refusal(capsys, words).splitlines()[0] == "rtdvs: denied rm t2 36 30"
+
+
+@pytest.mark.parametrize(("word", "governor", "missed"), [
+    ("own-rule", "own-rule", None), ("own-rule-stop", "own-rule", Missed.STOP), ("drop", "drop", None)])
+def test_the_governor_of_a_word(word: str, governor: str, missed: Missed | None) -> None:
+    assert split_governor(word) == (governor, missed)
 
 
 def test_names() -> None:
