@@ -37,7 +37,7 @@
  *         return status;
  *     }
  *
- * What is proved of rtdvs_call, and what its caller owes, is in docs/LIBRARY.md. */
+ * What is proved of each call, and what its caller owes, is in docs/LIBRARY.md. */
 #ifndef RTDVS_H
 #define RTDVS_H
 
@@ -81,8 +81,7 @@ enum rtdvs_status {
  * machine  the content of the file `machine`.
  * list     the content of the files `demands`, `trace`, `deadlines` and `requests`: a command reads at most one of them.
  * out      gets what the program prints to standard output, as far as there is room. Bytes after it stay as they are.
- * notes    gets what the program prints to standard error, likewise. It has at most three lines of 256 bytes (no clause
- *          says so).
+ * notes    gets what the program prints to standard error, likewise. It has at most three lines of 256 bytes.
  * lengths  gets the whole length of both.
  * .._len   the size of the bytes before it. If it is 0, the pointer may be NULL (tested, not proved). A call with an
  *          `out` of size 0 only measures.
@@ -99,12 +98,22 @@ uint8_t rtdvs_call(const uint8_t *words, size_t words_len, const uint8_t *tasks,
                    const uint8_t *machine, size_t machine_len, const uint8_t *list, size_t list_len,
                    uint8_t *out, size_t out_len, uint8_t *notes, size_t notes_len, struct rtdvs_lengths *lengths);
 
+/* As rtdvs_call, for a caller who needs only the end of an answer, as the totals of a run: `out` gets the last bytes of
+ * what the program prints to standard output, or all of it if there is room. Bytes after it stay as they are.
+ *
+ * `lengths` gets the whole length of both texts. The result is never RTDVS_NO_ROOM, so that it depends on the words and
+ * the files only. A call keeps about twice out_len of the answer in memory, and so no trace of a run (tested, not
+ * proved). */
+uint8_t rtdvs_end(const uint8_t *words, size_t words_len, const uint8_t *tasks, size_t tasks_len,
+                  const uint8_t *machine, size_t machine_len, const uint8_t *list, size_t list_len,
+                  uint8_t *out, size_t out_len, uint8_t *notes, size_t notes_len, struct rtdvs_lengths *lengths);
+
 /* Calls that take and answer numbers, for callers that ask often: no file is read and no text written.
  *
  * Their results are the program's exit statuses: RTDVS_DONE, RTDVS_NOT_ADMITTED if a test denies the tasks, RTDVS_TEXT if
  * a number is outside the limits of the files, RTDVS_WORDS if the scheduler is none or the ticks are out of range, and
- * RTDVS_NO_MEMORY. The answer and the result depend on the numbers only. What is said above of the stack, of threads and of memory holds here too; the
- * pointers are not NULL, except those of no tasks or no points. */
+ * RTDVS_NO_MEMORY. The answer and the result depend on the numbers only. What is said above of the stack, of threads and
+ * of memory holds here too; the pointers are not NULL, except those of no tasks or no points. */
 
 /* A number below 2^128: low + 2^64 * high. */
 struct rtdvs_wide {
@@ -189,7 +198,7 @@ struct rtdvs_responses {
     struct rtdvs_refusal refusal;
 };
 
-/* So many work units in so many ticks, 1 to 2^40. */
+/* A number of work units, and of ticks to do them in, each 1 to 2^40. */
 struct rtdvs_work {
     uint64_t units;
     uint64_t ticks;
@@ -213,8 +222,8 @@ struct rtdvs_least_energy {
 };
 
 /* Admits the tasks by the scheduler's test, as `rtdvs admit` does for files of these numbers. */
-uint8_t rtdvs_admit(const struct rtdvs_task *tasks, size_t tasks_len, const struct rtdvs_point *points, size_t points_len,
-                    const struct rtdvs_settings *settings, struct rtdvs_admission *answer);
+uint8_t rtdvs_admit(const struct rtdvs_task *tasks, size_t tasks_len, const struct rtdvs_point *points,
+                    size_t points_len, const struct rtdvs_settings *settings, struct rtdvs_admission *answer);
 
 /* Gives the responses under RM at the highest speed, as `rtdvs response` does for files of these numbers. No bound is
  * known on its time. */

@@ -2,9 +2,10 @@
 # C library; the example in the header's head compiles as C11 and as C++ and prints what it says, also by the lines of
 # LIBRARY.md; the statuses of the header are those of FORMATS.md. The program call.c over the library answers each call of
 # example_runs as is stored, also with the sanitizers; and refused words, absent files, files that are too long and a full
-# standard output as the program does; and the longest run, also with too little room for its answer. 1,000
-# calls in a process leave no memory and touch none outside, by the sanitizers and by valgrind; four threads get the same
-# answers; each command does with the stack that the header asks for.
+# standard output as the program does; and the longest run, also with too little room for its answer. The end of an answer
+# is that of the whole one, and that of the longest run takes little memory. 1,000 calls in a process leave no memory and
+# touch none outside, by the sanitizers and by valgrind; four threads get the same answers; each command does with the
+# stack that the header asks for.
 # It needs cc, and rt or a library that library.sh has made; without pkg-config, c++ or valgrind their cases are skipped.
 . "$(dirname "$0")/work.sh"
 case ${1:?no program} in
@@ -24,7 +25,7 @@ export LD_LIBRARY_PATH
 holds() {
     what=$1
     shift
-    case $what in *"${ONLY-}"* | call*.c*) ;; *) return ;; esac
+    case $what in *"${ONLY-}"* | call*.c* | numbers.c*) ;; *) return ;; esac
     cases=$((cases + 1))
     "$@" > "$work/said" 2>&1 || { echo "library: $what"; head -n 5 "$work/said"; differs; }
 }
@@ -34,7 +35,7 @@ same() { [ "$1" = "$2" ] || { echo "found $1, wanted $2"; return 1; }; }
 compiles() { cc -O2 -Wall -Wextra -Werror -I "$top/library" "$@"; }
 
 # The names
-calls='rtdvs_admit rtdvs_call rtdvs_least rtdvs_response '
+calls='rtdvs_admit rtdvs_call rtdvs_end rtdvs_least rtdvs_response '
 public() { same "$(nm -D --defined-only "$lib/librtdvs.so" | awk '$2 != "A" { print $3 }' | sort | tr '\n' ' ')" "$calls"; }
 public_of_static() { same "$(nm -g --defined-only "$lib/librtdvs.a" | awk 'NF == 3 { print $3 }' | sort | tr '\n' ' ')" "$calls"; }
 needed() {
@@ -54,7 +55,7 @@ on_the_page() {
     same "$(grep -o 'librtdvs\.so[.0-9]*[0-9]' docs/LIBRARY.md | sort -u | tr '\n' ' ')" "librtdvs.so.${version%%.*} librtdvs.so.$version " &&
         stack=$(($(sed -n 's/^#define RTDVS_STACK //p' library/rtdvs.h) >> 10)) &&
         grep -q "stack of at least $stack KiB (\`RTDVS_STACK\`)" docs/LIBRARY.md && grep -q "a call has $stack KiB of stack" README.md &&
-        grep -q "no trace of a run is longer than $((1 << $(sed -n 's/^pub const LONGEST_TRACE: u64 = 1 << \(.*\);$/\1/p' crates/dvs_base/src/limits.rt) >> 20)) MiB" docs/LIBRARY.md
+        grep -q "no answer is longer than $((1 << $(sed -n 's/^pub const LONGEST_TRACE: u64 = 1 << \(.*\);$/\1/p' crates/dvs_base/src/limits.rt) >> 20)) MiB" docs/LIBRARY.md
 }
 holds 'the number of the shared library' numbered
 holds 'names that are found when the library is loaded' at_once
@@ -195,7 +196,7 @@ empty=$(left admit --tasks $devices/null --machine $devices/null --scheduler edf
 no_words=$(left)
 valgrind='valgrind -q --error-exitcode=9 --leak-check=full --show-leak-kinds=all --errors-for-leak-kinds=all'
 tools=run
-if [ -n "$(command -v valgrind)" ]; then tools='run valgrind'; else skip valgrind 4; fi
+if [ -n "$(command -v valgrind)" ]; then tools='run valgrind'; else skip valgrind 6; fi
 for tool in $tools; do
     case $tool in
     run) with='' of=calls_checked ;;
@@ -205,6 +206,8 @@ for tool in $tools; do
     holds "refusals, $tool" calls "$with" "$refused" "$work/$of" 1 1000 tasks paper/machine.toml machine paper/machine.toml -- admit $words --scheduler edf
     holds "NULL for all files, $tool" calls "$with" "$empty" "$work/$of" 1 20 -- admit $words --scheduler edf
     holds "NULL for the words, $tool" calls "$with" "$no_words" "$work/$of" 1 20 --
+    holds "ends, $tool" calls "$with" "$grown" "$work/$of" 1 60 ends $named -- run $words --demands demands $pair
+    holds "ends of refusals, $tool" calls "$with" "$refused" "$work/$of" 1 60 ends tasks paper/machine.toml machine paper/machine.toml -- admit $words --scheduler edf
 done
 # The longest answer: 99489 jobs of five tasks with the longest names, by the governor that changes its speed the most.
 mkdir "$work/longest" || exit 2
@@ -229,9 +232,16 @@ by_calls() (
     cd "$work/longest" && wanted=$(left run $words $longest) &&
         calls '' "$wanted" "$work/calls" 1 3 tasks tasks machine machine -- run $words $longest
 )
+# The end of the longest run takes no memory for the rest of it.
+by_ends() (
+    cd "$work/longest" && wanted=$(left run $words $longest) &&
+        calls '' "$wanted" "$work/calls" 1 6 ends tasks tasks machine machine -- run $words $longest
+)
 holds 'the longest run' by_call
 holds 'the longest run with too little room' by_calls
+holds 'the end of the longest run' by_ends
 holds 'four threads' calls '' "$grown" "$work/calls_checked" 4 250 $named -- run $words --demands demands $pair
+holds 'ends in four threads' calls '' "$grown" "$work/calls_checked" 4 60 ends $named -- run $words --demands demands $pair
 
 # Each command with the stack that the header asks for. calls.c refuses one that takes more than three quarters of it.
 # FOLDER LIST COMMAND WORD..: the list is a file, which is named as the words name it
@@ -265,9 +275,10 @@ numbered_fails() {
 fails_by_numbers() {
     cc -O2 -shared -fPIC "$top/tools/fails.c" -o "$work/fails.so" && numbered_fails admit && numbered_fails response
 }
+# The numbers of the sweep are those of the tests' definitions, by a program of their own.
 swept() {
     compiles -std=c11 -pedantic "$top/library/sweep.c" "$lib/librtdvs.so" -o "$work/sweep" &&
-        "$work/sweep" 1000 | grep -q '^of 1000 sets: EDF [1-9][0-9]*, RM [1-9][0-9]*, RM by response times [1-9][0-9]*$'
+        same "$("$work/sweep" 1000)" 'of 1000 sets: EDF 512, RM 384, RM by response times 441'
 }
 holds 'numbers.c' compiles -std=c11 "$top/tools/numbers.c" "$lib/librtdvs.so" -o "$work/numbers"
 holds 'numbers.c with the sanitizers' compiles -g $checked -std=c11 "$top/tools/numbers.c" "$lib/librtdvs.a" -o "$work/numbers_checked"

@@ -1,7 +1,8 @@
 # check_scripts.sh PROGRAM: the scripts of the repository themselves. check.sh over stand-ins for the checks; .ci/run and
 # setup.sh over stand-ins for what they call; library.sh over a stand-in for rt, which makes a library of
-# python/tests/stand_in.c; package.sh over that library; and what each of them says of what it lacks. The calls are made in
-# a copy of the repository whose path has blanks and quotes, from another folder, and with a CDPATH that leads elsewhere.
+# python/tests/stand_in.c; package.sh over that library; what each of them says of what it lacks; and checks, some of them
+# with only a few of their cases. The calls are made in a copy of the repository whose path has blanks and quotes, from
+# another folder, and with a CDPATH that leads elsewhere.
 . "$(dirname "$0")/work.sh"
 case ${1:?no program} in
 /*) program=$1 ;;
@@ -95,11 +96,16 @@ holds 'a home of its own' prints 0 /home env HOME="$gate/none" sh "$gate/tools/h
 holds 'no home' prints 0 /home env -u HOME sh "$gate/tools/home.sh"
 holds 'the home of a user' prints 0 "$gate" env HOME="$gate" sh "$gate/tools/home.sh"
 
-# .ci/run, over stand-ins for rt, setup.sh and check.sh
+# .ci/run, over stand-ins for rt, setup.sh, check.sh, plants.sh and what reads the gate's output
 mkdir -p "$away/gate/.ci" "$away/gate/tools"
 cp .ci/run "$away/gate/.ci"
 echo 'echo "check: TOOLS=$TOOLS, $(basename "$PWD")"; exit ${CHECK:-0}' > "$away/gate/tools/check.sh"
 echo 'echo "plants: TOOLS=$TOOLS, $*"; exit ${PLANTS:-0}' > "$away/gate/tools/plants.sh"
+cat > "$away/gate/tools/gate_output.py" << 'END'
+import os, pathlib, sys
+print("read:", pathlib.Path(sys.argv[1]).read_text().strip())
+sys.exit(int(os.environ.get("READ", 0)))
+END
 stand_in "$work/stand-in/rt" << 'END'
 [ "$*" = ci ] || exit 2
 echo "rt $* in $(basename "$PWD")"
@@ -117,24 +123,34 @@ runs() {
 }
 planted='plants: TOOLS=all, crates/rtdvs/out/rtdvs 3 1'
 holds 'the gate with all tools' runs 0 "rt ci in gate
+read: rt ci in gate
 check: TOOLS=all, gate
 $planted" 0
 holds 'the gate with some tools' runs 0 "rt ci in gate
+read: rt ci in gate
 check: TOOLS=some, gate
 plants: TOOLS=some, crates/rtdvs/out/rtdvs 3 1" 1
 holds 'the gate after a failed proof' runs 3 'rt ci in gate' 0 3
+READ=1
+export READ
+holds 'the gate with an edit that another goal refused' runs 1 'rt ci in gate
+read: rt ci in gate' 0
+unset READ
 USER_ID=1000
 holds 'the gate of another user' runs 0 "rt ci in gate
+read: rt ci in gate
 check: TOOLS=all, gate
 $planted" 0
 CHECK=1
 export CHECK
 holds 'the gate after a failed check' runs 1 'rt ci in gate
+read: rt ci in gate
 check: TOOLS=all, gate' 0
 unset CHECK
 PLANTS=1
 export PLANTS
 holds 'the gate with a fault that is not seen' runs 1 "rt ci in gate
+read: rt ci in gate
 check: TOOLS=all, gate
 $planted" 0
 unset PLANTS
@@ -151,7 +167,8 @@ END
 # STATUS TEXT CALLED USER LACKS REFUSES: what setup.sh leaves
 sets_up() {
     : > "$work/called"
-    prints "$1" "$2" env PATH="$work/stand-in:$PATH" CALLED="$work/called" USER_ID="$4" LACKS="$5" REFUSES="$6" sh tools/setup.sh &&
+    prints "$1" "$2" led_away env PATH="$work/stand-in:$PATH" CALLED="$work/called" USER_ID="$4" LACKS="$5" REFUSES="$6" \
+        sh top/tools/setup.sh &&
         same "$(cat "$work/called")" "$3"
 }
 install='install -q -y --no-install-recommends valgrind'
@@ -222,15 +239,36 @@ bare_package() {
 holds 'package.sh without a library' bare_package
 
 # The checks that need no tool but a shell, and the scripts beside them
-for name in completion copies form links named reading; do
+for name in completion copies form gate links named reading; do
     line=$(sed -n "s/^$name //p" tools/cases.txt)
     passes() { led_away sh "top/tools/check_$name.sh" "$program" > "$work/line" && [ "$(wc -l < "$work/line")" -eq 1 ] && grep -q "^$name: $line " "$work/line"; }
     holds "check_$name.sh" passes
 done
-for name in peer wrapper; do
+for name in main peer wrapper; do
     line=$(sed -n "s/^$name //p" tools/cases.txt)
     passes() { mkdir -p "$away/tmp" && led_away env TMPDIR="$away/tmp" sh "top/tools/check_$name.sh" "$program" > "$work/line" && grep -q "^$name: $line " "$work/line" && rmdir "$away/tmp"; }
     holds "check_$name.sh" passes
+done
+
+# Each script forgets an exported CDPATH before it looks for another folder.
+forgets() {
+    for script in tools/*.sh .ci/run rtdvs.sh; do
+        case $script in */work.sh | */python_part.sh) continue ;; esac
+        awk '/^unset CDPATH$/ || /^\. .*\/work\.sh"$/ { exit } /(^|[^a-z])cd / && !/^#/ { print FILENAME ": " $0 }' "$script"
+    done > "$work/line"
+    same "$(cat "$work/line")" ''
+}
+holds 'a CDPATH' forgets
+
+# The other checks, with none of their cases but those that all need, over the library of the stand-in
+for name in failing package python scripts signals; do
+    only=none
+    [ $name != python ] || only=collected
+    sets_out() {
+        mkdir -p "$away/tmp" && led_away env ONLY=$only TMPDIR="$away/tmp" PATH="$work/stand-in:$PATH" sh "top/tools/check_$name.sh" "$program" \
+            > "$work/line" 2>&1 && grep "^$name: " "$work/line" && [ "$(wc -l < "$work/line")" -eq 1 ] && rmdir "$away/tmp" || { cat "$work/line"; return 1; }
+    }
+    holds "check_$name.sh" sets_out
 done
 
 # plants.sh, over one check and two faults, of which the check sees the first
@@ -243,7 +281,7 @@ store two
 plants() {
     echo 'one two' > "$work/plants/text"
     printf 'echo "%s"\ngrep -q -w %s text\n' "$3" "${4:-one}" > "$work/plants/tools/check_one.sh"
-    prints "$1" "$2" sh "$work/plants/tools/plants.sh" "$program"
+    prints "$1" "$2" led_away sh "$work/plants/tools/plants.sh" "$program"
 }
 if "$python" -c 'import tomllib' 2>&-; then
     holds 'plants.sh of a fault that is not seen' plants 1 'one: not seen: the second

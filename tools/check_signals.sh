@@ -1,8 +1,9 @@
 # check_signals.sh PROGRAM: what scripts leave that a signal ends. package.sh and library.sh are called with stand-ins for
-# the tools that they call; one of these calls, spread over all, signals the script, or its whole group of processes,
-# before the tool does its work or when a part is written. Then no file of the script's own is left, no process of it runs, the status
-# isn't 0, and each file that it was to write is whole or as before. group.py, which runs the parts of check_python.sh,
-# ends what they started.
+# the tools that they call; one of these calls signals the script, or its whole group of processes, before the tool does its
+# work or when a part is written. The calls are spread over all; those that write the file, and give it its name, signal in
+# each way. Then no file of the script's own is left, no process of it runs, the status isn't 0, and each file that it was
+# to write is whole or as before. Each other script that has files of its own is signalled when it makes their folder.
+# group.py, which runs the parts of check_python.sh, ends what they started.
 # It needs setsid, which makes a group, an env that knows --default-signal, and a compiler. A script takes no signal that
 # its caller lets it ignore, as `nohup` and a shell in the background do, so each call gets the signals back.
 . "$(dirname "$0")/work.sh"
@@ -24,7 +25,7 @@ built=$work/top/crates/rtdvs_c/out/librtdvs_c.a
 cc -fPIC -c python/tests/stand_in.c -o "$work/kit/a.o" && ar rcs "$built" "$work/kit/a.o" &&
     ar rcs "$work/kit/c/liblibc_c.a" || exit 2
 
-# A tool's stand-in: it counts the calls, and signals at one.
+# A tool's stand-in: it counts and names the calls, and signals at one.
 for tool in ar cc chmod cp dpkg-deb find gzip ld ln mkdir mv objcopy rm sed strip; do
     real=$(command -v $tool) || continue
     {
@@ -33,6 +34,7 @@ for tool in ar cc chmod cp dpkg-deb find gzip ld ln mkdir mv objcopy rm sed stri
         cat << 'END'
 n=$(($(cat "$SIGNALS/count") + 1))
 echo $n > "$SIGNALS/count"
+echo "${real##*/}" >> "$SIGNALS/calls"
 to=0
 [ "$TO" = group ] || to=$(cat "$SIGNALS/script")
 [ "$n" != "$AT" ] || [ "$WHEN" = midway ] || kill -s "$SIGNAL" "$to"
@@ -60,6 +62,7 @@ call() {
     export SIGNAL TO WHEN AT
     shift 4
     echo 0 > "$work/plain/count"
+    : > "$work/plain/calls"
     PATH=$work/tools:$path TMPDIR=$work/temp env --default-signal setsid -w "$shell" -c 'echo $$ > "$SIGNALS/script"; exec sh "$@"' sh "$@" > "$work/out" 2>&1
     status=$?
 }
@@ -77,7 +80,10 @@ ended() {
 }
 # FOLDER: the files of a folder, with their sums
 sums() { (cd "$1" && find . | sort && find . -type f | sort | tr '\n' '\0' | xargs -0 cksum); }
-# FOLDER SCRIPT WORD..: each signal, at 16 of the calls of a script that writes into this folder
+# TOOL: the number of its last call
+last() { grep -n -x "$1" "$work/plain/calls" | tail -n 1 | cut -d : -f 1; }
+# FOLDER SCRIPT WORD..: each signal, at 16 of the calls of a script that writes into this folder, and in
+# each way at the last ones that write a file there, and give it its name
 signals() {
     into=$1
     shift
@@ -88,8 +94,11 @@ signals() {
     most=$(cat "$work/plain/count")
     wanted=$(sums "$into")
     # The last call takes the script's own files away.
-    for share in 0 1 2 3 4 5 6 7 8 9 10 11 12 13 14 15; do
-        n=$((1 + (most - 1) * share / 16))
+    places=
+    for share in 0 1 2 3 4 5 6 7 8 9 10 11 12 13 14 15; do places="$places $((1 + (most - 1) * share / 16))"; done
+    writes=$(last dpkg-deb)
+    writes=${writes:-$(last cp)} names=$(last mv)
+    for n in $places $writes $writes $writes $writes $names $names $names $names; do
         case $((cases % 4)) in
         0) set -- HUP group before "$@" ;;
         1) set -- INT group midway "$@" ;;
@@ -110,6 +119,23 @@ signals() {
 signals "$work/top/crates/rtdvs_c/out/lib" "$work/top/tools/library.sh"
 signals "$work/into" "$work/top/tools/library.sh" "$work/into"
 signals "$work/into" "$work/top/tools/package.sh" "$program" "$work/into"
+
+# SCRIPT SIGNAL TO WHEN: a signal at the first call of a tool, which makes the folder of the script's own files
+begins() {
+    cases=$((cases + 1))
+    call "$2" "$3" "$4" 1 "$work/top/$1" "$program"
+    calls=$(tr '\n' ' ' < "$work/plain/calls")
+    [ $status != 0 ] && [ "$calls" = 'mkdir rm ' ] && [ -z "$(ls -A "$work/temp")" ] && ended && return
+    echo "signals: $1, $2 to the $3 $4 its first call: status $status, running: $(running), calls: $calls, left: $(ls -A "$work/temp")"
+    differs
+    rm -rf "$work/temp" && mkdir "$work/temp"
+}
+for script in $(grep -l '[$]work' tools/*.sh); do
+    case $script in */library.sh | */package.sh | */python_part.sh | */work.sh) continue ;; *"${ONLY-}") ;; *) continue ;; esac
+    begins $script HUP group before
+    begins $script INT group midway
+    begins $script TERM script midway
+done
 
 # group.py: what a command has started ends with the command, and with group.py itself.
 # WORD..: calls it over a command that starts another one

@@ -1,15 +1,22 @@
 """Files that are whole or as before, where there is no room for the new one, or no right to write it."""
 
 import os
+import resource
 import subprocess
 import sys
-from collections.abc import Iterator
+from collections.abc import Callable, Iterator
+from concurrent.futures import ThreadPoolExecutor
+from contextlib import contextmanager
 from pathlib import Path
 
 import pytest
 
 from rtdvs._files import write_whole
-from tests.shared.examples import DATA, SOURCE
+from rtdvs.cli import main as cli
+from rtdvs.studies import Sweep, evaluate, exercise
+from tests.cli.test_outputs import EVALUATE, SIMULATED, Flat
+from tests.shared.examples import DATA, SOURCE, TEST_DATA, TOP, Captured, printed, refusal
+from tools import messages, pictures, tour
 
 OLD = b"as it was\n"
 
@@ -80,10 +87,14 @@ runpy.run_module("rtdvs", run_name="__main__", alter_sys=True)
 """
 TRACE = DATA / "paper" / "edf_cc_with_demands.trace"
 FILES = [f"--tasks={DATA}/paper/tasks.toml", f"--machine={DATA}/paper/machine.toml"]
+DESIGN = ["design", "--device-tree", str(TEST_DATA / "old.dts")]
 WRITERS = {
     "convert": (["convert", "--to", "csv", "--trace", str(TRACE), *FILES, "--output", "OUT"], "OUT"),
     "page": (["page", str(TRACE), *FILES, "--output", "OUT"], "OUT"),
     "plot": (["plot", "trace", "--trace", str(TRACE), *FILES, "--output", "OUT.svg"], "OUT.svg"),
+    "design": ([*DESIGN, "--output", "OUT"], "OUT"),
+    "design, a folder": ([*DESIGN, "--board", str(TEST_DATA / "board.toml"), "--folder", "OUT"], "OUT/tasks.toml"),
+    "generate": (["generate", "demands", FILES[0], "--ticks", "100", "--share", "0.7", "--output", "OUT"], "OUT"),
     "evaluate": (["evaluate", "--program", "/bin/true", "--sets", "1", "--folder", "OUT"], "OUT/sweep"),
 }
 
@@ -95,8 +106,79 @@ def test_a_file_without_room(words: list[str], name: str, tmp_path: Path) -> Non
         pytest.importorskip("matplotlib.font_manager")
     file = tmp_path / name
     if words[0] != "evaluate":
+        file.parent.mkdir(exist_ok=True)
         file.write_bytes(OLD)
     call = [sys.executable, "-c", LIMITED, *(word.replace("OUT", str(tmp_path / "OUT")) for word in words)]
     made = subprocess.run(call, env=os.environ | {"PYTHONPATH": SOURCE}, capture_output=True, text=True, timeout=120)
     assert (made.returncode, made.stderr) == (2, f"rtdvs: {file}: File too large\n")
     assert [path.read_bytes() for path in tmp_path.rglob("*") if path.is_file()] == [OLD] * (words[0] != "evaluate")
+
+
+@contextmanager
+def room_for(most: int) -> Iterator[None]:
+    """No file of this process gets more bytes for a time."""
+    before, hard = resource.getrlimit(resource.RLIMIT_FSIZE)
+    resource.setrlimit(resource.RLIMIT_FSIZE, (most, hard))
+    try:
+        yield
+    finally:
+        resource.setrlimit(resource.RLIMIT_FSIZE, (before, hard))
+
+
+def write_results(folder: Path) -> None:
+    """A result that isn't whole is made again."""
+    with ThreadPoolExecutor(1) as executor:
+        assert [*evaluate(Flat(Path("flat")), folder, Sweep(most=1, counts=[5], tenths=[8]), executor)]
+
+
+def write_picture(folder: Path) -> None:
+    pictures.write_small((TOP / "examples" / "pictures" / "page.png").read_bytes(), folder / "page.png")
+
+
+OTHERS: dict[str, tuple[Callable[[Path], object], str]] = {
+    "an exercise": (exercise(SIMULATED, 7).write, "tasks.toml"),
+    "a result of an evaluation": (write_results, "results/5_8_1.tsv"),
+    "the notebook": (lambda folder: tour.write(folder / "tour.ipynb"), "tour.ipynb"),
+    "the tables of messages": (lambda folder: messages.write(folder / "MESSAGES.md"), "MESSAGES.md"),
+    "the picture of the page": (write_picture, "page.png"),
+}
+
+
+@pytest.mark.parametrize(("write", "name"), OTHERS.values(), ids=OTHERS)
+def test_what_the_package_writes_without_room(write: Callable[[Path], object], name: str, tmp_path: Path,
+                                              monkeypatch: pytest.MonkeyPatch) -> None:
+    """The error names the file, which is as it was; with room it is written."""
+    monkeypatch.setattr(tour, "executed", lambda notebook, folder: notebook)
+    file = tmp_path / name
+    file.parent.mkdir(exist_ok=True)
+    file.write_bytes(OLD)
+    with room_for(40), pytest.raises(OSError, match="File too large") as caught:
+        write(tmp_path)
+    assert caught.value.filename == str(file) and file.read_bytes() == OLD
+    assert {path.name for path in tmp_path.rglob("*") if path.is_file()} <= {file.name, "sweep"}
+    write(tmp_path)
+    assert len(file.read_bytes()) > 40
+
+
+def test_a_table_of_an_evaluation_without_room(tmp_path: Path, monkeypatch: pytest.MonkeyPatch, capsys: Captured) -> None:
+    monkeypatch.setattr("rtdvs.cli.options.find_engine", lambda *words: Flat(Path("flat")))
+    words = EVALUATE.replace("OUT", str(tmp_path)).split()
+    printed(capsys, words)
+    tables = [*tmp_path.glob("sweep/*.tsv")]
+    for file in tables:
+        file.write_bytes(OLD)
+    with room_for(40):
+        assert refusal(capsys, words) in [f"rtdvs: {file}: File too large\n" for file in tables]
+    assert [file.read_bytes() for file in tables] == [OLD] * 4
+
+
+def test_grades_without_room(tmp_path: Path, capsys: Captured) -> None:
+    file, handed = tmp_path / "grades.csv", tmp_path / "handed"
+    file.write_bytes(OLD)
+    handed.mkdir()
+    (handed / "anna.trace").write_bytes(TRACE.read_bytes())
+    words = ["explain", *FILES, f"--trace={TRACE}", f"--demands={DATA}/paper/demands.csv", f"--grade={handed}", f"--csv={file}"]
+    with room_for(36):
+        assert cli.main(words) == 2
+    assert capsys.readouterr().err == f"rtdvs: {file}: File too large\n"
+    assert file.read_bytes() == OLD and {*tmp_path.iterdir()} == {file, handed}

@@ -15,11 +15,11 @@ from math import ceil
 import pytest
 
 from rtdvs._numbers import decimal
-from rtdvs.engine import Engine
+from rtdvs.engine import Engine, RunTotals
 from rtdvs.model import Requests
 from rtdvs.studies import (
     MACHINES, PAPER_EXAMPLE, PAPER_PAIRS, PUBLISHED, PUBLISHED_MILLISECOND, PUBLISHED_SEED,
-    PUBLISHED_TICKS, PUBLISHED_TOP, energy_of, paper_shares, runs,
+    PUBLISHED_TICKS, PUBLISHED_TOP, paper_shares, totals,
 )
 from rtdvs.trace import Run, Trace
 from tests.shared.examples import BOARD, DATA, NUMBER, PAGES, PAPER, TOP, XSCALE, rows, files, value
@@ -63,7 +63,7 @@ def row(*cells: object) -> str:
 
 
 def readme(engine: Engine) -> Iterator[str]:
-    energies = [energy_of(text) for text in runs(engine, PAPER_EXAMPLE, PAPER_PAIRS) if isinstance(text, str)]
+    energies = [each.energy for each in totals(engine, PAPER_EXAMPLE, PAPER_PAIRS) if isinstance(each, RunTotals)]
     finer = paper_shares(engine, 3)
     yield row("energy, in 10^9", *(short(Fraction(energy, 10**9), 4) for energy in energies))
     yield row("Pillai and Shin (2001)", *PUBLISHED[1:])

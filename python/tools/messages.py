@@ -7,6 +7,7 @@ import re
 from collections.abc import Iterator
 from pathlib import Path
 
+from rtdvs._files import write_whole
 from rtdvs.hints import SECTIONS, Row
 
 PAGE = Path(__file__).parents[2] / "docs" / "MESSAGES.md"
@@ -48,5 +49,10 @@ def with_tables(page: str) -> str:
     return SECTION.sub(renewed, page)
 
 
+def write(path: Path) -> None:
+    """Writes the page with its tables as they are now; raises OSError."""
+    write_whole(path, with_tables(PAGE.read_text(encoding="utf-8")))
+
+
 if __name__ == "__main__":
-    PAGE.write_text(with_tables(PAGE.read_text(encoding="utf-8")), encoding="utf-8")
+    write(PAGE)

@@ -1,9 +1,11 @@
 """Makes the pictures of the pages again: cd python && PYTHONPATH=src python3 -m tools.pictures"""
 
 from collections.abc import Iterator
+from io import BytesIO
 from itertools import chain
 from pathlib import Path
 
+from rtdvs._files import write_whole
 from rtdvs.engine import Engine, find_engine
 from rtdvs.plot import View, parse_means, save_compare, save_means, save_trace
 from rtdvs.studies import PAIRS, compare
@@ -42,7 +44,6 @@ def draw_figures(target: Path) -> Iterator[Path]:
 
 def draw_page(engine: Engine, target: Path) -> Path:
     """Draws what a browser shows of the server's page, in 128 colours; it needs selenium and Chromium."""
-    from PIL import Image
     from tests.shared.browsing import chromium, until
 
     browser, path = chromium(), target / "page.png"
@@ -52,10 +53,18 @@ def draw_page(engine: Engine, target: Path) -> Path:
         until(browser, "return document.body.classList.contains('whole') && (schedule.step(1), true)")
         until(browser, "return document.querySelector('#board').textContent.startsWith('line 13')")
         browser.execute_script("document.documentElement.style.overflow = 'hidden'")
-        browser.save_screenshot(str(path))
+        write_small(browser.get_screenshot_as_png(), path)
     browser.quit()
-    Image.open(path).convert("RGB").quantize(128).save(path, optimize=True)
     return path
+
+
+def write_small(picture: bytes, path: Path) -> None:
+    """Writes a picture in 128 colours, in PNG; raises OSError."""
+    from PIL import Image
+
+    made = BytesIO()
+    Image.open(BytesIO(picture)).convert("RGB").quantize(128).save(made, "PNG", optimize=True)
+    write_whole(path, made.getvalue())
 
 
 if __name__ == "__main__":

@@ -12,6 +12,7 @@ from pathlib import Path
 from tempfile import TemporaryDirectory
 from typing import Any
 
+from rtdvs._files import write_whole
 from tests.shared.examples import SOURCE, TOP
 
 NOTEBOOK = TOP / "examples" / "tour.ipynb"
@@ -114,7 +115,12 @@ def stored(notebook: Notebook) -> Notebook:
     return {**notebook, "cells": cells, "metadata": METADATA}
 
 
-if __name__ == "__main__":
+def write(path: Path) -> None:
+    """Runs the stored notebook, and writes it with what it shows; raises RunFailed, TimeoutExpired and OSError."""
     with TemporaryDirectory(prefix="rtdvs-") as empty:
-        NOTEBOOK.write_text(text_of(stored(executed(read(), Path(empty)))), encoding="utf-8")
+        write_whole(path, text_of(stored(executed(read(), Path(empty)))))
+
+
+if __name__ == "__main__":
+    write(NOTEBOOK)
     print(NOTEBOOK)

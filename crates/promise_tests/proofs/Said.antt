@@ -1,25 +1,21 @@
 -- What users say, each from one promise.
-use Rattle.std.proofs.Common.{◌≡◌, ◌≢◌, ℕ, ◌+◌, ◌≤◌, ◌<◌, ◌++◌, ◌⊎◌, inl, inr, Bool, true, List, [], ◌∷◌, length, length-append, Option, Some, None, Result, Ok, Err, refl, sym, ap, ◌∙◌, subst, arith}
-use Rattle.dvs_base.specs.Outside.{Files, ShelfView, SinkView, Rose, Lacks, file_of}
-use Rattle.dvs_base.specs.WritesText.{Wrote, WroteSome}
-use Rattle.words.specs.Commands.{CommandView, RunView, TracedView, ResponseView, PollView, LeastView, run, traced, response, poll, least, asks_probes}
+use Rattle.std.proofs.Common.{◌≡◌, ℕ, ◌+◌, inl, inr, Bool, List, [], ◌∷◌, length, length-append, Option, Some, Result, Ok, sym, ap, ◌∙◌, subst, arith}
+use Rattle.dvs_base.specs.Outside.{Files, ShelfView, Rose, Lacks}
+use Rattle.words.specs.Commands.{CommandView, TracedView, run, admit, traced, response, poll, least}
 use Rattle.words.specs.declared.command.WordFault.{WordFault}
-use Rattle.statuses.specs.Noted.{NotedAs, noted_text}
-use Rattle.statuses.specs.declared.status.Denied.{Denied}
 use Rattle.statuses.specs.declared.status.FileKind.{FileKind}
 use Rattle.statuses.specs.declared.status.Status.{Status}
-use Rattle.statuses.specs.declared.status.Status.TheVariants as status
 use Rattle.sched_model.specs.Plan.{Plan}
 use Rattle.demand_list.specs.Demands.{DemandsView}
 use Rattle.probes.specs.Tallies.{told_notes}
-use Rattle.command_files.specs.Files.{NamedFile, FailsFrom, files_of, names_by, passes}
+use Rattle.command_files.specs.Files.{NamedFile, FailsFrom, files_of, passes}
 use Rattle.command_files.specs.PlannedRuns.{prepared_of, run_with}
 use Rattle.rtdvs_top.specs.Asked.{Asked, asked_of, with_files}
 use Rattle.rtdvs_top.specs.Promised.{Outside, Promised}
-use Rattle.rtdvs_top.specs.Promises.{Answers, AdmitsByTest, IsDoneOrDenied, IsSureOf, LoadFailed, ProvesLeast, ProvesPoll, ProvesRun, ProvesTests, PutsNotes, TellsProbes, Writes, WritesPart, answer_of_command}
+use Rattle.rtdvs_top.specs.Promises.{Answers, AdmitsByTest, IsDoneOrDenied, IsSureOf, LoadFailed, ProvesLeast, ProvesPoll, ProvesRun, ProvesTests, PutsNotes, TellsProbes, Writes, WritesPart}
 use Rattle.rtdvs_top.specs.ToldRuns.{IfAsked, notes_under}
 use Rattle.rtdvs_top.specs.Trace.{AcceptsScheduleTexts}
-use Rattle.promise_tests.specs.Said.{Stayed, IsDeniedByAnswer, LacksOne, LacksItsFile, HasWhole, HasBeginning, HasRoom, IsDecided, MissesNone, FailsItsTest, IsScheduled, NeverDiffers, HasResponses, ServesRequests, CostsLeast, HasNotes, CountsNotes, LoadsFew, Says}
+use Rattle.promise_tests.specs.Said.{Stayed, IsDeniedByAnswer, LacksOne, LacksItsFile, HasWhole, HasBeginning, HasRoom, IsDecided, MissesNone, FailsItsTest, FailsAtLower, IsScheduled, NeverDiffers, HasResponses, ServesRequests, CostsLeast, HasNotes, CountsNotes, LoadsFew, Says}
 
 -- a count that stayed didn't rise
 not-rose : (before now : ℕ) → Stayed before now → Rose before now → ⊥
@@ -92,6 +88,12 @@ module _ (command : Result CommandView WordFault) (files : Files) (old new : Out
       (of-command (λ a. AdmitsByTest a s) (run r) is p.admitted) in
       (a.0, a.1, a.2.fails)
 
+  pub fails-at-lower : FailsAtLower command files old new s
+  fails-at-lower a is done =
+      let h = subst (λ (t : Status). AdmitsByTest (with_files files (admit a)) t) done
+      (of-command (λ x. AdmitsByTest x s) (admit a) is p.admitted) in
+      (h.0, h.1, h.2.1.fails)
+
   -- which trace files are taken
   exact : (r : TracedView) → command ≡ Ok (traced r)
       → AcceptsScheduleTexts (with_files files (traced r)) (Rose old.shelf.faults new.shelf.faults) (Rose old.out.faults new.out.faults) s
@@ -157,6 +159,7 @@ module _ (command : Result CommandView WordFault) (files : Files) (old new : Out
     headline = is-decided;
     run = misses-none;
     admitted = fails-its-test;
+    admitted_low = fails-at-lower;
     exact = is-scheduled;
     exact_back = never-differs;
     tested = has-responses;

@@ -1,15 +1,17 @@
 -- What users of the top call say of it: each of these follows from one promise.
-use Rattle.std.specs.Prelude.{◌≡◌, ◌≢◌, ℕ, ◌+◌, ◌-◌, ◌≤◌, ◌<◌, ◌++◌, ◌⊎◌, true, List, [], ◌∷◌, length, take, Option, Some, None, Result, Ok, Err}
+use Rattle.std.specs.Prelude.{◌≡◌, ◌≢◌, ℕ, ◌+◌, ◌-◌, ◌≤◌, ◌<◌, ◌++◌, ◌⊎◌, true, List, [], ◌∷◌, length, take, Some, None, Result, Ok, Err}
 use Rattle.dvs_base.specs.Widths.{u64_end}
-use Rattle.dvs_base.specs.Outside.{Files, ShelfView, SinkView, file_of}
+use Rattle.dvs_base.specs.Outside.{Files, file_of}
 use Rattle.dvs_base.specs.declared.limits.TheConstants.{MOST_JOBS}
 use Rattle.dvs_base.specs.declared.note.Note.{Note}
-use Rattle.dvs_base.specs.declared.kind.Scheduler.TheVariants.{Edf, Rm}
+use Rattle.dvs_base.specs.declared.kind.Scheduler.TheVariants.{Rm}
 use Rattle.task_model.specs.declared.task.Task.{Task}
 use Rattle.task_model.specs.DemandRows.{DemandRow}
-use Rattle.freq_table.specs.Tables.{Table}
+use Rattle.freq_table.specs.Tables.{Table, lowest_entry, speed_at}
 use Rattle.demand_list.specs.Demands.{DemandsView}
 use Rattle.sched_model.specs.Admission.{PassesTest}
+use Rattle.sched_model.specs.StaticDemand.{static_demand}
+use Rattle.static_gov.specs.StaticSpeed.{PassesAt}
 use Rattle.sched_model.specs.Jobs.{released_jobs}
 use Rattle.sched_model.specs.Plan.{Plan, plan_of}
 use Rattle.sched_model.specs.Ticks.{IsMet}
@@ -17,8 +19,8 @@ use Rattle.energy_bound.specs.Schedules.{IsLeast}
 use Rattle.energy_bound.specs.declared.least.Least.{Least}
 use Rattle.event_kernel.specs.Runs.{Run}
 use Rattle.poll_server.specs.ServerJobs.{ServerView}
-use Rattle.probes.specs.Tallies.{ProbeView, told_notes}
-use Rattle.words.specs.Commands.{CommandView, RunView, TracedView, ResponseView, PollView, LeastView, run, traced, response, poll, least, asks_probes}
+use Rattle.probes.specs.Tallies.{told_notes}
+use Rattle.words.specs.Commands.{CommandView, RunView, AdmitView, TracedView, ResponseView, PollView, LeastView, run, admit, traced, response, poll, least, asks_probes}
 use Rattle.words.specs.declared.command.WordFault.{WordFault}
 use Rattle.statuses.specs.Noted.{noted_text}
 use Rattle.statuses.specs.declared.status.Denied.{Denied}
@@ -31,7 +33,7 @@ use Rattle.command_files.specs.PlannedRuns.{prepared_of, run_with}
 use Rattle.rtdvs_top.specs.Asked.{loads_wanted}
 use Rattle.rtdvs_top.specs.Poll.{HasServed, polling_of}
 use Rattle.rtdvs_top.specs.Promised.{Outside}
-use Rattle.rtdvs_top.specs.Promises.{MeansRun, answer_of_command, run_plan}
+use Rattle.rtdvs_top.specs.Promises.{MeansRun, admit_plan, answer_of_command, run_plan}
 use Rattle.rtdvs_top.specs.Response.{MeansPlan, Responds}
 use Rattle.rtdvs_top.specs.Run.{job_demands, ticks_under}
 use Rattle.rtdvs_top.specs.ToldRuns.{notes_under}
@@ -103,6 +105,13 @@ module _ (command : Result CommandView WordFault) (files : Files) (old new : Out
       (r : RunView) (why : Denied) → command ≡ Ok (run r) → s ≡ status.NotAdmitted why
       → (p : Plan) × (run_plan r files ≡ Ok p) × (PassesTest p.scheduler p → ⊥)
 
+  -- with each lower speed than the one that `admit` prints the scheduler's test fails
+  abbrev pub FailsAtLower : Type 0
+  FailsAtLower =
+      (a : AdmitView) → command ≡ Ok (admit a) → s ≡ status.Done
+      → (p : Plan) × (admit_plan a files ≡ Ok p)
+      × ((e : ℕ) → e < lowest_entry p.machine (static_demand p) → PassesAt (speed_at p.machine e) p.scheduler p → ⊥)
+
   -- a trace that is replayed is the text of a schedule, and no such text is said to differ
   abbrev pub IsScheduled : Type 0
   IsScheduled =
@@ -164,6 +173,7 @@ module _ (command : Result CommandView WordFault) (files : Files) (old new : Out
     pub headline : IsDecided
     pub run : MissesNone
     pub admitted : FailsItsTest
+    pub admitted_low : FailsAtLower
     pub exact : IsScheduled
     pub exact_back : NeverDiffers
     pub tested : HasResponses

@@ -10,7 +10,7 @@ use rtdvs_top::Status;
 use task_model::TaskSet;
 use words::command::{Command, CommandWords};
 
-/// Prepares nothing, with the clause of `prepare` of the crate `rtdvs_top`: want of memory is a free answer to each command.
+/// Prepares nothing, with the clause of `prepare` of the crate `rtdvs_top`: each command may answer out of memory.
 /// No answer is by hand here, as none is there. So a must-fail edit that answers at once in an arm of `prepare` is
 /// refused for its answer.
 pub fn prepare_nothing<S: Shelf>(

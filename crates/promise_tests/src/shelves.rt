@@ -1,7 +1,7 @@
 // What a call says of its shelf.
 ghost use Rattle.std.specs.Prelude.{◌≡◌, ◌++◌, List, ℕ, Ok, Some};
 ghost use Rattle.dvs_base.specs.Outside.{Files, Rose};
-ghost use Rattle.command_files.specs.GivenFiles.{HaveDistinctNames, MayHold, loads_since};
+ghost use Rattle.command_files.specs.GivenFiles.{HaveDistinctNames, loads_since};
 ghost use Rattle.rtdvs_top.specs.Asked.{asked_for, command_asked, loads_asked};
 ghost use Rattle.rtdvs_top.specs.Promises.{Answers};
 ghost use Rattle.words.specs.Commands.{CommandView};

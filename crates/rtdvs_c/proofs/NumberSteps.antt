@@ -1,5 +1,5 @@
 -- The steps of a call with numbers: what refuses them, what a test answers, and that the program answers alike.
-use Rattle.std.proofs.Common.{◌≡◌, ◌≢◌, inl, inr, ℕ, List, Option, Some, None, Result, Ok, Err, refl, sym, ap, ◌∙◌, subst, arith}
+use Rattle.std.proofs.Common.{◌≡◌, ◌≢◌, inl, inr, ℕ, List, Result, Ok, Err, refl, sym, ap, ◌∙◌, subst, arith}
 use Rattle.dvs_base.specs.Checks.{and_then, IsUnlessMemory}
 use Rattle.dvs_base.specs.Outside.{Files}
 use Rattle.dvs_base.specs.declared.kind.Scheduler.{Scheduler}
@@ -30,9 +30,10 @@ use Rattle.command_files.specs.Admissions.{admission}
 use Rattle.rtdvs_top.specs.Admit.{admitted_text}
 use Rattle.rtdvs_top.specs.Response.{responses_on, responses_text, response_status}
 use Rattle.rtdvs_top.specs.Least.{least_text, least_from, least_on}
+use Rattle.sched_model.specs.Admission.{PassesTest}
 use Rattle.rtdvs_top.specs.Promises.{answer_of_command, AdmitsOrDenies}
 use Rattle.rtdvs_top.proofs.DeniedPlans.{Decides, decides, denied-plan}
-use Rattle.rtdvs_c.specs.declared.numbers.Work.{Work}
+use Rattle.rtdvs_c.specs.declared.number_types.Work.{Work}
 use Rattle.rtdvs_c.specs.LeastNumbers.{over_status, least_by, least_of_numbers}
 use Rattle.rtdvs_c.specs.NumberReplies.{NumbersView, tasks_on, machine_on, sets_on, plan_on, admission_on, padded, ticks_on, ends, Describe, FailsOn}
 
@@ -63,28 +64,32 @@ abbrev sets : Result (List Task) Status → Result Table Status → Result (List
 sets t m = and_then t (λ tasks. and_then m (λ machine. Ok (tasks, machine)))
 
 -- a plan passes its scheduler's test, or is denied by the test's two numbers
-plan-decided : (p : Plan) → AdmitsOrDenies (Ok p) (ends (admission p))
+-- the plan passes the test of its scheduler
+abbrev Passes : Plan → Type 0
+Passes p = PassesTest p.scheduler p
+
+plan-decided : (p : Plan) → AdmitsOrDenies Passes (Ok p) (ends (admission p))
 plan-decided p = go (decides p)
   where
-    go : Decides p p.scheduler (admission p) → AdmitsOrDenies (Ok p) (ends (admission p))
-    go (inl same) = subst (λ (r : Result Plan Status). AdmitsOrDenies (Ok p) (ends r)) (sym same.0) (p, refl, same.1)
+    go : Decides p p.scheduler (admission p) → AdmitsOrDenies Passes (Ok p) (ends (admission p))
+    go (inl same) = subst (λ (r : Result Plan Status). AdmitsOrDenies Passes (Ok p) (ends r)) (sym same.0) (p, refl, same.1)
     go (inr denial) =
-        subst (λ (r : Result Plan Status). AdmitsOrDenies (Ok p) (ends r)) (sym denial.1) (p, refl, denied-plan p denial.0 denial.1)
+        subst (λ (r : Result Plan Status). AdmitsOrDenies Passes (Ok p) (ends r)) (sym denial.1) (p, refl, denied-plan p denial.0 denial.1)
 
 -- numbers that are refused are neither admitted nor denied
-tasks-decided : (e : TaskFault) (plan : Result Plan Status) → AdmitsOrDenies plan (task_status e)
+tasks-decided : (e : TaskFault) (plan : Result Plan Status) → AdmitsOrDenies Passes plan (task_status e)
 tasks-decided task_fault.NoMemory plan = tt
 tasks-decided e plan = tt
 
-machine-decided : (e : MachineFault) (plan : Result Plan Status) → AdmitsOrDenies plan (machine_status e)
+machine-decided : (e : MachineFault) (plan : Result Plan Status) → AdmitsOrDenies Passes plan (machine_status e)
 machine-decided machine_fault.NoMemory plan = tt
 machine-decided e plan = tt
 
-pub admits_numbers : (n : NumbersView) (s : Scheduler) → AdmitsOrDenies (plan_on s n) (ends (admission_on s n))
+pub admits_numbers : (n : NumbersView) (s : Scheduler) → AdmitsOrDenies Passes (plan_on s n) (ends (admission_on s n))
 admits_numbers n s = go (tasks_of_given n.tasks) (machine_of_given n.settings.idle n.settings.charge n.points)
   where
     go : (ts : Result (List Task) TaskFault) (m : Result Table MachineFault)
-        → AdmitsOrDenies
+        → AdmitsOrDenies Passes
         (and_then (sets (or_status task_status ts) (or_status machine_status m))
         (λ x. Ok (plan_of x.0 x.1 s)))
         (ends (and_then (sets (or_status task_status ts) (or_status machine_status m))

@@ -30,7 +30,7 @@ use Rattle.rtdvs_top.specs.Promised.{Promised, outside_of}
 use Rattle.rtdvs_top.specs.Promises.{answer_of_command, Answers, Writes, IsDoneOrDenied, ProvesRun, AdmitsByTest, ProvesTests, ProvesPoll, ProvesLeast, TellsProbes}
 use Rattle.rtdvs_c.specs.declared.TheConstants.{NO_MEMORY}
 use Rattle.rtdvs_c.specs.declared.reply.Reply.{Reply}
-use Rattle.rtdvs_c.specs.Replies.{ReplyView, Shows, shown_shelf, reply_from, status_of, text_of, told_by, probes_after}
+use Rattle.rtdvs_c.specs.Replies.{ReplyView, FitsLimits, Shows, shown_shelf, reply_from, status_of, text_of, told_by, probes_after}
 use Rattle.rtdvs_c.specs.Proves.{holding, status_at, answered, IsAnsweredOrDenied, ProvesCommand, Proves, IsReply}
 
 -- what the top call promises over these files, if both texts were empty and no put failed
@@ -258,9 +258,10 @@ code-memory status.Write memory = λ e. absurd (cc)
 
 pub is-reply : (files : Files) (asked : Result CommandView WordFault) (s : Status) (text noted : List ℕ) (old new : CallShelf)
     (after : List ProbeView) (most : ℕ) (r : Reply) → Left s text → PromisedWhole files asked old new text noted after s
-    → IsShown s → Shows most r (record { code = code_of s; text = text; notes = noted }) → IsReply files (Some asked) most r
+    → IsShown s → FitsLimits r × Shows most r (record { code = code_of s; text = text; notes = noted }) → IsReply files (Some asked) most r
 is-reply files asked s text noted old new after most r left p shown is = record {
-  reply = subst (Shows most r) (replies-of files asked s text noted old new after left p) is;
+  reply = subst (Shows most r) (replies-of files asked s text noted old new after left p) is.1;
+  fits = is.0;
   proves = proves-of files asked s text noted old new after shown left p;
-  memory = λ e. code-memory s left.memory (sym is.code ∙ e);
+  memory = λ e. code-memory s left.memory (sym is.1.code ∙ e);
 }

@@ -19,9 +19,9 @@ use Rattle.command_files.specs.Meanings.{machine_at}
 use Rattle.rtdvs_top.specs.Least.{least_text}
 use Rattle.rtdvs_top.specs.Promises.{answer_of_command}
 use Rattle.rtdvs_c.specs.declared.causes.TheConstants.{NO_TICKS, TICKS}
-use Rattle.rtdvs_c.specs.declared.numbers.Work.{Work}
-use Rattle.rtdvs_c.specs.declared.numbers.Refusal.{Refusal}
-use Rattle.rtdvs_c.specs.declared.numbers.LeastEnergy.{LeastEnergy}
+use Rattle.rtdvs_c.specs.declared.number_types.Work.{Work}
+use Rattle.rtdvs_c.specs.declared.number_types.Refusal.{Refusal}
+use Rattle.rtdvs_c.specs.declared.number_types.LeastEnergy.{LeastEnergy}
 use Rattle.rtdvs_c.specs.Numbers.{halves_of, no_refusal, refused_at, refusal_of}
 use Rattle.rtdvs_c.specs.NumberReplies.{NumbersView, machine_on}
 

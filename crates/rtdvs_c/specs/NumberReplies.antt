@@ -1,5 +1,5 @@
 -- What a call with numbers replies, what it proves of them, and that the program answers alike for files of them.
-use Rattle.std.specs.Prelude.{◌≡◌, ℕ, List, ◌++◌, length, drop, replicate, Option, Some, None, Result, Ok, Err, ⊤}
+use Rattle.std.specs.Prelude.{◌≡◌, ℕ, List, ◌++◌, length, drop, replicate, Option, Some, None, Result, Ok, Err}
 use Rattle.dvs_base.specs.Checks.{◌>>=◌}
 use Rattle.dvs_base.specs.Outside.{Files}
 use Rattle.dvs_base.specs.declared.limits.TheConstants.{MOST_TASKS}
@@ -21,11 +21,12 @@ use Rattle.command_files.specs.Meanings.{tasks_at, machine_at}
 use Rattle.command_files.specs.Admissions.{admission}
 use Rattle.rtdvs_top.specs.Admit.{admitted_text}
 use Rattle.rtdvs_top.specs.Response.{responses_on, responses_text, Responds, FailsToRespond}
+use Rattle.sched_model.specs.Admission.{PassesTest}
 use Rattle.rtdvs_top.specs.Promises.{answer_of_command, AdmitsOrDenies}
 use Rattle.rtdvs_c.specs.declared.causes.TheConstants.{NO_SCHEDULER, SCHEDULER}
-use Rattle.rtdvs_c.specs.declared.numbers.Settings.{Settings}
-use Rattle.rtdvs_c.specs.declared.numbers.Admission.{Admission}
-use Rattle.rtdvs_c.specs.declared.numbers.Responses.{Responses}
+use Rattle.rtdvs_c.specs.declared.number_types.Settings.{Settings}
+use Rattle.rtdvs_c.specs.declared.number_types.Admission.{Admission}
+use Rattle.rtdvs_c.specs.declared.number_types.Responses.{Responses}
 use Rattle.rtdvs_c.specs.Numbers.{refused_at, no_refusal, refusal_of, scheduler_from, admitted_numbers, refused_admission, refused_responses}
 
 -- the numbers of a call: tasks, points and settings
@@ -135,7 +136,7 @@ RespondsAsFiles n =
 -- what an admission of the numbers proves under either scheduler: an admitted plan passes the scheduler's test, and a
 -- plan that is denied fails it by the two numbers
 abbrev pub AdmitsNumbers : NumbersView → Type 0
-AdmitsNumbers n = (s : Scheduler) → AdmitsOrDenies (plan_on s n) (ends (admission_on s n))
+AdmitsNumbers n = (s : Scheduler) → AdmitsOrDenies (λ p. PassesTest p.scheduler p) (plan_on s n) (ends (admission_on s n))
 
 -- each task of the numbers has a response, and what this proves of every schedule
 abbrev pub RespondsOn : NumbersView → Type 0

@@ -21,10 +21,10 @@ use Rattle.statuses.specs.declared.status.TextFault.TheVariants as text
 use Rattle.statuses.specs.declared.status.Status.{Status}
 use Rattle.statuses.specs.declared.status.Status.TheVariants as status
 use Rattle.rtdvs_c.specs.declared.causes.TheConstants.{NO_CAUSE, NO_TASKS, TOO_MANY_TASKS, PERIOD, WORST_CASE, OFFSET, HYPERPERIOD, IDLE, CHARGE, NO_POINTS, TOO_MANY_POINTS, SPEED, MILLIVOLTS, NOT_RISING, EDF_TEST, RM_TEST, FIRST_RELEASE, NO_RESPONSE, DEMAND, UNITS, EDF, RM}
-use Rattle.rtdvs_c.specs.declared.numbers.Wide.{Wide}
-use Rattle.rtdvs_c.specs.declared.numbers.Refusal.{Refusal}
-use Rattle.rtdvs_c.specs.declared.numbers.Admission.{Admission}
-use Rattle.rtdvs_c.specs.declared.numbers.Responses.{Responses}
+use Rattle.rtdvs_c.specs.declared.number_types.Wide.{Wide}
+use Rattle.rtdvs_c.specs.declared.number_types.Refusal.{Refusal}
+use Rattle.rtdvs_c.specs.declared.number_types.Admission.{Admission}
+use Rattle.rtdvs_c.specs.declared.number_types.Responses.{Responses}
 
 -- a number by its two halves
 abbrev pub halves_of : ℕ → Wide

@@ -23,7 +23,7 @@ use Rattle.rtdvs_top.specs.Trace.{AcceptsScheduleTexts}
 use Rattle.rtdvs_top.specs.Promises.{answer_of_command, MeansRun, IsDeniedBy, ProvesRun, AdmitsByTest, ProvesTests, ProvesPoll, ProvesLeast}
 use Rattle.rtdvs_c.specs.declared.TheConstants.{NO_MEMORY}
 use Rattle.rtdvs_c.specs.declared.reply.Reply.{Reply}
-use Rattle.rtdvs_c.specs.Replies.{Shows, reply_if, status_of, text_of}
+use Rattle.rtdvs_c.specs.Replies.{FitsLimits, Shows, reply_if, status_of, text_of}
 
 -- the status of a command's answer
 abbrev pub status_at : Files → CommandView → Status
@@ -91,5 +91,6 @@ Proves files asked = ⊤
 -- a reply to these words, over these files: what it is, and what its answer proves; memory did not run out
 pub record IsReply (files : Files) (asked : Option (Result CommandView WordFault)) (most : ℕ) (r : Reply) : Type 0 where
   pub reply : Shows most r (reply_if asked files)
+  pub fits : FitsLimits r
   pub proves : Proves files asked
   pub memory : r.code ≢ NO_MEMORY

@@ -1,7 +1,8 @@
 -- What a call replies, as a function of its words and its files.
-use Rattle.std.specs.Prelude.{ℕ, ◌-◌, ◌≡◌, List, [], ◌∷◌, ◌++◌, codes, length, take, drop, nat_le, if◌then◌else◌, Option, Some, None, Result, Ok, Err}
+use Rattle.std.specs.Prelude.{ℕ, ◌-◌, ◌*◌, ◌≤◌, ◌≡◌, List, [], ◌∷◌, ◌++◌, codes, length, take, drop, nat_le, if◌then◌else◌, Option, Some, None, Result, Ok, Err}
 use Rattle.dvs_base.specs.Outside.{Files, ShelfView}
 use Rattle.dvs_base.specs.Widths.{u64_end}
+use Rattle.dvs_base.specs.declared.limits.TheConstants.{LINE_BYTES, LONGEST_TRACE}
 use Rattle.dvs_base.specs.Checks.{◌>>=◌}
 use Rattle.demand_list.specs.Demands.{DemandsView}
 use Rattle.sched_model.specs.Plan.{Plan}
@@ -107,3 +108,8 @@ pub record Shows (most : ℕ) (kept : Reply) (r : ReplyView) : Type 0 where
   pub end : kept.end.items ≡ last most r.text
   pub len : kept.len ≡ length r.text
   pub notes : kept.notes.items ≡ r.notes
+
+-- the answer is no longer than the longest trace, and the notes have no more bytes than three of the longest lines
+pub record FitsLimits (kept : Reply) : Type 0 where
+  pub out : kept.len ≤ LONGEST_TRACE
+  pub notes : length kept.notes.items ≤ 3 * LINE_BYTES

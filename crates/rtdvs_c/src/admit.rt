@@ -6,7 +6,7 @@ ghost use Rattle.rtdvs_c.specs.NumberReplies.{numbers_of, admission_reply, Admit
 use crate::NO_MEMORY;
 use crate::causes::{EDF, NO_SCHEDULER, RM, SCHEDULER};
 use crate::number_sets::admitted_of;
-use crate::numbers::{Admission, Refusal, Settings, halves_of, no_refusal, refused_at};
+use crate::number_types::{Admission, Refusal, Settings, halves_of, no_refusal, refused_at};
 use crate::refusals::refusal_of;
 use dvs_base::Scheduler;
 use numbers::{GivenPoint, GivenTask};

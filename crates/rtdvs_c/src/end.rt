@@ -1,5 +1,6 @@
 // The end of an answer.
-ghost use Rattle.std.specs.Prelude.{◌≡◌, ◌≢◌, length};
+ghost use Rattle.std.specs.Prelude.{◌≡◌, ◌≢◌, ◌≤◌, ◌*◌, length};
+ghost use Rattle.dvs_base.specs.declared.limits.TheConstants.{LINE_BYTES, LONGEST_TRACE};
 ghost use Rattle.rtdvs_c.specs.Replies.{call_files, filled, lengths_of, reply_of};
 ghost use Rattle.rtdvs_c.specs.Texts.{last};
 ghost use Rattle.rtdvs_c.specs.WordList.{asked_by};
@@ -36,6 +37,10 @@ pub extern "C" fn rtdvs_end(
         (reply_of words.now (call_files tasks.now machine.now list.now)).notes }
     ensures lengths { result ≢ NO_MEMORY → lengths.new ≡ lengths_of
         (reply_of words.now (call_files tasks.now machine.now list.now)) }
+
+    // the answer is no longer than the longest trace, and the notes have at most three lines
+    ensures fits { lengths.new.out ≤ LONGEST_TRACE }
+    ensures short { lengths.new.notes ≤ 3 * LINE_BYTES }
 
     // if memory ran out there is no answer, and no note
     ensures no_out { result ≡ NO_MEMORY → out.new ≡ out.old }

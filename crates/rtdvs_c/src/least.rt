@@ -10,7 +10,9 @@ ghost use Rattle.rtdvs_c.specs.LeastNumbers.{certified, refused_least, least_by,
 
 use crate::NO_MEMORY;
 use crate::causes::{NO_TICKS, TICKS};
-use crate::numbers::{LeastEnergy, Refusal, Settings, Work, halves_of, no_refusal, refused_at};
+use crate::number_types::{
+    LeastEnergy, Refusal, Settings, Work, halves_of, no_refusal, refused_at,
+};
 use crate::refusals::refusal_of;
 use dvs_base::MOST_TICKS;
 use energy_bound::{Least, Over, least_energy};

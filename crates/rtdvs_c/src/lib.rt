@@ -10,7 +10,8 @@
 //! of each answer. Nothing is opened, read, written or printed.
 #![tactic(auto)]
 
-ghost use Rattle.std.specs.Prelude.{◌≡◌, ◌≢◌, length, nat_le, if◌then◌else◌};
+ghost use Rattle.std.specs.Prelude.{◌≡◌, ◌≢◌, ◌≤◌, ◌*◌, length, nat_le, if◌then◌else◌};
+ghost use Rattle.dvs_base.specs.declared.limits.TheConstants.{LINE_BYTES, LONGEST_TRACE};
 ghost use Rattle.rtdvs_c.specs.Replies.{call_files, code_for, filled, lengths_of, reply_of};
 ghost use Rattle.rtdvs_c.specs.WordList.{ReadsEnded, asked_by};
 ghost use Rattle.rtdvs_c.specs.Proves.{Proves};
@@ -23,7 +24,7 @@ mod least;
 mod number_sets;
 #[cfg(test)]
 mod number_tests;
-mod numbers;
+mod number_types;
 mod refusals;
 mod reply;
 mod response;
@@ -115,6 +116,10 @@ pub extern "C" fn rtdvs_call(
         (reply_of words.now (call_files tasks.now machine.now list.now)).notes }
     ensures lengths { result ≢ NO_MEMORY → lengths.new ≡ lengths_of
         (reply_of words.now (call_files tasks.now machine.now list.now)) }
+
+    // the answer is no longer than the longest trace, and the notes have at most three lines
+    ensures fits { lengths.new.out ≤ LONGEST_TRACE }
+    ensures short { lengths.new.notes ≤ 3 * LINE_BYTES }
 
     // if memory ran out there is no answer, and no note
     ensures no_out { result ≡ NO_MEMORY → out.new ≡ out.old }

@@ -8,7 +8,7 @@ ghost use Rattle.statuses.specs.Steps.{IsTestStep};
 ghost use Rattle.rtdvs_top.specs.Response.{responses_on, Responds, FailsToRespond};
 ghost use Rattle.rtdvs_c.specs.NumberReplies.{numbers_of, sets_on, admission_on, ticks_on, padded, RespondsOn, FailsOn};
 
-use crate::numbers::Settings;
+use crate::number_types::Settings;
 use command_files::admit;
 use dvs_base::{MOST_TASKS, Scheduler};
 use freq_table::Machine;

@@ -2,7 +2,7 @@
 use super::admit::rtdvs_admit;
 use super::causes::*;
 use super::least::rtdvs_least;
-use super::numbers::{Admission, LeastEnergy, Refusal, Responses, Settings, Wide, Work};
+use super::number_types::{Admission, LeastEnergy, Refusal, Responses, Settings, Wide, Work};
 use super::response::rtdvs_response;
 use dvs_base::MOST_TASKS;
 use freq_table::TOP_SPEED;

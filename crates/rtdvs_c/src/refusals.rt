@@ -3,7 +3,7 @@ ghost use Rattle.std.specs.Prelude.{◌≡◌};
 ghost use Rattle.rtdvs_c.specs.Numbers.{task_field_cause, task_refusal, machine_field_cause, machine_refusal, text_refusal, denied_refusal, refusal_of};
 
 use crate::causes::*;
-use crate::numbers::{Refusal, no_refusal, refused_at, short_by};
+use crate::number_types::{Refusal, no_refusal, refused_at, short_by};
 use freq_table::{MachineFault, MachineField};
 use rtdvs_top::{Denied, Status, TextFault};
 use task_model::{Field, TaskFault};

@@ -3,7 +3,7 @@ ghost use Rattle.std.specs.Prelude.{◌≡◌, ◌≢◌, map, string_bytes, IfO
 ghost use Rattle.statuses.specs.Status.{code_of};
 ghost use Rattle.probes.specs.Program.{program_probes};
 ghost use Rattle.words.specs.Reading.{command_of};
-ghost use Rattle.rtdvs_c.specs.Replies.{held_by, Shows};
+ghost use Rattle.rtdvs_c.specs.Replies.{FitsLimits, Shows, held_by};
 ghost use Rattle.rtdvs_c.specs.WordList.{asked_by};
 ghost use Rattle.rtdvs_c.specs.Proves.{IsReply};
 
@@ -11,7 +11,7 @@ use crate::NO_WORDS;
 use crate::files::{CallFiles, CallShelf};
 use crate::text::EndText;
 use crate::word_list::{WordsFault, read_words};
-use dvs_base::Loaded;
+use dvs_base::{LINE_BYTES, LONGEST_TRACE, Loaded};
 use probes::{Probe, ProgramProbes};
 use rtdvs_top::{Status, rtdvs};
 use std::alloc::{AllocError, Global};
@@ -26,16 +26,20 @@ pub(crate) struct Reply {
     pub(crate) notes: Vec<u8>,
 }
 
+// The most bytes of the notes of a call: three lines.
+const LONGEST_NOTES: usize = 3 * LINE_BYTES;
+
 // The reply of a call that ended with this status, and with these texts, of which the last `most` bytes of the answer are
-// asked for. It fails if memory ran out, which is the one reason why a put of these texts fails.
+// asked for. It fails if memory ran out, which is the one reason why a put of these texts fails; and it would fail if a
+// text were longer than any is by the limits.
 fn ended(status: Status, out: EndText, notes: EndText, most: usize) -> Result<Reply, AllocError>
-    ensures reply { IfOk result (λ reply. Shows most reply
+    ensures reply { IfOk result (λ reply. FitsLimits reply × Shows most reply
         (record { code = code_of status; text = out.bytes; notes = notes.bytes })) }
     ensures written { IsOk result → status ≢ Status.Write }
     ensures memory { IsOk result → status ≢ Status.NoMemory }
     ensures noted { IsOk result → notes.faults ≡ 0 }
 {
-    if notes.faults() > 0 {
+    if notes.faults() > 0 || out.len() as u64 > LONGEST_TRACE || notes.len() > LONGEST_NOTES {
         return Err(AllocError);
     }
     let len = out.len();

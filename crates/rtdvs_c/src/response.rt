@@ -5,7 +5,7 @@ ghost use Rattle.rtdvs_c.specs.NumberReplies.{numbers_of, response_reply, Respon
 
 use crate::NO_MEMORY;
 use crate::number_sets::ticks_of;
-use crate::numbers::{Refusal, Responses, Settings, no_refusal};
+use crate::number_types::{Refusal, Responses, Settings, no_refusal};
 use crate::refusals::refusal_of;
 use dvs_base::MOST_TASKS;
 use numbers::{GivenPoint, GivenTask};

@@ -67,7 +67,7 @@ fn refuses_words(rt: HostRuntime) -> Result<(), Fail> {
 }
 
 const RUN: &[u8] =
-    b"run\0--tasks\0tasks\0--machine\0machine\0--scheduler\0edf\0--governor\0none\0--ticks\0400\0";
+    b"run\0--tasks\0tasks\0--machine\0machine\0--scheduler\0edf\0--governor\0none\0--ticks\0120\0";
 
 const LONG: usize = 16384;
 
@@ -105,7 +105,7 @@ fn gives_the_end_of_an_answer(rt: HostRuntime) -> Result<(), Fail> {
     Ok(())
 }
 
-// A trace of 400 ticks is many times as long as the room.
+// A trace of 120 ticks is many times as long as the room.
 #[test]
 fn gives_the_end_of_a_long_answer(rt: HostRuntime) -> Result<(), Fail> {
     let mut whole = [b'.'; LONG];

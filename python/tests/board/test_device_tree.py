@@ -280,7 +280,7 @@ def test_each_label_of_a_table(label: str) -> None:
     """A table may have several; the source and the blob have them in another order."""
     text = ("/ { one: opp { a { opp-hz = /bits/ 64 <7000000>; opp-microvolt = <900000>; }; }; "
             "other { b { opp-hz = /bits/ 64 <8000000>; opp-microvolt = <900000>; }; }; }; two: &one { };")
-    sources: tuple[str | bytes, ...] = text, compiled(text, "-@")
+    sources: list[str | bytes] = [text, compiled(text, "-@")]
     for source in sources:
         assert [point.hertz for point in operating_points(source, Choice(label)).points] == [7_000_000]
 

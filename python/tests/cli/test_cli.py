@@ -161,20 +161,26 @@ def test_interrupted(stub: Stub, capsys: Captured) -> None:
 
 
 @pytest.mark.parametrize(("command", "others"), [
-    ("explain", {"board", "export", "plot", "studies", "web"}), ("statistics", {"export", "plot", "studies", "web"}),
-    ("simulate", {"board", "export", "plot", "studies", "web"}), ("convert", {"board", "plot", "studies", "web"}),
-    ("compare", {"export", "plot", "web"})], ids=str)
+    ("explain", {"board", "export", "plot", "studies", "web"}),
+    ("statistics", {"board", "export", "plot", "rules", "studies", "web"}),
+    ("simulate", {"board", "export", "plot", "studies", "web"}),
+    ("convert", {"board", "plot", "rules", "studies", "web"}), ("compare", {"board", "export", "plot", "web"}),
+    ("response", {"board", "export", "plot", "rules", "studies", "web"}),
+    ("sensitivity", {"board", "export", "plot", "web"})], ids=str)
 def test_a_command_imports_what_it_needs(command: str, others: set[str]) -> None:
-    """No other command, no package that it doesn't use, no server, and no pattern of a line before one is read."""
+    """No other command, no package that it doesn't use, no server, no pool of processes, and no pattern of a line or of a
+    refusal before one is read."""
     script = ("import sys; from rtdvs.cli.main import main; main([sys.argv[1], '--help']); "
-              "from rtdvs.trace import reader; print(*sorted(sys.modules), reader._line.cache_info().currsize)")
+              "from rtdvs.hints import table; from rtdvs.trace import reader; "
+              "print(*sorted(sys.modules), reader._line.cache_info().currsize + table._pattern.cache_info().currsize)")
     made = subprocess.run([sys.executable, "-c", script, command], env={"PYTHONPATH": SOURCE}, capture_output=True,
                           text=True, check=True)
     *names, patterns = made.stdout.splitlines()[-1].split()
     packages = {name.split(".")[1] for name in names if name.startswith("rtdvs.")}
     commands = {name for name in names if name.startswith("rtdvs.cli.")} - {"rtdvs.cli.main", "rtdvs.cli.options"}
     assert commands - {"rtdvs.cli.boards"} == {f"rtdvs.cli.{cli.COMMANDS[command]}"}
-    assert not packages & others and not {"http.server", "matplotlib", "pandas"} & {*names} and patterns == "0"
+    heavy = {"concurrent.futures.process", "http.server", "matplotlib", "multiprocessing", "pandas"}
+    assert not packages & others and not heavy & {*names} and patterns == "0"
 
 
 # Standard streams

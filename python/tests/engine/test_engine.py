@@ -362,6 +362,12 @@ def test_one_build_for_all_calls(tried: TryEngine, bare: Path) -> None:
     assert [*tried.answers([])] == []
 
 
+def test_the_end_of_an_answer_by_rt_try(tried: TryEngine) -> None:
+    seeds = (("--seed", "4711"),)
+    found = tried.answers([Call("workload", seeds, last_bytes=2), Call("workload", seeds, last_bytes=9)])
+    assert [answer.out for answer in found] == [b"1\n", b"4711\n"]
+
+
 def test_a_case_without_an_answer(tried: TryEngine) -> None:
     answers = tried.answers([workload_call(1), Call("run", (("--ticks", "seven"),)), workload_call(2)])
     assert next(answers).out == b"1\n"

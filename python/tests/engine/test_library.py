@@ -164,16 +164,25 @@ def test_files_that_are_no_library(timeout: float | None, tmp_path: Path) -> Non
             LibraryEngine(tmp_path / name, timeout).answer(workload_call(1))
 
 
-def test_a_library_without_the_function(tmp_path: Path) -> None:
-    with pytest.raises(NoEngine, match="librtdvs.so: it has no rtdvs_call: build the library again"):
-        find_engine(built("int other;", tmp_path))
+CALLS = ("rtdvs_call", "rtdvs_end", "rtdvs_admit", "rtdvs_response", "rtdvs_least")
+
+
+def functions(names: Sequence[str], body: str) -> str:
+    return "".join(f"unsigned char {name}() {{ {body} }}\n" for name in names)
+
+
+@pytest.mark.parametrize("absent", CALLS)
+def test_a_library_without_a_function(absent: str, tmp_path: Path) -> None:
+    others = [name for name in CALLS if name != absent]
+    with pytest.raises(NoEngine, match=f"librtdvs.so: it has no {absent}: build the library again"):
+        find_engine(built(functions(others, "return 0;"), tmp_path))
 
 
 @pytest.mark.parametrize("body", ["return 0;", "return 2;", "return 9;", "return 10;"])
 def test_a_library_of_another_version(body: str, tmp_path: Path) -> None:
     """A known call is made once, and another answer refuses the library."""
     with pytest.raises(NoEngine, match="librtdvs.so: it is of another version: build the library again"):
-        find_engine(built(f"unsigned char rtdvs_call() {{ {body} }}", tmp_path))
+        find_engine(built(functions(CALLS, body), tmp_path))
 
 
 @pytest.mark.parametrize(("name", "is_right"), [

@@ -336,6 +336,38 @@ def decided_trace(decisions: int) -> Trace:
     return Trace.parse("".join([*lines, "energy a 0\nend 1000 0 0\n"]))
 
 
+def busy_trace(tasks: int, jobs: int) -> Trace:
+    """Tasks that all run a unit of each tick, one after the other."""
+    names = [f"t{number}" for number in range(tasks)]
+    lines = [head(jobs, "".join(f"task {name} 1 0 1\n" for name in names))]
+    for tick in range(jobs):
+        lines += [f"release {tick} {name} {tick + 1}\n" for name in names]
+        lines.append(f"speed {tick} {tasks + tick % 2} {tasks}/1\n")
+        for unit, name in enumerate(names):
+            end = f"{tick}:{unit + 1}" if unit + 1 < tasks + tick % 2 else f"{tick + 1}:0"
+            lines.append(f"run {tick}:{unit} {end} {name} {tick + 1} 1 5\ndone {end} {name} {tick + 1} 1\n")
+        lines += [f"idle {tick}:{tasks} {tick + 1}:0 1 0\n"] * (tick % 2)
+    energies = "".join(f"energy {name} {5 * jobs}\n" for name in names)
+    return Trace.parse("".join([*lines, energies, f"end {jobs} {5 * jobs * tasks} 0\n"]))
+
+
+@pytest.mark.parametrize(("tasks", "jobs", "marks"), [
+    pytest.param(3, 4000, (300, 440), id="few tasks: as near as usual"),
+    pytest.param(30, 1000, (60, 133), id="many tasks: farther from each other"),
+])
+def test_marks_of_all_rows(tasks: int, jobs: int, marks: tuple[int, int], tmp_path: Path) -> None:
+    """A picture has at most 12,000 marks of jobs, and no more runs, however long the trace is."""
+    found, said = drawn(busy_trace(tasks, jobs), tmp_path / "a.svg")
+    for kind in ("release", "deadline", "done"):
+        assert all(marks[0] <= found[f"{kind}-t{row}"] <= marks[1] for row in range(tasks))
+    rows = [f"{kind}-t{row}" for kind in ("release", "deadline", "done") for row in range(tasks)]
+    assert 3000 < sum(found[row] for row in rows) <= 12_000
+    assert sum(found[name] for name in found if name.startswith("run-")) <= 12_000
+    near = int(re.findall(r"near marks \(less than (\d+) pixels\) once", " ".join(said))[0])
+    assert f"runs below {3 * near // 2} pixels joined, as high as the highest" in said
+    assert (near == 2) == (tasks == 3) and (tmp_path / "a.svg").stat().st_size < 4_000_000
+
+
 @pytest.mark.parametrize(("trace", "near", "joined"), [
     pytest.param(long_trace(20), False, False, id="all is there"),
     pytest.param(rare_trace(20), False, True, id="runs only"),

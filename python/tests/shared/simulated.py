@@ -18,11 +18,19 @@ class Simulated(Engine):
 
     def answer(self, call: Call[Any]) -> Answer:
         options, files = plain(call.options), plain(call.files)
-        texts = {kind: file.read_text() if isinstance(file, Path) else file for kind, file in files.items()}
+        contents = {kind: file.read_bytes() if isinstance(file, Path) else file for kind, file in files.items()}
+        texts = {kind: file.decode() if isinstance(file, bytes) else file for kind, file in contents.items()}
         try:
             return Answer(0, ANSWERS[call.command](options, texts).encode(), b"")
         except Refused as refused:
             return Answer(refused.status or 99, b"", f"{refused}\n".encode())
+
+
+def written(file: object) -> str:
+    """The text of a file that is given by its path, as bytes or as a text."""
+    if isinstance(file, Path):
+        return file.read_text()
+    return file.decode() if isinstance(file, bytes) else str(file)
 
 
 def plain(pairs: Iterable[tuple[str, str | bytes | Path]]) -> dict[str, object]:

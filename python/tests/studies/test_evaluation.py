@@ -6,21 +6,22 @@ from concurrent.futures import ThreadPoolExecutor
 from dataclasses import replace
 from fractions import Fraction
 from pathlib import Path
+from typing import Any, ClassVar
 
 import pytest
 from hypothesis import given
 from hypothesis import strategies as st
 
 from rtdvs.cli.main import main
-from rtdvs.engine import Engine
-from rtdvs.errors import BadValue
-from rtdvs.model import Task, TaskSet
+from rtdvs.engine import Answer, Call, Engine, RunTotals
+from rtdvs.errors import BadValue, Crashed, Denied
+from rtdvs.model import Machine, Task, TaskSet
 from rtdvs.studies import (
-    CURVES, FIGURES, MACHINES, Record, SetName, Sweep, broken, evaluate, faults, figure_table, finished,
-    measure, panels_of, point, published_sets, read_records, recount, shares, summary,
+    CURVES, FIGURES, MACHINES, PAIRS, Record, SetName, Sweep, broken, evaluate, faults, figure_table, finished, measure,
+    panels_of, point, published_sets, read_records, recount, shares, summary, units_at_top, units_of,
 )
 from rtdvs.studies.evaluation import demands_of
-from tests.shared.examples import MINE, MY_BOARD, TOP, Captured, printed, version_1
+from tests.shared.examples import MINE, MY_BOARD, TOP, Captured, machines, printed, task_sets, version_1
 
 NAME = SetName(8, 7, 1)
 SMALL = Sweep("published", 1, counts=(5,), tenths=(1, 9))
@@ -148,6 +149,53 @@ def test_energies_of_a_set_are_those_of_its_units(engine: Engine, tmp_path: Path
     by_curve = {record.curve: record.energy for record in read_records(tmp_path, names)}
     assert by_curve["edf none"] == by_curve["rm none"] == units * 5000**2 * 1000
     assert by_curve["edf static"] == by_curve["bound"] == units * 3000**2 * 1000
+
+
+class Asked(Engine):
+    """The program, whose calls are noted."""
+
+    calls: ClassVar[list[Call[Any]]] = []
+
+    def answer(self, call: Call[Any]) -> Answer:
+        self.calls.append(call)
+        return super().answer(call)
+
+
+@pytest.mark.parametrize(("number", "is_whole"), [
+    pytest.param(1, True, id="the first set, which is recounted"), pytest.param(2, False, id="another set")])
+def test_whole_traces_are_read_to_be_recounted(number: int, is_whole: bool, program: Path,
+                                               monkeypatch: pytest.MonkeyPatch) -> None:
+    """The records are those of the whole traces; the bound is that of the units of a whole trace."""
+    monkeypatch.setattr(Asked, "calls", [])
+    sweep, name = Sweep("published", 2, counts=(5,), tenths=(4,)), SetName(5, 4, number)
+    tasks = dict(sweep.sets())[name]
+    found = {record.curve: record.energy for record in measure(Asked(program), sweep, (name, tasks))}
+    whole = {call.last_bytes is None for call in Asked.calls if call.command == "run"}
+    assert whole == {is_whole}
+    case = sweep.case(name, tasks, "table1_idle0", "1")
+    for scheduler, governor in PAIRS:
+        if found[f"{scheduler} {governor}"] is not None:
+            trace = Engine(program).run(case.tasks, case.machine, scheduler, governor, case.ticks)
+            assert found[f"{scheduler} {governor}"] == trace.energy
+            least = Engine(program).least(case.machine, units_of(trace), case.ticks)
+            assert found["bound"] == Fraction(least.energy, least.rounds)
+
+
+@given(tasks=task_sets(3, st.integers(1, 12), st.integers(1, 10), st.integers(0, 4)), machine=machines(3, 30, 2),
+       ticks=st.integers(1, 60), scheduler=st.sampled_from(["edf", "rm"]))
+def test_units_of_a_run_at_the_highest_speed(program: Path, tasks: TaskSet, machine: Machine, ticks: int,
+                                             scheduler: str) -> None:
+    """Without a governor the energy has them, also with a charge and with idle time that costs."""
+    try:
+        trace = Engine(program).run(tasks, machine, scheduler, "none", ticks)
+    except Denied:
+        return
+    assert units_at_top(machine, RunTotals(ticks, trace.run_energy, trace.idle_energy)) == units_of(trace)
+
+
+def test_a_run_that_was_not_at_the_highest_speed() -> None:
+    with pytest.raises(Crashed, match="a run energy of 8000000001, not all at the highest speed"):
+        units_at_top(MACHINES["table1_idle0"], RunTotals(8, 8_000_000_001, 0))
 
 
 def test_a_folder_has_one_sweep(program: Path, tmp_path: Path) -> None:

@@ -7,19 +7,19 @@ from collections.abc import Callable, Sequence
 from dataclasses import dataclass
 from fractions import Fraction
 from pathlib import Path
-from typing import Any
+from typing import TYPE_CHECKING, Any
 
 from rtdvs._numbers import plain
-from rtdvs.board import (
-    Board, Choice, Design, OperatingTable, Units, board_fault, choose_scale, design, operating_points, read_design,
-    run_ticks,
-)
 from rtdvs.cli.options import (
     exact_fraction, input_path, open_input, read_demands, read_machine, read_tasks, read_text, whole_number,
 )
 from rtdvs.errors import BadValue
 from rtdvs.model import Demands, Machine, TaskSet
 from rtdvs.trace import Trace
+
+# A command without a board needs none of it, so functions import what they call of it.
+if TYPE_CHECKING:
+    from rtdvs.board import Board, Design, OperatingTable, Units
 
 REPLACED = {"tasks", "machine", "ticks"}
 
@@ -31,7 +31,7 @@ class Given:
     tasks: TaskSet | None
     machine: Machine | None
     demands: Demands | None = None
-    units: Units | None = None
+    units: "Units | None" = None
 
     def check(self, trace: Trace) -> None:
         """Raises BadValue if a trace isn't of the board's files in its tick and unit; without a board none is."""
@@ -118,8 +118,9 @@ def _hardware(word: str) -> tuple[int, ...]:
     return tuple(int(level, 16 if level[:2].lower() == "0x" else 10) for level in levels)
 
 
-def table_of(args: argparse.Namespace) -> OperatingTable:
+def table_of(args: argparse.Namespace) -> "OperatingTable":
     """The points of `--device-tree`; those that are left out are said on standard error. Raises BadValue, OSError."""
+    from rtdvs.board import Choice, OperatingTable, operating_points
     if args.device_tree is None:
         return OperatingTable("", ())
     with open_input(args.device_tree) as file:
@@ -137,16 +138,18 @@ def check_above_0(args: argparse.Namespace, *names: str) -> None:
     Traceback (most recent call last):
     rtdvs.errors.BadValue: board: --tick-ms has to be above 0
     """
+    from rtdvs.board import board_fault
     for name in names:
         if getattr(args, name, None) is not None and getattr(args, name) <= 0:
             raise board_fault(f"--{name.replace('_', '-')} has to be above 0")
 
 
-def read_made(args: argparse.Namespace, board: Board) -> Design:
+def read_made(args: argparse.Namespace, board: "Board") -> "Design":
     """The files in `--folder`, which have to be the board's, in their scale; raises BadValue and OSError.
 
     A scale that is given beside them has to be theirs.
     """
+    from rtdvs.board import board_fault, read_design
     made = read_design(args.folder, board)
     for given, taken in ((args.tick_ms, made.scale.tick), (args.unit_cycles, made.scale.unit)):
         if given not in (None, taken):
@@ -169,6 +172,7 @@ def read_given(args: argparse.Namespace) -> Given:
         return Given(tasks, machine, read_demands(args, tasks) if tasks and hasattr(args, "demands") else None)
     if args.tasks is not None or getattr(args, "machine", None) is not None:
         raise BadValue("give either --board or --tasks and --machine")
+    from rtdvs.board import Board, Units, choose_scale, design
     check_above_0(args, "tick_ms", "unit_cycles", "ms")
     board = Board.parse(read_text(args.board, "board"), table_of(args).points)
     made = (design(board, choose_scale(board, args.tick_ms, args.unit_cycles)) if args.folder is None
@@ -185,5 +189,6 @@ def ticks_of(args: argparse.Namespace, given: Given) -> int:
         return int(args.ticks)
     if args.ticks is not None and args.ms is not None:
         raise BadValue("give either --ticks or --ms")
+    from rtdvs.board import run_ticks
     made = given.units.made
     return int(args.ticks) if args.ticks is not None else run_ticks(made) if args.ms is None else made.ticks_of(args.ms)

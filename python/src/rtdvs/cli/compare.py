@@ -19,9 +19,9 @@ share of the joules, which are exact for measured points.
 import argparse
 from collections.abc import Sequence
 from fractions import Fraction
+from typing import TYPE_CHECKING
 
 from rtdvs._numbers import aligned, decimal, plain, rounded
-from rtdvs.board import Units
 from rtdvs.cli.boards import add_board, read_given, ticks_of
 from rtdvs.cli.options import (
     Commands, Input, add_engine_options, add_files, add_jobs, add_parser, add_ticks, add_unchecked, check_first,
@@ -30,6 +30,9 @@ from rtdvs.cli.options import (
 from rtdvs.errors import BadValue, TraceFault
 from rtdvs.studies import PAIRS, Case, Row, compare, finer_energies, finer_table, table
 from rtdvs.trace import Trace
+
+if TYPE_CHECKING:
+    from rtdvs.board import Units
 
 
 def add_command(commands: Commands) -> None:
@@ -70,10 +73,10 @@ def _handle(args: argparse.Namespace) -> int:
     return 0
 
 
-def board_table(rows: Sequence[Row], ticks: int, units: Units) -> str:
+def board_table(rows: Sequence[Row], ticks: int, units: "Units") -> str:
     """The rows in a board's units, below the length of the run; raises BadValue if no power was measured.
 
-    >>> from rtdvs.board import Board, Scale, design
+    >>> from rtdvs.board import Board, Scale, Units, design
     >>> board = Board.parse('''
     ... task = [{name = "a", period_ms = 2, worst_cycles = 4000}]
     ... point = [{mhz = 4, volts = 1, milliwatts = 8}]''')

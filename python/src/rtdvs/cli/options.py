@@ -3,13 +3,12 @@
 import argparse
 import inspect
 import io
-import multiprocessing
 import os
 import re
 import signal
 import sys
 from collections.abc import Callable, Iterable, Iterator, Sequence
-from concurrent.futures import Executor, ProcessPoolExecutor, ThreadPoolExecutor
+from concurrent.futures import Executor
 from contextlib import AbstractContextManager, contextmanager, suppress
 from fractions import Fraction
 from functools import partial
@@ -23,7 +22,6 @@ from rtdvs._numbers import whole
 from rtdvs.engine import Engine, TryEngine, find_engine, stop_calls
 from rtdvs.errors import BadValue, Denied, TraceFault, WordFault
 from rtdvs.model import MOST_TICKS, Demands, Machine, TaskSet, load
-from rtdvs.rules import GOVERNORS, check
 from rtdvs.trace import Done, Noted, Trace, TraceFile, lines_of, split_governor
 
 Commands: TypeAlias = "argparse._SubParsersAction[argparse.ArgumentParser]"
@@ -348,6 +346,7 @@ def check_first(args: argparse.Namespace, trace: Trace | TraceFile, tasks: TaskS
     if machine is None or tasks is None:
         files = "--machine" if tasks else "--tasks and --machine"
         raise BadValue(f"give {files}, by which the trace is checked, or --unchecked")
+    from rtdvs.rules import GOVERNORS, check  # here, since few commands check a trace
     is_known = (trace.scheduler, split_governor(trace.governor)[0]) in GOVERNORS
     try:
         with suppress(Denied):
@@ -414,6 +413,7 @@ def executor_of(args: argparse.Namespace) -> Iterator[Executor]:
     ...     [*executor.map(abs, [1, -2])]
     [1, 2]
     """
+    from concurrent.futures import ThreadPoolExecutor
     executor = ThreadPoolExecutor(args.jobs)
     try:
         yield executor
@@ -432,6 +432,8 @@ def processes_of(args: argparse.Namespace) -> Iterator[Executor]:
     ...     [*executor.map(abs, [1, -2])]
     [1, 2]
     """
+    import multiprocessing  # here, since only `evaluate` needs it
+    from concurrent.futures import ProcessPoolExecutor
     executor = ProcessPoolExecutor(args.jobs, initializer=_follow_the_first)
     try:
         yield executor
@@ -452,7 +454,8 @@ def _follow_the_first() -> None:
 
 
 def _end_with_parent() -> None:
-    parent = multiprocessing.parent_process()
+    from multiprocessing import parent_process
+    parent = parent_process()
     if parent is not None:
         parent.join()
         os._exit(1)

@@ -9,11 +9,14 @@ With --tasks and --machine it is the program's `response`, which answers in tick
 """
 
 import argparse
+from typing import TYPE_CHECKING
 
 from rtdvs._numbers import aligned, rounded
-from rtdvs.board import Units
 from rtdvs.cli.boards import add_board, read_given
 from rtdvs.cli.options import Commands, add_engine_options, add_files, add_parser, engine_of
+
+if TYPE_CHECKING:
+    from rtdvs.board import Units
 
 
 def add_command(commands: Commands) -> None:
@@ -39,11 +42,11 @@ def _handle(args: argparse.Namespace) -> int:
     return 0
 
 
-def response_table(responses: dict[str, int], units: Units) -> str:
+def response_table(responses: dict[str, int], units: "Units") -> str:
     """The responses, which are in ticks, in a board's milliseconds.
 
     >>> from fractions import Fraction
-    >>> from rtdvs.board import Board, Scale, design
+    >>> from rtdvs.board import Board, Scale, Units, design
     >>> board = Board.parse('''
     ... task = [{name = "a", period_ms = 2, worst_cycles = 4000}]
     ... point = [{mhz = 4, volts = 1}]''')

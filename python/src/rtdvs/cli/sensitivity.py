@@ -14,14 +14,17 @@ With --board the limits are in cycles, milliseconds and MHz.
 
 import argparse
 from fractions import Fraction
+from typing import TYPE_CHECKING
 
 from rtdvs._numbers import aligned, plain, rounded
-from rtdvs.board import Units
 from rtdvs.cli.boards import add_board, read_given
 from rtdvs.cli.options import (
     Commands, add_engine_options, add_files, add_jobs, add_parser, engine_of, executor_of, progress,
 )
 from rtdvs.studies import TESTS, Limits, Question, limits_of, limits_table
+
+if TYPE_CHECKING:
+    from rtdvs.board import Units
 
 
 def add_command(commands: Commands) -> None:
@@ -55,10 +58,10 @@ def _handle(args: argparse.Namespace) -> int:
     return 0
 
 
-def board_limits(question: Question, limits: Limits, units: Units) -> str:
+def board_limits(question: Question, limits: Limits, units: "Units") -> str:
     """The limits in a board's units; `-` for None.
 
-    >>> from rtdvs.board import Board, Scale, design
+    >>> from rtdvs.board import Board, Scale, Units, design
     >>> board = Board.parse('''
     ... task = [{name = "a", period_ms = 2, worst_cycles = 4000}]
     ... point = [{mhz = 4, volts = 1}]''')

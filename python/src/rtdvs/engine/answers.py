@@ -39,6 +39,24 @@ class Constrained:
 
 
 @dataclass(frozen=True, slots=True)
+class RunTotals:
+    """The ticks of a run, and the energies of its `run` and of its `idle` lines.
+
+    >>> parse_totals("trace 2\\n..\\nend 16 364000000000 1000\\n").energy
+    364000001000
+    """
+
+    ticks: int
+    run_energy: int
+    idle_energy: int
+
+    @property
+    def energy(self) -> int:
+        """Of running and idling together."""
+        return self.run_energy + self.idle_energy
+
+
+@dataclass(frozen=True, slots=True)
 class Replayed:
     """The jobs released and complete, and the energies of the `run` and of the `idle` lines.
 
@@ -137,6 +155,16 @@ def parse_trace(text: str) -> Trace:
         return Trace.parse(text)
     except TraceFault as fault:
         raise Crashed(f"an unknown answer: {fault}") from None
+
+
+def parse_totals(text: str) -> RunTotals:
+    """The totals of a run, by the last line of its trace or of the trace's end; raises Crashed for any other text.
+
+    >>> parse_totals("8000\\nend 16 364000000000 0\\n")
+    RunTotals(ticks=16, run_energy=364000000000, idle_energy=0)
+    """
+    last = text[text.rfind("\n", 0, -1) + 1:]
+    return RunTotals(*map(int, _answer_groups(f"end {NUMBER} {NUMBER} {NUMBER}\n", last)))
 
 
 def parse_admitted(text: str) -> Admitted:

@@ -7,11 +7,11 @@ from pathlib import Path
 from typing import Any, Generic, TypeVar
 
 from rtdvs.engine.answers import (
-    Admitted, Constrained, GovernorTotals, Least, Polled, Replayed, parse_admitted, parse_constrained,
-    parse_least, parse_polled, parse_replayed, parse_responses, parse_trace, parse_workload,
+    Admitted, Constrained, GovernorTotals, Least, Polled, Replayed, RunTotals, parse_admitted, parse_constrained,
+    parse_least, parse_polled, parse_replayed, parse_responses, parse_totals, parse_trace, parse_workload,
 )
 from rtdvs.errors import BadValue, Crashed, error_of
-from rtdvs.model import Deadlines, Demands, Machine, Requests, TaskSet
+from rtdvs.model import LONGEST_LINE, Deadlines, Demands, Machine, Requests, TaskSet
 from rtdvs.trace import Trace
 
 T = TypeVar("T", covariant=True)
@@ -22,6 +22,9 @@ DeadlineSource = Deadlines | Path | bytes
 RequestSource = Requests | Path | bytes
 TraceSource = Trace | Path | bytes
 """What a call takes for each kind of file: a value, the path of a file, or a file's bytes."""
+
+LAST_BYTES = 4 * (LONGEST_LINE + 1)
+"""The bytes that are kept of a trace for its last line: some lines more, since a library cuts less often then."""
 
 Source = TaskSource | MachineSource | DemandSource | DeadlineSource | RequestSource | TraceSource
 Word = str | bytes | Path
@@ -37,6 +40,7 @@ class Call(Generic[T]):
     """A call of the program: options with values, and with files (a text or a path).
 
     `parse` makes the typed answer of an answer's text. A call made by hand is a Call[str], whose answer is the text.
+    With `last_bytes` only so many bytes are kept, the end of standard output, however long that is.
 
     >>> Call("workload", (("--seed", "1"),)).files
     ()
@@ -46,6 +50,7 @@ class Call(Generic[T]):
     options: tuple[tuple[str, str], ...] = ()
     files: tuple[tuple[str, str | bytes | Path], ...] = ()
     parse: Callable[[str], T] = field(default=_as_it_is, repr=False)
+    last_bytes: int | None = field(default=None, repr=False)
 
     def words(self) -> list[Word]:
         """The arguments, in which a text is bytes; raises UnicodeEncodeError for a text that isn't Unicode.
@@ -59,7 +64,7 @@ class Call(Generic[T]):
 
 @dataclass(frozen=True, slots=True)
 class Answer:
-    """What a call left: its exit status (below 0: a signal), standard output and standard error.
+    """What a call left: its exit status (below 0: a signal), standard output or its end, and standard error.
 
     >>> Answer(1, b"", b"denied edf 248 240\\n").text()
     Traceback (most recent call last):
@@ -108,6 +113,17 @@ def run_call(tasks: TaskSource, machine: MachineSource, scheduler: str, governor
     """
     options = {"scheduler": scheduler, "governor": governor, "ticks": ticks, "format": version}
     return _call("run", parse_trace, options, tasks=tasks, machine=machine, demands=demands)
+
+
+def totals_call(tasks: TaskSource, machine: MachineSource, scheduler: str, governor: str, ticks: int,
+                demands: DemandSource | None = None) -> Call[RunTotals]:
+    """The call of `run` for that many ticks, of whose trace only some last lines are kept.
+
+    >>> totals_call(Path("/t.toml"), Path("/m.toml"), "edf", "cc", ticks=16).last_bytes
+    1024
+    """
+    run = run_call(tasks, machine, scheduler, governor, ticks, demands)
+    return Call(run.command, run.options, run.files, parse_totals, LAST_BYTES)
 
 
 def admit_call(tasks: TaskSource, machine: MachineSource, scheduler: str) -> Call[Admitted]:

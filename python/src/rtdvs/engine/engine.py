@@ -6,13 +6,13 @@ import shutil
 import sys
 from collections.abc import Iterable, Iterator, Sequence
 from concurrent.futures import Executor
-from dataclasses import dataclass
+from dataclasses import dataclass, replace
 from itertools import chain, tee
 from math import ceil
 from pathlib import Path
 from typing import TypeVar
 
-from rtdvs.engine import library
+from rtdvs.engine import by_numbers, library
 from rtdvs.engine.answers import Admitted, Constrained, GovernorTotals, Least, Polled, Replayed
 from rtdvs.engine.calls import (
     Answer, Call, DeadlineSource, DemandSource, MachineSource, RequestSource, TaskSource, TraceSource, Word, admit_call,
@@ -20,6 +20,7 @@ from rtdvs.engine.calls import (
 )
 from rtdvs.engine.process import guarded, program_answer
 from rtdvs.errors import Crashed, NoEngine, Refused
+from rtdvs.model import Machine, TaskSet
 from rtdvs.trace import Trace
 
 T = TypeVar("T")
@@ -192,6 +193,7 @@ class LibraryEngine(Engine):
     """The shared library, which `program` names: calls in this process, of several threads at a time.
 
     Such a call can't be stopped. With a time limit each call has a Python process of its own, which is killed after it.
+    `admit`, `respond` and `least` of values, without a limit, take and answer numbers, with no text between.
 
     >>> LibraryEngine(Path("/absent.so")).workload(1)  # doctest: +ELLIPSIS
     Traceback (most recent call last):
@@ -206,16 +208,52 @@ class LibraryEngine(Engine):
         rtdvs.errors.NoEngine: /absent.so: cannot open shared object file: ...
         """
         if self.timeout is None:
-            return library.answer(self.program, call.words())
+            return library.answer(self.program, call.words(), call.last_bytes)
         library.opened(self.program)
         return _process_answer([*BY_LIBRARY, str(self.program)], call, self.timeout)
+
+    def admit(self, tasks: TaskSource, machine: MachineSource, scheduler: str) -> Admitted:
+        """As the program's.
+
+        >>> LibraryEngine(Path("/absent.so")).admit(Path("t.toml"), b"", "edf")  # doctest: +ELLIPSIS
+        Traceback (most recent call last):
+        rtdvs.errors.NoEngine: /absent.so: cannot open shared object file: ...
+        """
+        found = None
+        if self.timeout is None and isinstance(tasks, TaskSet) and isinstance(machine, Machine):
+            found = by_numbers.admitted(library.opened(self.program), tasks, machine, scheduler)
+        return super().admit(tasks, machine, scheduler) if found is None else found
+
+    def respond(self, tasks: TaskSource, machine: MachineSource) -> dict[str, int]:
+        """As the program's.
+
+        >>> LibraryEngine(Path("/absent.so")).respond(Path("t.toml"), b"")  # doctest: +ELLIPSIS
+        Traceback (most recent call last):
+        rtdvs.errors.NoEngine: /absent.so: cannot open shared object file: ...
+        """
+        found = None
+        if self.timeout is None and isinstance(tasks, TaskSet) and isinstance(machine, Machine):
+            found = by_numbers.responses(library.opened(self.program), tasks, machine)
+        return super().respond(tasks, machine) if found is None else found
+
+    def least(self, machine: MachineSource, units: int, ticks: int) -> Least:
+        """As the program's.
+
+        >>> LibraryEngine(Path("/absent.so")).least(b"", 3, 4)  # doctest: +ELLIPSIS
+        Traceback (most recent call last):
+        rtdvs.errors.NoEngine: /absent.so: cannot open shared object file: ...
+        """
+        found = None
+        if self.timeout is None and isinstance(machine, Machine):
+            found = by_numbers.least(library.opened(self.program), machine, units, ticks)
+        return super().least(machine, units, ticks) if found is None else found
 
 
 def _process_answer(program: Sequence[str], call: Call[object], timeout: float | None) -> Answer:
     """The answer of a program to the call, whose texts become files of a folder of its own."""
     with guarded() as guard:
         words = [_word(word, guard.folder / str(place)) for place, word in enumerate(call.words())]
-        return program_answer([*program, *words], guard, timeout)
+        return program_answer([*program, *words], guard, timeout, last_bytes=call.last_bytes)
 
 
 def _word(word: Word, path: Path) -> str:
@@ -261,7 +299,9 @@ class TryEngine(Engine):
             words = ["rt", "try", "--seconds", str(ceil(self.timeout or 3600)), "--cases", f"{guard.folder}/cases"]
             words += [word for name, path in data.items() for word in ("--data", f"{name}={path}")]
             found = program_answer([*words, "--"], guard, None, self.program)
-        yield from _tried(found, len(made))
+        for call, answer in zip(made, _tried(found, len(made)), strict=True):
+            first = 0 if call.last_bytes is None else max(len(answer.out) - call.last_bytes, 0)
+            yield replace(answer, out=answer.out[first:])
 
 
 def _write_cases(calls: Sequence[Call[object]], folder: Path) -> dict[str, Path]:

@@ -14,6 +14,7 @@ from pathlib import Path
 from typing import Any, TypeAlias
 
 from rtdvs._version import __version__
+from rtdvs.engine import by_numbers
 from rtdvs.engine.calls import Answer, Word, constrain_call
 from rtdvs.errors import Crashed, NoEngine
 from rtdvs.model import LONGEST_FILE, LONGEST_TRACE, Deadlines, Machine, Point, Task, TaskSet
@@ -61,14 +62,17 @@ build the library again (docs/LIBRARY.md), or name another one or the program by
     """
     try:
         library = ctypes.CDLL(str(path))
-        texts: list[Any] = 6 * [ctypes.c_char_p, ctypes.c_size_t]
-        library.rtdvs_call.argtypes = [*texts, ctypes.POINTER(Lengths)]
-        library.rtdvs_call.restype = ctypes.c_uint8
     except OSError as error:
         why = str(error).removeprefix(f"{path}: ")
         raise NoEngine(f"{path}: {why}: {WHAT_TO_DO}") from None
-    except AttributeError:
-        raise NoEngine(f"{path}: it has no rtdvs_call: {WHAT_TO_DO}") from None
+    texts: list[Any] = 6 * [ctypes.c_char_p, ctypes.c_size_t]
+    with_texts = dict.fromkeys(("rtdvs_call", "rtdvs_end"), [*texts, ctypes.POINTER(Lengths)])
+    for name, arguments in {**with_texts, **by_numbers.CALLS}.items():
+        try:
+            call = getattr(library, name)
+        except AttributeError:
+            raise NoEngine(f"{path}: it has no {name}: {WHAT_TO_DO}") from None
+        call.argtypes, call.restype = arguments, ctypes.c_uint8
     if not _has_version(path.resolve().name) or _answer(library, KNOWN) != KNOWN_ANSWER:
         raise NoEngine(f"{path}: it is of another version: {WHAT_TO_DO}")
     return library
@@ -80,8 +84,8 @@ def _has_version(name: str) -> bool:
     return numbers == __version__.split(".")[:len(numbers)]
 
 
-def answer(path: Path, words: Sequence[Word]) -> Answer:
-    """The program's answer to these words, by the library at an absolute path.
+def answer(path: Path, words: Sequence[Word], last_bytes: int | None = None) -> Answer:
+    """The program's answer to these words, or its last bytes, by the library at an absolute path.
 
     A file is named by a path, which is read here, or given as its content. Raises NoEngine, and ValueError for a word
     with a zero byte. The answer has status 9 if memory runs out in the library.
@@ -90,25 +94,28 @@ def answer(path: Path, words: Sequence[Word]) -> Answer:
     Traceback (most recent call last):
     rtdvs.errors.NoEngine: /absent.so: cannot open shared object file: ...
     """
-    return _answer(opened(path), words)
+    return _answer(opened(path), words, last_bytes)
 
 
-def _answer(library: ctypes.CDLL, words: Sequence[Word]) -> Answer:
+def _answer(library: ctypes.CDLL, words: Sequence[Word], last_bytes: int | None = None) -> Answer:
     files = [b"", b"", b""]
     texts = [b"".join(map(_ended, _named(words, files))), *files]
-    out, notes, lengths = _taken_room(), ctypes.create_string_buffer(NOTES_ROOM), Lengths()
+    call = library.rtdvs_call if last_bytes is None else library.rtdvs_end
+    out = _taken_room() if last_bytes is None else ctypes.create_string_buffer(last_bytes)
+    notes, lengths = ctypes.create_string_buffer(NOTES_ROOM), Lengths()
     for _ in range(2):
         buffers: list[bytes | Room] = [*texts, out, notes]
         sized = (part for buffer in buffers for part in (buffer, len(buffer)))
-        status = library.rtdvs_call(*sized, ctypes.byref(lengths))
+        status = call(*sized, ctypes.byref(lengths))
         if status == NO_MEMORY:
             return Answer(status, b"", b"no memory\n")
-        if lengths.out <= len(out) and lengths.notes <= len(notes):
-            found = Answer(status, ctypes.string_at(out, lengths.out), ctypes.string_at(notes, lengths.notes))
-            if len(out) <= MOST_ROOM:
+        length = lengths.out if last_bytes is None else min(lengths.out, last_bytes)
+        if length <= len(out) and lengths.notes <= len(notes):
+            found = Answer(status, ctypes.string_at(out, length), ctypes.string_at(notes, lengths.notes))
+            if last_bytes is None and len(out) <= MOST_ROOM:
                 ROOMS.append(out)
             return found
-        out, notes = _with_room(out, lengths.out), _with_room(notes, lengths.notes)
+        out, notes = _with_room(out, length), _with_room(notes, lengths.notes)
     raise Crashed("a second call of the library has a longer answer than the first")
 
 

@@ -7,7 +7,6 @@ that the program started. A guard of a call that ended is used again.
 
 import atexit
 import os
-import secrets
 import signal
 from collections.abc import Iterator, Sequence
 from contextlib import contextmanager, suppress
@@ -15,6 +14,7 @@ from contextvars import ContextVar
 from dataclasses import dataclass, field
 from io import FileIO
 from pathlib import Path
+from selectors import EVENT_READ, DefaultSelector
 from shutil import rmtree
 from subprocess import DEVNULL, PIPE, Popen, TimeoutExpired
 from tempfile import gettempdir
@@ -35,6 +35,9 @@ if [ -e "$folder" ]; then
 fi
 kill -KILL 0"""
 """The last line also ends what ignores the first signal, or was only just put into the group."""
+
+PIECE = 2**16
+"""The bytes of a read from a program."""
 
 
 @dataclass(eq=False, slots=True)
@@ -167,8 +170,9 @@ def wait_for_calls(seconds: float) -> None:
         sleep(0.005)
 
 
-def program_answer(words: Sequence[str], guard: Guard, timeout: float | None, folder: Path | None = None) -> Answer:
-    """What a program leaves that runs in the guard's group, and in that folder.
+def program_answer(words: Sequence[str], guard: Guard, timeout: float | None, folder: Path | None = None,
+                   last_bytes: int | None = None) -> Answer:
+    """What a program leaves that runs in the guard's group, and in that folder; of its output the last bytes or all.
 
     Raises NoEngine for what is no program, SystemFault, and TimedOut after that many seconds.
 
@@ -186,14 +190,42 @@ def program_answer(words: Sequence[str], guard: Guard, timeout: float | None, fo
         try:
             if guard.line.closed:  # then the guard may have ended its group before this one was in it
                 process.kill()
-            out, notes = process.communicate(timeout=timeout)
-        except TimeoutExpired as late:
-            raise TimedOut(late.timeout) from None
+            if last_bytes is None:
+                out, notes = process.communicate(timeout=timeout)
+            else:
+                out, notes = _read_ends(process, timeout, last_bytes)
+        except TimeoutExpired:
+            raise TimedOut(timeout or 0) from None
         finally:
             if process.returncode is None:
                 guard.line.close()
                 process.kill()
     return Answer(process.wait(), out, notes)
+
+
+def _read_ends(process: Popen[bytes], timeout: float | None, last_bytes: int) -> tuple[bytes, bytes]:
+    """The last bytes of standard output, which is read in pieces, and standard error; then the process has ended.
+
+    Raises TimeoutExpired after that many seconds.
+    """
+    end = None if timeout is None else monotonic() + timeout
+    kept = {process.stdout: bytearray(), process.stderr: bytearray()}
+    with DefaultSelector() as waiting:
+        for stream in kept:
+            waiting.register(stream, EVENT_READ, stream)  # type: ignore[arg-type]
+        while waiting.get_map():
+            left = None if end is None else end - monotonic()
+            if left is not None and left <= 0:
+                raise TimeoutExpired(process.args, left)
+            for key, _ in waiting.select(left):
+                piece = os.read(key.fd, PIECE)
+                kept[key.data] += piece
+                if key.data is process.stdout:
+                    del kept[key.data][:max(len(kept[key.data]) - last_bytes, 0)]
+                if not piece:
+                    waiting.unregister(key.fileobj)
+    process.wait(None if end is None else max(end - monotonic(), 0))
+    return bytes(kept[process.stdout]), bytes(kept[process.stderr])
 
 
 @contextmanager
@@ -219,7 +251,7 @@ def _taken() -> Guard:
 
 
 def _new_name() -> Path:
-    return Path(gettempdir(), f"rtdvs-{secrets.token_hex(8)}")
+    return Path(gettempdir(), f"rtdvs-{os.urandom(8).hex()}")
 
 
 def _started() -> Guard:

@@ -4,7 +4,8 @@ docs/MESSAGES.md is made of this table by tools/messages.py, and second_line fil
 """
 
 import re
-from dataclasses import dataclass, field
+from dataclasses import dataclass
+from functools import cache
 
 from rtdvs.model import LONGEST_HYPERPERIOD, MOST_CHARGE, MOST_IDLE, MOST_JOBS, MOST_MILLIVOLTS, MOST_SPEED, MOST_WORK
 
@@ -28,21 +29,19 @@ class Row:
     second: tuple[str, ...]
     more: str = ""
     otherwise: str = ""
-    patterns: tuple[re.Pattern[str], ...] = field(init=False, repr=False, compare=False)
-
-    def __post_init__(self) -> None:
-        object.__setattr__(self, "patterns", tuple(re.compile(_pattern(line), re.DOTALL) for line in self.lines))
-
     def match(self, line: str) -> dict[str, str] | None:
         """The parts of a line by their names; None if it isn't a line of this row."""
-        found = (pattern.fullmatch(line) for pattern in self.patterns)
+        found = (_pattern(each).fullmatch(line) for each in self.lines)
         return next((match.groupdict() for match in found if match), None)
 
 
-def _pattern(line: str) -> str:
+@cache
+def _pattern(line: str) -> re.Pattern[str]:
+    """The pattern of a line with its parts; compiled for the first refusal, since most commands have none."""
     parts = re.split(r"<(\w+)>", line)
     named = (f"(?P<{name}>{PARTS.get(name, NUMBER)})" for name in parts[1::2])
-    return "".join(re.escape(text) + part for text, part in zip(parts[::2], [*named, ""], strict=True))
+    whole = "".join(re.escape(text) + part for text, part in zip(parts[::2], [*named, ""], strict=True))
+    return re.compile(whole, re.DOTALL)
 
 
 def _of(kinds: str, reason: str) -> tuple[str, ...]:

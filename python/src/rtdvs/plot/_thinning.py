@@ -1,9 +1,9 @@
 """What the picture of a trace has: bars and completions, and how they are thinned in a long run."""
 
-from collections.abc import Iterable, Iterator
+from collections.abc import Iterable, Iterator, Mapping
 from dataclasses import dataclass
 
-from rtdvs.trace import Idle, Job, Run, Trace
+from rtdvs.trace import Idle, Job, Position, Run, Trace
 
 
 @dataclass(frozen=True, slots=True)
@@ -35,15 +35,15 @@ class Completion:
     highest: int
 
 
-def by_task(trace: Trace) -> dict[str, list[Job]]:
+def by_task(names: Iterable[str], jobs: Iterable[Job]) -> dict[str, list[Job]]:
     """The jobs of each task.
 
     >>> from rtdvs.trace import SAMPLE
-    >>> [job.release for job in by_task(Trace.parse(SAMPLE))["t"]]
+    >>> [job.release for job in by_task(["t", "u"], Trace.parse(SAMPLE).jobs())["t"]]
     [0]
     """
-    found: dict[str, list[Job]] = {name: [] for name in trace.names}
-    for job in trace.jobs():
+    found: dict[str, list[Job]] = {name: [] for name in names}
+    for job in jobs:
         found[job.task].append(job)
     return found
 
@@ -62,17 +62,23 @@ def bars(trace: Trace) -> dict[str, list[Bar]]:
             continue
         job = (note.task, note.job, speed) if isinstance(note, Run) else ("", 0, speed)
         row = found.setdefault(job[0], [])
-        begin = row.pop().begin if last == (job, note.begin) else float(note.begin.time(speed))
-        row.append(Bar(begin, float(note.end.time(speed)), speed))
+        begin = row.pop().begin if last == (job, note.begin) else _tick(note.begin, speed)
+        row.append(Bar(begin, _tick(note.end, speed), speed))
         last = job, note.end
     return found
 
 
-def completions(trace: Trace) -> dict[str, list[Completion]]:
+def _tick(position: Position, speed: int) -> float:
+    """The float next to `position.time(speed)`."""
+    return (position.tick * speed + position.offset) / speed
+
+
+def completions(trace: Trace, of_tasks: Mapping[str, Iterable[Job]]) -> dict[str, list[Completion]]:
     """The completions of each task's jobs.
 
     >>> from rtdvs.trace import SAMPLE
-    >>> completions(Trace.parse(SAMPLE))
+    >>> trace = Trace.parse(SAMPLE)
+    >>> completions(trace, {"t": trace.jobs()})
     {'t': [Completion(at=1.5, release=0, due=2, used=4, speed=2, highest=3)]}
     """
     speeds: dict[tuple[str, int], list[int]] = {}
@@ -82,7 +88,7 @@ def completions(trace: Trace) -> dict[str, list[Completion]]:
     return {task: [Completion(float(job.completion), job.release, job.deadline, job.units, ran[-1], max(ran))
                    for job in jobs if job.completion is not None
                    for ran in [speeds.get((task, job.number), [0])]]
-            for task, jobs in by_task(trace).items()}
+            for task, jobs in of_tasks.items()}
 
 
 # Thinning

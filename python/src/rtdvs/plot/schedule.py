@@ -5,10 +5,11 @@ background, and colours that can be read on white and on dark.
 """
 
 import math
-from collections.abc import Iterable, Sequence
+from collections.abc import Iterable, Iterator, Sequence
 from dataclasses import dataclass, field, replace
 from fractions import Fraction
 from functools import cached_property, partial
+from itertools import chain
 from pathlib import Path
 from typing import TYPE_CHECKING, Any
 
@@ -20,7 +21,7 @@ from rtdvs.plot._style import (
     words,
 )
 from rtdvs.plot._thinning import Bar, Completion, bars, by_task, completions, join_narrow, steps, thin
-from rtdvs.trace import Decision, Miss, Trace
+from rtdvs.trace import Decision, Job, Miss, Trace, late_jobs
 
 if TYPE_CHECKING:
     from matplotlib.axes import Axes
@@ -39,8 +40,7 @@ LEAST = 0.6         # the narrowest bar
 NARROW = 3          # narrower bars are drawn over the arrows, others below them
 GAP = 0.5           # narrow bars with smaller gaps are drawn as one
 NEAR = 2            # marks of one kind that are nearer are drawn once
-NEAR_MARKS = f"near marks (less than {NEAR} pixels) once"
-JOINED = f"runs below {NARROW} pixels joined, as high as the highest"
+MOST_MARKS = 12_000  # of all rows; with more, marks that are farther from each other are drawn once too
 LETTER = 6.4        # room for a letter of small text
 NAME_LETTER = 7.8   # room for a letter of a name
 DEMAND = "#c04aa8"
@@ -124,10 +124,52 @@ class _Frame:
     def thinned(self, places: Iterable[float]) -> list[float]:
         """The places in view, without those that are too near; the legend says if there are any."""
         shown = list(filter(self.is_shown, places))
-        kept = thin(shown, NEAR / self.scale)
+        kept = thin(shown, self.near / self.scale)
         if len(kept) < len(shown):
-            self.left_out.add(NEAR_MARKS)
+            self.left_out.add(self.near_marks)
         return kept
+
+    @cached_property
+    def near(self) -> int:
+        """The pixels between two marks of a kind in a row, at least NEAR, for at most MOST_MARKS in the picture."""
+        rows = [list(filter(self.is_shown, places)) for places in self._places()]
+        near = NEAR
+        while sum(map(len, rows)) > MOST_MARKS and sum(len(thin(row, near / self.scale)) for row in rows) > MOST_MARKS:
+            near += NEAR
+        return near
+
+    def _places(self) -> Iterator[Iterable[float]]:
+        """The ticks of the marks of each kind in each row."""
+        for row in self.jobs.values():
+            yield (job.release for job in row)
+            yield (job.deadline for job in row if job.deadline is not None)
+        for complete in self.complete.values():
+            yield (done.at for done in complete)
+
+    @property
+    def coarse(self) -> int:
+        """How many times farther than usual things are from each other that are drawn apart."""
+        return self.near // NEAR
+
+    @property
+    def near_marks(self) -> str:
+        return f"near marks (less than {self.near} pixels) once"
+
+    @property
+    def joined(self) -> str:
+        return f"runs below {NARROW * self.coarse} pixels joined, as high as the highest"
+
+    @cached_property
+    def jobs(self) -> dict[str, list[Job]]:
+        return by_task(self.names, self.trace.jobs())
+
+    @cached_property
+    def complete(self) -> dict[str, list[Completion]]:
+        return completions(self.trace, self.jobs)
+
+    @cached_property
+    def decisions(self) -> tuple[Decision, ...]:
+        return self.trace.decisions
 
     @cached_property
     def names(self) -> tuple[str, ...]:
@@ -139,7 +181,7 @@ class _Frame:
 
     @cached_property
     def misses(self) -> tuple[Miss, ...]:
-        return self.trace.misses()
+        return late_jobs(self.trace.numbered(), chain.from_iterable(self.jobs.values()), self.trace.ticks)
 
     @cached_property
     def width(self) -> float:
@@ -159,7 +201,7 @@ class _Frame:
     @cached_property
     def speed_row(self) -> float:
         """The height of the speed row, with the demands' lines."""
-        peak = max(decision.num / decision.den for decision in self.trace.decisions)
+        peak = max(decision.num / decision.den for decision in self.decisions)
         return self.speed_height(max(self.top, peak))
 
     def floor(self, row: int) -> float:
@@ -289,9 +331,8 @@ def _draw_head(frame: _Frame) -> None:
 
 
 def _title_lines(trace: Trace, view: View, width: float) -> list[str]:
-    view = settled(trace, view)
-    assert view.last is not None
-    return _wrapped(title_parts(trace, labels_of(view.units).span(view.first, view.last, trace.ticks)), width / 9)
+    last = trace.ticks if view.last is None else view.last
+    return _wrapped(title_parts(trace, labels_of(view.units).span(view.first, last, trace.ticks)), width / 9)
 
 
 def _head_lines(trace: Trace, view: View, width: float) -> list[str]:
@@ -323,7 +364,7 @@ def _beside(frame: _Frame, y: float, text: str, margin: float = 8, **style: Any)
 def _draw_rows(frame: _Frame) -> None:
     """The rows of the tasks, but for their bars."""
     trace, charge, work = frame.trace, frame.view.charge, frame.labels.work
-    jobs, complete = by_task(trace), completions(trace)
+    jobs, complete = frame.jobs, frame.complete
     worst = {task.name: f"/{work(task.worst + 2 * charge)}" for task in trace.tasks}
     for row, name in enumerate(frame.names):
         floor, facts = frame.floor(row), _facts(trace, name, frame.view)
@@ -364,13 +405,13 @@ def _draw_bars(frame: _Frame, shown: Iterable[Bar], floor: float, unit: float, n
 
     cut = [Bar(max(bar.begin, frame.first), min(bar.end, frame.last), bar.speed) for bar in shown]
     corners: dict[bool, list[list[tuple[float, float]]]] = {False: [], True: []}
-    for bar in join_narrow(cut, NARROW / frame.scale, GAP / frame.scale):
+    for bar in join_narrow(cut, NARROW * frame.coarse / frame.scale, GAP * frame.coarse / frame.scale):
         is_narrow = (bar.end - bar.begin) * frame.scale < NARROW
         begin, end = bar.begin, max(bar.end, bar.begin + LEAST / frame.scale)
         high = floor + unit * bar.speed
         corners[is_narrow].append([(begin, floor), (begin, high), (end, high), (end, floor)])
     if sum(map(len, corners.values())) < len(cut):
-        frame.left_out.add(JOINED)
+        frame.left_out.add(frame.joined)
     for is_narrow, polygons in corners.items():
         if polygons:
             made = PolyCollection(polygons, linewidth=0, zorder=2.4 if is_narrow else 2,
@@ -399,7 +440,7 @@ def _draw_scale(frame: _Frame) -> None:
     line = partial(frame.axes.hlines, xmin=frame.first, xmax=frame.last, color=INK)
     line(0, linewidth=POINT)
     heights: list[float] = []
-    for speed in dict.fromkeys([0, frame.top, *(decision.speed for decision in frame.trace.decisions)]):
+    for speed in dict.fromkeys([0, frame.top, *(decision.speed for decision in frame.decisions)]):
         height = frame.speed_height(speed)
         if all(abs(height - other) >= 11 for other in heights):
             heights.append(height)
@@ -427,14 +468,13 @@ def _draw_decisions(frame: _Frame) -> None:
     places: dict[str, list[tuple[float, float]]] = {"decision": [], "over": []}
     latest: dict[int, float] = {}
     for begin, end, decision in frame.spans:
-        value = Fraction(decision.num, decision.den)
-        y = frame.speed_height(float(value))
+        y = frame.speed_height(decision.num / decision.den)
         if begin != decision.tick:
             continue
-        if (begin - latest.get(int(y / NEAR), -math.inf)) * frame.scale < NEAR:
-            frame.left_out.add(NEAR_MARKS)
+        if (begin - latest.get(int(y / NEAR), -math.inf)) * frame.scale < frame.near:
+            frame.left_out.add(frame.near_marks)
             continue
-        latest[int(y / NEAR)] = begin
+        latest[int(y / NEAR)], value = begin, Fraction(decision.num, decision.den)
         places["over" if value > Fraction(CAP) * frame.top else "decision"].append((begin, y))
         text = frame.labels.speed(value)
         if (end - begin) * frame.scale >= LETTER * len(text) + 6:
@@ -457,9 +497,10 @@ def _draw_legend(frame: _Frame, has_idle: bool) -> None:
         handles.append(_sign("missed deadline", MISS, "X", fillstyle="full", markersize=9 * POINT, markeredgewidth=0))
     if has_idle:
         handles.append(patch("idle", INK, 0.3))
-    if any(each.num > Fraction(CAP) * frame.top * each.den for _, _, each in frame.spans):
+    above = Fraction(CAP) * frame.top
+    if any(each.num * above.denominator > above.numerator * each.den for _, _, each in frame.spans):
         handles.append(_sign("demand above the picture", DEMAND, "^"))
-    handles += [_sign(said, "none", "") for said in (NEAR_MARKS, JOINED) if said in frame.left_out]
+    handles += [_sign(said, "none", "") for said in (frame.near_marks, frame.joined) if said in frame.left_out]
     longest = max(len(handle.get_label()) for handle in handles)
     high = frame.floor(0) + ROW + TICKS
     legend(frame.axes, handles, max(1, int(frame.width / (longest * 5.5 + 38))), loc="upper left",

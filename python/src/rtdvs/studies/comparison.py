@@ -1,17 +1,21 @@
 """What each scheduler and governor does to the energy and to the tasks of one set."""
 
-from collections.abc import Iterable, Iterator, Mapping, Sequence
+from collections.abc import Callable, Iterable, Iterator, Mapping, Sequence
 from concurrent.futures import Executor
 from dataclasses import dataclass, field, replace
 from fractions import Fraction
+from typing import TypeVar
 
 from rtdvs._display import Cell, Shown
 from rtdvs._numbers import aligned, decimal
-from rtdvs.engine import Answer, Engine, Least, least_call, parse_least, run_call
+from rtdvs.engine import (
+    Answer, Call, Engine, Least, RunTotals, least_call, parse_least, parse_totals, run_call, totals_call,
+)
 from rtdvs.errors import Denied, TraceFault
 from rtdvs.model import Demands, Machine, TaskSet
 from rtdvs.trace import Ran, Run, Trace, task_statistics
 
+T = TypeVar("T")
 PAIRS = (("edf", "none"), ("edf", "static"), ("edf", "cc"), ("edf", "la"),
          ("rm", "none"), ("rm", "static"), ("rm", "cc"))
 
@@ -125,12 +129,30 @@ def runs(engine: Engine, case: Case, pairs: Iterable[tuple[str, str]],
 
     >>> from rtdvs import Point, Task, find_engine
     >>> case = Case(TaskSet((Task("a", 4, 4),)), Machine((Point(1, 1000),)), 8)
-    >>> [energy_of(str(text)) for text in runs(find_engine(), case, PAIRS[:2])]
+    >>> [parse_totals(str(text)).energy for text in runs(find_engine(), case, PAIRS[:2])]
     [8000000000, 8000000000]
     """
-    calls = (run_call(case.tasks, case.machine, scheduler, governor, case.ticks, case.demands)
-             for scheduler, governor in pairs)
-    return map(text_or_denial, engine.answers(calls, executor))
+    return map(text_or_denial, engine.answers(_calls(run_call, case, pairs), executor))
+
+
+def totals(engine: Engine, case: Case, pairs: Iterable[tuple[str, str]],
+           executor: Executor | None = None) -> Iterator[RunTotals | Denied]:
+    """The totals of each pair's run, of which no trace is kept, or its denial; raises the program's other refusals.
+
+    >>> from rtdvs import Point, Task, find_engine
+    >>> case = Case(TaskSet((Task("a", 4, 4),)), Machine((Point(1, 1000),)), 8)
+    >>> [*totals(find_engine(), case, PAIRS[:1])]
+    [RunTotals(ticks=8, run_energy=8000000000, idle_energy=0)]
+    """
+    return map(totals_or_denial, engine.answers(_calls(totals_call, case, pairs), executor))
+
+
+def _calls(of: Callable[[bytes, bytes, str, str, int, bytes | None], Call[T]], case: Case,
+           pairs: Iterable[tuple[str, str]]) -> Iterator[Call[T]]:
+    """A call for each pair; all have the same texts, which are made once."""
+    tasks, machine = case.tasks.text().encode(), case.machine.text().encode()
+    demands = None if case.demands is None else case.demands.text().encode()
+    return (of(tasks, machine, scheduler, governor, case.ticks, demands) for scheduler, governor in pairs)
 
 
 def text_or_denial(answer: Answer) -> str | Denied:
@@ -145,14 +167,14 @@ def text_or_denial(answer: Answer) -> str | Denied:
         return denied
 
 
-def energy_of(trace: str) -> int:
-    r"""Running and idle energy together, by the last line of a whole trace's text.
+def totals_or_denial(answer: Answer) -> RunTotals | Denied:
+    """The totals of a run, or the Denied that it is; raises any other refusal.
 
-    >>> energy_of("trace 1\n..\nend 16 364000000000 1000\n")
-    364000001000
+    >>> totals_or_denial(Answer(0, b"end 8 4000 0\\n", b""))
+    RunTotals(ticks=8, run_energy=4000, idle_energy=0)
     """
-    _, _, run_energy, idle_energy = trace.rstrip("\n").rpartition("\n")[2].split(" ")
-    return int(run_energy) + int(idle_energy)
+    text = text_or_denial(answer)
+    return text if isinstance(text, Denied) else parse_totals(text)
 
 
 def units_of(trace: Trace) -> int:
@@ -231,8 +253,8 @@ def finer_energies(engine: Engine, case: Case, times: int,
     >>> finer_energies(find_engine(), case, 10)[0]
     Fraction(8000000000, 1)
     """
-    return tuple(None if isinstance(text, Denied) else Fraction(energy_of(text), times)
-                 for text in runs(engine, case.finer(times), PAIRS, executor))
+    return tuple(None if isinstance(found, Denied) else Fraction(found.energy, times)
+                 for found in totals(engine, case.finer(times), PAIRS, executor))
 
 
 def table(rows: Sequence[Row]) -> str:

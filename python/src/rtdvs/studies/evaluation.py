@@ -11,10 +11,10 @@ from zlib import crc32
 
 from rtdvs._files import write_whole
 from rtdvs._numbers import decimal
-from rtdvs.engine import Engine
-from rtdvs.errors import BadValue, Denied
+from rtdvs.engine import Engine, RunTotals, parse_totals
+from rtdvs.errors import BadValue, Crashed, Denied
 from rtdvs.model import Demands, Machine, Point, TaskSet
-from rtdvs.studies.comparison import PAIRS, Case, energy_of, runs
+from rtdvs.studies.comparison import PAIRS, Case, runs, totals
 from rtdvs.studies.own import Own, scaled_to
 from rtdvs.studies.published import (
     PUBLISHED_COUNTS, PUBLISHED_SEED, PUBLISHED_TOP, SetName, published_sets, uunifast_sets,
@@ -246,8 +246,8 @@ def _all_energies(engine: Engine, sweep: Sweep, name: SetName, case: Case,
                   kind: str) -> Iterator[tuple[str, Fraction | None]]:
     """The energies of the pairs, and those of the user's own curves, unless their scheduler denies the set."""
     denied = set[str]()
-    texts = runs(engine, case, PAIRS)
-    for curve, energy in _energies(engine, case, _recounted(case.machine, texts) if name.number == 1 else texts):
+    found = _recounted(case.machine, runs(engine, case, PAIRS)) if name.number == 1 else totals(engine, case, PAIRS)
+    for curve, energy in _energies(engine, case, found):
         if energy is None:
             denied.add(curve.split(" ")[0])
         yield curve, energy
@@ -257,36 +257,42 @@ def _all_energies(engine: Engine, sweep: Sweep, name: SetName, case: Case,
         yield from sweep.own.energies(case, kind, name)
 
 
-def _recounted(machine: Machine, texts: Iterable[str | Denied]) -> Iterator[str | Denied]:
-    """The same texts, each recounted before it is handed on."""
+def _recounted(machine: Machine, texts: Iterable[str | Denied]) -> Iterator[RunTotals | Denied]:
+    """The totals of whole traces, each of which is recounted."""
     for text in texts:
-        if isinstance(text, str):
-            recount(machine, text)
-        yield text
-
-
-def _energies(engine: Engine, case: Case, texts: Iterable[str | Denied]) -> Iterator[tuple[str, Fraction | None]]:
-    """The energy of each curve: the seven pairs, by their texts, and the bound for their units, which all share."""
-    for (scheduler, governor), text in zip(PAIRS, texts):
         if isinstance(text, Denied):
+            yield text
+        else:
+            recount(machine, text)
+            yield parse_totals(text)
+
+
+def _energies(engine: Engine, case: Case,
+              found: Iterable[RunTotals | Denied]) -> Iterator[tuple[str, Fraction | None]]:
+    """The energy of each curve: the seven pairs, by their totals, and the bound for their units, which all share."""
+    for (scheduler, governor), each in zip(PAIRS, found):
+        if isinstance(each, Denied):
             if scheduler == "edf" and not case.machine.charge:
-                raise text
+                raise each
             yield from ((("bound", None),) if (scheduler, governor) == PAIRS[0] else ())
             yield f"{scheduler} {governor}", None
             continue
         if (scheduler, governor) == PAIRS[0]:
-            least = engine.least(case.machine, units_of_text(text), case.ticks)
+            least = engine.least(case.machine, units_at_top(case.machine, each), case.ticks)
             yield "bound", Fraction(least.energy, least.rounds)
-        yield f"{scheduler} {governor}", Fraction(energy_of(text))
+        yield f"{scheduler} {governor}", Fraction(each.energy)
 
 
-def units_of_text(trace: str) -> int:
-    r"""The work units of all runs of a whole trace.
+def units_at_top(machine: Machine, found: RunTotals) -> int:
+    """The work units of a run without a governor, which does them all at the highest speed, at one price.
 
-    >>> units_of_text("run 0:0 2:2 t1 1 8 128000000000\nrun 2:2 3:0 t2 1 1 9\n")
-    9
+    >>> units_at_top(Machine((Point(2, 1000), Point(4, 3000))), RunTotals(8, 9_000_000_000 * 5, 0))
+    5
     """
-    return sum(int(line.split(" ", 6)[5]) for line in trace.split("\n") if line.startswith("run "))
+    units, rest = divmod(found.run_energy, 1000 * machine.points[-1].millivolts**2)
+    if rest:
+        raise Crashed(f"a run energy of {found.run_energy}, not all at the highest speed")
+    return units
 
 
 def evaluate(engine: Engine, folder: Path, sweep: Sweep, executor: Executor) -> Generator[SetName, None, None]:

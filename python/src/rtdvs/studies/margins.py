@@ -12,7 +12,7 @@ from operator import mul
 from typing import Self
 
 from rtdvs._numbers import aligned, decimal
-from rtdvs.engine import Engine, admit_call, response_call
+from rtdvs.engine import Engine
 from rtdvs.errors import Denied
 from rtdvs.model import MOST_SPEED, Machine, Point, TaskSet
 
@@ -59,8 +59,8 @@ class Question:
         """None if the set is denied, otherwise each task's response if the test finds it; raises as `admits`."""
         try:
             if self.test == "response":
-                return self.engine.value(response_call(self.tasks, self.machine))
-            self.engine.answer(admit_call(self.tasks, self.machine, self.test)).text()
+                return self.engine.respond(self.tasks, self.machine)
+            self.engine.admit(self.tasks, self.machine, self.test)
         except Denied as denied:
             if denied.test == "offset":
                 raise

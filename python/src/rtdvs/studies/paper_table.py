@@ -9,9 +9,9 @@ from concurrent.futures import Executor
 from fractions import Fraction
 
 from rtdvs._numbers import decimal
-from rtdvs.engine import Engine, run_call
+from rtdvs.engine import Engine, parse_totals, totals_call
 from rtdvs.model import Demands, Machine, Point, Task, TaskSet
-from rtdvs.studies.comparison import Case, energy_of
+from rtdvs.studies.comparison import Case
 
 PAPER_EXAMPLE = Case(
     TaskSet((Task("t1", 8, 12), Task("t2", 10, 12), Task("t3", 14, 4))),
@@ -38,8 +38,8 @@ def paper_shares(engine: Engine, times: int, executor: Executor | None = None) -
     (Fraction(13, 25), Fraction(5, 7), Fraction(11, 25))
     """
     case = PAPER_EXAMPLE.finer(times)
-    calls = (run_call(case.tasks, case.machine, *pair, case.ticks, case.demands) for pair in PAPER_PAIRS)
-    energies = [energy_of(answer.text()) for answer in engine.answers(calls, executor)]
+    calls = (totals_call(case.tasks, case.machine, *pair, case.ticks, case.demands) for pair in PAPER_PAIRS)
+    energies = [parse_totals(answer.text()).energy for answer in engine.answers(calls, executor)]
     return tuple(Fraction(energy, energies[0]) for energy in energies)
 
 

@@ -193,7 +193,8 @@ def taken(tasks: TaskSet, share: Fraction, ticks: int) -> Demands:
     >>> taken(TaskSet((Task("a", 5, 7),)), Fraction(1, 2), 10).units
     {('a', 1): 3, ('a', 2): 3}
     """
-    return Demands({(task.name, job): floor(task.worst * share) for task, job in jobs_of(tasks, ticks)})
+    units = {task.name: floor(task.worst * share) for task in tasks}
+    return Demands({(task.name, job): units[task.name] for task, job in jobs_of(tasks, ticks)})
 
 
 def taken_uniform(tasks: TaskSet, seed: int, ticks: int) -> Demands:

@@ -85,7 +85,7 @@ def late_jobs(notes: Iterable[Placed], jobs: Iterable[Job], ticks: int) -> tuple
     """
     due = {(job.task, job.number): job.deadline for job in jobs if job.deadline is not None and is_late(job, ticks)}
     used = dict.fromkeys(due, 0)
-    for _, note, _ in notes:
+    for _, note, _ in notes if due else ():
         if isinstance(note, Run) and (note.task, note.job) in due and note.end <= (due[note.task, note.job], 0):
             used[note.task, note.job] += note.units
     found = (Miss(task, job, tick, used[task, job]) for (task, job), tick in due.items())

@@ -54,7 +54,7 @@ pub struct Responses {
     pub refusal: Refusal,
 }
 
-/// The work whose least energy is asked for: so many work units in so many ticks.
+/// The work whose least energy is asked for: a number of work units, and of ticks to do them in.
 #[derive(Clone, Copy, Debug, PartialEq, Eq)]
 #[repr(C)]
 pub struct Work {

@@ -1,5 +1,0 @@
-use Rattle.promise_tests.proofs.Said.{says}
-use Rattle.promise_tests.proofs.files.says.Goals as goal
-
-pub returns : goal.returns
-returns g c = λ files may. says _ files _ _ c.rtdvs.result (c.rtdvs.ensures.promised files may)
