@@ -121,7 +121,7 @@ runs() {
     echo "exit $3" > "$away/gate/tools/setup.sh"
     prints "$1" "$2" led_away env PATH="$work/stand-in:$PATH" RT="${4:-0}" sh gate/.ci/run
 }
-planted='plants: TOOLS=all, crates/rtdvs/out/rtdvs 3 1'
+planted='plants: TOOLS=all, crates/rtdvs/out/rtdvs 3'
 holds 'the gate with all tools' runs 0 "rt ci in gate
 read: rt ci in gate
 check: TOOLS=all, gate
@@ -129,7 +129,7 @@ $planted" 0
 holds 'the gate with some tools' runs 0 "rt ci in gate
 read: rt ci in gate
 check: TOOLS=some, gate
-plants: TOOLS=some, crates/rtdvs/out/rtdvs 3 1" 1
+plants: TOOLS=some, crates/rtdvs/out/rtdvs 3" 1
 holds 'the gate after a failed proof' runs 3 'rt ci in gate' 0 3
 READ=1
 export READ
