@@ -68,7 +68,7 @@ enum rtdvs_status {
     RTDVS_OVER_WORST = 6,   /* a job's demand is above its task's worst case */
     RTDVS_DIFFERS = 7,      /* the trace is not that of its run */
     RTDVS_NO_ROOM = 8,      /* the answer is longer than `out`, which has its first part */
-    RTDVS_NO_MEMORY = 9,    /* memory ran out: the buffers are as before, and both lengths are 0 */
+    RTDVS_NO_MEMORY = 9,    /* memory ran out, or a text is above its bound: buffers as before, both lengths 0 */
     RTDVS_NO_WORDS = 10     /* a word is not UTF-8 */
 };
 

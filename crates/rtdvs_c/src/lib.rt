@@ -7,7 +7,8 @@
 //! Why there is no premise about the system: of the system the call only asks for memory. Its files are the caller's
 //! bytes, so no load fails. Its texts grow in memory, so a put fails only if memory runs out; the exit status is then
 //! 9, and nothing else is said. So what the top call promises unless a load, a put or memory failed, this call promises
-//! of each answer. Nothing is opened, read, written or printed.
+//! of each answer. A text above its bound, the longest trace or three lines of notes, would end the call with 9 too; no
+//! clause says that there is none. Nothing is opened, read, written or printed.
 #![tactic(auto)]
 
 ghost use Rattle.std.specs.Prelude.{◌≡◌, ◌≢◌, ◌≤◌, ◌*◌, length, nat_le, if◌then◌else◌};
@@ -40,7 +41,7 @@ use std::alloc::{AllocError, Global};
 /// The exit status if the answer is longer than the room for it.
 const NO_ROOM: u8 = 8;
 
-/// The exit status if memory ran out.
+/// The exit status if memory ran out, or if a text were above its bound.
 const NO_MEMORY: u8 = 9;
 
 /// The exit status if a word is not UTF-8.

@@ -98,8 +98,8 @@ fn reply_to_texts(
     reply_with(alloc, words, files, most, &mut probes)
 }
 
-/// The reply to the words that the bytes are, with the last `most` bytes of the answer. It fails only if memory runs
-/// out.
+/// The reply to the words that the bytes are, with the last `most` bytes of the answer. It fails if memory runs out, or
+/// if a text is above its bound.
 pub(crate) fn reply_to(
     alloc: Global,
     words: &[u8],
