@@ -1,4 +1,3 @@
-pub mod AllottedUnits
 pub mod Lefts
 pub mod Backlog
 pub mod Deadlines

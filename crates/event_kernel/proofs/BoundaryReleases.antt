@@ -19,7 +19,7 @@ use Rattle.sched_model.specs.Ticks.{Tick}
 use Rattle.sched_model.specs.Notes.{release_notes}
 use Rattle.sched_model.specs.States.{no_row, row_at, prior_row, prior_base_at, prior_base, released_row, prior_state, after_mark, after_release, after_finish, CanRelease, StateView, row_of, state_of}
 use Rattle.sched_model.proofs.Schedules.{length-list_below}
-use Rattle.sched_model.proofs.Tables.{get-table, table-same, set-table}
+use Rattle.grid_fraction.proofs.Tables.{get-table, table-same, set-table}
 use Rattle.sched_model.proofs.JobLaws.{latest-small, lt-due}
 use Rattle.sched_model.proofs.States.{next_job, prior-due, due_released, row-opened, row-kept, state-marked, state-unmarked}
 use Rattle.agenda.specs.Agenda.{NonePast, IsFirstDue, next_job_row, with_next_job}

@@ -10,7 +10,7 @@ use Rattle.sched_model.specs.Ticks.{Tick, at, exec, wleft}
 use Rattle.sched_model.proofs.JobLaws.{lt-due, due-within, last_release-le, latest_since-le, latest-marked}
 use Rattle.sched_model.proofs.Limits.{every_period}
 use Rattle.sched_model.specs.States.{no_row, row_at, row_wleft, row_of, state_of}
-use Rattle.sched_model.proofs.Tables.{get-table}
+use Rattle.grid_fraction.proofs.Tables.{get-table}
 use Rattle.sched_model.proofs.Schedules.{exec-drop}
 use Rattle.governor.specs.Steps.{IsAtDecision, release_of}
 

@@ -6,7 +6,7 @@ use Rattle.sched_model.specs.declared.state.Row.{Row}
 use Rattle.sched_model.specs.Plan.{Plan, count, offset, worst}
 use Rattle.sched_model.specs.Jobs.{JobDemands}
 use Rattle.sched_model.specs.States.{StateView, no_row, row_at, row_wleft, opening, opening_row}
-use Rattle.sched_model.proofs.Tables.{length-list_below, get-table, table-same, set-table, map-table}
+use Rattle.grid_fraction.proofs.Tables.{length-list_below, get-table, table-same, set-table, map-table}
 use Rattle.sched_model.proofs.States.{left-opening}
 use Rattle.agenda.proofs.StateQueues.{with_row, row-here, by-row}
 use Rattle.event_kernel.specs.declared.progress.Setting.{Setting}

@@ -7,7 +7,7 @@ use Rattle.sched_model.specs.Jobs.{JobDemands, latest}
 use Rattle.sched_model.specs.Ticks.{Tick, exec}
 use Rattle.sched_model.specs.States.{no_row, prior_row, prior_state, row_of, state_of, prior_base, IsOfPlan}
 use Rattle.sched_model.proofs.Schedules.{length-list_below}
-use Rattle.sched_model.proofs.Tables.{get-table}
+use Rattle.grid_fraction.proofs.Tables.{get-table}
 
 module _ (p : Plan) where
   pub of-table : (now base_at : ℕ) (row : ℕ → Row) (base : ℕ → ℕ) → ((i : ℕ) → i < count p → (row i).worst ≡ worst p i)

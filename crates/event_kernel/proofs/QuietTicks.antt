@@ -15,7 +15,7 @@ use Rattle.sched_model.specs.Priority.{allotment, sum_before}
 use Rattle.sched_model.specs.Decision.{completes_in}
 use Rattle.sched_model.specs.States.{no_row, row_at, prior_row, prior_state, row_of, CanRun, IsOfPlan, StateView, after_advance, earliest_in}
 use Rattle.sched_model.specs.Greedy.{IsFirstOpen}
-use Rattle.sched_model.proofs.Tables.{get-table}
+use Rattle.grid_fraction.proofs.Tables.{get-table}
 use Rattle.sched_model.proofs.Allotments.{handed_before}
 use Rattle.sched_model.proofs.JobLaws.{exec-legal}
 use Rattle.sched_model.proofs.Limits.{every_period}

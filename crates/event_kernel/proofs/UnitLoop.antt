@@ -21,7 +21,7 @@ use Rattle.sched_model.specs.Notes.{Span, tick_units, same_holder}
 use Rattle.sched_model.specs.States.{row_at, prior_row, prior_state, after_advance, CanRun, StateView, state_of}
 use Rattle.sched_model.specs.Greedy.{IsFirstOpen}
 use Rattle.sched_model.proofs.Schedules.{length-list_below, force-within}
-use Rattle.sched_model.proofs.Tables.{get-table, table-same}
+use Rattle.grid_fraction.proofs.Tables.{get-table, table-same}
 use Rattle.sched_model.proofs.Allotments.{handed-end}
 use Rattle.sched_model.proofs.Orders.{in_order-below}
 use Rattle.sched_model.proofs.JobLaws.{exec-legal}

@@ -20,7 +20,7 @@ use Rattle.sched_model.specs.Jobs.{released_jobs}
 use Rattle.sched_model.specs.Admission.{IsAdmitted}
 use Rattle.sched_model.specs.Totals.{totals_of}
 use Rattle.sched_model.specs.Notes.{run_energy_told, idle_energy_told}
-use Rattle.sched_model.proofs.Tables.{get-table, length-list_below}
+use Rattle.grid_fraction.proofs.Tables.{get-table, length-list_below}
 use Rattle.governor.specs.Meanings.{OwnDemand}
 use Rattle.governor.specs.Schedule.{ask_of}
 use Rattle.note_laws.specs.LineCounts.{AreFew}

@@ -15,7 +15,7 @@ use Rattle.sched_model.specs.Jobs.{JobDemands, releases_at, is_release}
 use Rattle.sched_model.specs.Ticks.{Tick, units_left as left_at, share as share_at}
 use Rattle.sched_model.specs.Priority.{SharesOut, sum_up_to, key_of as key_at}
 use Rattle.sched_model.specs.States.{prior_row, prior_state, row_of, state_of, key_in}
-use Rattle.sched_model.proofs.Tables.{length-list_below, table-same}
+use Rattle.grid_fraction.proofs.Tables.{length-list_below, table-same}
 use Rattle.sched_model.proofs.States.{row_at-state_of, row_by, due_released, row-opened, row-kept, state-marked, state-unmarked, row-ran, state-ran}
 use Rattle.governor.specs.Steps.{each_row, is_due, boundary_row, boundary_rows, after_boundary, tick_row, after_tick, left_in, share_in, IsLegalIn}
 use Rattle.grid_fraction.proofs.Searches.{any_below-same}

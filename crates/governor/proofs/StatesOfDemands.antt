@@ -17,7 +17,7 @@ use Rattle.sched_model.specs.Jobs.{latest_since, due as due_at, IsWithin, JobDem
 use Rattle.sched_model.specs.Admission.{IsWithinLimits}
 use Rattle.sched_model.proofs.LevelSums.{share-most, greatest-above, greatest-least, greatest-same}
 use Rattle.sched_model.proofs.JobLaws.{due-none, due-suc, release-due, latest_since-pos, latest_since-suc}
-use Rattle.sched_model.proofs.Tables.{length-list_below, get-table}
+use Rattle.grid_fraction.proofs.Tables.{length-list_below, get-table}
 use Rattle.sched_model.proofs.Limits.{some_task, some_period, low_period}
 use Rattle.governor.specs.Steps.{each_row, is_due, boundary_row, opened_row, after_boundary, share_in, left_in, left_of, release_of, last_marked, IsLegalIn, after_tick, tick_row, IsBeforeAll, IsAtDecision, Belongs}
 

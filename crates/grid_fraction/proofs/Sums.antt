@@ -32,6 +32,11 @@ pub sum_below-zero : (n : ℕ) (f : ℕ → ℕ) → ((k : ℕ) → k < n → f 
 sum_below-zero zero f h = refl
 sum_below-zero (suc n) f h = omega (arith, sum_below-zero n f (λ k lt. h k (omega arith)), h n (omega arith))
 
+-- a sum above 0 has a term above 0
+pub sum_below-some : (n : ℕ) (f : ℕ → ℕ) → 0 < sum_below n f → (k : ℕ) × (k < n) × (0 < f k)
+sum_below-some zero f pos = absurd (omega arith)
+sum_below-some (suc n) f pos = grind (arith, sum_below-some n f)
+
 -- a sum whose terms other than that of j are 0 is the term of j
 pub sum_below-one : (n j : ℕ) (f : ℕ → ℕ) → j < n → ((k : ℕ) → k < n → k ≢ j → f k ≡ 0) → sum_below n f ≡ f j
 sum_below-one zero j f lt h = absurd (omega arith)

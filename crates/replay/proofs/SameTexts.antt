@@ -9,7 +9,7 @@ use Rattle.sched_model.specs.Admission.{IsAdmitted}
 use Rattle.sched_model.specs.Demand.{published}
 use Rattle.sched_model.specs.Jobs.{demand_of}
 use Rattle.sched_model.specs.Plan.{Plan, count, names, task, period, offset}
-use Rattle.sched_model.proofs.Tables.{each-below}
+use Rattle.sched_model.proofs.Schedules.{each-below}
 use Rattle.trace_reader.specs.Traces.{TraceView, text_of}
 use Rattle.trace_text.specs.TraceText.{task_text}
 use Rattle.trace_reader.proofs.HeadTexts.{IsLine, AreLines, task_lines-lines}

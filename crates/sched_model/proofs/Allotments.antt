@@ -243,3 +243,16 @@ handed-step n key room need given given' rest i h pos o here there = record {
 pub handed-end : (n : ℕ) (key : ℕ → ℕ) (room : ℕ) (need given : ℕ → ℕ) (rest : ℕ) → IsHandedOut n key room need given rest
     → (rest ≡ 0) ⊎ ((k : ℕ) → k < n → need k ≤ given k) → (i : ℕ) → i < n → given i ≡ allotment n key room need i
 handed-end n key room need given rest h e i lt = grind (arith, nat_tests)
+
+-- if task j gets some units, each task before it gets all that it needs
+pub allotment-full : (n : ℕ) (key : ℕ → ℕ) (room : ℕ) (need : ℕ → ℕ) (k j : ℕ) → k < n → stands_before key k j ≡ true
+    → 0 < allotment n key room need j → allotment n key room need k ≡ need k
+allotment-full n key room need k j lt h pos = grind (arith, up_to-before)
+
+-- if task j gets less than it needs, each task after it gets no unit
+pub allotment-none : (n : ℕ) (key : ℕ → ℕ) (room : ℕ) (need : ℕ → ℕ) (j k : ℕ) → j < n → stands_before key j k ≡ true
+    → allotment n key room need j < need j → allotment n key room need k ≡ 0
+allotment-none n key room need j k lt h less = grind (arith, up_to-before)
+
+pub allotment-most : (n : ℕ) (key : ℕ → ℕ) (room : ℕ) (need : ℕ → ℕ) (k : ℕ) → allotment n key room need k ≤ need k
+allotment-most n key room need k = omega arith

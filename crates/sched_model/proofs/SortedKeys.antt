@@ -12,7 +12,7 @@ use Rattle.dvs_base.proofs.PairOrders.{pair_cmp, is_lt-pair_cmp}
 use Rattle.grid_fraction.specs.Numbers.{sum_below, list_below}
 use Rattle.sched_model.specs.Priority.{stands_before, in_order}
 use Rattle.sched_model.proofs.Orders.{before-not, before-total, sum_list, IsAhead, IsOrdered, in_order-ordered, sum_list-in_order, sum_list-snoc}
-use Rattle.sched_model.proofs.Tables.{length-list_below, get-table, map-table}
+use Rattle.grid_fraction.proofs.Tables.{length-list_below, get-table, map-table}
 
 abbrev one : ℕ → ℕ → ℕ
 one v j = if nat_eq j v then 1 else 0

@@ -10,7 +10,7 @@ use Rattle.std.proofs.lemmas.Bool.{or_parts, false_from_ne_true}
 use Rattle.grid_fraction.proofs.Counts.{count-append}
 use Rattle.grid_fraction.proofs.Searches.{any_below-false}
 use Rattle.freq_table.specs.Tables.{lowest_entry}
-use Rattle.grid_fraction.proofs.Lists.{each-append}
+use Rattle.dvs_base.proofs.Lists.{each-append}
 use Rattle.sched_model.specs.Plan.{Plan, count, point, period}
 use Rattle.sched_model.specs.Jobs.{JobDemands, latest, releases_at, is_release}
 use Rattle.sched_model.specs.Ticks.{PublishedDemand, Tick, exec}

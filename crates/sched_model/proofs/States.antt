@@ -10,7 +10,7 @@ use Rattle.sched_model.specs.declared.state.Row.{Row}
 use Rattle.sched_model.specs.Plan.{Plan, count, period, offset, worst}
 use Rattle.sched_model.specs.States.{StateView, no_row, row_at, opening, opening_row, IsStateOf, CanRelease, row_wleft, after_run, CanRun, row_of, state_of, released_row, prior_row, prior_base_at, prior_base, prior_state}
 use Rattle.sched_model.specs.Admission.{IsWithinLimits}
-use Rattle.sched_model.proofs.Tables.{length-list_below, same-table, get-table, map-table, table-same}
+use Rattle.grid_fraction.proofs.Tables.{length-list_below, same-table, get-table, map-table, table-same}
 use Rattle.sched_model.specs.Jobs.{JobDemands, release, due, latest, releases_at, is_release, last_release}
 use Rattle.sched_model.specs.Ticks.{Tick, exec, is_done, wleft, share, units_left}
 use Rattle.sched_model.proofs.JobLaws.{due-none, release-none, release-suc, due-suc, lt-due, latest-unique, latest-none, latest-stays, latest-next, release-le, exec-early, exec-legal, last_release-le}

@@ -20,7 +20,7 @@ use Rattle.sched_model.proofs.Orders.{sum_list, sum_list-in_order, AreBelow, in_
 use Rattle.sched_model.proofs.Allotments.{down-set-gets}
 use Rattle.sched_model.proofs.LevelSums.{sum_below-times}
 use Rattle.sched_model.proofs.JobLaws.{latest-is, release-le, lt-due}
-use Rattle.grid_fraction.proofs.Lists.{each-append, each-replicate}
+use Rattle.dvs_base.proofs.Lists.{each-append, each-replicate}
 
 -- what follows from a fact of each element is a fact of each element
 pub each-weaker : {A : Type 0} (P Q : A → Type 0) → ((x : A) → P x → Q x) → (xs : List A) → AllByRecursion P xs → AllByRecursion Q xs

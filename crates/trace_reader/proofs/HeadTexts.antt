@@ -30,7 +30,7 @@ use Rattle.trace_reader.specs.declared.trace.TraceKind.{TraceKind}
 use Rattle.trace_reader.specs.declared.trace.TraceKind.TheVariants as kind
 use Rattle.trace_reader.specs.Fields.{parts, four_of}
 use Rattle.trace_reader.specs.Heads.{line_at, version_in, plan_line_of, parts_after_tasks, version_task_lines}
-use Rattle.trace_reader.proofs.Lined.{spaced, line-spaced}
+use Rattle.trace_text.proofs.Lined.{spaced, line-spaced}
 use Rattle.trace_reader.proofs.UnspacedFields.{Lacks, lacks-unspaced, lacks-spaced, length-decimal, parts-joined}
 use Rattle.trace_reader.proofs.FieldTexts.{read-step, if-made}
 use Rattle.dvs_base.proofs.Checks.{step-ok, ok-is, ok_or-ok}

@@ -22,7 +22,7 @@ use Rattle.trace_reader.specs.Fields.{parts}
 use Rattle.trace_reader.specs.Heads.{line_at}
 use Rattle.trace_reader.specs.Items.{item_of}
 use Rattle.trace_reader.proofs.FirstCut.{HasPart, some-part}
-use Rattle.trace_reader.proofs.Lined.{spaced, line-spaced}
+use Rattle.trace_text.proofs.Lined.{spaced, line-spaced}
 use Rattle.trace_reader.proofs.UnspacedFields.{Lacks, lacks-unspaced, lacks-spaced, parts-first, parts-joined}
 use Rattle.trace_reader.proofs.ItemTexts.{item_fields, IsItemOf, item_of-found}
 

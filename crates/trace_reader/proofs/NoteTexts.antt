@@ -26,7 +26,7 @@ use Rattle.trace_reader.specs.Traces.{IsNoteOf, is_end}
 use Rattle.trace_reader.proofs.FirstCut.{HasPart}
 use Rattle.trace_reader.proofs.FieldTexts.{AreApart, if-ok, if-made}
 use Rattle.dvs_base.proofs.Checks.{step-ok, ok-is}
-use Rattle.trace_reader.proofs.Lined.{spaced}
+use Rattle.trace_text.proofs.Lined.{spaced}
 use Rattle.trace_reader.proofs.ItemTexts.{item_fields, IsItemOf, item_of-text}
 use Rattle.trace_reader.proofs.LineTexts.{AreNames, IsLineOf, line_at-found, join-line, item_text, item-found, unspaced-item, cut-line, read-line, parts-fields, lengths-item}
 use Rattle.trace_reader.proofs.ShareTexts.{shares, rest_text, shares-told, shares-next, HaveNoEnd}

@@ -9,7 +9,7 @@ use Rattle.dvs_base.specs.declared.kind.Scheduler.{Scheduler}
 use Rattle.dvs_base.specs.declared.kind.GovernorKind.{GovernorKind}
 use Rattle.dvs_base.specs.declared.note.Note.{Note}
 use Rattle.trace_text.specs.TraceLines.{line, fields_of, note_text, plan_fields, lines_of}
-use Rattle.grid_fraction.proofs.Lists.{each-append}
+use Rattle.dvs_base.proofs.Lists.{each-append}
 use Rattle.trace_text.proofs.Unspaced.{AreUnspaced, unspaced-decimal, lines-line}
 use Rattle.trace_text.proofs.NoteLines.{unspaced-word, unspaced-scheduler, unspaced-governor, note-fields, unspaced-fields}
 use Rattle.trace_text.specs.TraceText.{NotedLine, for_tasks, note_lines, trace_lines, text_of_lines, version_line, share_text, task_text, task_energy}

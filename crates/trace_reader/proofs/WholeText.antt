@@ -12,7 +12,7 @@ use Rattle.dvs_base.specs.declared.note.Note.{Note}
 use Rattle.dvs_base.specs.declared.note.Note.TheVariants.{End}
 use Rattle.trace_text.specs.TraceLines.{note_text, plan_text}
 use Rattle.trace_text.specs.declared.write.PlanLine.{PlanLine}
-use Rattle.grid_fraction.proofs.Lists.{each-append}
+use Rattle.dvs_base.proofs.Lists.{each-append}
 use Rattle.trace_text.specs.TraceText.{NotedLine, unnoted_line, line_of_note, has_task_lines, for_tasks, lines_of_note, note_lines, trace_lines, text_of_lines, whole_text, version_line, share_text, task_energy, shares_from}
 use Rattle.trace_reader.specs.Heads.{version_task_lines}
 use Rattle.trace_reader.specs.TraceFile.{energy_line_count}
