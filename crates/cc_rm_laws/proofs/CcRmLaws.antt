@@ -22,7 +22,7 @@ use Rattle.governor.proofs.Ticks.{tick-falls, tick-closes}
 use Rattle.governor.specs.Rm.{level}
 use Rattle.cc_rm_laws.specs.Allotments.{base_of, allotted_units, allotted_in, allotment_left_in, rm_cycle_demand}
 use Rattle.cc_rm_laws.specs.Conditions.{CcRmCalm, CcRmSafe}
-use Rattle.cc_rm_laws.proofs.Lefts.{left_by, left-full, left-idle, left-open}
+use Rattle.cc_rm_laws.proofs.AllotmentLefts.{left_by, left-full, left-idle, left-open}
 use Rattle.cc_rm_laws.proofs.Deadlines.{cc_rm_completes, cc_rm_opens, cc_rm_releases}
 use Rattle.dvs_base.specs.declared.kind.GovernorKind.TheVariants.{Cycle}
 use Rattle.dvs_base.specs.PlanWords.{IsPair}
