@@ -38,7 +38,7 @@ lack p ask (suc t) i = lacking p (worst_ticks p ask (suc t)) i
 abbrev pub lack_after : Plan → PublishedDemand → ℕ → ℕ → ℕ
 lack_after p ask t i = units_left p (worst_demand p) (worst_ticks p ask t) i
 
--- a set of tasks that has, with each task, those before it in RM order
+-- a set of tasks that is closed under priority: with each task, it has those before it in RM order
 abbrev pub IsDown : Plan → (ℕ → Bool) → Type 0
 IsDown p test =
     (j i : ℕ) → j < count p → i < count p → stands_before (period p) j i ≡ true → test i ≡ true → test j ≡ true
@@ -129,7 +129,7 @@ module _ (p : Plan) (lim : IsWithinLimits p) (ask : PublishedDemand) where
         let more = exec-legal p (worst_demand p) x past i (some_period p lim i h) refl most in
         omega (arith, now, more, most)
 
-    -- a tick takes the speed F from what a set lacks that has, with each task, those before it
+    -- a tick takes the speed F from what a set lacks that is closed under priority
     pub lack-falls : (t : ℕ) (test : ℕ → Bool) → IsDown p test
         → sum_where (count p) test (lack p ask (suc t)) ≡ sum_where (count p) test (lack_after p ask t) - F
     lack-falls t test down =
@@ -144,15 +144,11 @@ module _ (p : Plan) (lim : IsWithinLimits p) (ask : PublishedDemand) where
     less : (x a f : ℕ) → (x - a * f) - f ≡ x - suc a * f
     less x a f = omega arith
 
-    -- without a release after r, d + 1 ticks take d + 1 times F from what a set lacks that has, with each task,
-    -- those before it
+    -- without a release after r, d + 1 ticks take d + 1 times F from what such a set lacks
     pub lack-span : (test : ℕ → Bool) → IsDown p test → (r d : ℕ)
         → ((u j : ℕ) → r < u → u < r + suc d → j < count p → IsQuiet p u j)
         → sum_where (count p) test (lack p ask (r + suc d)) ≡ sum_where (count p) test (lack_after p ask r) - suc d * F
-    lack-span test down r zero quiet =
-        let place : r + suc zero ≡ suc r = omega arith in
-        let one : suc zero * F ≡ F = omega arith in
-        rw (place, one) (lack-falls r test down)
+    lack-span test down r zero quiet = grind (arith, nat_tests, lack-falls r test down)
     lack-span test down r (suc d) quiet =
         let place : r + suc (suc d) ≡ suc (r + suc d) = omega arith in
         let before = lack-span test down r d (λ u j a b h. quiet u j a (omega arith) h) in

@@ -1,5 +1,7 @@
 -- The text of a trace is split into the lines that it was made of.
-use Rattle.std.proofs.Common.{◌≡◌, ℕ, List, [], ◌∷◌, ◌++◌, map, refl, sym, ap, ap₂, ◌∙◌, codes}
+use Rattle.std.proofs.lemmas.Bool.Decides.{nat_tests}
+use Rattle.std.proofs.Common.{arith}
+use Rattle.std.proofs.Common.{◌≡◌, ℕ, List, [], ◌∷◌, map, refl, codes}
 use Rattle.std.specs.Prelude.{decimal}
 use Rattle.std.specs.List.{AllByRecursion}
 use Rattle.dvs_base.specs.Parts.{name_of}
@@ -22,9 +24,7 @@ IsLine l = (fields : List (List ℕ)) × (l ≡ line fields) × AllByRecursion A
 -- the lines of a text that is given by its lines, each of unspaced fields
 pub lines-text : (ls : List NotedLine) → AllByRecursion (λ l. IsLine l.text) ls → lines_of (text_of_lines ls) ≡ map (λ l. l.text) ls
 lines-text [] h = refl
-lines-text (l ∷ ls) h =
-    ap (λ m. lines_of (m ++ text_of_lines ls)) h.0.1
-    ∙ (lines-line h.0.0 (text_of_lines ls) h.0.2 ∙ ap₂ (λ m ms. m ∷ ms) (sym h.0.1) (lines-text ls h.1))
+lines-text (l ∷ ls) h = grind (arith, nat_tests, lines-line, lines-text ls)
 
 version-fields : (v : Version) → IsLine (version_line v)
 version-fields One = (codes "trace" ∷ codes "1" ∷ [], refl, (unspaced-word (codes "trace") refl, (unspaced-word (codes "1") refl, tt)))

@@ -1,4 +1,5 @@
 -- The fields of a line with a space between each two, and its line feed.
+use Rattle.std.proofs.lemmas.Bool.Decides.{nat_tests}
 use Rattle.std.proofs.Common.{◌≡◌, ℕ, ◌-◌, List, [], ◌∷◌, ◌++◌, length, take, refl, sym, ap, ◌∙◌, append_assoc, length-append, arith, ◌&&◌}
 use Rattle.std.specs.Prelude.{nat_eq}
 use Rattle.std.specs.List.{join_with_byte}
@@ -28,9 +29,4 @@ same-fed (x ∷ a) (y ∷ b) = ap (λ r. nat_eq x y && r) (same-fed a b)
 -- a text is a line without its line feed exactly if, with one, it is the line
 pub same-line : (l text : List ℕ) (fields : List (List ℕ)) → text ≡ line fields
     → bytes_eq l (take (length text - 1) text) ≡ bytes_eq (l ++ (10 ∷ [])) (line fields)
-same-line l text fields e =
-    let body : List ℕ = spaced fields in
-    let whole : text ≡ body ++ (10 ∷ []) = e ∙ line-spaced fields in
-    let front : take (length text - 1) text ≡ body =
-    ap (λ t. take (length t - 1) t) whole ∙ take_at body (10 ∷ []) (length (body ++ (10 ∷ [])) - 1) (omega (arith, length-append body (10 ∷ []))) in
-    ap (bytes_eq l) front ∙ (same-fed l body ∙ ap (bytes_eq (l ++ (10 ∷ []))) (sym (line-spaced fields)))
+same-line l text fields e = grind (arith, nat_tests, length-append, line-spaced, same-fed, take_at)
