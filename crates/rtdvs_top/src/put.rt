@@ -11,8 +11,8 @@ use crate::response::put_responses;
 use crate::run::put_run;
 use dvs_base::{Failed, Sink, Version, put_line};
 use probes::Probe;
+use replay::put_trace;
 use std::alloc::Global;
-use trace_writer::put_trace;
 
 // The result of a put: `Write` if it failed.
 fn put_result(wrote: Result<(), Failed>) -> Result<(), Status>

@@ -34,6 +34,13 @@ stopped-some a b ps qs lines s =
     (wrote-then-some a s.middle b (text_of_lines s.done) (s.line.text ++ text_of_lines s.rest) s.wrote
     (wrote-some-more s.middle b s.line.text (text_of_lines s.rest) s.part))
 
+-- what lines of no note say of the sink: their text was written, or a first part of it
+pub unnoted-whole : {a b : SinkView} {lines : List NotedLine} → ((ps : List ProbeView) → WroteLines a b ps ps lines) → Wrote a b (text_of_lines lines)
+unnoted-whole w = (w []).wrote
+
+pub unnoted-part : {a b : SinkView} {lines : List NotedLine} → ((ps : List ProbeView) → StoppedIn a b ps ps lines) → WroteSome a b (text_of_lines lines)
+unnoted-part {a} {b} {lines} s = stopped-some a b [] [] lines (s [])
+
 -- no lines leave the sink and the probes as they are
 pub no-lines : (a : SinkView) (ps : List ProbeView) → WroteLines a a ps ps []
 no-lines a ps = record { wrote = wrote-none a; told = refl }

@@ -1,13 +1,11 @@
--- The lines that show no note, how they are written, and where they are among those of notes; only for proofs.
-use Rattle.std.specs.Prelude.{ℕ, List, [], ◌∷◌, ◌++◌, slice_index, Result}
+-- The lines that show no note, and how they are written; only for proofs.
+use Rattle.std.specs.Prelude.{ℕ, List, slice_index, Result}
 use Rattle.grid_fraction.specs.Numbers.{list_below}
 use Rattle.dvs_base.specs.declared.kind.Version.{Version}
-use Rattle.dvs_base.specs.declared.note.Note.{Note}
-use Rattle.dvs_base.specs.declared.note.Note.TheVariants.{End}
 use Rattle.dvs_base.specs.Outside.{SinkView}
 use Rattle.dvs_base.specs.Parts.{name_of}
 use Rattle.sched_model.specs.Plan.{Plan, count, names}
-use Rattle.trace_text.specs.TraceText.{NotedLine, line_of_note, share_text, for_tasks}
+use Rattle.trace_text.specs.TraceText.{NotedLine, share_text, for_tasks}
 use Rattle.probes.specs.Tallies.{ProbeView}
 use Rattle.trace_writer.specs.Lines.{WritesLines}
 
@@ -22,12 +20,3 @@ sum_lines v p energies = for_tasks v (sum_texts p energies)
 -- lines of no note were written, all at Ok and some at an error; no probe was told a note
 abbrev pub WritesUnnoted : {T E : Type 0} → SinkView → SinkView → List NotedLine → Result T E → Type 0
 WritesUnnoted old new lines r = (probes : List ProbeView) → WritesLines old new probes probes lines r
-
--- the lines before that of a note, by the energies of the tasks: those of the energies before the end of the run
-abbrev pub sums_before : Version → Plan → List ℕ → Note → List NotedLine
-sums_before v p energies (End t run idle) = sum_lines v p energies
-sums_before v p energies n = []
-
--- the lines of a note, by the energies of the tasks: those before its own, and its own
-abbrev pub lines_with : Version → Plan → List ℕ → Note → List NotedLine
-lines_with v p energies n = sums_before v p energies n ++ line_of_note (names p) n ∷ []

@@ -4,8 +4,6 @@
 //! itself in part, and nothing after it. No call takes memory. `specs/RunText.antt` has the lines of a run and its text.
 #![tactic(auto)]
 
-mod trace;
 mod write;
 
-pub use trace::put_trace;
 pub use write::{Head, put_head, put_note, put_sums};
