@@ -9,7 +9,7 @@ use Rattle.sched_model.specs.Plan.{Plan}
 use Rattle.demand_list.specs.Demands.{DemandsView}
 use Rattle.probes.specs.Tallies.{told_notes}
 use Rattle.command_files.specs.Files.{NamedFile, FailsFrom, files_of, passes}
-use Rattle.command_files.specs.PlannedRuns.{prepared_of, run_with}
+use Rattle.rtdvs_top.specs.PlannedRuns.{prepared_of, run_with}
 use Rattle.rtdvs_top.specs.Asked.{Asked, asked_of, with_files}
 use Rattle.rtdvs_top.specs.Promised.{Outside, Promised}
 use Rattle.rtdvs_top.specs.Promises.{Answers, AdmitsByTest, IsDoneOrDenied, IsSureOf, LoadFailed, ProvesLeast, ProvesPoll, ProvesRun, ProvesTests, PutsNotes, TellsProbes, Writes, WritesPart}

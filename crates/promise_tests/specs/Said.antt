@@ -29,7 +29,7 @@ use Rattle.statuses.specs.declared.status.Status.{Status}
 use Rattle.statuses.specs.declared.status.Status.TheVariants as status
 use Rattle.command_files.specs.Files.{NamedFile, files_of, names_by}
 use Rattle.command_files.specs.Meanings.{machine_at, tasks_at}
-use Rattle.command_files.specs.PlannedRuns.{prepared_of, run_with}
+use Rattle.rtdvs_top.specs.PlannedRuns.{prepared_of, run_with}
 use Rattle.rtdvs_top.specs.Asked.{loads_wanted}
 use Rattle.rtdvs_top.specs.Poll.{HasServed, polling_of}
 use Rattle.rtdvs_top.specs.Promised.{Outside}

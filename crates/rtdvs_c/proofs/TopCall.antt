@@ -20,7 +20,7 @@ use Rattle.statuses.specs.ProbeLines.{probe_lines}
 use Rattle.statuses.specs.Noted.{NotedAs, noted_text}
 use Rattle.command_files.specs.Files.{names_by}
 use Rattle.command_files.specs.Meanings.{tasks_at}
-use Rattle.command_files.specs.PlannedRuns.{prepared_of, run_with}
+use Rattle.rtdvs_top.specs.PlannedRuns.{prepared_of, run_with}
 use Rattle.rtdvs_top.specs.ToldRuns.{IfAsked, notes_under}
 use Rattle.rtdvs_top.specs.Response.{RespondsOrIsDenied}
 use Rattle.rtdvs_top.specs.Trace.{AcceptsScheduleTexts, IsDoneUnless}

@@ -15,7 +15,7 @@ use Rattle.statuses.specs.declared.status.Denied.{Denied}
 use Rattle.statuses.specs.declared.status.Status.{Status}
 use Rattle.statuses.specs.declared.status.Status.TheVariants as status
 use Rattle.statuses.specs.Status.{IsShown}
-use Rattle.command_files.specs.PlannedRuns.{run_with}
+use Rattle.rtdvs_top.specs.PlannedRuns.{run_with}
 use Rattle.rtdvs_top.specs.Asked.{with_files}
 use Rattle.rtdvs_top.specs.Run.{HasMet, text_under}
 use Rattle.rtdvs_top.specs.Response.{MeansPlan, RespondsOrIsDenied}

@@ -17,7 +17,7 @@ use Rattle.statuses.specs.StatusLines.{status_text}
 use Rattle.statuses.specs.Noted.{noted_text}
 use Rattle.command_files.specs.Meanings.{tasks_at}
 use Rattle.command_files.specs.Files.{names_by}
-use Rattle.command_files.specs.PlannedRuns.{prepared_of, run_with}
+use Rattle.rtdvs_top.specs.PlannedRuns.{prepared_of, run_with}
 use Rattle.rtdvs_top.specs.ToldRuns.{notes_under}
 use Rattle.rtdvs_top.specs.Promises.{answer_of_command}
 use Rattle.rtdvs_c.specs.declared.TheConstants.{NO_ROOM, NO_WORDS}

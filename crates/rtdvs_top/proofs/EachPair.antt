@@ -23,7 +23,7 @@ use Rattle.event_kernel.specs.Runs.{Run}
 use Rattle.event_kernel.proofs.MetRuns.{run-met}
 use Rattle.rtdvs_top.specs.Run.{HasMet}
 use Rattle.rtdvs_top.proofs.Published.{met-published}
-use Rattle.command_files.specs.PlannedRuns.{IsReadyRun}
+use Rattle.rtdvs_top.specs.PlannedRuns.{IsReadyRun}
 
 module _ (v : Version) (p : Plan) (d : DemandsView) (ticks : ℕ) where
   -- the run of the plan for `ticks` ticks

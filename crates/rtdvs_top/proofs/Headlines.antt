@@ -13,7 +13,7 @@ use Rattle.words.specs.Commands.{RunView, CommandView, run, response}
 use Rattle.command_files.specs.Meanings.{tasks_at, machine_at, demands_at}
 use Rattle.command_files.specs.Admissions.{admission}
 use Rattle.rtdvs_top.specs.Run.{within_jobs, answer_of_prepared}
-use Rattle.command_files.specs.PlannedRuns.{prepared_of, run_with, IsReadyRun}
+use Rattle.rtdvs_top.specs.PlannedRuns.{prepared_of, run_with, IsReadyRun}
 use Rattle.rtdvs_top.specs.Promises.{answer_of_command, run_plan, MeansRun, IsDoneRun, IsDeniedBy, ProvesRun, ProvesTests, RunsOrIsDenied, Answers, IsDoneOrDenied}
 use Rattle.rtdvs_top.specs.Asked.{Asked, asked_with, with_files}
 use Rattle.rtdvs_top.specs.Prepared.{EndsAs, ProvesDone}

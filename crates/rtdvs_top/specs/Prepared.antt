@@ -35,7 +35,7 @@ use Rattle.rtdvs_top.specs.Asked.{asked_with}
 use Rattle.rtdvs_top.specs.ToldRuns.{IfAsked, TellsRun}
 use Rattle.rtdvs_top.specs.Run.{answer_of_plan}
 use Rattle.rtdvs_top.specs.Admit.{admitted_of}
-use Rattle.command_files.specs.PlannedRuns.{run_with, prepared_of, IsRunnable, IsReadyRun}
+use Rattle.rtdvs_top.specs.PlannedRuns.{run_with, prepared_of, IsRunnable, IsReadyRun}
 use Rattle.rtdvs_top.specs.Promises.{ProvesTests, TellsProbes, LoadFailed, answer_of_command}
 use Rattle.rtdvs_top.specs.Constrain.{FailsToKeep}
 use Rattle.rtdvs_top.specs.Generated.{workload_tasks, workload_ticks, workload_totals, workload_text}

@@ -32,7 +32,7 @@ use Rattle.rtdvs_top.specs.Trace.{trace_at, trace_answer}
 use Rattle.rtdvs_top.specs.Poll.{requests_at, poll_answer, polling_of, HasServed}
 use Rattle.rtdvs_top.specs.Asked.{Asked, with_files, without_files, refused_words}
 use Rattle.rtdvs_top.specs.Run.{run_answer, HasMet, TellsFileRun, text_under}
-use Rattle.command_files.specs.PlannedRuns.{prepared_of, run_with}
+use Rattle.rtdvs_top.specs.PlannedRuns.{prepared_of, run_with}
 use Rattle.rtdvs_top.specs.Admit.{admit_answer}
 use Rattle.command_files.specs.Admissions.{admission}
 use Rattle.rtdvs_top.specs.Generated.{workload_answer}

@@ -27,7 +27,7 @@ use Rattle.trace_laws.specs.DoneLines.{TellsDeadlines}
 use Rattle.statuses.specs.Steps.{Gives}
 use Rattle.command_files.specs.Meanings.{tasks_at}
 use Rattle.rtdvs_top.specs.ToldRuns.{IfAsked, TellsRun}
-use Rattle.command_files.specs.PlannedRuns.{prepared_of, run_with}
+use Rattle.rtdvs_top.specs.PlannedRuns.{prepared_of, run_with}
 
 -- the text, if the run doesn't release too many jobs
 abbrev pub within_jobs : ℕ → List ℕ → Result (List ℕ) Status

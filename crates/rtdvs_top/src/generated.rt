@@ -6,7 +6,7 @@ ghost use Rattle.sched_model.specs.Jobs.{released_jobs};
 ghost use Rattle.dvs_base.specs.declared.limits.TheConstants.{MOST_JOBS};
 ghost use Rattle.event_kernel.specs.Runs.{IsListOf, notes_of_run};
 ghost use Rattle.rtdvs_top.specs.Prepared.{run_for, IsSmall, IsPrepared};
-ghost use Rattle.command_files.specs.PlannedRuns.{IsRunnable};
+ghost use Rattle.rtdvs_top.specs.PlannedRuns.{IsRunnable};
 ghost use Rattle.rtdvs_top.specs.Generated.{workload_plan, workload_demands, run_totals, edf_totals, workload_totals, head_text, totals_text, workload_text};
 ghost use Rattle.words.specs.Commands.{workload as workload_of};
 ghost use Rattle.dvs_base.specs.WritesText.{WritesText};

@@ -6,13 +6,13 @@ ghost use Rattle.dvs_base.specs.PlanWords.{IsPair};
 ghost use Rattle.words.specs.Commands.{IsReady, run as run_of};
 ghost use Rattle.words.specs.Shown.{shown_run};
 ghost use Rattle.rtdvs_top.specs.Prepared.{IsPrepareStep, ForFilesWith, IsPutStep, ready_run, status_of_put, status_of_writing};
-ghost use Rattle.command_files.specs.PlannedRuns.{IsRunnable};
+ghost use Rattle.rtdvs_top.specs.PlannedRuns.{IsRunnable};
 ghost use Rattle.rtdvs_top.specs.declared.prepared.Prepared.TheVariants as prepared;
 
 use crate::Status;
 use crate::at_pair::at_pair;
+use crate::planned::load_planned;
 use crate::prepared::{Prepared, ReadyRun};
-use command_files::load_planned;
 use dvs_base::{Shelf, Sink, Totals};
 use event_kernel::{Kernel, KernelFault, WriteFault};
 use governor::Publishing;

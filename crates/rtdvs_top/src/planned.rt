@@ -4,21 +4,20 @@ ghost use Rattle.words.specs.Commands.{IsReady, run as run_of};
 ghost use Rattle.words.specs.Shown.{shown_run};
 ghost use Rattle.command_files.specs.GivenFiles.{ForFiles};
 ghost use Rattle.command_files.specs.Loads.{IsLoadStep, later_files};
-ghost use Rattle.command_files.specs.PlannedRuns.{prepared_of, run_with, IsReadyRun};
+ghost use Rattle.rtdvs_top.specs.PlannedRuns.{prepared_of, run_with, IsReadyRun};
 
-use crate::admission::admit;
-use crate::files::{load_demands, load_machine};
+use crate::Status;
+use command_files::{admit, load_demands, load_machine};
 use demand_list::Demands;
 use dvs_base::Shelf;
 use sched_model::Admitted;
-use statuses::Status;
 use std::alloc::Global;
 use task_model::TaskSet;
 use words::command::RunWords;
 
 /// The admitted plan and the demands of `run`, after its tasks were read: the machine is loaded and read, then the
 /// demands, and the plan is tested. The status is that of the first of these steps that fails.
-pub fn load_planned<S: Shelf>(
+pub(crate) fn load_planned<S: Shelf>(
     alloc: Global,
     words: &RunWords<'_>,
     tasks: &TaskSet,

@@ -3,7 +3,7 @@ use Rattle.words.specs.Commands.{run}
 use Rattle.words.specs.Shown.{shown_run}
 use Rattle.statuses.specs.declared.status.FileKind.TheVariants as file
 use Rattle.command_files.proofs.GivenLoads.{known-first, known-later, loads-two}
-use Rattle.command_files.proofs.planned.load_planned.Goals as goal
+use Rattle.rtdvs_top.proofs.planned.load_planned.Goals as goal
 
 pub returns-in_err-demands-clause-step : goal.returns-in_err-demands-clause-step
 returns-in_err-demands-clause-step g c files known =
