@@ -40,13 +40,13 @@ module _ (v : Version) (p : Plan) (energies : List ℕ) where
       (wrote-some-more a b (text_of_lines (sums_before v p energies n)) (note_text (names p) n) s)
 
   -- the lines before a note's own were put, and then its own as the result says
-  pub own-after : {T E : Type 0} (a b c : SinkView) (n : Note) (ns : List (List ℕ)) (r : Result T E) → ns ≡ names p
-      → Wrote a b (text_of_lines (sums_before v p energies n)) → WritesText b c (note_text ns n) r
+  pub own-after : {T E : Type 0} (a b c : SinkView) (n : Note) (t : List ℕ) (r : Result T E) → t ≡ note_text (names p) n
+      → Wrote a b (text_of_lines (sums_before v p energies n)) → WritesText b c t r
       → WritesText a c (text_of_lines (lines_with v p energies n)) r
-  own-after a b c n ns r is w x =
-      let own : WritesText b c (note_text (names p) n) r = subst (λ (l : List (List ℕ)). WritesText b c (note_text l n) r) is x in
-      subst (λ (t : List ℕ). WritesText a c t r) (sym (lines-text n))
-      (writes-then a b c (text_of_lines (sums_before v p energies n)) (note_text (names p) n) r w own)
+  own-after a b c n t r is w x =
+      subst (λ (u : List ℕ). WritesText a c u r)
+      (ap (λ (u : List ℕ). text_of_lines (sums_before v p energies n) ++ u) is ∙ sym (lines-text n))
+      (writes-then a b c (text_of_lines (sums_before v p energies n)) t r w x)
 
   -- the text of the lines of some notes
   abbrev pub text : List Note → List ℕ
