@@ -24,12 +24,12 @@ use Rattle.grid_fraction.proofs.Tables.{get-table, length-list_below}
 use Rattle.governor.specs.Meanings.{OwnDemand}
 use Rattle.governor.specs.Schedule.{ask_of}
 use Rattle.note_laws.specs.LineCounts.{AreFew}
-use Rattle.trace_writer.specs.RunText.{task_texts, run_lines, most_lines}
+use Rattle.trace_writer.specs.RunText.{task_texts, most_lines}
 use Rattle.note_laws.proofs.FewNotes.{has-few-notes, IsNoteIn}
 use Rattle.trace_text.specs.TraceText.{NotedLine, unnoted_line, line_of_note, task_energy, task_text, share_text, shares_from, for_tasks, head_lines, lines_of_note, note_lines}
 use Rattle.trace_writer.specs.UnnotedLines.{sum_lines}
 use Rattle.trace_writer.proofs.SumLines.{shares-below}
-use Rattle.event_kernel.specs.Runs.{Run as RunView, demands_of, run_ticks, notes_of_run}
+use Rattle.event_kernel.specs.Runs.{Run as RunView, demands_of, run_ticks, notes_of_run, lines_of_run}
 use Rattle.event_kernel.specs.SpanNotes.{notes_before_end_of}
 use Rattle.event_kernel.proofs.NoteRoom.{course-fits}
 use Rattle.event_kernel.proofs.Courses.{course-len, course-legal}
@@ -111,9 +111,15 @@ module _ (demand : OwnDemand) (r : RunView) (v : Version) where
       (λ j. map (line_of_note (own j)) before ++ (sum_lines v (ep j) (ee j) ++ line_of_note (names (ep j)) (End (whole j) ((to j).run) ((to j).idle)) ∷ []))
       ∙ all-lines (subst (λ (q : Plan). IsAdmitted q) ep adm)
 
+  -- the lines of a run, from the plan, the governor and the ticks of its head, and the lines of its notes
+  pub whole-lines : (g : GovernorKind) {p : Plan} {ticks : ℕ} {lines : List NotedLine} → p ≡ r.plan → ticks ≡ r.ticks
+      → lines ≡ note_lines v (names r.plan) (notes_of_run demand r)
+      → head_lines v p.scheduler g ticks (task_texts p) ++ lines ≡ lines_of_run v g demand r
+  whole-lines g is whole notes j = head_lines v ((is j).scheduler) g (whole j) (task_texts (is j)) ++ notes j
+
   -- a run of few jobs has a trace of few lines
   pub run-lines : (g : GovernorKind) {a : RunView} → a ≡ r → IsAdmitted a.plan
-      → length (run_lines v r.plan g r.ticks (notes_of_run demand r)) ≤ most_lines v r.plan r.ticks
+      → length (lines_of_run v g demand r) ≤ most_lines v r.plan r.ticks
   run-lines g is admitted =
       let adm : IsAdmitted r.plan = subst (λ (x : RunView). IsAdmitted x.plan) is admitted in
       let dem = demands_of r.plan r.demands in

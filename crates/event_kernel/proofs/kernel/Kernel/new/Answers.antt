@@ -1,5 +1,6 @@
 use Rattle.std.proofs.Common.{rules}
 use Rattle.sched_model.specs.States.{opening}
+use Rattle.event_kernel.specs.Runs.{run_for}
 use Rattle.event_kernel.proofs.ListedDemands.{demand-within}
 use Rattle.event_kernel.proofs.MetRuns.{run-met}
 use Rattle.event_kernel.proofs.kernel.Kernel.new.Goals as goal
@@ -16,6 +17,6 @@ invariant_of-result g c =
       current = search rules;
       booked = search rules;
       met = λ t. run-met m.the_kind m.serves m.demand m.calm m.safe g.met.G.Governor.laws
-          (record { plan = p; demands = d; ticks = t }) admitted c.requires.list worsts
+          (run_for p d t) admitted c.requires.list worsts
           (g.met.G.Governor.serves_plan c.args.governor p (opening p) c.requires.stands);
     }

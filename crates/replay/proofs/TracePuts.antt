@@ -1,14 +1,13 @@
 -- The lines of a trace that were put note by note.
 use Rattle.std.proofs.Common.{◌≡◌, ℕ, ◌+◌, ◌^◌, ◌<◌, ◌≤◌, true, List, [], ◌∷◌, ◌++◌, length, get_or, take, drop, map, Result, refl, sym, ap, ap₂, ◌∙◌, subst, arith, append-nil, add-one, drop-cons}
 use Rattle.std.specs.Prelude.{flat_map, slice_index}
-use Rattle.std.specs.List.{AllByRecursion}
 use Rattle.std.proofs.lemmas.List.{length-map, take_more, take-append-drop}
 use Rattle.std.proofs.lemmas.List.Concat.{flat_map-append}
 use Rattle.dvs_base.specs.declared.kind.Version.{Version}
 use Rattle.dvs_base.specs.declared.kind.Version.TheVariants.{One, Two}
 use Rattle.dvs_base.specs.declared.limits.TheConstants.{MOST_TASKS}
 use Rattle.dvs_base.specs.declared.note.Note.{Note}
-use Rattle.dvs_base.specs.declared.note.Note.TheVariants.{Release, Run, Done, End}
+use Rattle.dvs_base.specs.declared.note.Note.TheVariants.{End}
 use Rattle.dvs_base.specs.Outside.{SinkView}
 use Rattle.dvs_base.specs.Parts.{name_of}
 use Rattle.dvs_base.specs.WritesText.{Wrote, WroteSome, WritesText}
@@ -16,29 +15,14 @@ use Rattle.dvs_base.proofs.TextPuts.{wrote-then, wrote-then-some, wrote-some-mor
 use Rattle.grid_fraction.specs.Numbers.{list_below}
 use Rattle.task_model.specs.declared.task.Task.{Task}
 use Rattle.sched_model.specs.Plan.{Plan, count, names}
-use Rattle.probes.specs.Tallies.{ProbeView}
 use Rattle.trace_text.specs.TraceLines.{note_text}
-use Rattle.trace_reader.specs.declared.line.Item.TheVariants.{Told}
-use Rattle.trace_reader.specs.Items.{HasTaskBelow}
 use Rattle.trace_text.specs.TraceText.{NotedLine, line_of_note, unnoted_line, task_energy, share_text, shares_from, for_tasks, has_task_lines, head_lines, lines_of_note, note_lines, text_of_lines}
 use Rattle.trace_writer.specs.RunText.{task_texts}
-use Rattle.trace_reader.specs.Traces.{TraceView, text_of, IsNoteOf, HasShares}
-use Rattle.trace_writer.specs.Lines.{WroteLines, StoppedIn}
-use Rattle.trace_writer.specs.UnnotedLines.{sum_lines, sums_before, lines_with}
+use Rattle.trace_reader.specs.Traces.{TraceView, text_of, HasShares}
+use Rattle.trace_writer.specs.UnnotedLines.{sum_lines}
+use Rattle.replay.specs.NotePuts.{sums_before, lines_with}
 use Rattle.trace_writer.proofs.SumLines.{shares-below}
-use Rattle.trace_writer.proofs.WrittenLines.{text-append, stopped-some}
-
--- the task of each note of a trace has a place among the most tasks
-pub tasks-below : (c : ℕ) → c ≤ MOST_TASKS → (notes : List Note) → AllByRecursion (IsNoteOf c) notes
-    → AllByRecursion (λ n. HasTaskBelow MOST_TASKS (Told n)) notes
-tasks-below c few [] h = tt
-tasks-below c few (n ∷ notes) h = (below n h.0, tasks-below c few notes h.1)
-  where
-    below : (n : Note) → IsNoteOf c n → HasTaskBelow MOST_TASKS (Told n)
-    below (Release t i k) b = omega (arith, few, b.1)
-    below (Run from to i k units energy) b = omega (arith, few, b.2)
-    below (Done q i k used) b = omega (arith, few, b.1)
-    below _ b = tt
+use Rattle.trace_writer.proofs.WrittenLines.{text-append}
 
 module _ (v : Version) (p : Plan) (energies : List ℕ) where
   -- the lines of a note, as those before its own and its own
@@ -49,21 +33,20 @@ module _ (v : Version) (p : Plan) (energies : List ℕ) where
       ∙ ap (λ (t : List ℕ). text_of_lines (sums_before v p energies n) ++ t) (append-nil (note_text (names p) n))
 
   -- the lines before a note's own were put in part
-  pub part-before : (a b : SinkView) (n : Note) → ((ps : List ProbeView) → StoppedIn a b ps ps (sums_before v p energies n))
+  pub part-before : (a b : SinkView) (n : Note) → WroteSome a b (text_of_lines (sums_before v p energies n))
       → WroteSome a b (text_of_lines (lines_with v p energies n))
   part-before a b n s =
-      let sums = sums_before v p energies n in
       subst (λ (t : List ℕ). WroteSome a b t) (sym (lines-text n))
-      (wrote-some-more a b (text_of_lines sums) (note_text (names p) n) (stopped-some a b [] [] sums (s [])))
+      (wrote-some-more a b (text_of_lines (sums_before v p energies n)) (note_text (names p) n) s)
 
   -- the lines before a note's own were put, and then its own as the result says
-  pub own-after : {T E : Type 0} (a b c : SinkView) (n : Note) (ns : List (List ℕ)) (r : Result T E) → ns ≡ names p
-      → ((ps : List ProbeView) → WroteLines a b ps ps (sums_before v p energies n)) → WritesText b c (note_text ns n) r
+  pub own-after : {T E : Type 0} (a b c : SinkView) (n : Note) (t : List ℕ) (r : Result T E) → t ≡ note_text (names p) n
+      → Wrote a b (text_of_lines (sums_before v p energies n)) → WritesText b c t r
       → WritesText a c (text_of_lines (lines_with v p energies n)) r
-  own-after a b c n ns r is w x =
-      let own : WritesText b c (note_text (names p) n) r = subst (λ (l : List (List ℕ)). WritesText b c (note_text l n) r) is x in
-      subst (λ (t : List ℕ). WritesText a c t r) (sym (lines-text n))
-      (writes-then a b c (text_of_lines (sums_before v p energies n)) (note_text (names p) n) r ((w []).wrote) own)
+  own-after a b c n t r is w x =
+      subst (λ (u : List ℕ). WritesText a c u r)
+      (ap (λ (u : List ℕ). text_of_lines (sums_before v p energies n) ++ u) is ∙ sym (lines-text n))
+      (writes-then a b c (text_of_lines (sums_before v p energies n)) t r w x)
 
   -- the text of the lines of some notes
   abbrev pub text : List Note → List ℕ
@@ -153,21 +136,20 @@ module _ (v : Version) (p : Plan) (t : TraceView) where
       (each i (omega (arith, lt, few)) (subst (λ (ns : List Note). task_energy ns i < 2 ^ 128) (sym same) below))
 
   -- the head was put in part
-  pub head-part : (a b : SinkView) (lines : List NotedLine) → lines ≡ head → ((ps : List ProbeView) → StoppedIn a b ps ps lines)
-      → WroteSome a b whole
+  pub head-part : (a b : SinkView) (lines : List NotedLine) → lines ≡ head → WroteSome a b (text_of_lines lines) → WroteSome a b whole
   head-part a b lines is s =
       subst (λ (x : List ℕ). WroteSome a b x)
       (ap (λ (ls : List NotedLine). text_of_lines ls ++ text_of_lines rest) is ∙ sym (text-append head rest))
-      (wrote-some-more a b (text_of_lines lines) (text_of_lines rest) (stopped-some a b [] [] lines (s [])))
+      (wrote-some-more a b (text_of_lines lines) (text_of_lines rest) s)
 
   -- the head was put, and then the lines of the notes as the result says
   pub whole-put : {T E : Type 0} (a b c : SinkView) (lines : List NotedLine) (notes : List Note) (energies : List ℕ) (r : Result T E)
       → lines ≡ head → notes ≡ t.notes
       → (has_task_lines v ≡ true → (i : ℕ) → i < count p → slice_index energies i ≡ task_energy t.notes i)
-      → ((ps : List ProbeView) → WroteLines a b ps ps lines) → WritesText b c (text v p energies notes) r → WritesText a c whole r
+      → Wrote a b (text_of_lines lines) → WritesText b c (text v p energies notes) r → WritesText a c whole r
   whole-put a b c lines notes energies r is same each w x =
       let among = lines-among v p energies t.notes (sums-are v p energies t.notes each) t.notes in
       let tail : text v p energies notes ≡ text_of_lines rest = ap (text v p energies) same ∙ ap text_of_lines among in
       subst (λ (y : List ℕ). WritesText a c y r)
       (ap₂ (λ (y z : List ℕ). y ++ z) (ap text_of_lines is) tail ∙ sym (text-append head rest))
-      (writes-then a b c (text_of_lines lines) (text v p energies notes) r ((w []).wrote) x)
+      (writes-then a b c (text_of_lines lines) (text v p energies notes) r w x)

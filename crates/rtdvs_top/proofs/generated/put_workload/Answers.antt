@@ -2,7 +2,7 @@ use Rattle.std.proofs.Common.{◌≡◌, ◌++◌, ℕ, ap, sym}
 use Rattle.dvs_base.proofs.TextPuts.{wrote-some-more, wrote-then-some, writes-then, writes-part}
 use Rattle.rtdvs_top.specs.Generated.{head_text, edf_text, workload_totals, workload_text}
 use Rattle.rtdvs_top.specs.declared.prepared.EdfTotals.{EdfTotals}
-use Rattle.rtdvs_top.proofs.generated.put_made.Goals as goal
+use Rattle.rtdvs_top.proofs.generated.put_workload.Goals as goal
 
 -- the text of a workload is its first line and the lines of its totals
 all-lines : (seed n ticks : ℕ) (t : EdfTotals) → t ≡ workload_totals seed n ticks

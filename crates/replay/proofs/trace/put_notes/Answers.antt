@@ -1,6 +1,6 @@
 use Rattle.dvs_base.proofs.TextPuts.{writes-part}
-use Rattle.trace_writer.proofs.TracePuts.{next-note, part-note}
-use Rattle.trace_writer.proofs.trace.put_notes.Goals as goal
+use Rattle.replay.proofs.TracePuts.{next-note, part-note}
+use Rattle.replay.proofs.trace.put_notes.Goals as goal
 
 pub loop-note-preserved : goal.loop-note-preserved
 loop-note-preserved g c =

@@ -8,7 +8,7 @@ use Rattle.rtdvs_top.specs.Generated.{workload_plan}
 use Rattle.workload.specs.Draws.{first_state}
 use Rattle.workload.specs.Workload.{made_machine}
 use Rattle.workload.proofs.MadeTasks.{few-released}
-use Rattle.rtdvs_top.proofs.generated.made_plan.Goals as goal
+use Rattle.rtdvs_top.proofs.generated.workload_plan.Goals as goal
 
 pub returns-in-Ok-clause-jobs : goal.returns-in-Ok-clause-jobs
 returns-in-Ok-clause-jobs c =

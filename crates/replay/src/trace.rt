@@ -5,12 +5,14 @@ ghost use Rattle.sched_model.specs.Plan.{count, names};
 ghost use Rattle.trace_writer.specs.RunText.{task_texts};
 ghost use Rattle.trace_text.specs.TraceText.{text_of_lines};
 ghost use Rattle.trace_reader.specs.Traces.{IsTrace, text_of};
-ghost use Rattle.trace_writer.specs.UnnotedLines.{WritesUnnoted, sums_before, lines_with};
+ghost use Rattle.trace_writer.specs.UnnotedLines.{WritesUnnoted};
+ghost use Rattle.replay.specs.NotePuts.{sums_before, lines_with};
 
-use crate::write::{Head, put_head, put_note, put_sums};
-use dvs_base::{Failed, Line, Note, Sink, Version};
+use dvs_base::{Failed, Line, Note, Sink, Version, put_line};
 use sched_model::Admitted;
 use trace_reader::{Trace, task_energies};
+use trace_text::write_note;
+use trace_writer::{Head, put_head, put_sums};
 
 // Puts the lines before that of a note: those of the energies of the tasks before the end of the run, otherwise nothing.
 fn put_sums_before<W: Sink>(
@@ -42,7 +44,9 @@ fn put_lines<W: Sink>(
         (text_of_lines (lines_with head.entry.version head.entry.plan.now energies.now note.now)) result }
 {
     put_sums_before(head, energies, note, out)?;
-    put_note(note, head.plan.names(), line, out)
+    line.clear();
+    write_note(line, note, head.plan.names());
+    put_line(line, out)
 }
 
 // Puts the lines of notes, by the energies of the tasks.

@@ -4,8 +4,9 @@ use Rattle.dvs_base.proofs.TextPuts.{writes-part}
 use Rattle.trace_writer.specs.RunText.{task_texts}
 use Rattle.trace_text.specs.TraceText.{head_lines}
 use Rattle.trace_reader.specs.Traces.{TraceView}
-use Rattle.trace_writer.proofs.TracePuts.{energies-are, head-part, whole-put}
-use Rattle.trace_writer.proofs.trace.put_trace.Goals as goal
+use Rattle.trace_writer.proofs.WrittenLines.{unnoted-whole, unnoted-part}
+use Rattle.replay.proofs.TracePuts.{energies-are, head-part, whole-put}
+use Rattle.replay.proofs.trace.put_trace.Goals as goal
 
 pub returns-in_err-put_head : goal.returns-in_err-put_head
 returns-in_err-put_head g c =
@@ -15,7 +16,7 @@ returns-in_err-put_head g c =
     let heads =
     ap (λ (x : TraceView). head_lines v p.scheduler x.plan.governor x.plan.ticks (task_texts p)) c.trace.view_is
     ∙ ap (λ (s : Scheduler). head_lines v s t.plan.governor t.plan.ticks (task_texts p)) (sym c.requires.scheduler) in
-    writes-part _ _ _ c.from_residual.result c.from_residual.ensures.0 (head-part v p t _ _ _ heads c.in_err-put_head.ensures)
+    writes-part _ _ _ c.from_residual.result c.from_residual.ensures.0 (head-part v p t _ _ _ heads (unnoted-part c.in_err-put_head.ensures))
 
 pub returns : goal.returns
 returns g c =
@@ -28,5 +29,5 @@ returns g c =
     let notes = ap (λ (x : TraceView). x.notes) c.trace.view_is in
     let energies = energies-are v p t _ _ (c.deref.ensures.value ∙ notes) c.scheduler-admitted.ensures.admitted.limits.tasks.few
     c.requires.trace.shares c.task_energies-energies.ensures in
-    whole-put v p t _ _ _ _ _ _ c.put_notes.result heads (c.deref-2.ensures.value ∙ notes) energies c.in_ok-put_head.ensures
-    c.put_notes.ensures
+    whole-put v p t _ _ _ _ _ _ c.put_notes.result heads (c.deref-2.ensures.value ∙ notes) energies
+    (unnoted-whole c.in_ok-put_head.ensures) c.put_notes.ensures

@@ -2,8 +2,8 @@ use Rattle.std.proofs.Common.{take}
 use Rattle.std.specs.Prelude.{flat_map}
 use Rattle.dvs_base.specs.WritesText.{Wrote}
 use Rattle.trace_text.specs.TraceText.{text_of_lines}
-use Rattle.trace_writer.specs.UnnotedLines.{lines_with}
-use Rattle.trace_writer.proofs.trace.put_notes.Given as goal
+use Rattle.replay.specs.NotePuts.{lines_with}
+use Rattle.replay.proofs.trace.put_notes.Given as goal
 
 abbrev pub invariant-loop-note : goal.invariant-loop-note
 invariant-loop-note g l =

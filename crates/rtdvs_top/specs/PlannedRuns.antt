@@ -23,10 +23,6 @@ prepared_of r tasks files = do
   p ← admission (plan_of tasks machine r.scheduler)
   Ok (p, demands)
 
--- the run of a plan and demands that the words of a run ask for
-abbrev pub run_with : RunView → Plan → DemandsView → Run
-run_with r p d = record { plan = p; demands = d; ticks = r.ticks }
-
 -- the demands of a run are those of its plan's tasks, and its number of ticks is within the limits
 pub record IsRunnable (r : Run) : Type 0 where
   pub list : IsListOf r.plan r.demands
