@@ -5,7 +5,7 @@ use Rattle.trace_writer.specs.RunText.{task_texts}
 use Rattle.trace_writer.proofs.WrittenLines.{writes-then, lines-as, lines-some-more, stopped-exit, writes-sure, writes-later, writes-rose}
 use Rattle.event_kernel.specs.Runs.{notes_of_run}
 use Rattle.event_kernel.proofs.MetRuns.{met-as}
-use Rattle.event_kernel.proofs.Wholes.{run-lines}
+use Rattle.event_kernel.proofs.RunLines.{run-lines}
 use Rattle.event_kernel.proofs.kernel.Kernel.run.Goals as goal
 
 pub returns-clause-wrote : goal.returns-clause-wrote
@@ -55,11 +55,11 @@ returns-in_err-put_head-clause-rose g c =
 
 pub returns-clause-lines : goal.returns-clause-lines
 returns-clause-lines g c =
-    run-lines g.G.Governor.demand c.args.self c.args.version g.G.Governor.the_kind c.self.view_is c.self.invariant.setting.admitted
+    run-lines g.G.Governor.demand c.args.self c.args.version g.G.Governor.the_kind c.self.view_is c.self.inside.set.sound.limits
 
 pub returns-in_err-put_head-clause-lines : goal.returns-in_err-put_head-clause-lines
 returns-in_err-put_head-clause-lines g c =
-    run-lines g.G.Governor.demand c.args.self c.args.version g.G.Governor.the_kind c.self.view_is c.self.invariant.setting.admitted
+    run-lines g.G.Governor.demand c.args.self c.args.version g.G.Governor.the_kind c.self.view_is c.self.inside.set.sound.limits
 
 pub returns-clause-deadlines : goal.returns-clause-deadlines
 returns-clause-deadlines g c = (met-as c.self.view_is (c.self.invariant.met c.self.inside.set.ticks)).deadlines
