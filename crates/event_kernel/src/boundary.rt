@@ -53,7 +53,6 @@ fn decide<G: Governor>(
 impl<G: Governor> Progress<G> {
     // Releases a task's next job, and completes it if its demand is 0.
     fn release_one(&mut self, set: &Setting<'_>, task: u32)
-        requires of { IsOfPlan set.now.plan.now self.old.state }
         requires past { NonePast set.now.plan.now self.old.state }
         requires due { IsFirstDue set.now.plan.now self.old.state task }
         requires can { CanRelease set.now.plan.now self.old.state task }
@@ -62,7 +61,6 @@ impl<G: Governor> Progress<G> {
             (opening_notes (demands_of set.now.plan.now set.now.demands.now) self.old.state task) }
         ensures state { self.new.state ≡ with_next_job set.now.plan.now self.old.state task
             (needs_nothing (demands_of set.now.plan.now set.now.demands.now) self.old.state task) }
-        ensures of { IsOfPlan set.now.plan.now self.new.state }
         ensures current { IsCurrent G.stands set.now self.new }
     {
         let state = &self.state;

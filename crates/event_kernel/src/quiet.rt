@@ -1,6 +1,6 @@
 // The ticks of a span before its last one.
 ghost use Rattle.std.specs.Prelude.{◌≡◌, ◌≤◌, IfSome};
-ghost use Rattle.sched_model.specs.States.{CanRun, IsOfPlan};
+ghost use Rattle.sched_model.specs.States.{CanRun};
 ghost use Rattle.event_kernel.specs.Segment.{IsFirst};
 ghost use Rattle.event_kernel.specs.Current.{IsCurrent};
 ghost use Rattle.event_kernel.specs.Tickwork.{gives};
@@ -32,7 +32,6 @@ impl<G: Governor> Progress<G> {
 
     // Runs `units` of the first incomplete job, which stays incomplete; if there is none, nothing changes.
     fn serve_first(&mut self, set: &Setting<'_>, first: Option<u32>, units: u64)
-        requires of { IsOfPlan set.now.plan.now self.old.state }
         requires can { IfSome first (λ i. CanRun self.old.state i units) }
         requires first { IsFirst set.now.plan.now self.old.state first }
         requires current { IsCurrent G.stands set.now self.old }

@@ -1,7 +1,7 @@
 // The work of one tick.
 ghost use Rattle.std.specs.Prelude.{◌≡◌};
 ghost use Rattle.sched_model.specs.Plan.{count};
-ghost use Rattle.sched_model.specs.States.{CanRun, IsOfPlan};
+ghost use Rattle.sched_model.specs.States.{CanRun};
 ghost use Rattle.agenda.specs.Agenda.{IsFirstUndone};
 ghost use Rattle.event_kernel.specs.Current.{IsCurrent};
 ghost use Rattle.event_kernel.specs.Tickwork.{after_service};
@@ -16,13 +16,11 @@ use governor::Governor;
 impl<G: Governor> Progress<G> {
     /// Runs `units` of the first incomplete job, and completes it if `ends`. The governor and the agenda hear of it.
     pub(crate) fn serve(&mut self, set: &Setting<'_>, task: u32, units: u64, ends: bool)
-        requires of { IsOfPlan set.now.plan.now self.old.state }
         requires can { CanRun self.old.state task units }
         requires first { IsFirstUndone set.now.plan.now self.old.state (count set.now.plan.now) task }
         requires current { IsCurrent G.stands set.now self.old }
         ensures state { self.new.state ≡ after_service self.old.state task units ends }
         ensures current { IsCurrent G.stands set.now self.new }
-        ensures of { IsOfPlan set.now.plan.now self.new.state }
         ensures trace { self.new.trace ≡ self.old.trace }
     {
         self.governor.ran(set.plan, &self.state, task, units);

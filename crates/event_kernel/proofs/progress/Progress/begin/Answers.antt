@@ -1,7 +1,7 @@
 use Rattle.std.proofs.Common.{◌≡◌, ◌++◌, arith, sym, subst, List, [], ◌∷◌, ap, ap₂, ◌∙◌}
 use Rattle.dvs_base.specs.declared.note.Note.{Note}
 use Rattle.sched_model.specs.Notes.{all_release_notes}
-use Rattle.sched_model.specs.States.{IsOfPlan, StateView}
+use Rattle.sched_model.specs.States.{StateView}
 use Rattle.governor.specs.Schedule.{course}
 use Rattle.governor.specs.Steps.{IsAtDecision}
 use Rattle.event_kernel.specs.declared.span_trace.SpanTrace.{SpanTrace}
@@ -12,8 +12,6 @@ use Rattle.event_kernel.specs.Runs.{demands_of}
 use Rattle.event_kernel.proofs.PlanBounds.{bounds}
 use Rattle.event_kernel.proofs.DecisionStates.{at-decision}
 use Rattle.event_kernel.proofs.SpanBuffer.{kept_notes-append}
-use Rattle.event_kernel.proofs.StatesOfPlan.{of-state}
-use Rattle.event_kernel.proofs.Courses.{low-exec}
 use Rattle.event_kernel.proofs.SpanSteps.{at-boundary, begins-span}
 use Rattle.event_kernel.proofs.progress.Progress.begin.Goals as goal
 
@@ -28,15 +26,6 @@ decide-requires-clause-decision g c =
     let dem = demands_of c.args.set.now.plan.now c.args.set.now.demands.now in
     subst (λ (s : StateView). IsAtDecision p s) (sym c.release_all.ensures.state)
     (at-decision p (bounds p c.args.set.now.sound.limits) dem (course g.G.Governor.demand p dem c.args.self.now.state.now))
-
-pub decide-requires-clause-of : goal.decide-requires-clause-of
-decide-requires-clause-of g c =
-    let m = g.G.Governor.demand in
-    let p = c.args.set.now.plan.now in
-    let dem = demands_of c.args.set.now.plan.now c.args.set.now.demands.now in
-    let t = c.args.self.now.state.now in
-    subst (λ (s : StateView). IsOfPlan p s) (sym c.release_all.ensures.state)
-    (of-state p dem (course m p dem t) (low-exec m p dem t c.args.set.now.sound.within))
 
 pub returns-clause-begun : goal.returns-clause-begun
 returns-clause-begun g c =

@@ -4,7 +4,7 @@ use Rattle.sched_model.specs.States.{StateView}
 use Rattle.event_kernel.specs.Segment.{IsFirst}
 use Rattle.event_kernel.specs.Settings.{AreQuiet}
 use Rattle.event_kernel.proofs.UnitLoop.{some-speed}
-use Rattle.event_kernel.proofs.QuietTicks.{of-plan, first-event, needs, quiet-held, quiet-idle}
+use Rattle.event_kernel.proofs.QuietTicks.{first-event, needs, quiet-held, quiet-idle}
 use Rattle.event_kernel.proofs.progress.Progress.quiet_ticks.Goals as goal
 
 pub overflow_sub-most : goal.overflow_sub-most
@@ -22,7 +22,7 @@ overflow_sub-most-2 g c =
     )
 
 pub lacking-requires-clause-rows : goal.lacking-requires-clause-rows
-lacking-requires-clause-rows g c = (of-plan c.requires.at).rows
+lacking-requires-clause-rows g c = c.requires.current.of.rows
 
 pub lacking-requires-clause-within : goal.lacking-requires-clause-within
 lacking-requires-clause-within g c =

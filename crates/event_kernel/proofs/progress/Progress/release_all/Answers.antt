@@ -3,7 +3,7 @@ use Rattle.sched_model.specs.Plan.{Plan, count}
 use Rattle.sched_model.proofs.Limits.{every_period}
 use Rattle.sched_model.specs.Jobs.{JobDemands}
 use Rattle.sched_model.specs.Ticks.{Tick}
-use Rattle.sched_model.specs.States.{StateView, row_at, after_mark, CanRelease, IsOfPlan}
+use Rattle.sched_model.specs.States.{StateView, row_at, row_wleft, after_mark, CanRelease, IsOfPlan}
 use Rattle.sched_model.specs.Notes.{all_release_notes}
 use Rattle.governor.specs.Meanings.{OwnDemand}
 use Rattle.governor.specs.Schedule.{course}
@@ -18,7 +18,7 @@ use Rattle.event_kernel.specs.Settings.{IsAtBoundary, state_at}
 use Rattle.event_kernel.proofs.PlanBounds.{bounds}
 use Rattle.event_kernel.proofs.Courses.{low-exec, course-len}
 use Rattle.event_kernel.proofs.SpanBuffer.{with-none}
-use Rattle.event_kernel.proofs.StatesOfPlan.{of-prior}
+use Rattle.std.proofs.lemmas.List.{length-map}
 use Rattle.event_kernel.proofs.BoundaryReleases.{HasReleased, notes_upto, releasing-start, none-past, at-due, at-end, opens, opens-trace, can-release, released-marked, released-unmarked, prior-done}
 use Rattle.event_kernel.proofs.progress.Progress.release_all.Goals as goal
 
@@ -73,7 +73,6 @@ loop-task-init g c =
       within = omega arith;
       so_far = subst (λ (s : StateView). HasReleased p dem past 0 false s) (sym here.state) (releasing-start p dem past);
       current = c.requires.current;
-      of = subst (λ (s : StateView). IsOfPlan p s) (sym here.state) (of-prior p dem past (low-exec m p dem t c.args.set.now.sound.within));
       trace = with-none c.args.self.now.trace c.requires.none;
     }
 
@@ -97,7 +96,6 @@ loop-task-preserved g c =
       within = omega (arith, d.below);
       so_far = opens periods here.0 d.below d.due c.release_one.new.self.state w.state;
       current = w.current;
-      of = w.of;
       trace = opens-trace periods here.0 d.below d.due c.args.self.now.trace
           (i.trace ∙ ap (λ ns. with_notes c.args.self.now.trace ns) here.1) w.trace;
     }
@@ -106,7 +104,7 @@ pub loop-task-smaller : goal.loop-task-smaller
 loop-task-smaller g c =
     let p = c.args.set.now.plan.now in
     let d = c.in-Some.ensures.due in
-    let long = c.loop-task.invariant.of in
+    let long = c.loop-task.invariant.current.of in
     subst (λ (s : StateView). due_left p s < due_left p c.loop-task.self.state) (sym c.release_one.ensures.state)
     (due-falls p c.loop-task.self.state c.in-Some.task _ (omega (arith, d.below, long.rows))
     (every_period p c.args.set.now.sound.limits c.in-Some.task) d)
@@ -130,6 +128,8 @@ returns-else-any-clause-state g c =
 pub returns-then-any-clause-current : goal.returns-then-any-clause-current
 returns-then-any-clause-current g c =
     record {
+      of = (let o = c.loop-task.invariant.current.of in subst (IsOfPlan c.args.set.now.plan.now) (sym c.mark.ensures.marked)
+          (record { rows = o.rows; base = length-map _ row_wleft ∙ o.rows; worst = o.worst; used = o.used }));
       counters = search rules;
       agenda = c.mark.ensures.stand;
       demands = c.loop-task.invariant.current.demands ∙ ap (λ (s : StateView). latest_demands c.args.set.now s) (sym c.mark.ensures.marked);

@@ -3,7 +3,7 @@ use Rattle.std.specs.Prelude.{Option}
 use Rattle.sched_model.specs.States.{after_advance, StateView}
 use Rattle.event_kernel.specs.Segment.{after_units, holder_at, IsFirst}
 use Rattle.event_kernel.specs.Tickwork.{gives}
-use Rattle.event_kernel.proofs.QuietTicks.{is-first, of-plan, can-enter-quiet, can-run-first}
+use Rattle.event_kernel.proofs.QuietTicks.{is-first, can-enter-quiet, can-run-first}
 use Rattle.event_kernel.proofs.QuietStep.{stays}
 use Rattle.event_kernel.proofs.progress.Progress.stay.Given.{Over}
 use Rattle.event_kernel.proofs.progress.Progress.stay.Goals as goal
@@ -13,9 +13,6 @@ overflow_mul-units g c = omega (arith, (can-enter-quiet c.requires.at c.quiet_ti
 
 pub enter-requires : goal.enter-requires
 enter-requires g c = can-enter-quiet c.requires.at c.quiet_ticks-quiet.ensures
-
-pub serve_first-requires-clause-of : goal.serve_first-requires-clause-of
-serve_first-requires-clause-of g c = of-plan c.requires.at
 
 pub serve_first-requires-clause-can : goal.serve_first-requires-clause-can
 serve_first-requires-clause-can g c =

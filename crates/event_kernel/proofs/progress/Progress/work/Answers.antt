@@ -2,12 +2,11 @@ use Rattle.std.proofs.Common.{◌≡◌, ◌+◌, ◌<◌, min, arith, refl, ap,
 use Rattle.sched_model.specs.States.{after_advance}
 use Rattle.event_kernel.specs.Segment.{after_units}
 use Rattle.event_kernel.proofs.UnitLoop.{begin, can-enter, ready, turned, idle, finished}
-use Rattle.event_kernel.proofs.QuietTicks.{of-plan}
 use Rattle.event_kernel.proofs.progress.Progress.work.Goals as goal
 use Rattle.event_kernel.proofs.progress.Progress.work.Goals.{else-loop-rest-test, then-loop-rest-test+in_default}
 
 pub loop-rest-init : goal.loop-rest-init
-loop-rest-init g c = record { so_far = begin c.requires.at; current = c.requires.current; of = of-plan c.requires.at }
+loop-rest-init g c = record { so_far = begin c.requires.at; current = c.requires.current }
 
 pub lacking-lacks-requires-clause-within : goal.lacking-lacks-requires-clause-within
 lacking-lacks-requires-clause-within g c =
@@ -34,7 +33,6 @@ loop-rest-preserved g c =
           (c.serve.ensures.trace ∙ (c.enter.ensures ∙ ap
           (λ h. after_units c.args.set.now.plan.now c.loop-rest.self.state c.args.force h share c.loop-rest.self.trace) c.holder_of-holder.ensures));
       current = c.serve.ensures.current;
-      of = c.serve.ensures.of;
     }
 
 pub idle-requires : goal.idle-requires
@@ -52,4 +50,4 @@ returns-clause-worked g c =
 pub returns-clause-current : goal.returns-clause-current
 returns-clause-current g c =
     let i = c.loop-rest.invariant.current in
-    c.advance.ensures.current c.args.set.now (record { counters = i.counters; agenda = i.agenda; demands = i.demands })
+    c.advance.ensures.current c.args.set.now (record { of = i.of; counters = i.counters; agenda = i.agenda; demands = i.demands })
