@@ -1,6 +1,7 @@
 -- What the contracts of a run say: its setting, and how far the run is.
-use Rattle.std.specs.Prelude.{◌≡◌, ℕ, ◌+◌, ◌*◌, ◌<◌, ◌≤◌, Bool, true, Option, Some}
+use Rattle.std.specs.Prelude.{◌≡◌, ℕ, ◌+◌, ◌*◌, ◌<◌, ◌≤◌, Bool, true, List, ◌++◌, Option, Some}
 use Rattle.grid_fraction.specs.Numbers.{any_below}
+use Rattle.dvs_base.specs.declared.note.Note.{Note}
 use Rattle.dvs_base.specs.declared.limits.TheConstants.{MOST_TICKS}
 use Rattle.sched_model.specs.Plan.{Plan, count}
 use Rattle.sched_model.specs.Jobs.{JobDemands, latest}
@@ -15,7 +16,7 @@ use Rattle.event_kernel.specs.declared.in_force.InForce.{InForce}
 use Rattle.event_kernel.specs.declared.span_trace.SpanTrace.{SpanTrace}
 use Rattle.event_kernel.specs.Runs.{demands_of}
 use Rattle.event_kernel.specs.Segment.{force_of}
-use Rattle.event_kernel.specs.Tickwork.{had_at, span_at, tick_at, whole_span, most_units}
+use Rattle.event_kernel.specs.Tickwork.{had_at, span_at, tick_at, whole_span, notes_before, most_units}
 use Rattle.event_kernel.specs.SpanTraces.{HoldsSpan}
 
 module _ (set : Setting) where
@@ -36,6 +37,10 @@ module _ (set : Setting) where
     -- the state at the tick t of a governor's schedule, after its releases
     abbrev pub state_at : ℕ → StateView
     state_at t = state_of p dem (course demand p dem t)
+
+    -- these notes are those from one tick to another
+    abbrev pub AddsNotes : ℕ → ℕ → List Note → Type 0
+    AddsNotes from to notes = notes_before demand p dem to ≡ notes_before demand p dem from ++ notes
 
     -- every deadline before the tick t is met
     abbrev pub IsMetBy : ℕ → Type 0

@@ -1,11 +1,9 @@
 // A span: the ticks from one decision to the next.
-ghost use Rattle.std.specs.Prelude.{◌≡◌, ◌-◌, ◌<◌, ◌≤◌, ◌||◌, ◌++◌, nat_eq, length};
+ghost use Rattle.std.specs.Prelude.{◌≡◌, ◌-◌, ◌<◌, ◌≤◌, ◌||◌, nat_eq, length};
 ghost use Rattle.agenda.specs.Agenda.{NonePast};
 ghost use Rattle.event_kernel.specs.Current.{IsCurrent};
 ghost use Rattle.event_kernel.specs.Boundary.{some_due};
-ghost use Rattle.event_kernel.specs.Runs.{demands_of};
-ghost use Rattle.event_kernel.specs.Settings.{IsBetween, IsInSpan, HasWalked, IsMetBy};
-ghost use Rattle.event_kernel.specs.Tickwork.{notes_before};
+ghost use Rattle.event_kernel.specs.Settings.{IsBetween, IsInSpan, HasWalked, IsMetBy, AddsNotes};
 
 use crate::in_force::InForce;
 use crate::progress::{Progress, Setting};
@@ -66,9 +64,7 @@ impl<G: Governor> Progress<G> {
         ensures later { self.old.state.now < self.new.state.now }
         ensures limit { self.new.state.now ≤ set.now.ticks }
         ensures current { IsCurrent G.stands set.now self.new }
-        ensures notes { let jobs = demands_of set.now.plan.now set.now.demands.now in
-            notes_before G.demand set.now.plan.now jobs self.new.state.now
-            ≡ notes_before G.demand set.now.plan.now jobs self.old.state.now ++ self.new.trace.notes }
+        ensures notes { AddsNotes set.now G.demand self.old.state.now self.new.state.now self.new.trace.notes }
         ensures entry { result < length set.now.plan.now.machine.points }
     {
         let force = self.begin(set);

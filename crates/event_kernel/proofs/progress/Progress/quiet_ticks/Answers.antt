@@ -1,4 +1,4 @@
-use Rattle.std.proofs.Common.{ℕ, ◌-◌, ◌/◌, arith, ap, sym, subst}
+use Rattle.std.proofs.Common.{ℕ, ◌-◌, arith, ap, sym, subst}
 use Rattle.std.specs.Prelude.{Option}
 use Rattle.sched_model.specs.States.{StateView}
 use Rattle.event_kernel.specs.Segment.{IsFirst}

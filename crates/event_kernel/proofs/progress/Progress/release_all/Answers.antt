@@ -16,7 +16,7 @@ use Rattle.event_kernel.specs.Runs.{demands_of}
 use Rattle.event_kernel.specs.Segment.{with_notes}
 use Rattle.event_kernel.specs.Settings.{IsAtBoundary, state_at}
 use Rattle.event_kernel.proofs.PlanBounds.{bounds}
-use Rattle.event_kernel.proofs.Courses.{low-exec, course-len}
+use Rattle.event_kernel.proofs.Courses.{course-len}
 use Rattle.event_kernel.proofs.SpanBuffer.{with-none}
 use Rattle.std.proofs.lemmas.List.{length-map}
 use Rattle.event_kernel.proofs.BoundaryReleases.{HasReleased, notes_upto, releasing-start, none-past, at-due, at-end, opens, opens-trace, can-release, released-marked, released-unmarked, prior-done}

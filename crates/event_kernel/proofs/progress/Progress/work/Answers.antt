@@ -1,4 +1,4 @@
-use Rattle.std.proofs.Common.{◌≡◌, ◌+◌, ◌<◌, min, arith, refl, ap, ◌∙◌, inl, inr, nat_eq}
+use Rattle.std.proofs.Common.{◌+◌, ◌<◌, min, arith, refl, ap, ◌∙◌, inl, inr, nat_eq}
 use Rattle.sched_model.specs.States.{after_advance}
 use Rattle.event_kernel.specs.Segment.{after_units}
 use Rattle.event_kernel.proofs.UnitLoop.{begin, can-enter, ready, turned, idle, finished}
