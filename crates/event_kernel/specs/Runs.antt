@@ -1,13 +1,15 @@
 -- What a kernel runs, and the notes of the run.
-use Rattle.std.specs.Prelude.{ℕ, List, ◌≡◌, ◌<◌, true}
+use Rattle.std.specs.Prelude.{ℕ, List, ◌≡◌, ◌<◌, ◌≤◌, true}
 use Rattle.freq_table.specs.Tables.{lowest_pick}
 use Rattle.dvs_base.specs.declared.kind.GovernorKind.{GovernorKind}
 use Rattle.dvs_base.specs.declared.kind.Version.{Version}
+use Rattle.dvs_base.specs.declared.limits.TheConstants.{MOST_TICKS}
 use Rattle.dvs_base.specs.declared.note.Note.{Note}
 use Rattle.demand_list.specs.Demands.{DemandsView, HasWorstsOf}
 use Rattle.sched_model.specs.Plan.{Plan}
+use Rattle.sched_model.specs.Admission.{IsWithinLimits}
 use Rattle.sched_model.specs.Ticks.{Tick, IsMet}
-use Rattle.sched_model.specs.Jobs.{JobDemands, demand_of}
+use Rattle.sched_model.specs.Jobs.{JobDemands, demand_of, IsWithin}
 use Rattle.sched_model.specs.Decision.{is_decision}
 use Rattle.sched_model.specs.Notes.{notes_of}
 use Rattle.governor.specs.Meanings.{OwnDemand}
@@ -32,6 +34,13 @@ IsListOf p d = HasWorstsOf p.tasks d
 -- the demand of each job of a plan under a demand list
 abbrev pub demands_of : Plan → DemandsView → JobDemands
 demands_of p d = demand_of p d.rows
+
+-- the plan is within the limits, the list has its declared worst cases, no demand exceeds its worst case, the ticks are few
+pub record IsSound (r : Run) : Type 0 where
+  pub limits : IsWithinLimits r.plan
+  pub list : IsListOf r.plan r.demands
+  pub within : IsWithin r.plan (demands_of r.plan r.demands)
+  pub low_ticks : r.ticks ≤ MOST_TICKS
 
 -- the ticks of a governor's schedule of a run
 abbrev pub run_ticks : OwnDemand → Run → List Tick

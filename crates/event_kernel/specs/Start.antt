@@ -10,7 +10,6 @@ use Rattle.event_kernel.specs.declared.progress.Progress.{Progress}
 use Rattle.event_kernel.specs.Current.{IsCurrent}
 use Rattle.event_kernel.specs.MetRun.{IsMetRun}
 use Rattle.event_kernel.specs.Runs.{Run, run_for}
-use Rattle.event_kernel.specs.Settings.{IsSetting}
 use Rattle.event_kernel.specs.SpanNotes.{HasBooked}
 
 -- the run of a setting
@@ -20,8 +19,6 @@ run_of set = run_for set.plan.now set.demands.now set.ticks
 -- a governor's run is at its start
 pub record IsAtStart {G : Type 0} (stands : G → Plan → StateView → Type 0) (kind : GovernorKind) (demand : OwnDemand)
     (set : Setting) (progress : Progress G) (account : Books) : Type 0 where
-  -- its plan, its demands and its ticks are those of a run
-  pub setting : IsSetting set
   -- no job is released yet
   pub state : progress.state ≡ opening set.plan.now
   -- the governor's counters, the agenda and the demands of the latest jobs are right for that state

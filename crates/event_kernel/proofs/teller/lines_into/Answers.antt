@@ -13,7 +13,7 @@ use Rattle.trace_writer.specs.UnnotedLines.{sum_lines}
 use Rattle.event_kernel.specs.SpanNotes.{notes_before_end_of}
 use Rattle.event_kernel.proofs.RunAccount.{booked-tasks, booked-totals}
 use Rattle.event_kernel.proofs.Tellers.{heard-written, balked-written}
-use Rattle.event_kernel.proofs.Wholes.{told-lines, whole-lines, few-of}
+use Rattle.event_kernel.proofs.RunLines.{told-lines, whole-lines, few-of}
 use Rattle.trace_writer.proofs.WrittenLines.{writes-then, lines-then-some, lines-as, some-as, lines-some-more, stopped-exit}
 use Rattle.event_kernel.proofs.teller.lines_into.Goals as goal
 

@@ -3,7 +3,7 @@ use Rattle.dvs_base.specs.declared.kind.GovernorKind.{GovernorKind}
 use Rattle.trace_writer.proofs.WrittenLines.{lines-as, writes-sure, writes-later, writes-rose}
 use Rattle.event_kernel.specs.Runs.{lines_of_run}
 use Rattle.event_kernel.proofs.MetRuns.{met-as}
-use Rattle.event_kernel.proofs.Wholes.{run-lines}
+use Rattle.event_kernel.proofs.RunLines.{run-lines}
 use Rattle.event_kernel.proofs.kernel.Kernel.run.Goals as goal
 
 pub returns-clause-wrote : goal.returns-clause-wrote
@@ -23,7 +23,7 @@ returns-clause-rose g c = writes-rose _ _ _ c.lines_into.result (returns-clause-
 
 pub returns-clause-lines : goal.returns-clause-lines
 returns-clause-lines g c =
-    run-lines g.G.Governor.demand c.args.self c.args.version g.G.Governor.the_kind c.self.view_is c.self.invariant.setting.admitted
+    run-lines g.G.Governor.demand c.args.self c.args.version g.G.Governor.the_kind c.self.view_is c.self.inside.set.sound.limits
 
 pub returns-clause-deadlines : goal.returns-clause-deadlines
 returns-clause-deadlines g c = (met-as c.self.view_is (c.self.invariant.met c.self.inside.set.ticks)).deadlines

@@ -17,7 +17,7 @@ use Rattle.dvs_base.specs.NoteTasks.{energy_of_task}
 use Rattle.task_model.specs.declared.task.Task.{Task}
 use Rattle.sched_model.specs.Plan.{Plan, count, names, task, period, offset}
 use Rattle.sched_model.specs.Jobs.{released_jobs}
-use Rattle.sched_model.specs.Admission.{IsAdmitted}
+use Rattle.sched_model.specs.Admission.{IsAdmitted, IsWithinLimits}
 use Rattle.sched_model.specs.Totals.{totals_of}
 use Rattle.sched_model.specs.Notes.{run_energy_told, idle_energy_told}
 use Rattle.grid_fraction.proofs.Tables.{get-table, length-list_below}
@@ -90,14 +90,14 @@ module _ (demand : OwnDemand) (r : RunView) (v : Version) where
       more i = omega (arith, sum_by-append (energy_of_task i) before (end ∷ []), sum_by-cons (energy_of_task i) end [])
 
   -- the lines of all notes: those before the `End`, the energies, and the `End`
-  all-lines : IsAdmitted r.plan → map (line_of_note (names r.plan)) before ++ (sum_lines v r.plan energies ++ line_of_note (names r.plan) end ∷ [])
+  all-lines : IsWithinLimits r.plan → map (line_of_note (names r.plan)) before ++ (sum_lines v r.plan energies ++ line_of_note (names r.plan) end ∷ [])
       ≡ note_lines v (names r.plan) (notes_of_run demand r)
-  all-lines adm =
+  all-lines limits =
       let ns : List (List ℕ) = names r.plan in
       let all : List Note = notes_of_run demand r in
       sym (flat_map-append (lines_of_note v ns all) before (end ∷ [])
       ∙ ap₂ (λ (x y : List NotedLine). x ++ y)
-      (own-lines v ns r.plan all before (course-fits demand r.plan (demands_of r.plan r.demands) adm (λ i. refl) r.ticks).each)
+      (own-lines v ns r.plan all before (course-fits demand r.plan (demands_of r.plan r.demands) limits (λ i. refl) r.ticks).each)
       (append-nil (lines_of_note v ns all end) ∙ ap (λ (ls : List NotedLine). ls ++ line_of_note ns end ∷ []) (sym same-sums)))
 
   -- the lines of all notes, from a teller's names, its plan, its ticks, its energies and its totals
@@ -109,7 +109,7 @@ module _ (demand : OwnDemand) (r : RunView) (v : Version) where
       let whole : ticks ≡ length (run_ticks demand r) = et ∙ sym (course-len demand r.plan (demands_of r.plan r.demands) r.ticks) in
       let own : ns ≡ names r.plan = en ∙ ap names ep in
       (λ j. map (line_of_note (own j)) before ++ (sum_lines v (ep j) (ee j) ++ line_of_note (names (ep j)) (End (whole j) ((to j).run) ((to j).idle)) ∷ []))
-      ∙ all-lines (subst (λ (q : Plan). IsAdmitted q) ep adm)
+      ∙ all-lines (subst (λ (q : Plan). IsAdmitted q) ep adm).limits
 
   -- the lines of a run, from the plan, the governor and the ticks of its head, and the lines of its notes
   pub whole-lines : (g : GovernorKind) {p : Plan} {ticks : ℕ} {lines : List NotedLine} → p ≡ r.plan → ticks ≡ r.ticks
@@ -118,17 +118,17 @@ module _ (demand : OwnDemand) (r : RunView) (v : Version) where
   whole-lines g is whole notes j = head_lines v ((is j).scheduler) g (whole j) (task_texts (is j)) ++ notes j
 
   -- a run of few jobs has a trace of few lines
-  pub run-lines : (g : GovernorKind) {a : RunView} → a ≡ r → IsAdmitted a.plan
+  pub run-lines : (g : GovernorKind) {a : RunView} → a ≡ r → IsWithinLimits a.plan
       → length (lines_of_run v g demand r) ≤ most_lines v r.plan r.ticks
-  run-lines g is admitted =
-      let adm : IsAdmitted r.plan = subst (λ (x : RunView). IsAdmitted x.plan) is admitted in
+  run-lines g is low =
+      let limits : IsWithinLimits r.plan = subst (λ (x : RunView). IsWithinLimits x.plan) is low in
       let dem = demands_of r.plan r.demands in
       let ns : List (List ℕ) = names r.plan in
       let sums : List NotedLine = sum_lines v r.plan energies in
       let notes : length before + 1 ≤ 7 * released_jobs r.plan r.ticks + 3 =
       omega (
         arith,
-        has-few-notes r.plan adm.limits dem (λ i. refl) (ask_of demand r.plan dem) (run_ticks demand r) (course-legal demand r.plan dem r.ticks),
+        has-few-notes r.plan limits dem (λ i. refl) (ask_of demand r.plan dem) (run_ticks demand r) (course-legal demand r.plan dem r.ticks),
         length-append before (end ∷ []),
         ap (released_jobs r.plan) (course-len demand r.plan dem r.ticks),
       ) in
@@ -136,7 +136,7 @@ module _ (demand : OwnDemand) (r : RunView) (v : Version) where
         arith,
         few-lines v r.plan energies (length before + 1) r.ticks notes,
         length-append (head_lines v r.plan.scheduler g r.ticks (task_texts r.plan)) (note_lines v ns (notes_of_run demand r)),
-        ap (λ (ls : List NotedLine). length ls) (all-lines adm),
+        ap (λ (ls : List NotedLine). length ls) (all-lines limits),
         length-append (map (line_of_note ns) before) (sums ++ line_of_note ns end ∷ []),
         length-append sums (line_of_note ns end ∷ []),
         length-map before (line_of_note ns),
