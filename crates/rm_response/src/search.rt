@@ -124,8 +124,8 @@ fn later_nodes(nodes: &[Relaxed]) -> &[Relaxed]
 }
 
 // One of the ticks of the span into which `rest` units fit beside the work of the loads, if any. Unless the ends of the
-// span or the loads of the first node decide, the first load is taken away: as many of its jobs count as begin in the
-// last of the ticks or, up to its release before that, as begin up to there.
+// span decide, the first load is taken away: as many of its jobs count as begin in the last of the ticks or, up to its
+// release before that, as begin up to there. If it has a release in the span, the first node can refuse before that.
 pub(crate) fn fitting(
     supply: Supply,
     loads: &[Load],
@@ -155,13 +155,14 @@ pub(crate) fn fitting(
     };
     let last = span.last;
     let left = Span { first, last };
-    if let Some((node, _)) = nodes.split_first()
+    let release = (last - 1) / load.period * load.period;
+    if release >= first
+        && let Some((node, _)) = nodes.split_first()
         && node.count > 0
         && fitting(node.supply, node.heavy(), rest, left, &[]).is_none()
     {
         return None;
     }
-    let release = (last - 1) / load.period * load.period;
     let begun = Span {
         first: first.max(release + 1),
         last,
