@@ -1,5 +1,5 @@
 // The search for ticks into which work fits beside loads (after Bini and Buttazzo 2004).
-ghost use Rattle.std.specs.Prelude.{◌≡◌, ◌≤◌, ◌+◌, ◌^◌, IsTrue, IsFalse, length, drop, All};
+ghost use Rattle.std.specs.Prelude.{◌≡◌, ◌≤◌, ◌+◌, ◌^◌, IsTrue, IsFalse, length, All};
 ghost use Rattle.dvs_base.specs.Widths.{u64_end};
 ghost use Rattle.dvs_base.specs.declared.limits.TheConstants.{MOST_TASKS};
 ghost use Rattle.task_model.specs.declared.limits.TheConstants.{LONGEST_PERIOD};
@@ -113,19 +113,9 @@ fn ends_of(supply: Supply, loads: &[Load], rest: u128, span: Span) -> Ends
     Ends::From(first)
 }
 
-// The nodes for the loads after the first.
-fn later_nodes(nodes: &[Relaxed]) -> &[Relaxed]
-    ensures { result.now ≡ drop 1 nodes.now }
-{
-    let Some((_, later)) = nodes.split_first() else {
-        return nodes;
-    };
-    later
-}
-
 // One of the ticks of the span into which `rest` units fit beside the work of the loads, if any. Unless the ends of the
 // span decide, the first load is taken away: as many of its jobs count as begin in the last of the ticks or, up to its
-// release before that, as begin up to there. If it has a release in the span, the first node can refuse before that.
+// release before that, as begin up to there. If it has a release in the span, the node for the loads can refuse first.
 pub(crate) fn fitting(
     supply: Supply,
     loads: &[Load],
@@ -157,7 +147,7 @@ pub(crate) fn fitting(
     let left = Span { first, last };
     let release = (last - 1) / load.period * load.period;
     if release >= first
-        && let Some((node, _)) = nodes.split_first()
+        && let Some(node) = nodes.get(loads.len())
         && node.count > 0
         && fitting(node.supply, node.heavy(), rest, left, &[]).is_none()
     {
@@ -167,8 +157,7 @@ pub(crate) fn fitting(
         first: first.max(release + 1),
         last,
     };
-    let later = later_nodes(nodes);
-    let found = fitting(supply, others, rest + held(*load, last), begun, later);
+    let found = fitting(supply, others, rest + held(*load, last), begun, nodes);
     if found.is_some() || release < first {
         return found;
     }
@@ -176,7 +165,7 @@ pub(crate) fn fitting(
         first,
         last: release,
     };
-    fitting(supply, others, rest + held(*load, release), ended, later)
+    fitting(supply, others, rest + held(*load, release), ended, nodes)
 }
 
 // The first of the ticks of the span into which `rest` units fit beside the work of the loads; one more than the last
