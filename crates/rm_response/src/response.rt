@@ -26,7 +26,7 @@ use std::marker::Model;
 use task_model::TaskSet;
 
 // The most times that the first ticks are raised for one task before the ticks up to the task's period are halved.
-const MOST_STEPS: u32 = 1000;
+const MOST_STEPS: u32 = 250;
 
 /// The response of each task in ticks, in file order: the least tick at which its first job is complete under RM at
 /// the highest speed when all jobs have their worst cases.

@@ -90,16 +90,23 @@ pub(crate) fn raised(supply: Supply, loads: &[Load], rest: u128, span: Span, ste
     first
 }
 
-// What the ends of the span decide.
+// What the ends of the span decide. They are looked at only if the first load has a release in the span: otherwise it can
+// be taken away in one way only, at less cost.
 fn ends_of(supply: Supply, loads: &[Load], rest: u128, span: Span) -> Ends
     requires supply { IsSupply supply }
     requires few { length loads.now ≤ MOST_TASKS }
     requires each { All IsLoad loads.now }
     requires low_rest { rest ≤ u64_end }
+    requires some_ticks { 1 ≤ span.first }
     requires in_span { span.first ≤ span.last }
     requires low_ticks { span.last ≤ LONGEST_PERIOD }
     ensures { EndsDecide supply loads.now rest span.first span.last result }
 {
+    if let Some((load, _)) = loads.split_first()
+        && (span.last - 1) / load.period * load.period < span.first
+    {
+        return Ends::From(span.first);
+    }
     if fits(supply, loads, rest, span.last) {
         return Ends::Fit(span.last);
     }
