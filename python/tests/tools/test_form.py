@@ -55,7 +55,7 @@ def passes(form: ModuleType, count: str, monkeypatch: pytest.MonkeyPatch) -> boo
     """Whether the script ends with 0 where it has this count, with no place allowed and nothing to look at asked for."""
     monkeypatch.setattr(form, "COUNTS", {count: replace(form.COUNTS[count], most=0, floor=0)})
     monkeypatch.setattr("sys.argv", ["form.py"])
-    return form.main() == 0
+    return bool(form.main() == 0)
 
 
 @pytest.mark.parametrize(("count", "path", "text"), BREACHES)
