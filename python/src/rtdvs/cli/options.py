@@ -21,7 +21,7 @@ from rtdvs._files import write_whole
 from rtdvs._numbers import whole
 from rtdvs.engine import Engine, TryEngine, find_engine, stop_calls
 from rtdvs.errors import BadValue, Denied, TraceFault, WordFault
-from rtdvs.model import MOST_TICKS, Demands, Machine, TaskSet, load
+from rtdvs.model import MOST_TICKS, Demands, Governor, Machine, Scheduler, TaskSet, load
 from rtdvs.trace import Done, Noted, Trace, TraceFile, lines_of, split_governor
 
 Commands: TypeAlias = "argparse._SubParsersAction[argparse.ArgumentParser]"
@@ -38,7 +38,7 @@ FILES = {
     "trace": "the trace, in version 1 or 2",
 }
 BAR = 30
-SCHEDULERS, KINDS = ("edf", "rm"), ("none", "static", "cc", "la")
+SCHEDULERS, KINDS = tuple(map(str, Scheduler)), tuple(map(str, Governor))
 
 
 # Options

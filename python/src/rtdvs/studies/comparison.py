@@ -12,12 +12,11 @@ from rtdvs.engine import (
     Answer, Call, Engine, Least, RunTotals, least_call, parse_least, parse_totals, run_call, totals_call,
 )
 from rtdvs.errors import Denied, TraceFault
-from rtdvs.model import Demands, Machine, TaskSet
+from rtdvs.model import PAIRS as MODEL_PAIRS, Demands, Machine, TaskSet
 from rtdvs.trace import Ran, Run, Trace, task_statistics
 
 T = TypeVar("T")
-PAIRS = (("edf", "none"), ("edf", "static"), ("edf", "cc"), ("edf", "la"),
-         ("rm", "none"), ("rm", "static"), ("rm", "cc"))
+PAIRS = tuple((str(scheduler), str(governor)) for scheduler, governor in MODEL_PAIRS)
 
 HEADING = ("scheduler", "governor", "energy", "of_none", "above_bound", "switches", "idle", "least_laxity", "jitter")
 
