@@ -17,7 +17,7 @@ from threading import Thread
 from time import monotonic
 from typing import BinaryIO, TypeAlias, TypeVar
 
-from rtdvs._files import write_whole
+from rtdvs._files import encoded, write_whole
 from rtdvs._numbers import whole
 from rtdvs.engine import Engine, TryEngine, find_engine, stop_calls
 from rtdvs.errors import BadValue, Denied, TraceFault, WordFault
@@ -384,8 +384,7 @@ def write_output(args: argparse.Namespace, text: str | bytes | Iterable[str]) ->
         write_whole(args.output, text)
         return
     sys.stdout.flush()
-    parts = [text] if isinstance(text, str | bytes) else text
-    sys.stdout.buffer.writelines(part.encode("utf-8") if isinstance(part, str) else part for part in parts)
+    sys.stdout.buffer.writelines(encoded(text))
 
 
 # Calls
@@ -403,8 +402,7 @@ def engine_of(args: argparse.Namespace) -> Engine:
     return engine
 
 
-@contextmanager
-def executor_of(args: argparse.Namespace) -> Iterator[Executor]:
+def executor_of(args: argparse.Namespace) -> AbstractContextManager[Executor]:
     """Makes `--jobs` calls at a time, for `engine.answers(calls, executor)` in a `with` block.
 
     If the block isn't left at its end, the programs that run are ended, and no call is waited for.
@@ -414,35 +412,36 @@ def executor_of(args: argparse.Namespace) -> Iterator[Executor]:
     [1, 2]
     """
     from concurrent.futures import ThreadPoolExecutor
-    executor = ThreadPoolExecutor(args.jobs)
-    try:
-        yield executor
-    except BaseException:
-        executor.shutdown(wait=False, cancel_futures=True)
-        stop_calls()
-        raise
-    executor.shutdown()
+    return _ended(ThreadPoolExecutor(args.jobs), stop_calls)
 
 
-@contextmanager
-def processes_of(args: argparse.Namespace) -> Iterator[Executor]:
+def processes_of(args: argparse.Namespace) -> AbstractContextManager[Executor]:
     """As executor_of, with `--jobs` processes, which end with this one.
 
     >>> with processes_of(argparse.Namespace(jobs=1)) as executor:
     ...     [*executor.map(abs, [1, -2])]
     [1, 2]
     """
-    import multiprocessing  # here, since only `evaluate` needs it
-    from concurrent.futures import ProcessPoolExecutor
-    executor = ProcessPoolExecutor(args.jobs, initializer=_follow_the_first)
+    from concurrent.futures import ProcessPoolExecutor  # here, since only `evaluate` needs it
+    return _ended(ProcessPoolExecutor(args.jobs, initializer=_follow_the_first), _kill_processes)
+
+
+@contextmanager
+def _ended(executor: Executor, stop: Callable[[], None]) -> Iterator[Executor]:
+    """The executor, whose calls are stopped and not waited for if the block isn't left at its end."""
     try:
         yield executor
     except BaseException:
-        for process in multiprocessing.active_children():
-            process.kill()
         executor.shutdown(wait=False, cancel_futures=True)
+        stop()
         raise
     executor.shutdown()
+
+
+def _kill_processes() -> None:
+    from multiprocessing import active_children
+    for process in active_children():
+        process.kill()
 
 
 def _follow_the_first() -> None:
