@@ -22,11 +22,8 @@ from fractions import Fraction
 from typing import TYPE_CHECKING
 
 from rtdvs._numbers import aligned, decimal, plain, rounded
-from rtdvs.cli.boards import add_board, read_given, ticks_of
-from rtdvs.cli.options import (
-    Commands, Input, add_engine_options, add_files, add_jobs, add_parser, add_ticks, add_unchecked, check_first,
-    engine_of, executor_of, input_path, progress, read_text, whole_number,
-)
+from rtdvs.cli import boards, options
+from rtdvs.cli.options import engine_of
 from rtdvs.errors import BadValue, TraceFault
 from rtdvs.studies import PAIRS, Case, Row, compare, finer_energies, finer_table, table
 from rtdvs.trace import Trace
@@ -35,7 +32,7 @@ if TYPE_CHECKING:
     from rtdvs.board import Units
 
 
-def add_command(commands: Commands) -> None:
+def add_command(commands: options.Commands) -> None:
     """Adds the command `compare`.
 
     >>> commands = argparse.ArgumentParser().add_subparsers()
@@ -43,31 +40,31 @@ def add_command(commands: Commands) -> None:
     >>> list(commands.choices)
     ['compare']
     """
-    parser = add_parser(commands, "compare", _handle, "energies and times under each scheduler and governor",
+    parser = options.add_parser(commands, "compare", _handle, "energies and times under each scheduler and governor",
                         "compare --tasks tasks.toml --machine machine.toml --ticks 16 --finer 2 10\n"
                         "compare --board board.toml --ms 100")
-    add_files(parser, ["tasks", "machine"], ["demands"])
-    add_ticks(parser)
-    parser.add_argument("--trace", type=input_path, nargs="+", default=[], metavar="FILE",
+    options.add_files(parser, ["tasks", "machine"], ["demands"])
+    options.add_ticks(parser)
+    parser.add_argument("--trace", type=options.input_path, nargs="+", default=[], metavar="FILE",
                         help="traces of these files and ticks, of any governor, each as a row more")
-    add_unchecked(parser)
-    parser.add_argument("--finer", type=whole_number(1), nargs="+", default=[], metavar="N",
-                        help="the energies in ticks N times finer too, as shares of those in the ticks given")
-    add_engine_options(parser)
-    add_jobs(parser)
-    add_board(parser)
+    options.add_unchecked(parser)
+    options.add_number(parser, "--finer", "the energies in ticks N times finer too, as shares of those in the ticks given",
+                       nargs="+", default=[])
+    options.add_engine_options(parser)
+    options.add_jobs(parser)
+    boards.add_board(parser)
 
 
 def _handle(args: argparse.Namespace) -> int:
-    engine, given = engine_of(args), read_given(args)
+    engine, given = engine_of(args), boards.read_given(args)
     assert given.tasks and given.machine
-    case = Case(given.tasks, given.machine, ticks_of(args, given), given.demands)
+    case = Case(given.tasks, given.machine, boards.ticks_of(args, given), given.demands)
     traces = [read_trace(source, case, args) for source in args.trace]
-    with executor_of(args) as executor:
+    with options.executor_of(args) as executor:
         rows = compare(engine, case.tasks, case.machine, case.ticks, case.demands, traces, executor)
         print(table(rows) if given.units is None else board_table(rows, case.ticks, given.units), end="")
         finer = {times: finer_energies(engine, case, times, executor)
-                 for times in progress(args.finer, len(args.finer), "finer ticks")}
+                 for times in options.progress(args.finer, len(args.finer), "finer ticks")}
     if finer:
         print("\n" + finer_table(rows[:len(PAIRS)], finer), end="")
     return 0
@@ -113,7 +110,7 @@ def _rounded(number: Fraction | None) -> str:
     return "-" if number is None else rounded(number)
 
 
-def read_trace(source: Input, case: Case, args: argparse.Namespace) -> Trace:
+def read_trace(source: options.Input, case: Case, args: argparse.Namespace) -> Trace:
     """The trace of a file, which is checked without `--unchecked`.
 
     Raises a BadValue with the file's name if it is refused, and OSError.
@@ -124,10 +121,10 @@ def read_trace(source: Input, case: Case, args: argparse.Namespace) -> Trace:
     rtdvs.errors.BadValue: -: line 1: neither trace 1 nor trace 2
     """
     try:
-        trace = Trace.parse(read_text(source, "trace"))
+        trace = Trace.parse(options.read_text(source, "trace"))
         trace.belongs_to(case.tasks, case.machine)
         trace.jobs()
-        check_first(args, trace, case.tasks, case.machine)
+        options.check_first(args, trace, case.tasks, case.machine)
     except TraceFault as fault:
         raise BadValue(f"{'-' if isinstance(source, bytes) else source}: {fault}") from fault
     return trace

@@ -15,7 +15,7 @@ from functools import partial
 from pathlib import Path
 from threading import Thread
 from time import monotonic
-from typing import BinaryIO, TypeAlias, TypeVar
+from typing import Any, BinaryIO, TypeAlias, TypeVar
 
 from rtdvs._files import encoded, write_whole
 from rtdvs._numbers import whole
@@ -60,6 +60,18 @@ def add_parser(commands: Commands, name: str, handler: Callable[[argparse.Namesp
     return parser
 
 
+def add_number(parser: argparse._ActionsContainer, name: str, about: str | None = None,
+               within: tuple[int, int | None] = (1, None), **more: Any) -> None:
+    """Adds an option for a whole number within bounds; `more` is for `add_argument`.
+
+    >>> parser = argparse.ArgumentParser()
+    >>> add_number(parser, "--count", "how many", (1, 9), nargs="+")
+    >>> parser.parse_args(["--count", "2", "7"]).count
+    [2, 7]
+    """
+    parser.add_argument(name, type=whole_number(*within), help=about, **{"metavar": "N", **more})
+
+
 def add_ticks(parser: argparse.ArgumentParser) -> None:
     """Adds `--ticks`, the length of a run.
 
@@ -68,8 +80,7 @@ def add_ticks(parser: argparse.ArgumentParser) -> None:
     >>> parser.parse_args(["--ticks", "16"]).ticks
     16
     """
-    parser.add_argument("--ticks", type=whole_number(1, MOST_TICKS), required=True, metavar="N",
-                        help="the length of the run")
+    add_number(parser, "--ticks", "the length of the run", (1, MOST_TICKS), required=True)
 
 
 def add_pair(parser: argparse.ArgumentParser, scheduler: str | None = None, governor: str | None = None) -> None:
@@ -130,8 +141,7 @@ def add_jobs(parser: argparse.ArgumentParser) -> None:
     >>> parser.parse_args(["--jobs", "4"])
     Namespace(jobs=4)
     """
-    parser.add_argument("--jobs", type=whole_number(1, 1024), default=1, metavar="N",
-                        help="calls of the program at a time (default: 1)")
+    add_number(parser, "--jobs", "calls of the program at a time (default: 1)", (1, 1024), default=1)
 
 
 def add_unchecked(parser: argparse.ArgumentParser) -> None:
