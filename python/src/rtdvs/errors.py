@@ -15,7 +15,7 @@ Each can be pickled and copied, and equals another one of its class with the sam
 
 import re
 from dataclasses import dataclass, fields
-from typing import ClassVar, dataclass_transform
+from typing import ClassVar
 
 NUMBER, NAME = r"(0|[1-9][0-9]*)", r"([A-Za-z0-9_-]{1,32})"
 ENTRIES = {"tasks": "task", "machine": "point", "demands": "row", "deadlines": "row", "requests": "row",
@@ -23,7 +23,6 @@ ENTRIES = {"tasks": "task", "machine": "point", "demands": "row", "deadlines": "
 """The kinds of files, each with the word for one of its parts."""
 
 
-@dataclass_transform(eq_default=False)
 @dataclass(eq=False)
 class RtdvsError(Exception):
     """The root of all exceptions of this package; `args` are the data, and `form` makes the text of them.
@@ -36,9 +35,6 @@ class RtdvsError(Exception):
 
     status: ClassVar[int | None] = None
     form: ClassVar[str] = ""
-
-    def __init_subclass__(cls) -> None:
-        dataclass(eq=False)(cls)
 
     def __post_init__(self) -> None:
         super().__init__(*(getattr(self, field.name) for field in fields(self)))
@@ -53,6 +49,7 @@ class RtdvsError(Exception):
         return hash((type(self), self.args))
 
 
+@dataclass(eq=False)
 class Reasoned(RtdvsError):
     """An exception whose only value is its text.
 
@@ -106,6 +103,7 @@ class BadRequest(BadValue):
     """
 
 
+@dataclass(eq=False)
 class Denied(Refused):
     """Status 1: an admission test fails: `test` is edf, rm, offset, misses, demand or units.
 
@@ -129,6 +127,7 @@ class Denied(Refused):
         return " ".join([test, *(str(value) for value in values if value is not None)])
 
 
+@dataclass(eq=False)
 class WordsRefused(Refused):
     """Status 2: an argument is refused; `place` is that of the word, if there is one.
 
@@ -144,6 +143,7 @@ class WordsRefused(Refused):
         return f"words: {self.reason}" if self.place is None else f"words: {self.place}: {self.reason}"
 
 
+@dataclass(eq=False)
 class LoadFailed(Refused):
     """Status 3: a file can't be loaded; `kind` is tasks, machine, demands, deadlines, requests or trace.
 
@@ -155,6 +155,7 @@ class LoadFailed(Refused):
     kind: str
 
 
+@dataclass(eq=False)
 class FileRefused(Refused):
     """Status 4: a file, or a value that would be its content, is refused; `kind` as in LoadFailed.
 
@@ -175,6 +176,7 @@ class FileRefused(Refused):
         return f"{self.kind}: {place}{self.reason}"
 
 
+@dataclass(eq=False)
 class TooManyJobs(Refused):
     """Status 5: a run would have more jobs than the most that is taken.
 
@@ -187,6 +189,7 @@ class TooManyJobs(Refused):
     most: int
 
 
+@dataclass(eq=False)
 class OverWorst(Refused):
     """Status 6: a job has more work units than its task's worst case.
 
@@ -201,6 +204,7 @@ class OverWorst(Refused):
     worst: int
 
 
+@dataclass(eq=False)
 class Differs(Refused):
     """Status 7: a trace isn't that of its run: the line that differs, as the run and as the trace have it.
 
@@ -262,6 +266,7 @@ class NoEngine(Reasoned, EngineError):
     """
 
 
+@dataclass(eq=False)
 class SystemFault(EngineError):
     """The system refused what a call needs: a folder, a file, a descriptor or a process.
 
@@ -282,6 +287,7 @@ class Crashed(Reasoned, EngineError):
     """
 
 
+@dataclass(eq=False)
 class TimedOut(EngineError):
     """The program didn't end within the time limit, in seconds.
 
@@ -293,6 +299,7 @@ class TimedOut(EngineError):
     seconds: float
 
 
+@dataclass(eq=False)
 class TraceFault(RtdvsError, ValueError):
     """A line of a trace is refused: its number, from 1, and the reason.
 
@@ -321,6 +328,7 @@ class Wrong(Reasoned):
     """
 
 
+@dataclass(eq=False)
 class DeadlineMissed(RtdvsError, ValueError):
     """A job isn't complete at its deadline, a tick; `used` are the work units that it has had.
 

@@ -17,7 +17,7 @@ from rtdvs.trace import Trace
 
 # A command without a board needs none of it, so functions import what they call of it.
 if TYPE_CHECKING:
-    from rtdvs.board import Board, Design, OperatingTable, Units
+    from rtdvs.board import Board, Design, OperatingTable, Units as Units
 
 REPLACED = {"tasks", "machine", "ticks"}
 
@@ -190,5 +190,4 @@ def ticks_of(args: argparse.Namespace, given: Given) -> int:
     if args.ticks is not None and args.ms is not None:
         raise BadValue("give either --ticks or --ms")
     from rtdvs.board import run_ticks
-    made = given.units.made
-    return int(args.ticks) if args.ticks is not None else run_ticks(made) if args.ms is None else made.ticks_of(args.ms)
+    return int(args.ticks) if args.ticks is not None else run_ticks(given.units.made, args.ms)

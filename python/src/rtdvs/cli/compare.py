@@ -19,17 +19,13 @@ share of the joules, which are exact for measured points.
 import argparse
 from collections.abc import Sequence
 from fractions import Fraction
-from typing import TYPE_CHECKING
 
 from rtdvs._numbers import aligned, decimal, plain, rounded
 from rtdvs.cli import boards, options
 from rtdvs.cli.options import engine_of
 from rtdvs.errors import BadValue, TraceFault
-from rtdvs.studies import PAIRS, Case, Row, compare, finer_energies, finer_table, table
+from rtdvs.studies import PAIRS, Case, Row, cells, compare, finer_energies, finer_table, table
 from rtdvs.trace import Trace
-
-if TYPE_CHECKING:
-    from rtdvs.board import Units
 
 
 def add_command(commands: options.Commands) -> None:
@@ -70,7 +66,7 @@ def _handle(args: argparse.Namespace) -> int:
     return 0
 
 
-def board_table(rows: Sequence[Row], ticks: int, units: "Units") -> str:
+def board_table(rows: Sequence[Row], ticks: int, units: "boards.Units") -> str:
     """The rows in a board's units, below the length of the run; raises BadValue if no power was measured.
 
     >>> from rtdvs.board import Board, Scale, Units, design
@@ -90,24 +86,17 @@ def board_table(rows: Sequence[Row], ticks: int, units: "Units") -> str:
                "idle", "least_laxity_ms", "jitter_ms",
                *(f"at_{plain(units.megahertz(speed))}_MHz" for speed in speeds)]
     lines = [heading]
+    base = costs[0].joules if costs[0] else Fraction(0)
     for row, cost in zip(rows, costs, strict=True):
-        line, found = [row.scheduler, row.governor], row.result
-        if found is None or cost is None:
-            lines.append([*line, row.refusal])
-            continue
-        base = costs[0].joules if costs[0] else Fraction(0)
-        line += [rounded(cost.joules), rounded(cost.milliwatts)]
-        line += [] if battery is None else [_rounded(cost.hours(battery))]
-        shares = (cost.joules / base if base else None, found.above_bound, found.switches, found.idle)
-        line += [str(each) if isinstance(each, int) else decimal(each, 4) for each in shares]
-        line += [_rounded(None if each is None else units.milliseconds(each))
-                 for each in (found.least_laxity, found.jitter)]
-        lines.append([*line, *(decimal(found.residency.get(speed, Fraction(0)), 4) for speed in speeds)])
+        scheduler, governor, *own = cells(row, speeds)
+        if row.result and cost:
+            lasts = [] if battery is None else [rounded(cost.hours(battery))]
+            share = decimal(cost.joules / base if base else None, 4)
+            times = [rounded(None if each is None else units.milliseconds(each))
+                     for each in (row.result.least_laxity, row.result.jitter)]
+            own = [rounded(cost.joules), rounded(cost.milliwatts), *lasts, share, *own[2:5], *times, *own[7:]]
+        lines.append([scheduler, governor, *own])
     return aligned(lines, left=2)
-
-
-def _rounded(number: Fraction | None) -> str:
-    return "-" if number is None else rounded(number)
 
 
 def read_trace(source: options.Input, case: Case, args: argparse.Namespace) -> Trace:

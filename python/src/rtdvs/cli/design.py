@@ -100,8 +100,7 @@ def _handle(args: argparse.Namespace) -> int:
 
 def _draw(board: Board, args: argparse.Namespace) -> None:
     made = design(board, choose_scale(board, args.tick_ms, args.unit_cycles))
-    ticks = run_ticks(made) if args.ms is None else made.ticks_of(args.ms)
-    save_report(board, made, ticks, args.picture, args.background)
+    save_report(board, made, run_ticks(made, args.ms), args.picture, args.background)
 
 
 def _design_lines(board: Board, table: OperatingTable, args: argparse.Namespace) -> Iterator[str]:
@@ -113,7 +112,7 @@ def _design_lines(board: Board, table: OperatingTable, args: argparse.Namespace)
             yield f"tick {plain(made.scale.tick)} ms: {rounded(joules)} joules in {time} ms"
     yield made.scale.text()
     yield from (rounding.text() for rounding in made.roundings)
-    ticks = run_ticks(made) if args.ms is None else made.ticks_of(args.ms)
+    ticks = run_ticks(made, args.ms)
     if args.report:
         yield from "\n".join(report(board, made, ticks)).splitlines()
     elif line := unserved(board, made):

@@ -69,7 +69,8 @@ def add_number(parser: argparse._ActionsContainer, name: str, about: str | None 
     >>> parser.parse_args(["--count", "2", "7"]).count
     [2, 7]
     """
-    parser.add_argument(name, type=whole_number(*within), help=about, **{"metavar": "N", **more})
+    settings: dict[str, Any] = {"metavar": "N", **more}
+    parser.add_argument(name, type=whole_number(*within), help=about, **settings)
 
 
 def add_ticks(parser: argparse.ArgumentParser) -> None:

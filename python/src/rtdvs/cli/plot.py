@@ -10,18 +10,15 @@ from collections.abc import Callable
 from fractions import Fraction
 from math import ceil, floor
 from pathlib import Path
-from typing import TYPE_CHECKING
 
 from rtdvs._numbers import plain
+from rtdvs.board import Units
 from rtdvs.cli import boards, options
 from rtdvs.cli.options import engine_of
 from rtdvs.errors import BadValue
 from rtdvs.plot import View, parse_means, save_compare, save_means, save_trace
 from rtdvs.studies import compare
 from rtdvs.trace import Trace
-
-if TYPE_CHECKING:
-    from rtdvs.board import Units
 
 
 def add_command(commands: options.Commands) -> None:
@@ -106,7 +103,7 @@ def _run_trace(args: argparse.Namespace) -> None:
     save_trace(trace, args.output, view, args.width or 1000, args.background)
 
 
-def _window(args: argparse.Namespace, units: "Units | None") -> tuple[int, int | None, int | None]:
+def _window(args: argparse.Namespace, units: Units | None) -> tuple[int, int | None, int | None]:
     """The first tick, the last one and the speed of full height; with a board by ms and MHz. Raises BadValue.
 
     A time within a tick takes all of it.

@@ -9,14 +9,10 @@ With --tasks and --machine it is the program's `response`, which answers in tick
 """
 
 import argparse
-from typing import TYPE_CHECKING
 
 from rtdvs._numbers import aligned, rounded
 from rtdvs.cli import boards, options
 from rtdvs.cli.options import engine_of
-
-if TYPE_CHECKING:
-    from rtdvs.board import Units
 
 
 def add_command(commands: options.Commands) -> None:
@@ -42,7 +38,7 @@ def _handle(args: argparse.Namespace) -> int:
     return 0
 
 
-def response_table(responses: dict[str, int], units: "Units") -> str:
+def response_table(responses: dict[str, int], units: "boards.Units") -> str:
     """The responses, which are in ticks, in a board's milliseconds.
 
     >>> from fractions import Fraction

@@ -14,15 +14,11 @@ With --board the limits are in cycles, milliseconds and MHz.
 
 import argparse
 from fractions import Fraction
-from typing import TYPE_CHECKING
 
 from rtdvs._numbers import aligned, plain, rounded
 from rtdvs.cli import boards, options
 from rtdvs.cli.options import engine_of
 from rtdvs.studies import TESTS, Limits, Question, limits_of, limits_table
-
-if TYPE_CHECKING:
-    from rtdvs.board import Units
 
 
 def add_command(commands: options.Commands) -> None:
@@ -56,7 +52,7 @@ def _handle(args: argparse.Namespace) -> int:
     return 0
 
 
-def board_limits(question: Question, limits: Limits, units: "Units") -> str:
+def board_limits(question: Question, limits: Limits, units: "boards.Units") -> str:
     """The limits in a board's units; `-` for None.
 
     >>> from rtdvs.board import Board, Scale, Units, design
@@ -85,4 +81,4 @@ def board_limits(question: Question, limits: Limits, units: "Units") -> str:
 
 
 def _text(number: Fraction | None) -> str:
-    return "-" if number is None else plain(number) if number.denominator == 1 else rounded(number)
+    return plain(number) if number is not None and number.denominator == 1 else rounded(number)

@@ -154,3 +154,23 @@ def legend(of: Union["Axes", "Figure"], handles: Sequence[Any], columns: int, **
     ['idle']
     """
     of.legend(handles=handles, ncol=columns, frameon=False, fontsize=SMALL, labelcolor=INK, **style)
+
+
+def legend_above(axes: "Axes", handles: Sequence[Any]) -> None:
+    """A legend in one row above axes, at their right end."""
+    legend(axes, handles, max(1, len(handles)), loc="lower right", bbox_to_anchor=(1, 1), handlelength=1,
+           columnspacing=1, borderpad=0)
+
+
+def rows_below(axes: "Axes", title: str, names: Sequence[str]) -> None:
+    """A row for each name, one below the other, and a title above them."""
+    bare(axes, "x")
+    axes.set_title(title, loc="left", fontsize=SMALL, color=INK)
+    axes.set_ylim(len(names) - 0.5, -0.5)
+    axes.set_yticks(range(len(names)), names, fontsize=TEXT)
+
+
+def shares(axes: "Axes") -> None:
+    """Shares from 0 to 1 along the bottom."""
+    axes.set_xlim(0, 1)
+    axes.set_xticks([0, 0.25, 0.5, 0.75, 1], ["0.00", "0.25", "0.50", "0.75", "1.00"], fontsize=SMALL)

@@ -252,7 +252,6 @@ def _decisions(lines: Sequence[str]) -> int:
 
 def _first_fault(asked: Asked, demands: Demands | None, lines: Sequence[str]) -> tuple[int | None, str]:
     """The first wrong line and its reason, with the form if it is misspelled."""
-    number, reason = None, ""
     wanted = asked.plan and f"plan {asked.plan.scheduler} {asked.plan.governor} {asked.plan.ticks}"
     try:
         Reader(lines)
@@ -260,12 +259,11 @@ def _first_fault(asked: Asked, demands: Demands | None, lines: Sequence[str]) ->
             return 2, f"wanted {wanted}"
         check(asked.tasks, asked.machine, lines, demands)
     except TraceFault as fault:
-        number, reason = fault.line, fault.reason
-        if number <= len(lines) and (form := expected(number, lines[number - 1])):
-            reason = f"{reason}: {form}"
+        form = expected(fault.line, lines[fault.line - 1]) if fault.line <= len(lines) else ""
+        return fault.line, f"{fault.reason}: {form}" if form else fault.reason
     except RtdvsError as refused:
-        number, reason = 2, str(refused)
-    return number, reason
+        return 2, str(refused)
+    return None, ""
 
 
 def _right_lines(asked: Asked, demands: Demands | None, head: Head | None) -> list[str]:

@@ -80,14 +80,12 @@ def answer_of(path: str, example: Example, engine: Engine) -> tuple[HTTPStatus, 
         if example.jobs() > MOST_JOBS:
             raise TooManyJobs(example.jobs(), MOST_JOBS)
         return HTTPStatus.OK, ANSWERS[path](example, engine)
-    except (LoadFailed, Differs) as fault:
+    except SystemFault as fault:
+        return HTTPStatus.INTERNAL_SERVER_ERROR, failed(fault)
+    except (LoadFailed, Differs, EngineError) as fault:
         return HTTPStatus.BAD_GATEWAY, failed(fault)
     except Refused as fault:
         return HTTPStatus.OK, refusal(fault, example)
-    except SystemFault as fault:
-        return HTTPStatus.INTERNAL_SERVER_ERROR, failed(fault)
-    except EngineError as fault:
-        return HTTPStatus.BAD_GATEWAY, failed(fault)
     except Exception as fault:
         return HTTPStatus.INTERNAL_SERVER_ERROR, failed(fault)
 

@@ -260,9 +260,8 @@ def read_example(folder: Path) -> dict[str, object]:
     units = Demands.read(named, tasks).units if named.exists() else {}
     periods = [task.period for task in tasks]
     return {
-        "tasks": [{"name": task.name, "period": str(task.period), "worst": str(task.worst),
-                   "offset": str(task.offset)} for task in tasks],
-        "points": [{"speed": str(point.speed), "millivolts": str(point.millivolts)} for point in machine.points],
+        "tasks": [{name: str(getattr(task, name)) for name in TABLES["tasks"]} for task in tasks],
+        "points": [{name: str(getattr(point, name)) for name in TABLES["points"]} for point in machine],
         "demands": [{"task": task, "job": str(job), "units": str(number)} for (task, job), number in units.items()],
         "scheduler": "edf", "governor": "cc", "ticks": str(max(2 * min(periods), *periods)),
         "idle": str(machine.idle), "charge": str(machine.charge),

@@ -146,22 +146,21 @@ def _pairs(table: Table) -> Iterator[LessonPair]:
     if not found:
         raise table.fault("no pairs")
     for place, entry in enumerate(found, 1):
-        inner = partial(_pair_fault, table, place)
-        others = sorted(entry.keys() - {"scheduler", "governor", "text", "missed"})
-        if others:
-            raise inner(f"unknown key {others[0]}")
-        words = [_text(entry, key, inner) for key in ("scheduler", "governor")]
-        missed = _text(entry, "missed", inner, "stop")
-        if missed not in ("stop", "drop"):
-            raise inner(f"missed is stop or drop, not {missed}")
         try:
-            yield LessonPair(pair_of(*words), _text(entry, "text", inner, ""), missed)
+            yield _pair(entry)
         except BadValue as fault:
-            raise inner(fault.reason) from None
+            raise table.fault(f"pair {place}: {fault.reason}") from None
 
 
-def _pair_fault(table: Table, place: int, reason: str) -> FileRefused:
-    return table.fault(f"pair {place}: {reason}")
+def _pair(entry: Mapping[str, Any]) -> LessonPair:
+    others = sorted(entry.keys() - {"scheduler", "governor", "text", "missed"})
+    if others:
+        raise BadValue(f"unknown key {others[0]}")
+    words = [_text(entry, key, BadValue) for key in ("scheduler", "governor")]
+    missed = _text(entry, "missed", BadValue, "stop")
+    if missed not in ("stop", "drop"):
+        raise BadValue(f"missed is stop or drop, not {missed}")
+    return LessonPair(pair_of(*words), _text(entry, "text", BadValue, ""), missed)
 
 
 # Runs
