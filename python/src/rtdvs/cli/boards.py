@@ -9,9 +9,8 @@ from fractions import Fraction
 from pathlib import Path
 from typing import TYPE_CHECKING, Any
 
-from rtdvs._numbers import plain
+from rtdvs import _numbers, errors
 from rtdvs.cli import options
-from rtdvs.errors import BadValue
 from rtdvs.model import Demands, Machine, TaskSet
 from rtdvs.trace import Trace
 
@@ -153,7 +152,7 @@ def read_made(args: argparse.Namespace, board: "Board") -> "Design":
     made = read_design(args.folder, board)
     for given, taken in ((args.tick_ms, made.scale.tick), (args.unit_cycles, made.scale.unit)):
         if given not in (None, taken):
-            raise board_fault(f"in the files of {args.folder} {made.scale.text()}, not {plain(given)}")
+            raise board_fault(f"in the files of {args.folder} {made.scale.text()}, not {_numbers.plain(given)}")
     return made
 
 
@@ -166,12 +165,12 @@ def read_given(args: argparse.Namespace) -> Given:
     """
     if args.board is None:
         if args.device_tree is not None or args.folder is not None:
-            raise BadValue(f"--{'folder' if args.device_tree is None else 'device-tree'} needs --board")
+            raise errors.BadValue(f"--{'folder' if args.device_tree is None else 'device-tree'} needs --board")
         tasks = None if args.tasks is None else options.read_tasks(args)
         machine = options.read_machine(args) if getattr(args, "machine", None) is not None else None
         return Given(tasks, machine, options.read_demands(args, tasks) if tasks and hasattr(args, "demands") else None)
     if args.tasks is not None or getattr(args, "machine", None) is not None:
-        raise BadValue("give either --board or --tasks and --machine")
+        raise errors.BadValue("give either --board or --tasks and --machine")
     from rtdvs.board import Board, Units, choose_scale, design
     check_above_0(args, "tick_ms", "unit_cycles", "ms")
     board = Board.parse(options.read_text(args.board, "board"), table_of(args).points)
@@ -185,9 +184,9 @@ def ticks_of(args: argparse.Namespace, given: Given) -> int:
     """The length of a run in ticks, by `--ticks` or by `--ms`; raises BadValue."""
     if given.units is None:
         if args.ms is not None:
-            raise BadValue("--ms needs --board")
+            raise errors.BadValue("--ms needs --board")
         return int(args.ticks)
     if args.ticks is not None and args.ms is not None:
-        raise BadValue("give either --ticks or --ms")
+        raise errors.BadValue("give either --ticks or --ms")
     from rtdvs.board import run_ticks
     return int(args.ticks) if args.ticks is not None else run_ticks(given.units.made, args.ms)

@@ -44,8 +44,8 @@ def add_command(commands: options.Commands) -> None:
     parser.add_argument("--trace", type=options.input_path, nargs="+", default=[], metavar="FILE",
                         help="traces of these files and ticks, of any governor, each as a row more")
     options.add_unchecked(parser)
-    options.add_number(parser, "--finer", "the energies in ticks N times finer too, as shares of those in the ticks given",
-                       nargs="+", default=[])
+    finer = "the energies in ticks N times finer too, as shares of those in the ticks given"
+    options.add_number(parser, "--finer", finer, nargs="+", default=[])
     options.add_engine_options(parser)
     options.add_jobs(parser)
     boards.add_board(parser)

@@ -31,8 +31,8 @@ def add_command(commands: options.Commands) -> None:
     parser.add_argument("--to", choices=("csv", *WRITERS), required=True,
                         help="a table, trace events in JSON (Perfetto), or a value change dump (GTKWave)")
     parser.add_argument("--table", choices=tuple(TABLES), help="the table for csv; segments by default")
-    options.add_number(parser, "--charge", "the machine's charge, which each declared worst case in jobs then has twice",
-                       (0, None), metavar="UNITS")
+    charge = "the machine's charge, which each declared worst case in jobs then has twice"
+    options.add_number(parser, "--charge", charge, (0, None), metavar="UNITS")
     options.add_files(parser, ("trace",), ("tasks", "machine"))
     options.add_unchecked(parser)
     options.add_output(parser)

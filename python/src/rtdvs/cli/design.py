@@ -29,14 +29,13 @@ from collections.abc import Iterator
 from fractions import Fraction
 from pathlib import Path
 
-from rtdvs._numbers import plain, rounded
+from rtdvs import _numbers, errors
 from rtdvs.board import (
     Board, Design, OperatingTable, Scale, Spent, Units, board_fault, choose_scale, design, machine_of, machine_text,
     points_of, report, run_ticks, settle, unserved, usual_demands, write_design,
 )
 from rtdvs.cli import boards, options, plot
 from rtdvs.cli.options import engine_of
-from rtdvs.errors import TraceFault
 from rtdvs.plot import save_report
 from rtdvs.trace import Trace
 
@@ -108,8 +107,8 @@ def _design_lines(board: Board, table: OperatingTable, args: argparse.Namespace)
     made = design(board, scale)
     if args.settle_ms is not None:
         for made, joules in settle(board, scale, lambda made: _run(board, made, args).joules):
-            time = plain(made.milliseconds(made.ticks_of(args.settle_ms)))
-            yield f"tick {plain(made.scale.tick)} ms: {rounded(joules)} joules in {time} ms"
+            time = _numbers.plain(made.milliseconds(made.ticks_of(args.settle_ms)))
+            yield f"tick {_numbers.plain(made.scale.tick)} ms: {_numbers.rounded(joules)} joules in {time} ms"
     yield made.scale.text()
     yield from (rounding.text() for rounding in made.roundings)
     ticks = run_ticks(made, args.ms)
@@ -121,7 +120,7 @@ def _design_lines(board: Board, table: OperatingTable, args: argparse.Namespace)
         demands = usual_demands(board, made, ticks) if any(task.usual is not None for task in board.tasks) else None
         write_design(args.folder, made, table.note(), demands)
         if demands is not None:
-            yield f"demands.csv is for {ticks} ticks, {plain(made.milliseconds(ticks))} ms"
+            yield f"demands.csv is for {ticks} ticks, {_numbers.plain(made.milliseconds(ticks))} ms"
 
 
 def _run(board: Board, made: Design, args: argparse.Namespace) -> Spent:
@@ -139,6 +138,6 @@ def _energy_lines(board: Board, args: argparse.Namespace) -> Iterator[str]:
     trace = Trace.parse(options.read_text(args.trace, "trace"))
     try:
         options.check_first(args, trace, made.tasks, made.machine)
-    except TraceFault as fault:
+    except errors.TraceFault as fault:
         raise board_fault(f"the trace is of no run of the files in {args.folder}: {fault}") from None
     yield from Units(board, made).lines(trace)

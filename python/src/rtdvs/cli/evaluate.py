@@ -15,10 +15,9 @@ import argparse
 import sys
 from pathlib import Path
 
-from rtdvs._files import write_whole
+from rtdvs import _files, errors
 from rtdvs.cli import options
 from rtdvs.cli.options import processes_of
-from rtdvs.errors import BadValue
 from rtdvs.model import MOST_TASKS, Machine
 from rtdvs.studies import (
     DRAWS, PUBLISHED_COUNTS, PUBLISHED_TICKS, TENTHS, Own, OwnGovernor, OwnTraces, Sweep, broken, evaluate,
@@ -41,8 +40,8 @@ def add_command(commands: options.Commands) -> None:
     options.add_number(parser, "--sets", "for each number of tasks and each utilisation; 100 unless given", (1, 999),
                        default=100)
     parser.add_argument("--draws", choices=list(DRAWS), default="published", help="published unless given")
-    options.add_number(parser, "--counts", "the numbers of tasks; 5, 8, 10 and 15 unless given", (1, MOST_TASKS), nargs="+",
-                       default=PUBLISHED_COUNTS)
+    options.add_number(parser, "--counts", "the numbers of tasks; 5, 8, 10 and 15 unless given", (1, MOST_TASKS),
+                       nargs="+", default=PUBLISHED_COUNTS)
     parser.add_argument("--utilisations", type=tenth, nargs="+", default=TENTHS, metavar="U",
                         help="tenths from 0.1 to 1; all unless given")
     parser.add_argument("--machine", type=Path, nargs="+", default=[], metavar="FILE", help="machine files of your own")
@@ -78,7 +77,7 @@ def own_of(args: argparse.Namespace) -> Own:
     """
     machines = {path.stem: Machine.read(path) for path in args.machine}
     if len(machines) < len(args.machine):
-        raise BadValue("two machine files of one name")
+        raise errors.BadValue("two machine files of one name")
     governors = tuple(map(OwnGovernor.parse, args.governor))
     for governor in governors:
         governor.chooser()
@@ -89,7 +88,8 @@ def _handle(args: argparse.Namespace) -> int:
     sweep = Sweep(args.draws, args.sets, counts=args.counts, tenths=args.utilisations, own=own_of(args))
     if missing := sweep.missing():
         more = f", and {len(missing) - 1} more; the task file of each is" if missing[1:] else "; its task file is"
-        raise BadValue(f"{missing[0]} is missing{more} there: runs of {PUBLISHED_TICKS} ticks under {args.scheduler}")
+        runs = f"runs of {PUBLISHED_TICKS} ticks under {args.scheduler}"
+        raise errors.BadValue(f"{missing[0]} is missing{more} there: {runs}")
     total = len(set(args.counts)) * len(set(args.utilisations)) * args.sets
     for line in broken(args.folder, sweep):
         print(f"{line}; it is made again if the sweep has it", file=sys.stderr)
@@ -99,7 +99,7 @@ def _handle(args: argparse.Namespace) -> int:
     records = read_records(args.folder, finished(args.folder, sweep), sweep)
     found = shares(records)
     for figure, panels in sweep.figures().items():
-        write_whole(args.folder / f"{figure}.tsv", figure_table(panels, found, sweep.curves()))
+        _files.write_whole(args.folder / f"{figure}.tsv", figure_table(panels, found, sweep.curves()))
     wrong = [*broken(args.folder, sweep), *faults(records, sweep)]
     print(*wrong, summary(records, wrong), sep="\n")
     return 2 if wrong else 0

@@ -42,11 +42,11 @@ def _add_uunifast(kinds: options.Commands) -> None:
     _add_seed(parser, required=True)
     options.add_number(parser, "--top", "the highest speed in work units per tick; 1000 unless given", (1, MOST_SPEED),
                        default=1000)
-    options.add_number(parser, "--periods", "periods in ticks, each equally likely; or without them:", (1, LONGEST_TIME),
-                       nargs="+")
+    options.add_number(parser, "--periods", "periods in ticks, each equally likely; or without them:",
+                       (1, LONGEST_TIME), nargs="+")
     for name, default, about in (("low", 10, "the shortest"), ("high", 1000, "the longest")):
-        options.add_number(parser, f"--{name}", f"{about} period in ticks, with uniform logarithms; {default} unless given",
-                           (1, LONGEST_TIME))
+        said = f"{about} period in ticks, with uniform logarithms; {default} unless given"
+        options.add_number(parser, f"--{name}", said, (1, LONGEST_TIME))
     options.add_number(parser, "--multiple", f"the number that all periods divide; {PUBLISHED_TICKS} unless given",
                        (1, LONGEST_HYPERPERIOD))
     options.add_output(parser)

@@ -17,8 +17,7 @@ from threading import Thread
 from time import monotonic
 from typing import Any, BinaryIO, TypeAlias, TypeVar
 
-from rtdvs._files import encoded, write_whole
-from rtdvs._numbers import whole
+from rtdvs import _files, _numbers
 from rtdvs.engine import Engine, TryEngine, find_engine, stop_calls
 from rtdvs.errors import BadValue, Denied, TraceFault, WordFault
 from rtdvs.model import MOST_TICKS, Demands, Machine, TaskSet, load
@@ -168,7 +167,7 @@ def whole_number(least: int = 0, most: int | None = None) -> Callable[[str], int
     """
     def number(word: str) -> int:
         try:
-            return whole(word, least, most)
+            return _numbers.whole(word, least, most)
         except WordFault as fault:
             raise argparse.ArgumentTypeError(str(fault)) from None
 
@@ -392,10 +391,10 @@ def write_output(args: argparse.Namespace, text: str | bytes | Iterable[str]) ->
     >>> write_output(argparse.Namespace(output=Path("/dev/null")), "trace 2\\n")
     """
     if args.output is not None:
-        write_whole(args.output, text)
+        _files.write_whole(args.output, text)
         return
     sys.stdout.flush()
-    sys.stdout.buffer.writelines(encoded(text))
+    sys.stdout.buffer.writelines(_files.encoded(text))
 
 
 # Calls

@@ -72,8 +72,8 @@ def add_command(commands: options.Commands) -> None:
                         help="the trace, or two of one task set; - is standard input")
     options.add_files(parser, (), ("tasks", "machine", "demands"))
     parser.add_argument("--lesson", type=Path, metavar="FILE", help="a lesson, in place of traces and their files")
-    options.add_number(parser, "--most", f"the most mebibytes of explanations of a trace (default: {MOST_TEXT})", (0, 256),
-                       default=MOST_TEXT, metavar="MIB")
+    options.add_number(parser, "--most", f"the most mebibytes of explanations of a trace (default: {MOST_TEXT})",
+                       (0, 256), default=MOST_TEXT, metavar="MIB")
     options.add_output(parser)
     options.add_engine_options(parser)
     boards.add_board(parser)

@@ -6,8 +6,7 @@ from functools import partial
 from pathlib import Path
 from typing import Any, Self
 
-from rtdvs._display import Cell
-from rtdvs.errors import FileRefused, OverWorst
+from rtdvs import _display, errors
 from rtdvs.model import _checks, _csv_text, _file, _frozen, limits
 from rtdvs.model.tasks import TaskSet
 
@@ -31,7 +30,7 @@ class Demands(_file.File):
 
     def __post_init__(self) -> None:
         if not isinstance(self.units, Mapping):
-            raise FileRefused("demands", "wrong kind of units")
+            raise errors.FileRefused("demands", "wrong kind of units")
         object.__setattr__(self, "units", _frozen.Frozen(_units(_csv_text.rows("demands", DEMANDS, self._records()))))
 
     def _records(self) -> Iterator[tuple[object, ...]]:
@@ -83,7 +82,7 @@ class Demands(_file.File):
     def _columns(self) -> Mapping[str, str]:
         return {"task": "object", "job": "int64", "units": "int64"}
 
-    def _rows(self) -> Iterable[Sequence[Cell]]:
+    def _rows(self) -> Iterable[Sequence[_display.Cell]]:
         return ((*job, units) for job, units in self.units.items())
 
 
@@ -99,7 +98,7 @@ def _units(found: Iterable[_csv_text.Row], tasks: TaskSet | None = None) -> dict
         if (task, job) in demands:
             raise fault(f"task {task} job {job} stands twice")
         if worsts and units > worsts[task]:
-            raise OverWorst(task, job, units, worsts[task])
+            raise errors.OverWorst(task, job, units, worsts[task])
         demands[task, job] = units
     return demands
 
@@ -118,7 +117,7 @@ class Deadlines(_file.File):
 
     def __post_init__(self) -> None:
         if not isinstance(self.ticks, Mapping):
-            raise FileRefused("deadlines", "wrong kind of ticks")
+            raise errors.FileRefused("deadlines", "wrong kind of ticks")
         found = _ticks(_csv_text.rows("deadlines", DEADLINES, [*self.ticks.items()]))
         object.__setattr__(self, "ticks", _frozen.Frozen(found))
 
@@ -164,7 +163,7 @@ class Deadlines(_file.File):
     def _columns(self) -> Mapping[str, str]:
         return {"task": "object", "deadline": "int64"}
 
-    def _rows(self) -> Iterable[Sequence[Cell]]:
+    def _rows(self) -> Iterable[Sequence[_display.Cell]]:
         return self.ticks.items()
 
 
@@ -197,7 +196,7 @@ class Request:
     units: int
 
     def __post_init__(self) -> None:
-        fault = partial(FileRefused, "request")
+        fault = partial(errors.FileRefused, "request")
         object.__setattr__(self, "arrival", _checks.checked_count("arrival", self.arrival, fault))
         object.__setattr__(self, "units", _checks.checked_count("units", self.units, fault))
         if not 1 <= self.units <= limits.MOST_WORK:
@@ -272,14 +271,14 @@ class Requests(_file.File):
     def _columns(self) -> Mapping[str, str]:
         return {"arrival": "int64", "units": "int64"}
 
-    def _rows(self) -> Iterable[Sequence[Cell]]:
+    def _rows(self) -> Iterable[Sequence[_display.Cell]]:
         return (astuple(request) for request in self.requests)
 
 
 def _request(fault: _checks.Fault, record: Sequence[Any]) -> Request:
     try:
         return Request(*record)
-    except FileRefused as refused:
+    except errors.FileRefused as refused:
         raise fault(refused.reason) from None
 
 
@@ -288,6 +287,6 @@ def _in_order(requests: Iterable[Request]) -> Iterator[Request]:
     before = 0
     for place, request in enumerate(requests, 1):
         if request.arrival < before:
-            raise FileRefused("requests", "too early", place)
+            raise errors.FileRefused("requests", "too early", place)
         before = request.arrival
         yield request

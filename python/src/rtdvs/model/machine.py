@@ -6,8 +6,7 @@ from functools import partial
 from pathlib import Path
 from typing import Self
 
-from rtdvs._display import Cell
-from rtdvs.errors import FileRefused
+from rtdvs import _display, errors
 from rtdvs.model import _checks, _file, _toml, limits
 
 
@@ -50,7 +49,7 @@ class Machine(_file.File):
     charge: int
 
     def __init__(self, points: Iterable[Point], idle: int = 0, charge: int = 0) -> None:
-        fault = partial(FileRefused, "machine")
+        fault = partial(errors.FileRefused, "machine")
         object.__setattr__(self, "idle", _checks.checked_number("idle", idle, fault))
         object.__setattr__(self, "charge", _checks.checked_number("charge", charge, fault))
         found = _checks.entries("machine", points, Point, limits.MOST_POINTS)
@@ -116,7 +115,7 @@ class Machine(_file.File):
     def _columns(self) -> Mapping[str, str]:
         return {"speed": "int64", "millivolts": "int64"}
 
-    def _rows(self) -> Iterable[Sequence[Cell]]:
+    def _rows(self) -> Iterable[Sequence[_display.Cell]]:
         return (astuple(point) for point in self.points)
 
     def _caption(self) -> str:
@@ -128,5 +127,5 @@ def _rising(points: Iterable[Point]) -> Iterator[Point]:
     last = None
     for place, point in enumerate(points, 1):
         if last and (point.speed <= last.speed or point.millivolts < last.millivolts):
-            raise FileRefused("machine", "not rising", place)
+            raise errors.FileRefused("machine", "not rising", place)
         yield (last := point)

@@ -7,8 +7,7 @@ from math import lcm
 from pathlib import Path
 from typing import Self, SupportsIndex, overload
 
-from rtdvs._display import Cell
-from rtdvs.errors import FileRefused
+from rtdvs import _display, errors
 from rtdvs.model import _checks, _file, _toml, limits
 
 
@@ -53,7 +52,7 @@ class TaskSet(_file.File, Sequence[Task]):
     def __init__(self, tasks: Iterable[Task]) -> None:
         object.__setattr__(self, "tasks", tuple(_different(_checks.entries("tasks", tasks, Task, limits.MOST_TASKS))))
         if self.hyperperiod > limits.LONGEST_HYPERPERIOD:
-            raise FileRefused("tasks", f"periods have no common multiple up to {limits.LONGEST_HYPERPERIOD}")
+            raise errors.FileRefused("tasks", f"periods have no common multiple up to {limits.LONGEST_HYPERPERIOD}")
 
     def __len__(self) -> int:
         return len(self.tasks)
@@ -166,7 +165,7 @@ class TaskSet(_file.File, Sequence[Task]):
     def _columns(self) -> Mapping[str, str]:
         return {"name": "object", "period": "int64", "worst": "int64", "offset": "int64"}
 
-    def _rows(self) -> Iterable[Sequence[Cell]]:
+    def _rows(self) -> Iterable[Sequence[_display.Cell]]:
         return (astuple(task) for task in self)
 
 
@@ -176,7 +175,7 @@ def _different(tasks: Iterable[Task]) -> Iterator[Task]:
     for place, task in enumerate(tasks, 1):
         first = places.setdefault(task.name, place)
         if first != place:
-            raise FileRefused("tasks", f"tasks {first} and {place} have one name")
+            raise errors.FileRefused("tasks", f"tasks {first} and {place} have one name")
         yield task
 
 

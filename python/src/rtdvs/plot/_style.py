@@ -5,8 +5,7 @@ from io import BytesIO
 from pathlib import Path
 from typing import TYPE_CHECKING, Any, Literal, Union
 
-from rtdvs._files import write_whole
-from rtdvs.errors import BadValue
+from rtdvs import _files, errors
 
 if TYPE_CHECKING:
     from matplotlib.axes import Axes
@@ -58,8 +57,8 @@ def save(figure: "Figure", path: Path, background: str) -> None:
     """
     kind = path.suffix.lower().lstrip(".")
     if kind not in UNDATED:
-        raise BadValue(f"a picture is a file .svg, .pdf or .png, and not {path.name}")
-    write_whole(path, drawn(figure, kind, background))
+        raise errors.BadValue(f"a picture is a file .svg, .pdf or .png, and not {path.name}")
+    _files.write_whole(path, drawn(figure, kind, background))
 
 
 def drawn(figure: "Figure", kind: str, background: str) -> bytes:

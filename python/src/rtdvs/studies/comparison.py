@@ -6,8 +6,7 @@ from dataclasses import dataclass, field, replace
 from fractions import Fraction
 from typing import TypeVar
 
-from rtdvs._display import Cell, Shown
-from rtdvs._numbers import aligned, decimal
+from rtdvs import _display, _numbers
 from rtdvs.engine import (
     Answer, Call, Engine, Least, RunTotals, least_call, parse_least, parse_totals, run_call, totals_call,
 )
@@ -67,7 +66,7 @@ KINDS = {"scheduler": "object", "governor": "object", "energy": "object", "of_no
          "jitter": "float64"}
 
 
-class Comparison(tuple[Row, ...], Shown):
+class Comparison(tuple[Row, ...], _display.Shown):
     """The rows of a comparison, as a tuple that a notebook shows as a table.
 
     >>> Comparison([Row("rm", "cc", None, "denied rm y 7 6")]).frame()[["governor", "refusal"]].values.tolist()
@@ -83,7 +82,7 @@ class Comparison(tuple[Row, ...], Shown):
     def _columns(self) -> Mapping[str, str]:
         return KINDS | {f"at_{speed}": "float64" for speed in self.speeds()} | {"refusal": "object"}
 
-    def _rows(self) -> Iterator[tuple[Cell, ...]]:
+    def _rows(self) -> Iterator[tuple[_display.Cell, ...]]:
         for row in self:
             missing = [None] * (len(self._columns()) - 3)
             yield row.scheduler, row.governor, *(_values(row.result, self.speeds()) or missing), row.refusal
@@ -267,7 +266,7 @@ def table(rows: Sequence[Row]) -> str:
     """
     speeds = sorted({speed for row in rows if row.result for speed in row.result.residency})
     heading = (*HEADING, *(f"at_{speed}" for speed in speeds))
-    return aligned([heading, *(cells(row, speeds) for row in rows)], left=2)
+    return _numbers.aligned([heading, *(cells(row, speeds) for row in rows)], left=2)
 
 
 def cells(row: Row, speeds: Sequence[int]) -> tuple[str, ...]:
@@ -277,7 +276,7 @@ def cells(row: Row, speeds: Sequence[int]) -> tuple[str, ...]:
     ('rm', 'cc', 'denied rm y 7 6')
     """
     values = _values(row.result, speeds)
-    texts = [str(value) if isinstance(value, int) else decimal(value, 4) for value in values]
+    texts = [str(value) if isinstance(value, int) else _numbers.decimal(value, 4) for value in values]
     return row.scheduler, row.governor, *(texts or [row.refusal])
 
 
@@ -290,5 +289,5 @@ def finer_table(rows: Sequence[Row], finer: Mapping[int, Sequence[Fraction | Non
     heading = ("scheduler", "governor", *(f"finer_{times}" for times in finer))
     shares = [[energy / row.result.energy if energy is not None and row.result and row.result.energy else None
                for row, energy in zip(rows, energies)] for energies in finer.values()]
-    return aligned([heading, *((row.scheduler, row.governor, *(decimal(share, 4) for share in column))
+    return _numbers.aligned([heading, *((row.scheduler, row.governor, *(_numbers.decimal(share, 4) for share in column))
                                for row, *column in zip(rows, *shares))], left=2)
