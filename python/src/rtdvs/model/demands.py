@@ -26,6 +26,8 @@ class Demands(_file.File):
     rtdvs.errors.FileRefused: demands: row 1: job 0
     """
 
+    _kinds = {"task": "object", "job": "int64", "units": "int64"}
+
     units: Mapping[tuple[str, int], int]
 
     def __post_init__(self) -> None:
@@ -79,9 +81,6 @@ class Demands(_file.File):
         """
         return _csv_text.table_text([DEMANDS, *((task, job, units) for (task, job), units in self.units.items())])
 
-    def _columns(self) -> Mapping[str, str]:
-        return {"task": "object", "job": "int64", "units": "int64"}
-
     def _rows(self) -> Iterable[Sequence[_display.Cell]]:
         return ((*job, units) for job, units in self.units.items())
 
@@ -112,6 +111,8 @@ class Deadlines(_file.File):
     >>> Deadlines({"a": 3}).ticks
     {'a': 3}
     """
+
+    _kinds = {"task": "object", "deadline": "int64"}
 
     ticks: Mapping[str, int]
 
@@ -159,9 +160,6 @@ class Deadlines(_file.File):
         'task,deadline\\na,3\\n'
         """
         return _csv_text.table_text([DEADLINES, *self.ticks.items()])
-
-    def _columns(self) -> Mapping[str, str]:
-        return {"task": "object", "deadline": "int64"}
 
     def _rows(self) -> Iterable[Sequence[_display.Cell]]:
         return self.ticks.items()
@@ -216,6 +214,8 @@ class Requests(_file.File):
     rtdvs.errors.FileRefused: requests: row 2: too early
     """
 
+    _kinds = {"arrival": "int64", "units": "int64"}
+
     requests: tuple[Request, ...]
 
     def __init__(self, requests: Iterable[Request]) -> None:
@@ -267,9 +267,6 @@ class Requests(_file.File):
         'arrival,units\\n0,3\\n'
         """
         return _csv_text.table_text([REQUESTS, *((each.arrival, each.units) for each in self.requests)])
-
-    def _columns(self) -> Mapping[str, str]:
-        return {"arrival": "int64", "units": "int64"}
 
     def _rows(self) -> Iterable[Sequence[_display.Cell]]:
         return (astuple(request) for request in self.requests)

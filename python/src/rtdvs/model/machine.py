@@ -44,6 +44,8 @@ class Machine(_file.File):
     rtdvs.errors.FileRefused: machine: point 2: not rising
     """
 
+    _kinds = {"speed": "int64", "millivolts": "int64"}
+
     points: tuple[Point, ...]
     idle: int
     charge: int
@@ -111,9 +113,6 @@ class Machine(_file.File):
         """
         settings = f"idle = {self.idle}\ncharge = {self.charge}\n"
         return "\n".join([settings, *(_toml.entry_text("point", point) for point in self.points)])
-
-    def _columns(self) -> Mapping[str, str]:
-        return {"speed": "int64", "millivolts": "int64"}
 
     def _rows(self) -> Iterable[Sequence[_display.Cell]]:
         return (astuple(point) for point in self.points)

@@ -47,6 +47,8 @@ class TaskSet(_file.File, Sequence[Task]):
     rtdvs.errors.FileRefused: tasks: tasks 1 and 2 have one name
     """
 
+    _kinds = {"name": "object", "period": "int64", "worst": "int64", "offset": "int64"}
+
     tasks: tuple[Task, ...]
 
     def __init__(self, tasks: Iterable[Task]) -> None:
@@ -161,9 +163,6 @@ class TaskSet(_file.File, Sequence[Task]):
         offset = 1
         """
         return "\n".join(_toml.entry_text("task", task) for task in self.tasks)
-
-    def _columns(self) -> Mapping[str, str]:
-        return {"name": "object", "period": "int64", "worst": "int64", "offset": "int64"}
 
     def _rows(self) -> Iterable[Sequence[_display.Cell]]:
         return (astuple(task) for task in self)

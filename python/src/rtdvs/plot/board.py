@@ -2,22 +2,18 @@
 
 from collections.abc import Sequence
 from pathlib import Path
-from typing import TYPE_CHECKING
 
 from rtdvs._numbers import plain, rounded
 from rtdvs.board import Asked, Board, Design, PairCost, Units, pair_costs
 from rtdvs.plot._labels import power
-from rtdvs.plot._style import SMALL, legend_above, new_figure, patch, rows_below, save, settings, shares, words
-
-if TYPE_CHECKING:
-    from matplotlib.axes import Axes
+from rtdvs.plot._style import SMALL, Axes, legend_above, new_figure, patch, rows_below, save, settings, shares, words
 
 RESPONSE, POWER = "#0072b2", {"worst": "#d55e00", "usual": "#e6a23c"}
 ROW, WIDE = 30, 700
 NO_POWER = "no power: "
 
 
-def plot_responses(asked: Asked, axes: "Axes") -> None:
+def plot_responses(asked: Asked, axes: Axes) -> None:
     """Draws each task's longest response under RM at the highest speed, as a share of its period.
 
     >>> from fractions import Fraction
@@ -40,7 +36,7 @@ def plot_responses(asked: Asked, axes: "Axes") -> None:
         words(axes, share + 0.013, place, f"{rounded(time, 4)} of {rounded(load.period, 4)} ms", va="center")
 
 
-def plot_power(costs: Sequence[PairCost], board: Board, axes: "Axes") -> None:
+def plot_power(costs: Sequence[PairCost], board: Board, axes: Axes) -> None:
     """Draws each pair's mean milliwatts, beside them the battery's hours; a pair that is denied has that word.
 
     >>> axes = new_figure(96, 96).add_subplot()

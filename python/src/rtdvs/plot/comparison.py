@@ -3,21 +3,17 @@
 from collections.abc import Mapping, Sequence
 from fractions import Fraction
 from pathlib import Path
-from typing import TYPE_CHECKING
 
 from rtdvs._numbers import decimal, plain
 from rtdvs.board import Units
 from rtdvs.plot._labels import power
-from rtdvs.plot._style import POINT, legend_above, new_figure, patch, rows_below, save, settings, shares, words
+from rtdvs.plot._style import POINT, Axes, legend_above, new_figure, patch, rows_below, save, settings, shares, words
 from rtdvs.studies import Row
-
-if TYPE_CHECKING:
-    from matplotlib.axes import Axes
 
 ENERGY, BOUND, TIME = "#d55e00", "#009e73", "#0072b2"
 
 
-def plot_compare(rows: Sequence[Row], energy: "Axes", time: "Axes", units: Units | None = None) -> None:
+def plot_compare(rows: Sequence[Row], energy: Axes, time: Axes, units: Units | None = None) -> None:
     """Draws a comparison into two axes: energies as shares of EDF with `none`, and the time at each speed.
 
     A mark is at the bound for the row's units. A pair that is denied has its line in place of a bar. In a board's units
@@ -69,7 +65,7 @@ def _label(row: Row, units: Units | None) -> str:
     return power(units.spent_at(row.result.ran), units.board.battery)
 
 
-def _draw_energy(axes: "Axes", place: int, row: Row, units: Units | None) -> None:
+def _draw_energy(axes: Axes, place: int, row: Row, units: Units | None) -> None:
     if row.result is None or row.result.share is None:
         words(axes, 0.02, place, row.refusal or "no share", va="center")
         return
@@ -81,7 +77,7 @@ def _draw_energy(axes: "Axes", place: int, row: Row, units: Units | None) -> Non
                     linewidth=3 * POINT, zorder=3, gid=f"bound-{pair}")
 
 
-def _draw_times(axes: "Axes", place: int, row: Row, shades: Mapping[int, float]) -> None:
+def _draw_times(axes: Axes, place: int, row: Row, shades: Mapping[int, float]) -> None:
     begin = Fraction(0)
     for speed, shade in shades.items():
         time = row.result.residency.get(speed, Fraction(0)) if row.result else Fraction(0)

@@ -11,17 +11,13 @@ from fractions import Fraction
 from functools import cached_property, partial
 from itertools import chain, count
 from pathlib import Path
-from typing import TYPE_CHECKING, Any
+from typing import Any
 
 from rtdvs.board import Units
 from rtdvs.errors import BadValue
 from rtdvs.plot import _labels, _style, _thinning
 from rtdvs.plot._style import INK, POINT, SMALL, TEXT, save, words
 from rtdvs.trace import Decision, Job, Miss, Trace, late_jobs
-
-if TYPE_CHECKING:
-    from matplotlib.axes import Axes
-    from matplotlib.figure import Figure
 
 # Lengths are in pixels, 96 to the inch.
 ROW = 58            # a task's row
@@ -110,7 +106,7 @@ class _Frame:
     """A trace in its axes: y in pixels above the speed row's floor, x in ticks, `scale` pixels each."""
 
     trace: Trace
-    axes: "Axes"
+    axes: _style.Axes
     view: View
     first: int
     last: int
@@ -219,7 +215,7 @@ def _frame(trace: Trace, axes: Any, view: View) -> _Frame:
     return _Frame(trace, axes, view, view.first, view.last, view.top)
 
 
-def plot_trace(trace: Trace, axes: "Axes", view: View = View()) -> None:
+def plot_trace(trace: Trace, axes: _style.Axes, view: View = View()) -> None:
     """Draws a trace into axes, which should be `trace_height` pixels high. Raises BadValue if the view
     doesn't fit.
 
@@ -282,7 +278,7 @@ def svg_text(trace: Trace, view: View = View(), width: int = 1000, background: s
     return text[text.index("<svg"):]
 
 
-def _figure(trace: Trace, view: View, width: int) -> "Figure":
+def _figure(trace: Trace, view: View, width: int) -> _style.Figure:
     names = trace.names
     facts = [_facts(trace, name, view) for name in names]
     left = max([100, *(18 + NAME_LETTER * len(name) for name in names), *(18 + LETTER * len(fact) for fact in facts)])

@@ -6,7 +6,7 @@ tasks, the machine, the demands and the plan line; the checker gives the reason 
 
 import re
 from bisect import bisect_left
-from collections.abc import Iterator, Mapping, Sequence
+from collections.abc import Iterator, Sequence
 from dataclasses import dataclass
 from fractions import Fraction
 from pathlib import Path
@@ -188,9 +188,7 @@ class Grades(tuple[Grade, ...], _display.Shown):
     """
 
     __slots__ = ()
-
-    def _columns(self) -> Mapping[str, str]:
-        return COLUMNS
+    _kinds = COLUMNS
 
     def _rows(self) -> Iterator[tuple[_display.Cell, ...]]:
         for each in self:

@@ -6,14 +6,10 @@ Energies are whole numbers.
 
 from collections.abc import Callable, Iterator
 from fractions import Fraction
-from typing import TYPE_CHECKING
 
 from rtdvs import _display, _numbers
 from rtdvs.trace._noted import Noted
 from rtdvs.trace.notes import Decision, Idle, Run
-
-if TYPE_CHECKING:
-    import pandas
 
 REALS = {"j": "job", "s": "speed", "d": "demand", "e": "energy"}
 
@@ -103,7 +99,7 @@ def _cell_text(cell: _display.Cell, table: str) -> str:
     return "" if cell is None else str(cell)
 
 
-def frame(trace: Noted, table: str = "segments", joule: Fraction | None = None, charge: int = 0) -> "pandas.DataFrame":
+def frame(trace: Noted, table: str = "segments", joule: Fraction | None = None, charge: int = 0) -> _display.Frame:
     """A table of a trace as a pandas frame; ImportError without pandas.
 
     Times are floats of ticks. Energies are Python's integers, so their sums are exact. With `joule`, the

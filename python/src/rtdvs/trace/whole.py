@@ -6,16 +6,13 @@ from dataclasses import asdict, dataclass
 from fractions import Fraction
 from itertools import pairwise
 from pathlib import Path
-from typing import TYPE_CHECKING, Self, TextIO
+from typing import Self, TextIO
 
-from rtdvs._display import html_of, picture
+from rtdvs._display import Frame, html_of, picture
 from rtdvs.model import Task, TaskSet
 from rtdvs.trace import _noted, reader, tables
 from rtdvs.trace.jobs import Job
 from rtdvs.trace.notes import Decision, End, Head, Idle, Note, Release, task_text
-
-if TYPE_CHECKING:
-    import pandas
 
 
 @dataclass(frozen=True, slots=True, repr=False)
@@ -173,7 +170,7 @@ class Trace(Head, _noted.Noted):
         """
         return tuple(self.each_job(tasks))
 
-    def frame(self, table: str = "segments", joule: Fraction | None = None, charge: int = 0) -> "pandas.DataFrame":
+    def frame(self, table: str = "segments", joule: Fraction | None = None, charge: int = 0) -> Frame:
         """A table of the trace as a pandas frame, as rtdvs.trace.frame makes it; ImportError without pandas.
 
         >>> Trace.parse(SAMPLE).frame("jobs")["laxity"].tolist()
