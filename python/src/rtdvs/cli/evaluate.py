@@ -87,9 +87,9 @@ def own_of(args: argparse.Namespace) -> Own:
 def _handle(args: argparse.Namespace) -> int:
     sweep = Sweep(args.draws, args.sets, counts=args.counts, tenths=args.utilisations, own=own_of(args))
     if missing := sweep.missing():
-        more = f", and {len(missing) - 1} more; the task file of each is" if missing[1:] else "; its task file is"
+        others = f", and {len(missing) - 1} more; the task file of each" if missing[1:] else "; its task file"
         runs = f"runs of {PUBLISHED_TICKS} ticks under {args.scheduler}"
-        raise errors.BadValue(f"{missing[0]} is missing{more} there: {runs}")
+        raise errors.BadValue(f"{missing[0]} is missing{others} is there: {runs}")
     total = len(set(args.counts)) * len(set(args.utilisations)) * args.sets
     for line in broken(args.folder, sweep):
         print(f"{line}; it is made again if the sweep has it", file=sys.stderr)

@@ -218,7 +218,7 @@ class LibraryEngine(Engine):
         Traceback (most recent call last):
         rtdvs.errors.NoEngine: /absent.so: cannot open shared object file: ...
         """
-        found = self._by_numbers(by_numbers.admitted, tasks, machine, scheduler)
+        found = self._by_numbers(by_numbers.admitted, (tasks, machine), scheduler)
         return super().admit(tasks, machine, scheduler) if found is None else found
 
     def respond(self, tasks: TaskSource, machine: MachineSource) -> dict[str, int]:
@@ -228,7 +228,7 @@ class LibraryEngine(Engine):
         Traceback (most recent call last):
         rtdvs.errors.NoEngine: /absent.so: cannot open shared object file: ...
         """
-        found = self._by_numbers(by_numbers.responses, tasks, machine)
+        found = self._by_numbers(by_numbers.responses, (tasks, machine))
         return super().respond(tasks, machine) if found is None else found
 
     def least(self, machine: MachineSource, units: int, ticks: int) -> Least:
@@ -238,13 +238,14 @@ class LibraryEngine(Engine):
         Traceback (most recent call last):
         rtdvs.errors.NoEngine: /absent.so: cannot open shared object file: ...
         """
-        found = self._by_numbers(by_numbers.least, machine, units, ticks)
+        found = self._by_numbers(by_numbers.least, (machine,), units, ticks)
         return super().least(machine, units, ticks) if found is None else found
 
-    def _by_numbers(self, ask: Callable[..., T | None], *values: object) -> T | None:
+    def _by_numbers(self, ask: Callable[..., T | None], files: Sequence[object], *more: object) -> T | None:
         """The answer to values without a text of them; None if one is a path or a content, or if a text is needed."""
-        has_texts = any(isinstance(value, Path | bytes) for value in values)
-        return None if has_texts or self.timeout is not None else ask(library.opened(self.program), *values)
+        *sets, machine = files
+        are_values = isinstance(machine, Machine) and all(isinstance(tasks, TaskSet) for tasks in sets)
+        return ask(library.opened(self.program), *files, *more) if are_values and self.timeout is None else None
 
 
 def _process_answer(program: Sequence[str], call: Call[object], timeout: float | None) -> Answer:
