@@ -13,8 +13,7 @@ from typing import Any, TypeVar
 from rtdvs._numbers import decimal, trimmed
 from rtdvs.errors import ENTRIES
 from rtdvs.hints.given import Given
-from rtdvs.hints.toml_faults import Place, toml_fault
-from rtdvs.hints.words import COMMANDS, VALUES, Usage
+from rtdvs.hints import toml_faults, words
 from rtdvs.model import GREATEST, MOST_JOBS, RANGES, Machine, TaskSet
 
 T = TypeVar("T")
@@ -145,8 +144,8 @@ def near(word: str, names: Sequence[str], likeness: float = 0.6) -> str:
 
 # The words of a call
 
-def _usage(found: Found) -> Usage:
-    return COMMANDS[found.word(1)]
+def _usage(found: Found) -> words.Usage:
+    return words.COMMANDS[found.word(1)]
 
 
 def _before(found: Found) -> str:
@@ -157,7 +156,7 @@ def _before(found: Found) -> str:
 def _rule(found: Found) -> str | None:
     if found.line.startswith("words: "):
         option = found.parts.get("option") or (found.parts["word"] if "no value" in found.line else _before(found))
-        return VALUES[option]
+        return words.VALUES[option]
     return rule_of(found.key)
 
 
@@ -185,7 +184,7 @@ def _near(found: Found) -> str | None:
     if found.line.startswith("load: "):
         return _neighbour(found.path())
     if found.line.startswith("words: 1: "):
-        return near(word, [*COMMANDS])
+        return near(word, [*words.COMMANDS])
     if found.line.startswith("words: "):
         return None if _split(found) else near(word, _usage(found).options)
     if "unknown task" in found.line:
@@ -218,8 +217,8 @@ def _neighbour(path: Path) -> str | None:
     return None if other == path.name else _from_here(path.with_name(other))
 
 
-def _fault(found: Found) -> Place:
-    return known(toml_fault(known(found.given.content(found.kind))))
+def _fault(found: Found) -> toml_faults.Place:
+    return known(toml_faults.toml_fault(known(found.given.content(found.kind))))
 
 
 def _text(found: Found) -> str | None:
@@ -288,7 +287,7 @@ FACTS: dict[str, Callable[[Found], str | None]] = {
     "cell": lambda found: known(found.cell()).replace("\n", " ")[:LONGEST_TEXT],
     "column": lambda found: str(_fault(found).column),
     "command": lambda found: found.word(1),
-    "commands": lambda found: listed(COMMANDS),
+    "commands": lambda found: listed(words.COMMANDS),
     "earlier": _earlier,
     "elsewhere": _elsewhere,
     "entries": lambda found: "a table `[[task]]` for each task" if found.kind == "tasks" else
