@@ -10,7 +10,7 @@ from typing import Any
 from zlib import crc32
 
 from rtdvs.errors import NAME, BadValue, DeadlineMissed, TraceFault
-from rtdvs.model import Demands, Governor, Machine, TaskSet
+from rtdvs.model import Governor, Machine, TaskSet
 from rtdvs.rules import Chooser, View, check, simulate
 from rtdvs.studies.comparison import Case
 from rtdvs.trace import Trace
