@@ -21,7 +21,3 @@ returns-in-Polled g c =
 pub returns-in-Least : goal.returns-in-Least
 returns-in-Least g c =
     rw (c.in-Least.is, c.ended-in-Least.ensures) (put-text g.W.Sink.shows g.P.Probe.seen _ _ _ refl refl tt refl c.put_least.ensures)
-
-pub returns-in-Workload : goal.returns-in-Workload
-returns-in-Workload g c =
-    rw (c.in-Workload.is, c.ended-in-Workload.ensures) (put-text g.W.Sink.shows g.P.Probe.seen _ _ _ refl refl tt refl c.put_workload.ensures)
