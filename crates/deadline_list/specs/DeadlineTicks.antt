@@ -1,5 +1,5 @@
 -- The deadlines that numbers of ticks give, one for each task, or the first refusal.
-use Rattle.std.specs.Prelude.{⊤, ℕ, ◌+◌, List, [], ◌∷◌, Result, Ok, Err}
+use Rattle.std.specs.Prelude.{⊤, ℕ, ◌+◌, List, [], ◌∷◌, Result, Ok}
 use Rattle.dvs_base.specs.Checks.{◌>>=◌, ◌>>◌}
 use Rattle.task_model.specs.declared.task.Task.{Task}
 use Rattle.task_model.specs.Tasks.{task_at}

@@ -25,7 +25,8 @@ impl Deadlines {
     /// that isn't from 1 to its task's period, in the row that a file of all tasks has for it. It takes no memory.
     pub fn from_ticks(ticks: Vec<u64>, tasks: &TaskSet) -> Result<Deadlines, DeadlineFault>
         requires { length ticks.items ≡ length tasks.now }
-        ensures meaning { IsUnlessMemory DeadlineFault.NoMemory (λ d. d) result (deadlines_of_ticks tasks.now ticks.items) }
+        ensures meaning { IsUnlessMemory DeadlineFault.NoMemory (λ d. d) result
+            (deadlines_of_ticks tasks.now ticks.items) }
         ensures for_tasks { IfOk result (AreFor tasks.now) }
     {
         check_ticks(&ticks, tasks)?;
