@@ -1,3 +1,4 @@
 pub mod Deadlines
 pub mod DeadlineFile
 pub mod FaultLines
+pub mod DeadlineTicks

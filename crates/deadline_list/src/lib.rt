@@ -1,4 +1,4 @@
-//! Relative deadlines of tasks, and their file.
+//! Relative deadlines of tasks: from their file, and from numbers of ticks.
 //!
 //! Callers may rely on every list to have one deadline for each task of its set, from 1 to the task's period.
 #![tactic(auto)]
@@ -7,6 +7,7 @@ mod deadlines;
 mod fault;
 mod fault_line;
 mod read;
+mod ticks;
 
 pub use deadlines::Deadlines;
 pub use fault::DeadlineFault;

@@ -5,7 +5,7 @@ ghost use Rattle.csv_text.specs.Rows.{records_left};
 ghost use Rattle.dvs_base.specs.Checks.{IsUnlessMemory};
 ghost use Rattle.task_model.specs.Tasks.{task_at};
 ghost use Rattle.deadline_list.specs.Deadlines.{AreFor};
-ghost use Rattle.deadline_list.specs.DeadlineFile.{deadline_of_row, with_deadline, given_from, none_given, all_deadlines, given_in, deadline_file, IsAtRow, AreGiven};
+ghost use Rattle.deadline_list.specs.DeadlineFile.{deadline_from, deadline_of_row, with_deadline, given_from, none_given, all_deadlines, given_in, deadline_file, IsAtRow, AreGiven};
 
 use crate::{DeadlineFault, Deadlines};
 use csv::{ByteRecord, Reader};
@@ -13,6 +13,19 @@ use csv_text::{next_record, rows_reader, two_fields};
 use dvs_base::{NoMemory, Short, whole};
 use std::alloc::Global;
 use task_model::TaskSet;
+
+/// A deadline of n ticks, if it is from 1 to the period; otherwise the refusal of this row.
+pub(crate) fn deadline_from(row: u64, period: u64, n: u64) -> Result<u64, DeadlineFault>
+    ensures is { result ≡ deadline_from row period n }
+    ensures some { IfOk result (λ d. 1 ≤ d) }
+    ensures within { IfOk result (λ d. d ≤ period) }
+    ensures same { IfOk result (λ d. d ≡ n) }
+{
+    if n == 0 || n > period {
+        return Err(DeadlineFault::Range { row });
+    }
+    Ok(n)
+}
 
 // The task and the deadline of a row, or the first refusal of the row.
 fn read_row(tasks: &TaskSet, row: u64, fields: &ByteRecord) -> Result<(u32, u64), DeadlineFault>
@@ -27,10 +40,8 @@ fn read_row(tasks: &TaskSet, row: u64, fields: &ByteRecord) -> Result<(u32, u64)
         row,
         name: Short::of(name),
     })?;
-    let deadline = whole(deadline).ok_or(DeadlineFault::BadNumber { row })?;
-    if deadline == 0 || deadline > tasks.task(task).period {
-        return Err(DeadlineFault::Range { row });
-    }
+    let number = whole(deadline).ok_or(DeadlineFault::BadNumber { row })?;
+    let deadline = deadline_from(row, tasks.task(task).period, number)?;
     Ok((task, deadline))
 }
 

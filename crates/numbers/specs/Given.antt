@@ -1,5 +1,5 @@
--- The tasks and the machine that numbers describe: the limits, the order of checks and the refusals are those of the files.
-use Rattle.std.specs.Prelude.{ℕ, ◌+◌, ◌/◌, ◌%◌, ◌&&◌, List, [], ◌∷◌, ◌++◌, length, nat_lt, nat_le, Result, Ok, Err, if◌then◌else◌}
+-- The tasks, their deadlines and the machine that numbers describe: the limits, the order of checks and the refusals are those of the files.
+use Rattle.std.specs.Prelude.{ℕ, ◌+◌, ◌/◌, ◌%◌, ◌&&◌, List, [], ◌∷◌, ◌++◌, length, map, nat_lt, nat_le, Result, Ok, Err, if◌then◌else◌}
 use Rattle.dvs_base.specs.Checks.{◌>>=◌}
 use Rattle.dvs_base.specs.declared.limits.TheConstants.{MOST_TASKS}
 use Rattle.task_model.specs.declared.limits.TheConstants.{LATEST_OFFSET, LONGEST_PERIOD, MOST_WORK}
@@ -9,6 +9,8 @@ use Rattle.task_model.specs.declared.fault.Field.TheVariants as field
 use Rattle.task_model.specs.declared.fault.TaskFault.{TaskFault}
 use Rattle.task_model.specs.declared.fault.TaskFault.TheVariants as fault
 use Rattle.task_model.specs.TaskFile.{within_hyper}
+use Rattle.deadline_list.specs.declared.fault.DeadlineFault.{DeadlineFault}
+use Rattle.deadline_list.specs.DeadlineTicks.{deadlines_of_ticks}
 use Rattle.freq_table.specs.declared.limits.TheConstants.{MOST_POINTS, TOP_SPEED, MOST_MILLIVOLTS, MOST_IDLE, MOST_CHARGE}
 use Rattle.freq_table.specs.declared.machine.Point.{Point}
 use Rattle.freq_table.specs.declared.fault.MachineField.{MachineField}
@@ -49,6 +51,10 @@ tasks_of_given [] = Err fault.NoTasks
 tasks_of_given (given ∷ rest) =
     if nat_lt MOST_TASKS (length (given ∷ rest)) then Err (fault.TooMany (length (given ∷ rest)))
     else (given_tasks_from [] (given ∷ rest) >>= within_hyper)
+
+-- the relative deadlines of these tasks by their numbers, in the same order, or the first refusal
+abbrev pub deadlines_of_given : List Task → List GivenTask → Result (List ℕ) DeadlineFault
+deadlines_of_given tasks given = deadlines_of_ticks tasks (map (λ g. g.deadline) given)
 
 -- a number of the machine, or of the point at this place, if it is within its limits
 abbrev pub machine_number : ℕ → MachineField → ℕ → ℕ → ℕ → Result ℕ MachineFault

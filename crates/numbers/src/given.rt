@@ -1,7 +1,7 @@
 // What a caller gives.
 
 /// The numbers of a task: its period in ticks, its worst case in work units, the tick of its first release, and its
-/// relative deadline in ticks, which is not read here.
+/// relative deadline in ticks, which only `deadlines_of` reads.
 #[derive(Clone, Copy, Debug, PartialEq, Eq)]
 #[repr(C)]
 pub struct GivenTask {

@@ -84,7 +84,8 @@ fn set_of(alloc: Global, tasks: &[Task]) -> Result<TaskSet, TaskFault>
     requires limits { AreGiven tasks.now }
     requires some { 1 ≤ length tasks.now }
     requires few { length tasks.now ≤ MOST_TASKS }
-    ensures { IsUnlessMemory TaskFault.NoMemory (λ s. s) result (within_hyper tasks.now) }
+    ensures meaning { IsUnlessMemory TaskFault.NoMemory (λ s. s) result (within_hyper tasks.now) }
+    ensures same { IfOk result (λ s. s ≡ tasks.now) }
 {
     match is_within_hyper(alloc, tasks) {
         Ok(true) => TaskSet::of(alloc, tasks).map_err(|_| TaskFault::NoMemory),
@@ -97,7 +98,8 @@ fn set_of(alloc: Global, tasks: &[Task]) -> Result<TaskSet, TaskFault>
 /// number, 1 to 64; then of each task the period, 1 to 2^40 ticks, the worst case, 1 to 2^60 work units, and the offset,
 /// at most 2^40 ticks; and then their hyperperiod, at most 2^48 ticks. It fails otherwise only if memory runs out.
 pub fn tasks_of(alloc: Global, given: &[GivenTask]) -> Result<TaskSet, TaskFault>
-    ensures { IsUnlessMemory TaskFault.NoMemory (λ s. s) result (tasks_of_given given.now) }
+    ensures meaning { IsUnlessMemory TaskFault.NoMemory (λ s. s) result (tasks_of_given given.now) }
+    ensures one_each { IfOk result (λ s. length s ≡ length given.now) }
 {
     if given.is_empty() {
         return Err(TaskFault::NoTasks);
