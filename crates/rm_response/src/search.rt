@@ -12,7 +12,7 @@ use crate::relaxed::Relaxed;
 use crate::supply::{Supply, most_in};
 
 // The most times that the first of the ticks is raised in one call of `fitting`.
-const MOST_RAISES: u32 = 4;
+const MOST_RAISES: u32 = 1;
 
 /// The ticks `first` to `last`.
 #[derive(Clone, Copy)]
