@@ -60,8 +60,10 @@ SCHEDULERS = [*dict.fromkeys(scheduler for scheduler, _ in PROGRAM_PAIRS)]
 KIND_WORDS = [*dict.fromkeys(governor for _, governor in PROGRAM_PAIRS)]
 OF_EDF = [governor for scheduler, governor in PROGRAM_PAIRS if scheduler == "edf"]
 OPTION_WORDS = dict(re.findall(r'^(?:option_word opt|word_of key)[.](\w+) = codes "(--\w+)"$', TABLE, re.M))
+OF_RUN = re.findall(r'is_run v && bytes_eq word \(codes "(--\w+)"\)', TABLE)
 PROGRAM_OPTIONS = {
-    word: [OPTION_WORDS[key] for key in re.findall(r"key[.](\w+)", between(TABLE, rf"\noptions_of verb[.]{verb} =", r"\[\]"))]
+    word: [OPTION_WORDS[opt] for opt in re.findall(r"opt[.](\w+)", between(TABLE, rf"\noptions_of verb[.]{verb} =", r"\[\]"))]
+    + (OF_RUN if f"\nis_run verb.{verb} = true" in TABLE else [])
     for word, verb in re.findall(r'\(codes "(\w+)", verb[.](\w+)\)', TABLE)}
 PROGRAM_COMMANDS = sorted(PROGRAM_OPTIONS)
 
