@@ -352,8 +352,8 @@ static uint8_t last_line(void)
     struct rtdvs_lengths lengths = { 7, 7 };
     char last[sizeof line], note[4] = "abc";
     clear(&words);
-    put(&words, "run%c--tasks%ctasks%c--machine%cmachine%c--scheduler%cedf%c--governor%cnone%c--ticks%c16%c", 0, 0, 0, 0, 0, 0, 0,
-        0, 0, 0, 0);
+    put(&words, "run%c--tasks%ctasks%c--machine%cmachine%c--scheduler%cedf%c--governor%cnone%c--ticks%c16%c", 0, 0, 0, 0, 0,
+        0, 0, 0, 0, 0, 0);
     memcpy(last, before, sizeof last);
     uint8_t status = rtdvs_end((uint8_t *)words.at, words.len, (uint8_t *)task_file.at, task_file.len,
                                (uint8_t *)machine_file.at, machine_file.len, NULL, 0, (uint8_t *)last, sizeof line - 1,
@@ -402,7 +402,8 @@ static void repeat(const char *how, uint64_t calls)
             fail("another speed");
         if (strcmp(how, "response") == 0 && (r.ticks[0] != 1 || r.ticks[1] != 2 || r.ticks[2] != 2 || r.ticks[3] != 0))
             fail("other responses");
-        if (strcmp(how, "least") == 0 && (e.rounds != 1 || e.low_ticks != 4 || e.high_ticks != 12 || e.energy.low != 420000000000))
+        if (strcmp(how, "least") == 0 &&
+            (e.rounds != 1 || e.low_ticks != 4 || e.high_ticks != 12 || e.energy.low != 420000000000))
             fail("another least energy");
     }
 }

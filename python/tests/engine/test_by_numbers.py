@@ -103,8 +103,8 @@ def outcome(ask: Callable[[], object]) -> object:
 @example(PAPER, BOARD, 9, 28, 16)
 @example(TaskSet((Task("a", 2**40, 2**60), Task("b", 4, 1))), BOARD, 2**40, 2**64 - 1, 2**40)
 @example(TaskSet((Task("a", 2**40, 2**60, 2**40),)), BOARD, 5, 2**64, 2**40 + 1)
-def test_equal_answers_by_text_and_by_numbers(library: Path, tasks: TaskSet, machine: Machine, deadline: int, units: int,
-                                              ticks: int) -> None:
+def test_equal_answers_by_text_and_by_numbers(library: Path, tasks: TaskSet, machine: Machine, deadline: int,
+                                              units: int, ticks: int) -> None:
     """Also for a deadline above the period, and for one of a task that is none."""
     engine = LibraryEngine(library)
     for scheduler in ("edf", "rm", "dm"):
@@ -136,7 +136,8 @@ def test_no_text_is_written(library: Path, monkeypatch: pytest.MonkeyPatch) -> N
     asks: dict[str, Callable[[], object]] = {
         "edf": lambda: engine.admit(over, BOARD, "edf"), "rm": lambda: engine.admit(over, BOARD, "rm"),
         "misses": lambda: engine.respond(over, BOARD), "offset": lambda: engine.respond(late, BOARD),
-        "units": lambda: engine.least(BOARD, 65, 16), "demand": lambda: engine.constrain(PAPER, BOARD, Deadlines({"t1": 2})),
+        "units": lambda: engine.least(BOARD, 65, 16),
+        "demand": lambda: engine.constrain(PAPER, BOARD, Deadlines({"t1": 2})),
     }
     for test, ask in asks.items():
         with pytest.raises(Denied) as refused:

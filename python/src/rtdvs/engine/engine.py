@@ -193,7 +193,7 @@ class LibraryEngine(Engine):
     """The shared library, which `program` names: calls in this process, of several threads at a time.
 
     Such a call can't be stopped. With a time limit each call has a Python process of its own, which is killed after it.
-    `admit`, `respond`, `constrain` and `least` of values, without a limit, take and answer numbers, with no text between.
+    `admit`, `respond`, `constrain` and `least` of values, without a limit, take and answer numbers, and no text.
 
     >>> LibraryEngine(Path("/absent.so")).workload(1)  # doctest: +ELLIPSIS
     Traceback (most recent call last):
