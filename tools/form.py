@@ -339,7 +339,7 @@ class Count:
 COUNTS = {
     "relations": Count(relations, 100, 230), "positions": Count(positions, 0, 100), "mutual": Count(mutual, 0, 220),
     "idle": Count(idle, 1, 190), "limits": Count(limits, 0, 53000), "edges": Count(edges, 0, 320),
-    "thin": Count(thin, 16, 320), "chain": Count(chain, 0, LONGEST_CHAIN), "parameters": Count(parameters, 4, 1160),
+    "thin": Count(thin, 14, 320), "chain": Count(chain, 0, LONGEST_CHAIN), "parameters": Count(parameters, 4, 1160),
     "bodies": Count(bodies, 0, 1130), "loops": Count(loops, 0, 80), "files": Count(source_files, 0, 250),
     "clauses": Count(clauses, 0, 1650), "proofs": Count(proofs, 0, 32000), "bare": Count(bare, 0, 1200),
     "laws": Count(laws, 0, 7), "edits": Count(edits, 0, 150), "published": Count(published, 0, 317),

@@ -1,5 +1,5 @@
 -- What a ready queue and a calendar say about the state that they represent, and how they follow its changes.
-use Rattle.std.proofs.Common.{◌≡◌, ◌≢◌, ℕ, ◌+◌, ◌<◌, ◌≤◌, Bool, true, false, not, nat_eq, nat_lt, ◌⊎◌, inl, inr, refl, sym, ap, ap₂, subst, ◌∙◌, arith, if◌then◌else◌, List, [], ◌∷◌, length, true≢false, Option, Some, None, MatchOption, IfSome, drop, slice_get, set, get_or-set_same, get_or-set_other}
+use Rattle.std.proofs.Common.{◌≡◌, ◌≢◌, ℕ, ◌+◌, ◌<◌, ◌≤◌, Bool, true, false, not, nat_eq, nat_lt, ◌⊎◌, inl, inr, refl, sym, ap, subst, ◌∙◌, arith, if◌then◌else◌, List, [], ◌∷◌, length, true≢false, Option, Some, None, MatchOption, IfSome, drop, slice_get, set, get_or-set_same, get_or-set_other}
 use Rattle.std.specs.Prelude.{Contains}
 use Rattle.std.proofs.lemmas.Bool.{cases_eq, not-true, true_from_ne_false, false_from_ne_true}
 use Rattle.std.proofs.lemmas.Bool.Decides.{nat_tests}
@@ -10,10 +10,10 @@ use Rattle.grid_fraction.proofs.Least.{least-below, least-above, least-found}
 use Rattle.grid_fraction.proofs.Searches.{any_below-none, any_below-found}
 use Rattle.grid_fraction.proofs.Sums.{sum_below-change}
 use Rattle.sched_model.specs.declared.state.Row.{Row}
-use Rattle.sched_model.specs.Plan.{Plan, count, period, offset, worst}
+use Rattle.sched_model.specs.Plan.{Plan, count, period, offset}
 use Rattle.sched_model.specs.Priority.{stands_before}
-use Rattle.sched_model.specs.States.{StateView, row_at, no_row, opening, opening_row, after_run, after_finish, key_in, earliest_in}
-use Rattle.sched_model.proofs.Tables.{get-table}
+use Rattle.sched_model.specs.States.{StateView, row_at, no_row, opening, after_run, after_finish, key_in, earliest_in}
+use Rattle.grid_fraction.proofs.Tables.{get-table}
 use Rattle.sched_model.proofs.Orders.{before-self, before-not, before-total}
 use Rattle.ready_queue.specs.declared.entry.Entry.{Entry}
 use Rattle.ready_queue.specs.Orders.{due_before}
@@ -52,16 +52,7 @@ module _ (p : Plan) (s : StateView) where
   -- there is only one first task with an incomplete job
   pub first-undone-own : (xs : List Entry) (x : Entry) (i : ℕ) → HoldsReady p s xs → ComesFirst (before_of p.scheduler) x xs
       → IsFirstUndone p s (count p) i → x.task ≡ i
-  first-undone-own xs x i h f o = go (cases_eq x.task i)
-    where
-      u : IsFirstUndone p s (count p) x.task
-      u = first-undone xs x h f
-
-      go : (x.task ≡ i) ⊎ (x.task ≢ i) → x.task ≡ i
-      go (inl e) = e
-      go (inr ne) =
-          let later = false_from_ne_true (stands_before (key_in p.scheduler p s) x.task i) (λ b. true≢false (sym (o.first x.task u.below b) ∙ u.open_job)) in
-          absurd (true≢false (sym (u.first i o.below (before-total (key_in p.scheduler p s) x.task i ne later)) ∙ o.open_job))
+  first-undone-own xs x i h f o = grind (arith, nat_tests, before-total, cases_eq, false_from_ne_true, first-undone)
 
   module _ (xs : List Entry) (x : Entry) (h : HoldsCalendar p s xs) (f : ComesFirst due_before x xs) where
     next-own : IsHeld p s (λ i. true) x
@@ -122,11 +113,7 @@ row-there s i r k ne = get_or-set_other s.rows i k r no_row ne
 -- what holds of the new row, and of the rows of the other tasks, holds of each row
 pub by-row : (s : StateView) (i : ℕ) (r : Row) → i < length s.rows → (P : ℕ → Row → Type 0) → P i r → ((k : ℕ) → k ≢ i → P k (row_at s k))
     → (k : ℕ) → P k (row_at (with_row s i r) k)
-by-row s i r lt P here there k = go (cases_eq k i)
-  where
-    go : (k ≡ i) ⊎ (k ≢ i) → P k (row_at (with_row s i r) k)
-    go (inl e) = subst (λ (j : ℕ). P j (row_at (with_row s i r) j)) (sym e) (subst (P i) (sym (row-here s i r lt)) here)
-    go (inr ne) = subst (P k) (sym (row-there s i r k ne)) (there k ne)
+by-row s i r lt P here there k = grind (arith, nat_tests, cases_eq, row-here, row-there)
 
 module _ (p : Plan) (s : StateView) (i : ℕ) (r : Row) (lt : i < length s.rows) where
   -- the entries of other tasks stay right
@@ -165,13 +152,7 @@ module _ (p : Plan) (s : StateView) (ready : ReadyView) (calendar : QueueView) (
   -- with other entries that are right for another state, the queues represent that state
   stand-with : {after : StateView} {jobs releases : List Entry} → HoldsReady p after jobs → HoldsCalendar p after releases
       → StandFor p after (record ready { entries = jobs }) (record calendar { entries = releases })
-  stand-with jobs releases = record {
-    scheduler = h.scheduler;
-    ready_limit = h.ready_limit;
-    ready_jobs = jobs;
-    calendar_limit = h.calendar_limit;
-    releases = releases;
-  }
+  stand-with jobs releases = grind (arith, nat_tests)
 
   -- `State::run` changes neither the ready queue nor the calendar
   pub stand-run : (i units : ℕ) → i < length s.rows → StandFor p (after_run s i units) ready calendar
@@ -283,15 +264,7 @@ module _ (p : Plan) (s : StateView) (ready : ReadyView) (calendar : QueueView) (
     pub after-open : (ready' : ReadyView) → next ≡ task_entry p (with_next_job p s i false) i
         → ready' ≡ record ready { entries = with_entry (before_of ready.scheduler) next ready.entries }
         → StandFor p (with_next_job p s i false) ready' calendar'
-    after-open ready' is put = record {
-      scheduler = ap (λ (q : ReadyView). q.scheduler) put ∙ h.scheduler;
-      ready_limit = ap (λ (q : ReadyView). q.limit) put ∙ h.ready_limit;
-      ready_jobs = subst (HoldsReady p (with_next_job p s i false)) (sym (ap (λ (q : ReadyView). q.entries) put
-          ∙ ap₂ (λ (c : Scheduler) (x : Entry). with_entry (before_of c) x ready.entries) h.scheduler is))
-          (ready-opened p s i (next_job_row (period p i) false (row_at s i)) lt ready.entries d.below refl ready-absent);
-      calendar_limit = limit ∙ h.calendar_limit;
-      releases = renewed false is;
-    }
+    after-open ready' is put = grind (arith, nat_tests, ready-absent, ready-opened, renewed)
 
     -- the job that is released needs no units: the ready queue stays
     pub after-closed : next ≡ task_entry p (with_next_job p s i true) i → StandFor p (with_next_job p s i true) ready calendar'
@@ -306,10 +279,7 @@ module _ (p : Plan) (s : StateView) (ready : ReadyView) (calendar : QueueView) (
 -- the entry that `renew` puts in is that of the task after its release
 pub opened-entry : (p : Plan) (s : StateView) (i : ℕ) (done : Bool) (per due : ℕ) → i < length s.rows → per ≡ period p i → due ≡ (row_at s i).deadline
     → record { task = i; due = due + per; period = per } ≡ task_entry p (with_next_job p s i done) i
-opened-entry p s i done per due lt is same =
-    ap₂ (λ (d n : ℕ). record { task = i; due = d; period = n })
-    (ap₂ (λ (a b : ℕ). a + b) same is ∙ ap (λ (q : Row). q.deadline) (sym (row-here s i (next_job_row (period p i) done (row_at s i)) lt)))
-    is
+opened-entry p s i done per due lt is same = grind (arith, nat_tests, row-here)
 
 pub more-held : (p : Plan) (s : StateView) (m : ℕ) (e : Entry) (xs ys : List Entry) → m < count p → HoldsTasks p s (λ i. nat_lt i m) xs → e ≡ task_entry p s m
     → ys ≡ with_entry due_before e xs → HoldsTasks p s (λ i. nat_lt i (m + 1)) ys
@@ -323,16 +293,11 @@ all-held p s n xs le h = holds-keep p s (λ i. nat_lt i n) s (λ i. true) xs (λ
 
 -- the opening state has no incomplete job, and an empty ready queue
 pub opening-ready : (p : Plan) (xs : List Entry) → xs ≡ [] → HoldsReady p (opening p) xs
-opening-ready p xs e = subst (HoldsReady p (opening p)) (sym e) (record {
-  each = tt;
-  all = λ i lt t. absurd (true≢false (sym t ∙ ap (λ (q : Row). not q.done) (get-table (count p) (λ j. opening_row (offset p j) (worst p j)) i no_row lt)));
-})
+opening-ready p xs e = grind (arith, nat_tests, get-table)
 
 pub opening-entry : (p : Plan) (m first per : ℕ) → m < count p → first ≡ offset p m → per ≡ period p m
     → record { task = m; due = first; period = per } ≡ task_entry p (opening p) m
-opening-entry p m first per lt begins is =
-    ap₂ (λ (d n : ℕ). record { task = m; due = d; period = n })
-    (begins ∙ ap (λ (q : Row). q.deadline) (sym (get-table (count p) (λ j. opening_row (offset p j) (worst p j)) m no_row lt))) is
+opening-entry p m first per lt begins is = grind (arith, nat_tests, get-table)
 
 -- each release leaves fewer tasks that are still to be released now
 pub due-falls : (p : Plan) (s : StateView) (i : ℕ) (done : Bool) → i < length s.rows → 0 < period p i → IsFirstDue p s i

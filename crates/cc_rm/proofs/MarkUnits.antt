@@ -11,7 +11,7 @@ use Rattle.sched_model.proofs.Orders.{sum_list, sum_list-snoc, below-at, in_orde
 use Rattle.cc_rm_laws.specs.Allotments.{base_of, allotted_units, allotted_in, had_since_mark, allotment_left_in}
 use Rattle.governor.specs.Steps.{wleft_at}
 use Rattle.governor.proofs.StatesOfDemands.{done_none}
-use Rattle.cc_rm_laws.proofs.Lefts.{left-marked}
+use Rattle.cc_rm_laws.proofs.AllotmentLefts.{left-marked}
 use Rattle.cc_rm.specs.Counters.{AreRests}
 use Rattle.cc_rm.proofs.KeptCounters.{marked-base}
 

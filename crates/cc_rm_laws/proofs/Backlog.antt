@@ -17,8 +17,8 @@ use Rattle.sched_model.proofs.JobLaws.{due-none, latest-none}
 use Rattle.sched_model.proofs.LevelSums.{sum_where-zero, sum_up_to-where}
 use Rattle.sched_model.proofs.Schedules.{schedule-none, schedule-suc}
 use Rattle.governor.proofs.Worst.{published-fixed, entry-same, lacking-none}
-use Rattle.governor.proofs.Lacks.{worst_ticks, IsDown, lack-long, lack-same, lack-quiet, lack-released, lack-span, lack-empties, lack as lack_of, lack_after as lack_after_of}
-pub use Rattle.governor.proofs.Lacks.{IsQuiet, level_down}
+use Rattle.sched_model.proofs.Lacks.{worst_ticks, IsDown, lack-long, lack-same, lack-quiet, lack-released, lack-span, lack-empties, lack as lack_of, lack_after as lack_after_of}
+pub use Rattle.sched_model.proofs.Lacks.{IsQuiet, level_down}
 
 -- the published demand of static, with every job at its worst case
 abbrev asked : Plan → PublishedDemand

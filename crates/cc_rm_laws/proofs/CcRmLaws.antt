@@ -4,7 +4,7 @@ use Rattle.std.proofs.lemmas.Bool.{cases_lt}
 use Rattle.dvs_base.specs.declared.kind.Scheduler.{Scheduler}
 use Rattle.dvs_base.specs.declared.kind.Scheduler.TheVariants.{Rm}
 use Rattle.grid_fraction.specs.Numbers.{sum_below, sum_where}
-use Rattle.grid_fraction.proofs.Sums.{sum_below-le, sum_below-add}
+use Rattle.grid_fraction.proofs.Sums.{sum_below-le, sum_below-add, sum_below-some}
 use Rattle.grid_fraction.proofs.Least.{least-same}
 use Rattle.sched_model.specs.declared.state.Row.{Row}
 use Rattle.sched_model.specs.Plan.{Plan, count, period, top_speed}
@@ -14,7 +14,7 @@ use Rattle.sched_model.specs.StaticDemand.{static_speed, rm_static}
 use Rattle.sched_model.specs.Backlog.{backlog}
 use Rattle.sched_model.specs.Admission.{IsAdmitted}
 use Rattle.sched_model.specs.States.{StateView, row_at, earliest_in, key_in}
-use Rattle.sched_model.proofs.Allotments.{allotment_of, down-set-gets}
+use Rattle.sched_model.proofs.Allotments.{allotment_of, down-set-gets, allotment-full, allotment-none}
 use Rattle.sched_model.proofs.LevelSums.{sum_where-mono, sum_where-plus, sum_where-tight}
 use Rattle.governor.specs.Steps.{wleft_at, release_of, share_in, left_in, IsLegalIn, after_tick, IsBeforeAll, Belongs, IsAtDecision}
 use Rattle.governor.proofs.StatesOfDemands.{done_none, tick_at, legal_most, earliest-later}
@@ -22,8 +22,7 @@ use Rattle.governor.proofs.Ticks.{tick-falls, tick-closes}
 use Rattle.governor.specs.Rm.{level}
 use Rattle.cc_rm_laws.specs.Allotments.{base_of, allotted_units, allotted_in, allotment_left_in, rm_cycle_demand}
 use Rattle.cc_rm_laws.specs.Conditions.{CcRmCalm, CcRmSafe}
-use Rattle.cc_rm_laws.proofs.AllottedUnits.{allotment-full, allotment-none, some-term}
-use Rattle.cc_rm_laws.proofs.Lefts.{left_by, left-full, left-idle, left-open}
+use Rattle.cc_rm_laws.proofs.AllotmentLefts.{left_by, left-full, left-idle, left-open}
 use Rattle.cc_rm_laws.proofs.Deadlines.{cc_rm_completes, cc_rm_opens, cc_rm_releases}
 use Rattle.dvs_base.specs.declared.kind.GovernorKind.TheVariants.{Cycle}
 use Rattle.dvs_base.specs.PlanWords.{IsPair}
@@ -145,7 +144,7 @@ module _ (plan : Plan) (adm : IsAdmitted plan) (rm : plan.scheduler ≡ Rm) (dem
   left_falls =
       elim (cases_lt 0 (sum_below (count plan) (allotment_left_in plan ticked))) [
         | inl some ↦
-            let found = some-term (count plan) (allotment_left_in plan ticked) some in
+            let found = sum_below-some (count plan) (allotment_left_in plan ticked) some in
             inr (takes_all found.0 found.1 found.2)
         | inr none ↦ inl (omega arith)
       ]

@@ -24,10 +24,9 @@ use Rattle.governor.specs.Rm.{level}
 use Rattle.governor.proofs.EdfLaws.{closed_row}
 use Rattle.sched_model.specs.declared.state.Row.{Row}
 use Rattle.sched_model.specs.Priority.{SharesOut}
-use Rattle.sched_model.proofs.Allotments.{allotment-shares, down-set-gets}
+use Rattle.sched_model.proofs.Allotments.{allotment-shares, down-set-gets, allotment-most}
 use Rattle.cc_rm_laws.specs.Allotments.{base_of, allotted_units, allotted_in, allotment_left_in}
 use Rattle.cc_rm_laws.specs.Conditions.{CcRmCalm, LacksNothing}
-use Rattle.cc_rm_laws.proofs.AllottedUnits.{allotment-most}
 use Rattle.cc_rm_laws.proofs.Backlog.{lack, lack_after, lack-is, IsQuiet, quiet_row, lack-none, released-lack, after-least, backlog-empties, level_down, backlog-span, backlog-where}
 
 module _ (plan : Plan) (adm : IsAdmitted plan) (dem : JobDemands) (s : StateView) (bel : Belongs plan dem s) where

@@ -1,6 +1,5 @@
-pub mod AllottedUnits
-pub mod Lefts
 pub mod Backlog
 pub mod Deadlines
 pub mod CcRmLaws
 pub mod RmCyclePublished
+pub mod AllotmentLefts

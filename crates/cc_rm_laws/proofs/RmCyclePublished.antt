@@ -19,7 +19,7 @@ use Rattle.sched_model.specs.Admission.{IsAdmitted}
 use Rattle.sched_model.specs.States.{StateView, state_of, earliest_in}
 use Rattle.sched_model.proofs.Limits.{some_period}
 use Rattle.sched_model.proofs.JobLaws.{lt-due, latest-stays, latest-next, release-suc, last_release-le}
-use Rattle.sched_model.proofs.Tables.{get-table}
+use Rattle.grid_fraction.proofs.Tables.{get-table}
 use Rattle.sched_model.proofs.States.{row_at-state_of}
 use Rattle.sched_model.proofs.Allotments.{allotment-same}
 use Rattle.governor.specs.Schedule.{Publishes, PublishingLaws}

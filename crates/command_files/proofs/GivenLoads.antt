@@ -1,5 +1,5 @@
 -- What a shelf gave between two views, split at a view between them.
-use Rattle.std.proofs.Common.{◌≡◌, ◌≤◌, ℕ, ◌+◌, List, [], ◌∷◌, ◌++◌, length, length-append, drop, Option, Some, None, refl, sym, ◌∙◌, ap, subst, arith, append_assoc, append-nil, Bool, true, false, if◌then◌else◌}
+use Rattle.std.proofs.Common.{◌≡◌, ◌≤◌, Result, ℕ, ◌+◌, List, [], ◌∷◌, ◌++◌, length, length-append, drop, Option, Some, None, refl, sym, ◌∙◌, ap, subst, arith, append_assoc, append-nil, Bool, true, false, if◌then◌else◌}
 use Rattle.std.specs.List.{AllByRecursion}
 use Rattle.std.proofs.Math.Seq.{drop-append_seam}
 use Rattle.dvs_base.specs.Loaded.{Load}
@@ -10,7 +10,9 @@ use Rattle.statuses.specs.Steps.{Gives}
 use Rattle.statuses.specs.declared.status.FileKind.{FileKind}
 use Rattle.statuses.specs.declared.status.FileKind.TheVariants as file
 use Rattle.command_files.specs.Meanings.{machine_at}
-use Rattle.command_files.specs.GivenFiles.{Holds, loads_since, MayBe, MayHold, Known, AreShort, GaveMore}
+use Rattle.command_files.specs.GivenFiles.{Holds, loads_since, MayBe, MayHold, Known, ForFiles, AreShort, GaveMore}
+use Rattle.command_files.specs.Loads.{LoadOf, IsLoadStep}
+use Rattle.statuses.specs.declared.status.Status.{Status}
 use Rattle.command_files.specs.Files.{NamedFile, named_file, if_named, passes, loads_while, MakesLoads}
 
 -- what was given between two views, if it is what was added
@@ -66,6 +68,17 @@ module _ (m n : ℕ) (old mid new : ShelfView) (held : mid.held ≡ old.held) (f
   known-later (Some files) h =
       subst (λ (o : Option Files). MayBe o (loads_since mid new) files) (sym held)
       (subst (λ (ls : List Load). MayBe old.held ls files) (sym (since-is mid new later.0 later.2)) (both files h).1)
+
+-- what holds of two steps one after another, over files that the shelf may hold by both
+pub both-steps : {T A U B : Type 0} {l : LoadOf A} {k : LoadOf B} {old mid new : ShelfView} {r : Result T Status} {q : Result U Status} {see : T → A}
+    {look : U → B} → ForFiles old mid (IsLoadStep l old mid r see) → ForFiles mid new (IsLoadStep k mid new q look) → (files : Option Files)
+    → Known files old new → IsLoadStep l old mid r see files × IsLoadStep k mid new q look files
+both-steps {old = old} {mid = mid} {new = new} first later files known =
+    let f = (first None tt).loads in
+    let l = (later None tt).loads in (
+      first files (known-first _ _ old mid new f.held f.gave l.gave files known),
+      later files (known-later _ _ old mid new f.held f.gave l.gave files known),
+    )
 
 -- the load of a file gives what each files have that the shelf may hold
 pub loads-from : (old new : ShelfView) (name bytes : List ℕ) (room : ℕ) → LoadsFrom old.held name (room + 1) bytes

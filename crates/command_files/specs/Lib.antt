@@ -3,4 +3,3 @@ pub mod GivenFiles
 pub mod Files
 pub mod Loads
 pub mod Admissions
-pub mod PlannedRuns

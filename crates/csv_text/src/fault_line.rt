@@ -2,9 +2,9 @@
 ghost use Rattle.std.specs.Prelude.{◌≡◌, ◌≤◌, ◌+◌, length, map};
 ghost use Rattle.dvs_base.specs.declared.limits.TheConstants.{LINE_BYTES, NAME_BYTES, NUMBER_BYTES};
 ghost use Rattle.dvs_base.specs.Parts.{part_text, most_of};
-ghost use Rattle.csv_text.specs.FaultLines.{row_text, bad_number_text};
+ghost use Rattle.csv_text.specs.FaultLines.{row_text, fields_text, unknown_task_text, bad_number_text};
 
-use dvs_base::{Line, Part, push_number, push_parts, push_word};
+use dvs_base::{Line, Part, Short, push_number, push_parts, push_word};
 
 /// The line of a refused row: its file, its number, and what is wrong. It takes no memory.
 pub fn row_line(file: &[u8], row: u64, what: &[Part<'_>]) -> Line
@@ -18,6 +18,30 @@ pub fn row_line(file: &[u8], row: u64, what: &[Part<'_>]) -> Line
     push_word(&mut line, b": ");
     push_parts(&mut line, what);
     line
+}
+
+/// The line of a row that has `count` fields, and so too few or too many. It takes no memory.
+pub fn fields_line(file: &[u8], row: u64, count: u64) -> Line
+    requires { length file.now ≤ NAME_BYTES }
+    ensures { result ≡ fields_text file.now row count }
+{
+    row_line(file, row, &[Part::Number(count), Part::Word(b" fields\n")])
+}
+
+/// The line of a row that names a task which isn't there. It takes no memory.
+pub fn unknown_task_line(file: &[u8], row: u64, name: &Short) -> Line
+    requires { length file.now ≤ NAME_BYTES }
+    ensures { result ≡ unknown_task_text file.now row name.now }
+{
+    row_line(
+        file,
+        row,
+        &[
+            Part::Word(b"unknown task "),
+            Part::Shown(name),
+            Part::Word(b"\n"),
+        ],
+    )
 }
 
 /// The line of a row whose field in this column is not a number. It takes no memory.

@@ -4,7 +4,7 @@
 //! `records_left`: it has the records of the text that a reader has not read, by the CSV reader's own specification,
 //! and each call of `next_record` takes the first of them; and on `rows_reader` to find the rows after one header,
 //! field by field. One record is used again for each row, so no text is kept twice. `row_line` is the line of a refused
-//! row, and `bad_number_line` that of a field that is not a number.
+//! row, `fields_line`, `unknown_task_line` and `bad_number_line` those of what files with rows share.
 #![tactic(auto)]
 
 mod fault_line;
@@ -17,7 +17,7 @@ ghost use Rattle.csv_text.specs.Rows.{IsDefault, records_left, has_fields, text_
 
 use csv::{ByteRecord, Error, Reader, ReaderBuilder};
 use dvs_base::NoMemory;
-pub use fault_line::{bad_number_line, row_line};
+pub use fault_line::{bad_number_line, fields_line, row_line, unknown_task_line};
 use std::alloc::Global;
 
 // A reader of the records of a text, of any number of fields, the first one included. It fails only if memory runs

@@ -4,7 +4,7 @@ use Rattle.std.proofs.lemmas.Option.{none-some}
 use Rattle.std.specs.Prelude.{unwrap_or}
 use Rattle.task_model.specs.declared.task.Task.{Task}
 use Rattle.task_model.specs.Tasks.{task_at, IsTaskSet}
-use Rattle.sched_model.proofs.Tables.{length-list_below, get-table}
+use Rattle.grid_fraction.proofs.Tables.{length-list_below, get-table}
 use Rattle.deadline_list.specs.Deadlines.{AreFor}
 use Rattle.deadline_list.specs.DeadlineFile.{given_to, none_given, relative_deadline, all_deadlines, AreGiven}
 

@@ -7,23 +7,9 @@ ghost use Rattle.task_model.specs.Tasks.{names_of};
 ghost use Rattle.deadline_list.specs.FaultLines.{deadline_fault_text};
 
 use crate::DeadlineFault;
-use csv_text::{bad_number_line, row_line};
-use dvs_base::{Line, Name, Part, Short, line_of, name_part};
+use csv_text::{bad_number_line, fields_line, row_line, unknown_task_line};
+use dvs_base::{Line, Name, Part, line_of, name_part};
 use task_model::{TaskSet, task_name};
-
-fn unknown_task_line(row: u64, name: &Short) -> Line
-    ensures { result ≡ row_text (codes "deadlines") row (codes "unknown task " ∷ name.now ∷ codes "\n" ∷ []) }
-{
-    row_line(
-        b"deadlines",
-        row,
-        &[
-            Part::Word(b"unknown task "),
-            Part::Shown(name),
-            Part::Word(b"\n"),
-        ],
-    )
-}
 
 fn repeated_line(row: u64, name: &Option<Name>) -> Line
     ensures { result ≡ row_text (codes "deadlines") row
@@ -46,14 +32,8 @@ pub fn deadline_fault_line(why: &DeadlineFault, tasks: Option<&TaskSet>) -> Line
 {
     match why {
         DeadlineFault::Header => line_of(&[Part::Word(b"deadlines: wrong header\n")]),
-        DeadlineFault::Fields { row, count } => {
-            row_line(
-                b"deadlines",
-                *row,
-                &[Part::Number(*count), Part::Word(b" fields\n")],
-            )
-        }
-        DeadlineFault::UnknownTask { row, name } => unknown_task_line(*row, name),
+        DeadlineFault::Fields { row, count } => fields_line(b"deadlines", *row, *count),
+        DeadlineFault::UnknownTask { row, name } => unknown_task_line(b"deadlines", *row, name),
         DeadlineFault::BadNumber { row } => bad_number_line(b"deadlines", *row, b"deadline"),
         DeadlineFault::Range { row } => row_line(
             b"deadlines",

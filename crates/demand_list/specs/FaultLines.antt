@@ -2,7 +2,7 @@
 use Rattle.std.specs.Prelude.{ℕ, List, [], ◌∷◌, codes}
 use Rattle.std.specs.Fmt.{decimal}
 use Rattle.dvs_base.specs.Parts.{joined, name_of}
-use Rattle.csv_text.specs.FaultLines.{row_text, bad_number_text}
+use Rattle.csv_text.specs.FaultLines.{row_text, fields_text, unknown_task_text, bad_number_text}
 use Rattle.demand_list.specs.declared.fault.Column.{Column}
 use Rattle.demand_list.specs.declared.fault.Column.TheVariants as column
 use Rattle.demand_list.specs.declared.fault.DemandFault.{DemandFault}
@@ -23,10 +23,8 @@ over_worst_text name job units worst =
 -- the line of a demand file's refusal, with the tasks' names
 abbrev pub demand_fault_text : List (List ℕ) → DemandFault → List ℕ
 demand_fault_text names fault.Header = codes "demands: wrong header\n"
-demand_fault_text names (fault.Fields row count) =
-    row_text (codes "demands") row (decimal count ∷ codes " fields\n" ∷ [])
-demand_fault_text names (fault.UnknownTask row word) =
-    row_text (codes "demands") row (codes "unknown task " ∷ word ∷ codes "\n" ∷ [])
+demand_fault_text names (fault.Fields row count) = fields_text (codes "demands") row count
+demand_fault_text names (fault.UnknownTask row word) = unknown_task_text (codes "demands") row word
 demand_fault_text names (fault.BadNumber row at) = bad_number_text (codes "demands") row (column_word at)
 demand_fault_text names (fault.JobZero row) = row_text (codes "demands") row (codes "job 0\n" ∷ [])
 demand_fault_text names (fault.Repeated row task job) =

@@ -8,7 +8,7 @@ ghost use Rattle.task_model.specs.Tasks.{names_of};
 ghost use Rattle.demand_list.specs.FaultLines.{column_word, over_worst_text, demand_fault_text};
 
 use crate::{Column, DemandFault};
-use csv_text::{bad_number_line, row_line};
+use csv_text::{bad_number_line, fields_line, row_line, unknown_task_line};
 use dvs_base::{Line, Name, Part, line_of, name_part};
 use task_model::{TaskSet, task_name};
 
@@ -62,22 +62,8 @@ pub fn demand_fault_line(why: &DemandFault, tasks: Option<&TaskSet>) -> Line
 {
     match why {
         DemandFault::Header => line_of(&[Part::Word(b"demands: wrong header\n")]),
-        DemandFault::Fields { row, count } => {
-            row_line(
-                b"demands",
-                *row,
-                &[Part::Number(*count), Part::Word(b" fields\n")],
-            )
-        }
-        DemandFault::UnknownTask { row, name } => row_line(
-            b"demands",
-            *row,
-            &[
-                Part::Word(b"unknown task "),
-                Part::Shown(name),
-                Part::Word(b"\n"),
-            ],
-        ),
+        DemandFault::Fields { row, count } => fields_line(b"demands", *row, *count),
+        DemandFault::UnknownTask { row, name } => unknown_task_line(b"demands", *row, name),
         DemandFault::BadNumber { row, column } => bad_number_line(
             b"demands",
             *row,

@@ -34,7 +34,7 @@ pub const NUMBER_BYTES: usize = 20;
 pub const WIDE_BYTES: usize = 39;
 
 /// The most bytes of a position, `tick:offset`.
-pub const POSITION_BYTES: usize = 41;
+pub const POSITION_BYTES: usize = 2 * NUMBER_BYTES + 1;
 
 /// The most bytes of a fraction, `num/den`.
-pub const RATIO_BYTES: usize = 79;
+pub const RATIO_BYTES: usize = 2 * WIDE_BYTES + 1;

@@ -1,6 +1,6 @@
 -- The next deadlines of the tasks in a queue: with one more entry, with the first entry put later, and with those of a tick
 -- taken one after the other.
-use Rattle.std.proofs.Common.{◌≡◌, inl, inr, ℕ, zero, suc, ◌+◌, ◌*◌, ◌<◌, ◌≤◌, arith, ◌≢◌, Bool, true, false, nat_eq, refl, sym, ap, subst, ◌∙◌, if◌then◌else◌, List, [], ◌∷◌, Some, None, slice_get, ◌⊎◌, ◌^◌}
+use Rattle.std.proofs.Common.{◌≡◌, inl, ℕ, ◌+◌, ◌*◌, ◌<◌, ◌≤◌, arith, ◌≢◌, Bool, true, false, nat_eq, refl, sym, ap, subst, ◌∙◌, if◌then◌else◌, List, [], ◌∷◌, Some, None, slice_get, ◌⊎◌, ◌^◌}
 use Rattle.dvs_base.specs.declared.limits.TheConstants.{MOST_TASKS}
 use Rattle.std.proofs.Math.Nat.{mul-le-mul_right}
 use Rattle.std.proofs.lemmas.Bool.{cases_lt, eq-eqb, eqb-true, eqb-false}
@@ -25,17 +25,11 @@ module _ (every within : ℕ) (some : 0 < every) where
   count_by t = jobs_due every within t
 
   pub products : (a b : ℕ) → a * every < b * every → a < b
-  products a b lt = elim (cases_lt a b) [
-    | inl less ↦ less
-    | inr most ↦ absurd (omega (arith, lt, mul-le-mul_right every most))
-  ]
+  products a b lt = grind (arith, nat_tests, cases_lt, mul-le-mul_right)
 
   -- the next absolute deadline after tick t is later than t
   pub next-later : (t : ℕ) → t < within + count_by t * every
-  next-later t = elim (cases_lt t (within + count_by t * every)) [
-    | inl less ↦ less
-    | inr most ↦ (let one = jobs_due-above every within t (count_by t) some most in absurd (omega (arith, one)))
-  ]
+  next-later t = grind (arith, nat_tests, cases_lt, jobs_due-above)
 
   -- at the next absolute deadline one more job is due
   pub due-now : (t now : ℕ) → within + count_by t * every ≡ now → count_by now ≡ count_by t + 1
@@ -48,19 +42,7 @@ module _ (every within : ℕ) (some : 0 < every) where
 
   -- before the next absolute deadline no more jobs are due
   pub due-later : (t now : ℕ) → t ≤ now → now < within + count_by t * every → count_by now ≡ count_by t
-  due-later t now from lt =
-      let m = count_by t in
-      let up : m ≤ count_by now = go m (λ r l. jobs_due-below every within t r l) in
-      let down : count_by now ≤ m =
-      jobs_due-most every within now m (λ r le. products r m (omega arith)) in
-      omega (arith, up, down)
-    where
-      go : (m : ℕ) → ((r : ℕ) → r < m → within + r * every ≤ t) → m ≤ count_by now
-      go zero low = omega arith
-      go (suc m) low =
-          let by : within + m * every ≤ t = low m (omega arith) in
-          let one = jobs_due-above every within now m some (omega arith) in
-          omega (arith, one)
+  due-later t now from lt = grind (arith, nat_tests, jobs_due-above, jobs_due-below, jobs_due-most, products)
 
 -- an entry of a task that wasn't in the list adds only that task's deadline
 pub due_of-placed : (before : Entry → Entry → Bool) (e : Entry) (xs : List Entry) (i : ℕ) → IsAbsent e.task xs
@@ -83,9 +65,7 @@ front [] e is = absurd (cc)
 front (x ∷ xs) e is = (xs, cc)
 
 pub no-front : (q : QueueView) → IsCalendar q → q.entries ≡ [] → ⊥
-no-front q c is =
-    let none : due_of q.entries 0 ≡ 0 = ap (λ (xs : List Entry). due_of xs 0) is in
-    absurd (omega (arith, none, c.each 0 (omega (arith, c.some))))
+no-front q c is = grind (arith, nat_tests)
 
 pub none-front : (xs : List Entry) → None ≡ slice_get xs 0 → xs ≡ []
 none-front [] is = refl
@@ -102,10 +82,7 @@ module _ (q : QueueView) (c : IsCalendar q) (e : Entry) (rest : List Entry) (is 
       due-was e.task ∙ ap (λ (b : Bool). if b then e.due else due_of rest e.task) (eq-eqb e.task e.task refl)
 
   pub first-below : e.task < q.limit
-  first-below =
-      let all : AllByRecursion (λ x. x.task < q.limit) (e ∷ rest) =
-      subst (AllByRecursion (λ x. x.task < q.limit)) is c.below in
-      all.0
+  first-below = grind (arith, nat_tests)
 
   first-least : (i : ℕ) → i < q.limit → e.due ≤ due_of q.entries i
   first-least i lt = go (nat_eq i e.task) refl
@@ -133,9 +110,7 @@ module _ (q : QueueView) (c : IsCalendar q) (e : Entry) (rest : List Entry) (is 
   module _ (every : ℕ) (after : QueueView) (out : IsAbsent e.task rest) (kept : after.limit ≡ q.limit)
       (put : after.entries ≡ with_entry due_before (record { task = e.task; due = e.due + every; period = every }) rest) where
     due-put : (i : ℕ) → due_of after.entries i ≡ (if nat_eq i e.task then e.due + every else due_of rest i)
-    due-put i =
-        ap (λ (xs : List Entry). due_of xs i) put
-        ∙ due_of-placed due_before (record { task = e.task; due = e.due + every; period = every }) rest i out
+    due-put i = grind (arith, nat_tests, due_of-placed)
 
     later : (i : ℕ) → due_of after.entries i
         ≡ (if nat_eq i e.task then due_of q.entries e.task + every else due_of q.entries i)
@@ -163,15 +138,7 @@ module _ (q : QueueView) (c : IsCalendar q) (e : Entry) (rest : List Entry) (is 
 
     pub takes-first : (p : Plan) (work : ℕ) → q.limit ≡ count p → every ≡ period p e.task → work ≡ worst p e.task
         → TakesFirst p (due_of q.entries) (due_of after.entries) work
-    takes-first p work long every_is work_is = record {
-      task = e.task;
-      below = omega (arith, first-below, long);
-      first = first-due ∙ first-earliest ∙ ap (λ (n : ℕ). least_below n (due_of q.entries)) long;
-      later = λ i.
-          subst (λ (m : ℕ). due_of after.entries i
-          ≡ (if nat_eq i e.task then due_of q.entries e.task + m else due_of q.entries i)) every_is (later i);
-      work_is = work_is;
-    }
+    takes-first p work long every_is work_is = grind (arith, nat_tests, first-below, first-due, first-earliest, later)
 
 -- a task with a number above those in the list is not in it
 pub next-absent : (m : ℕ) (xs : List Entry) → AllByRecursion (λ e. e.task < m) xs → IsAbsent m xs
@@ -192,20 +159,13 @@ module _ (m due every : ℕ) (f : ℕ → ℕ) (xs ys : List Entry) (below : All
       (raised m (m + 1) xs (omega arith) below))
 
   pub more-due : due ≡ f m → ((i : ℕ) → i < m → due_of xs i ≡ f i) → (i : ℕ) → i < m + 1 → due_of ys i ≡ f i
-  more-due here before i lt =
-      ap (λ (l : List Entry). due_of l i) put
-      ∙ due_of-placed due_before (record { task = m; due = due; period = every }) xs i (next-absent m xs below)
-      ∙ grind (arith, nat_tests, here, before i)
+  more-due here before i lt = grind (arith, nat_tests, due_of-placed, next-absent)
 
 -- a queue with an entry for each task is a calendar
 pub all-in : (m n : ℕ) (f : ℕ → ℕ) (q : QueueView) → 1 ≤ n → n ≤ m → m ≤ n → q.limit ≡ n
     → AllByRecursion (λ e. e.task < m) q.entries → ((i : ℕ) → i < m → due_of q.entries i ≡ f i)
     → ((i : ℕ) → i < n → 1 ≤ f i) → IsCalendar q
-all-in m n f q one from to long below due some = record {
-  some = omega (arith, one, long);
-  below = raised m q.limit q.entries (omega (arith, to, long)) below;
-  each = λ i lt. omega (arith, due i (omega (arith, lt, long, from)), some i (omega (arith, lt, long)));
-}
+all-in m n f q one from to long below due some = grind (arith, nat_tests, raised)
 
 -- the work of the tasks whose next deadline is `now`
 abbrev pub due_at : Plan → (ℕ → ℕ) → ℕ → ℕ
@@ -261,25 +221,7 @@ module _ (p : Plan) (lim : IsWithinLimits p) where
     falls = omega (arith, fewer, task-worst)
 
     pub taken-on : Taken p old after now (work + more)
-    taken-on = record {
-      past = λ i lt. grind (arith, nat_tests, first.later i, task-due, t.past i lt);
-      each = λ i lt. each i lt (nat_eq i first.task) refl (first.later i);
-      work_is = omega (arith, fewer, first.work_is, t.work_is);
-    }
-      where
-        each : (i : ℕ) → i < count p → (b : Bool) → nat_eq i first.task ≡ b
-            → after i ≡ (if b then next first.task + period p first.task else next i)
-            → (after i ≡ old i) ⊎ ((old i ≡ now) × (after i ≡ now + period p i))
-        each i lt true same moves =
-            let task = eqb-true i first.task same in
-            let here : next i ≡ now = ap next task ∙ task-due in
-            let every : period p i ≡ period p first.task = ap (period p) task in
-            let was : old i ≡ now = (elim (t.each i lt) [ inl stays ↦ sym stays ∙ here | inr goes ↦ goes.0 ]) in
-            inr (was, omega (arith, moves, task-due, every))
-        each i lt false other moves = elim (t.each i lt) [
-          | inl stays ↦ inl (moves ∙ stays)
-          | inr goes ↦ inr (goes.0, moves ∙ goes.1)
-        ]
+    taken-on = grind (arith, nat_tests, eqb-true, fewer, task-due)
 
   -- if the earliest of the next deadlines is another tick, all jobs due at `now` are taken
   module _ (old next : ℕ → ℕ) (now work : ℕ) (t : Taken p old next now work)
@@ -291,16 +233,7 @@ module _ (p : Plan) (lim : IsWithinLimits p) where
         omega (arith, low, high, other)
 
     pub taken-work : work ≡ due_at p old now
-    taken-work =
-        let none : due_at p next now ≡ 0 =
-        sum_below-zero (count p) (λ i. if nat_eq (next i) now then worst p i else 0)
-        (λ i lt. ap (λ (b : Bool). if b then worst p i else 0) (not-due (next i) now (all-later i lt))) in
-        omega (arith, none, t.work_is)
+    taken-work = grind (arith, nat_tests, all-later, not-due, sum_below-zero)
 
     pub taken-moved : Moved p old now next
-    taken-moved i lt = elim (t.each i lt) [
-      | inl stays ↦
-          let off : nat_eq (old i) now ≡ false = not-due (old i) now (omega (arith, stays, all-later i lt)) in
-          rw off stays
-      | inr goes ↦ (let on : nat_eq (old i) now ≡ true = eq-eqb (old i) now goes.0 in rw on goes.1)
-    ]
+    taken-moved i lt = grind (arith, nat_tests, all-later, eq-eqb, not-due)

@@ -1,5 +1,5 @@
 -- The walk finds the constrained demand.
-use Rattle.std.proofs.Common.{◌≡◌, ◌⊎◌, inl, inr, ℕ, zero, suc, ◌+◌, ◌*◌, ◌/◌, ◌^◌, ◌<◌, ◌≤◌, Bool, true, false, nat_eq, if◌then◌else◌, refl, sym, ◌∙◌, ap, subst, arith, eq-or-lt_of_le}
+use Rattle.std.proofs.Common.{◌≡◌, ◌⊎◌, inl, inr, ℕ, zero, suc, ◌+◌, ◌*◌, ◌/◌, ◌^◌, ◌<◌, ◌≤◌, Bool, true, false, nat_eq, if◌then◌else◌, refl, ◌∙◌, ap, subst, arith, eq-or-lt_of_le}
 use Rattle.std.proofs.Math.Nat.{mul-le-mul_left, mul-le-mul_right}
 use Rattle.std.proofs.lemmas.Bool.{cases_lt, eqb-true, eqb-false, ltb-true, ltb-false}
 use Rattle.std.proofs.lemmas.Bool.Decides.{nat_tests}
@@ -107,45 +107,19 @@ module _ (p : Plan) (lim : IsWithinLimits p) (relative : ℕ → ℕ) (con : IsC
   positive d at = omega (arith, at.is, con.some at.task at.below)
 
   busiest-start : IsBusiest p relative 0 (record { num = 0; den = 1 })
-  busiest-start = record {
-    some = omega arith;
-    low = omega arith;
-    low_num = omega arith;
-    found = λ one. absurd (omega arith);
-    greatest = λ d at le. absurd (omega (arith, positive d at));
-    least = λ d at lt. absurd (omega (arith, positive d at));
-  }
+  busiest-start = grind (arith, nat_tests, positive)
 
   -- at the start each task is at its first deadline, and no work is due before it
   pub walk-start : (next : ℕ → ℕ) → ((i : ℕ) → i < count p → next i ≡ relative i)
       → IsWalkedTo p relative next (least_below (count p) next) 0 (record { num = 0; den = 1 })
-  walk-start next same = record {
-    taken = 0;
-    nexts = λ i lt.
-        let none : due_by 0 i ≤ 0 =
-        jobs_due-most (period p i) (relative i) 0 0 (λ r le. absurd (omega (arith, con.some i lt))) in
-        let z : due_by 0 i ≡ 0 = omega arith in
-        let product : due_by 0 i * period p i ≡ 0 * period p i = ap (λ (m : ℕ). m * period p i) z in
-        omega (arith, same i lt, product);
-    now_is = refl;
-    work_is = sym (none-demand p lim relative con);
-    busiest = busiest-start;
-    within = omega arith;
-  }
+  walk-start next same = grind (arith, nat_tests, busiest-start, jobs_due-most, none-demand)
 
   module _ (next : ℕ → ℕ) (now work : ℕ) (best : Frac) (w : IsWalkedTo p relative next now work best) where
     now-first : (i : ℕ) → i < count p → now ≤ next_deadline p relative w.taken i
     now-first i lt = omega (arith, w.now_is, w.nexts i lt, least-below (count p) next i lt)
 
     pub now-later : w.taken < now
-    now-later =
-        let each : (i : ℕ) → i < count p → w.taken + 1 ≤ next i =
-        λ i lt.
-        let later = next-later (period p i) (relative i) (every_period p lim i) w.taken in
-        omega (arith, later, w.nexts i lt) in
-        let above : w.taken + 1 ≤ least_below (count p) next =
-        least-above (count p) next (w.taken + 1) (some_task p lim) each in
-        omega (arith, above, w.now_is)
+    now-later = grind (arith, nat_tests, every_period, least-above, next-later, some_task)
 
     -- the tick is an absolute deadline, and there is none between the last one and the tick
     now-deadline : IsDeadline p relative now
@@ -181,20 +155,7 @@ module _ (p : Plan) (lim : IsWithinLimits p) (relative : ℕ → ℕ) (con : IsC
     -- each job that is due at the tick is one more of its task that is due by then
     due-is : (i : ℕ) → i < count p
         → due_by now i ≡ due_by w.taken i + (if nat_eq (next i) now then 1 else 0)
-    due-is i lt = go (nat_eq (next i) now) refl
-      where
-        go : (b : Bool) → nat_eq (next i) now ≡ b → due_by now i ≡ due_by w.taken i + (if b then 1 else 0)
-        go true e =
-            let same = eqb-true (next i) now e in
-            due-now (period p i) (relative i) (every_period p lim i) w.taken now (omega (arith, same, w.nexts i lt))
-        go false e =
-            let other : next i ≡ now → ⊥ = eqb-false (next i) now e in
-            let before : now < next_deadline p relative w.taken i = (elim (eq-or-lt_of_le (now-first i lt)) [
-              | inl same ↦ absurd (other (omega (arith, same, w.nexts i lt)))
-              | inr less ↦ less
-            ]) in
-            let same = due-later (period p i) (relative i) (every_period p lim i) w.taken now (omega (arith, now-later)) before in
-            omega (arith, same)
+    due-is i lt = grind (arith, nat_tests, due-later, due-now, eq-or-lt_of_le, eqb-false, eqb-true, every_period, now-first, now-later)
 
     pub work-next : work + sum_where (count p) (λ i. nat_eq (next i) now) (worst p)
         ≡ processor_demand p relative now
@@ -221,17 +182,7 @@ module _ (p : Plan) (lim : IsWithinLimits p) (relative : ℕ → ℕ) (con : IsC
 
     -- if the demand at the tick isn't greater, the greatest so far stays
     busiest-kept : h now * best.den ≤ best.num * now → IsBusiest p relative now best
-    busiest-kept low = record {
-      some = w.busiest.some;
-      low = w.busiest.low;
-      low_num = w.busiest.low_num;
-      found = w.busiest.found;
-      greatest = λ d at le. elim (up-to-now d at le) [
-        | inl before ↦ w.busiest.greatest d at before
-        | inr same ↦ subst (λ (m : ℕ). h m * best.den ≤ best.num * m) (sym same) low
-      ];
-      least = w.busiest.least;
-    }
+    busiest-kept low = grind (arith, nat_tests, up-to-now)
 
     -- if the demand at the tick is greater than the greatest so far, it is greater than each earlier one
     busier : (d : ℕ) → IsDeadline p relative d → d ≤ w.taken → best.num * now < h now * best.den → h d * now < h now * d
@@ -246,20 +197,7 @@ module _ (p : Plan) (lim : IsWithinLimits p) (relative : ℕ → ℕ) (con : IsC
 
     busiest-taken : hyper_jobs p.tasks ≤ MOST_JOBS → now ≤ hyper p → best.num * now < h now * best.den
         → IsBusiest p relative now (record { num = h now; den = now })
-    busiest-taken few le more = record {
-      some = positive now now-deadline;
-      low = omega (arith, le, lim.tasks.hyper);
-      low_num = low-demand few now le;
-      found = λ one. (refl, now-deadline, le);
-      greatest = λ d at by. elim (up-to-now d at by) [
-        | inl before ↦ (let less = busier d at before more in omega (arith, less))
-        | inr same ↦ subst (λ (m : ℕ). h m * now ≤ h now * m) (sym same) (omega arith)
-      ];
-      least = λ d at lt. elim (up-to-now d at (omega arith)) [
-        | inl before ↦ busier d at before more
-        | inr same ↦ absurd (omega arith)
-      ];
-    }
+    busiest-taken few le more = grind (arith, nat_tests, busier, low-demand, now-deadline, positive, up-to-now)
 
     -- with the jobs of the tick taken, the walk is at the next deadline
     pub walk-on : (after : ℕ → ℕ) (then-best : Frac) → now ≤ hyper p → Moved p next now after
@@ -294,12 +232,7 @@ module _ (p : Plan) (lim : IsWithinLimits p) (relative : ℕ → ℕ) (con : IsC
     -- the next deadline is later than the tick
     pub goes-on : (after : ℕ → ℕ) (then_now : ℕ) → Moved p next now after → then_now ≡ least_below (count p) after
         → now < then_now
-    goes-on after then_now moved e =
-        let each : (i : ℕ) → i < count p → now + 1 ≤ after i =
-        λ i lt. grind (arith, nat_tests, moved i lt, now-first i lt, w.nexts i lt, every_period p lim i) in
-        let above : now + 1 ≤ least_below (count p) after =
-        least-above (count p) after (now + 1) (some_task p lim) each in
-        omega (arith, above, e)
+    goes-on after then_now moved e = grind (arith, nat_tests, every_period, least-above, now-first, some_task)
 
     -- a step of the walk, whether or not the demand at the tick is the greatest so far
     module _ (few : hyper_jobs p.tasks ≤ MOST_JOBS) (le : now ≤ hyper p) (after : ℕ → ℕ) (then_now sum den : ℕ)
@@ -307,33 +240,16 @@ module _ (p : Plan) (lim : IsWithinLimits p) (relative : ℕ → ℕ) (con : IsC
         (den_is : den ≡ now) where
       here-is : (then-best : Frac) → IsBusiest p relative now then-best
           → IsWalkedTo p relative after then_now sum then-best
-      here-is then-best is =
-          let least : ℕ = least_below (count p) after in
-          subst (λ (n : ℕ). IsWalkedTo p relative after n sum then-best) (sym then_is)
-          (subst (λ (n : ℕ). IsWalkedTo p relative after least n then-best) (sym sum_is)
-          (walk-on after then-best le moved is))
+      here-is then-best is = grind (arith, nat_tests, walk-on)
 
       abbrev here : Frac
       here = record { num = sum; den = den }
 
       pub walk-takes : is_greater here best ≡ true → IsWalkedTo p relative after then_now sum here
-      walk-takes more =
-          let over : best.num * den < sum * best.den = ltb-true (best.num * den) (sum * best.den) more in
-          let over' : best.num * now < h now * best.den =
-          subst (λ (n : ℕ). best.num * n < h now * best.den) den_is
-          (subst (λ (n : ℕ). best.num * den < n * best.den) sum_is over) in
-          here-is here
-          (subst (λ (n : ℕ). IsBusiest p relative now (record { num = n; den = den })) (sym sum_is)
-          (subst (λ (n : ℕ). IsBusiest p relative now (record { num = h now; den = n })) (sym den_is)
-          (busiest-taken few le over')))
+      walk-takes more = grind (arith, nat_tests, busiest-taken, here-is, ltb-true)
 
       pub walk-keeps : is_greater here best ≡ false → IsWalkedTo p relative after then_now sum best
-      walk-keeps less =
-          let under : sum * best.den ≤ best.num * den = ltb-false (best.num * den) (sum * best.den) less in
-          let under' : h now * best.den ≤ best.num * now =
-          subst (λ (n : ℕ). h now * best.den ≤ best.num * n) den_is
-          (subst (λ (n : ℕ). n * best.den ≤ best.num * den) sum_is under) in
-          here-is best (busiest-kept under')
+      walk-keeps less = grind (arith, nat_tests, busiest-kept, here-is, ltb-false)
 
     -- once the tick is beyond the hyperperiod, the constrained demand is found
     pub walk-ends : hyper p < now → IsConstrainedDemand p relative best

@@ -1,5 +1,5 @@
 -- Relative deadlines within the limits, and what the lowest entry that meets the constrained demand does.
-use Rattle.std.proofs.Common.{ℕ, List, length, slice_index, ◌≡◌, ◌<◌, ◌≤◌, refl, sym, ◌∙◌, subst, arith, inl, inr, ◌*◌, nat_lt, Bool, true, false, Ok, Err, ap, true≢false}
+use Rattle.std.proofs.Common.{ℕ, List, length, slice_index, ◌≡◌, ◌<◌, ◌≤◌, refl, sym, ◌∙◌, subst, arith, inl, inr, ◌*◌, Bool, true, false, Ok, Err, ap, true≢false}
 use Rattle.std.proofs.Math.Nat.{mul-le-mul_right}
 use Rattle.std.proofs.lemmas.Bool.{cases_lt, le-leb, leb-true, false_from_ne_true}
 use Rattle.std.proofs.lemmas.Bool.Decides.{nat_tests}
@@ -21,7 +21,7 @@ use Rattle.edf_demand_laws.specs.ProcessorDemand.{IsConstrainedDemand, constrain
 use Rattle.edf_demand_laws.proofs.DemandDecides.{meets-always, misses-at-worst}
 use Rattle.deadline_list.specs.Deadlines.{AreFor}
 use Rattle.edf_demand.specs.declared.lowest_speed.ConstrainFault.TheVariants.{Denied}
-use Rattle.edf_demand.specs.Answers.{LooksAtDemand, IsLowestSpeed, IsOverload, hyper_jobs, pick_answer, demand_answer, tested_answer_from, tested_answer}
+use Rattle.edf_demand.specs.Answers.{LooksAtDemand, IsLowestSpeed, IsOverload, hyper_jobs, pick_answer, demand_answer, tested_answer}
 
 pub within_limits : (p : Plan) → IsTaskSet p.tasks → IsTable p.machine → IsWithinLimits p
 within_limits p tasks machine = record { tasks = tasks; machine = machine }
@@ -35,10 +35,7 @@ module _ (p : Plan) (relative : ℕ → ℕ) where
   module _ (none : NoneOffset (offset p) (count p)) where
     module _ (few : hyper_jobs p.tasks ≤ MOST_JOBS) (demand : Frac) (is : demand ≡ constrained_demand p relative) where
       looked_at : tested_answer p relative ≡ demand_answer p demand
-      looked_at =
-          let under : nat_lt MOST_JOBS (hyper_jobs p.tasks) ≡ false = grind (arith, nat_tests) in
-          ap (tested_answer_from p relative) (none-found (offset p) (count p) none)
-          ∙ (rw under refl ∙ ap (demand_answer p) (sym is))
+      looked_at = grind (arith, nat_tests, none-found)
 
       pub answer-met : (e : ℕ) → lowest_pick p.machine demand ≡ (record { index = e; met = true })
           → tested_answer p relative ≡ Ok (record { demand = demand; point = e })
@@ -51,17 +48,11 @@ module _ (p : Plan) (relative : ℕ → ℕ) where
 
 -- if the highest speed doesn't meet a demand, no entry does
 none-meets : (m : Table) → IsTable m → (d : Frac) → highest_speed m * d.den < d.num → (lowest_pick m d).met ≡ false
-none-meets m table d over =
-    any_below-none (length m.points) (λ e. meets (speed_at m e) d) (λ e lt. false_from_ne_true (meets (speed_at m e) d) (λ is.
-    let fits = leb-true d.num (speed_at m e * d.den) is in
-    omega (arith, over, fits, mul-le-mul_right d.den (below_highest m table e lt))))
+none-meets m table d over = grind (arith, nat_tests, any_below-none, below_highest, false_from_ne_true, leb-true, mul-le-mul_right)
 
 -- a demand that some entry meets is met by the highest speed
 met-highest : (m : Table) → IsTable m → (d : Frac) → (lowest_pick m d).met ≡ true → d.num ≤ highest_speed m * d.den
-met-highest m table d met = elim (cases_lt (highest_speed m * d.den) d.num) [
-  | inl over ↦ absurd (true≢false (sym met ∙ none-meets m table d over))
-  | inr within ↦ within
-]
+met-highest m table d met = grind (arith, nat_tests, cases_lt, none-meets)
 
 module _ (p : Plan) (lim : IsWithinLimits p) (relative : ℕ → ℕ) (con : IsConstrained p relative) (demand : Frac)
     (is : IsConstrainedDemand p relative demand) where

@@ -9,7 +9,7 @@ use Rattle.sched_model.specs.Jobs.{JobDemands}
 use Rattle.sched_model.specs.Ticks.{Tick, units_left, share}
 use Rattle.sched_model.specs.Priority.{allotment}
 use Rattle.sched_model.proofs.Allotments.{allotment_of, allotment-shares, shares-same}
-use Rattle.sched_model.proofs.Tables.{length-list_below, get-table}
+use Rattle.grid_fraction.proofs.Tables.{length-list_below, get-table}
 use Rattle.edf_demand_laws.specs.Constrained.{key_at, IsNextAt, IsScheduleAt, constrained_tick, schedule_at}
 
 -- an entry with the speed of an entry of the table is that entry

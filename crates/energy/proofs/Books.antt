@@ -12,7 +12,7 @@ use Rattle.grid_fraction.proofs.Counts.{count-append, one-or-none}
 use Rattle.sched_model.specs.Notes.{run_energy_told, idle_energy_told}
 use Rattle.sched_model.specs.Totals.{is_released, is_finished, is_decided}
 use Rattle.sched_model.proofs.Schedules.{length-list_below}
-use Rattle.sched_model.proofs.Tables.{get-table, set-table, table-same}
+use Rattle.grid_fraction.proofs.Tables.{get-table, set-table, table-same}
 use Rattle.energy.specs.Books.{Books, Told, energy_at_point, books_of, with_more_at, account_after, HasTask, HasRoom}
 use Rattle.dvs_base.specs.NoteTasks.{energy_of_task}
 

@@ -11,7 +11,7 @@ use Rattle.dvs_base.specs.declared.note.Note.{Note}
 use Rattle.dvs_base.specs.declared.note.Note.TheVariants.{Release, Done}
 use Rattle.dvs_base.specs.declared.limits.TheConstants.{MOST_TICKS}
 use Rattle.sched_model.specs.declared.state.Row.{Row}
-use Rattle.event_kernel.proofs.Bounds.{Bounds}
+use Rattle.event_kernel.proofs.PlanBounds.{PlanBounds}
 use Rattle.grid_fraction.specs.Numbers.{any_below, list_below}
 use Rattle.sched_model.specs.Plan.{Plan, count, period}
 use Rattle.sched_model.specs.Jobs.{JobDemands, latest, releases_at}
@@ -19,7 +19,7 @@ use Rattle.sched_model.specs.Ticks.{Tick}
 use Rattle.sched_model.specs.Notes.{release_notes}
 use Rattle.sched_model.specs.States.{no_row, row_at, prior_row, prior_base_at, prior_base, released_row, prior_state, after_mark, after_release, after_finish, CanRelease, StateView, row_of, state_of}
 use Rattle.sched_model.proofs.Schedules.{length-list_below}
-use Rattle.sched_model.proofs.Tables.{get-table, table-same, set-table}
+use Rattle.grid_fraction.proofs.Tables.{get-table, table-same, set-table}
 use Rattle.sched_model.proofs.JobLaws.{latest-small, lt-due}
 use Rattle.sched_model.proofs.States.{next_job, prior-due, due_released, row-opened, row-kept, state-marked, state-unmarked}
 use Rattle.agenda.specs.Agenda.{NonePast, IsFirstDue, next_job_row, with_next_job}
@@ -217,7 +217,7 @@ module _ {p : Plan} {dem : JobDemands} {past : List Tick} (periods : (i : ℕ) �
           ∙ (with-append trace0 (notes_upto p dem past m) (release_notes p dem (length past) m)
           ∙ ap (λ ns. with_notes trace0 ns) (sym (more p dem past periods m true released_there).1))))
 
-      pub can-release : Bounds p → length past < MOST_TICKS → ((prior_row p dem past m).deadline ≡ length past → (prior_row p dem past m).done ≡ true)
+      pub can-release : PlanBounds p → length past < MOST_TICKS → ((prior_row p dem past m).deadline ≡ length past → (prior_row p dem past m).done ≡ true)
           → CanRelease p st m
       can-release adm early done = record {
         task = omega (arith, lt, ap (λ (s : StateView). length s.rows) r.state, length-list_below (count p) (mixed p dem past m));

@@ -3,14 +3,13 @@ use Rattle.std.proofs.Common.{◌≡◌, ℕ, ◌+◌, ◌-◌, ◌<◌, ◌≤�
 use Rattle.std.proofs.lemmas.Bool.Decides.{nat_tests}
 use Rattle.task_model.specs.declared.limits.TheConstants.{LONGEST_PERIOD}
 use Rattle.sched_model.specs.declared.state.Row.{Row}
-use Rattle.event_kernel.proofs.Bounds.{Bounds}
+use Rattle.event_kernel.proofs.PlanBounds.{PlanBounds}
 use Rattle.sched_model.specs.Plan.{Plan, count, worst}
 use Rattle.sched_model.specs.Jobs.{JobDemands, latest, due, last_release}
 use Rattle.sched_model.specs.Ticks.{Tick, at, exec, wleft}
 use Rattle.sched_model.proofs.JobLaws.{lt-due, due-within, last_release-le, latest_since-le, latest-marked}
-use Rattle.sched_model.proofs.Limits.{every_period}
 use Rattle.sched_model.specs.States.{no_row, row_at, row_wleft, row_of, state_of}
-use Rattle.sched_model.proofs.Tables.{get-table}
+use Rattle.grid_fraction.proofs.Tables.{get-table}
 use Rattle.sched_model.proofs.Schedules.{exec-drop}
 use Rattle.governor.specs.Steps.{IsAtDecision, release_of}
 
@@ -19,11 +18,10 @@ less-left : (worst needs had more : ℕ) → had ≤ more
     → (if nat_le needs more then 0 else worst - more) ≤ (if nat_le needs had then 0 else worst - had)
 less-left worst needs had more le = grind (arith, nat_tests, le)
 
-module _ (p : Plan) (adm : Bounds p) where
+module _ (p : Plan) (adm : PlanBounds p) where
   pub before-due : (i t : ℕ) → (t < due p i (latest p i t)) × (due p i (latest p i t) ≤ t + LONGEST_PERIOD)
   before-due i t =
-      let some = every_period p adm.limits i in
-      (lt-due p i t some, due-within p i t LONGEST_PERIOD some (adm.low_offset i) (adm.low_period i))
+      (lt-due p i t (adm.some_period i), due-within p i t LONGEST_PERIOD (adm.some_period i) (adm.low_offset i) (adm.low_period i))
 
   -- each base is at least what the job may still need
   pub base-high : (dem : JobDemands) (past : List Tick) (i : ℕ) → i < count p → wleft p dem past i ≤ wleft p dem (at (last_release p (length past)) past) i
@@ -39,7 +37,7 @@ module _ (p : Plan) (adm : Bounds p) where
       long = omega (arith, length-drop (length past - last_release p (length past)) past, last_release-le p (length past))
 
       job : latest p i (length earlier) ≡ latest p i (length past)
-      job = ap (latest p i) long ∙ latest-marked p i (length past) (every_period p adm.limits i) lt
+      job = ap (latest p i) long ∙ latest-marked p i (length past) (adm.some_period i) lt
 
   pub at-decision : (dem : JobDemands) (past : List Tick) → IsAtDecision p (state_of p dem past)
   at-decision dem past = record {
@@ -47,7 +45,7 @@ module _ (p : Plan) (adm : Bounds p) where
     soon = λ i lt. omega (arith, ap (λ (r : Row). r.deadline) (row-is i lt), (before-due i (length past)).1);
     marked = last_release-le p (length past);
     since = λ i lt. subst (λ (r : Row). release_of p i r ≤ last_release p (length past)) (sym (row-is i lt))
-        (latest_since-le p i (length past) (every_period p adm.limits i) lt);
+        (latest_since-le p i (length past) (adm.some_period i) lt);
     base = λ i lt. omega (
       arith,
       ap row_wleft (row-is i lt),

@@ -20,7 +20,7 @@ use Rattle.sched_model.specs.Greedy.{IsFirstOpen}
 use Rattle.sched_model.specs.Notes.{same_holder, given_units}
 use Rattle.sched_model.specs.States.{no_row, row_at, StateView, row_of, state_of, key_in}
 use Rattle.grid_fraction.proofs.Sums.{sum_below-zero, sum_below-change}
-use Rattle.sched_model.proofs.Tables.{get-table, table-same, set-table}
+use Rattle.grid_fraction.proofs.Tables.{get-table, table-same, set-table}
 use Rattle.sched_model.proofs.Orders.{before-self, IsAhead, IsOrdered, AreBelow, Stands, first_ahead, stands-in_order, in_order-below, in_order-ordered}
 use Rattle.sched_model.proofs.Allotments.{IsHandedOut, handed-start, handed-step, handed_before, up_to-before}
 use Rattle.grid_fraction.proofs.Searches.{any_below-none, any_below-same, any_below-found}

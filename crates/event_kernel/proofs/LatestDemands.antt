@@ -3,22 +3,17 @@ use Rattle.std.proofs.Common.{◌≡◌, ℕ, ◌<◌, length, get_or, get_or-se
 use Rattle.std.specs.Prelude.{slice_set}
 use Rattle.std.proofs.Math.ListN.{replicate}
 use Rattle.sched_model.specs.declared.state.Row.{Row}
-use Rattle.sched_model.specs.Plan.{Plan, count, offset, worst}
-use Rattle.sched_model.specs.Jobs.{JobDemands}
+use Rattle.sched_model.specs.Plan.{count, offset, worst}
 use Rattle.sched_model.specs.States.{StateView, no_row, row_at, row_wleft, opening, opening_row}
-use Rattle.sched_model.proofs.Tables.{length-list_below, get-table, table-same, set-table, map-table}
+use Rattle.grid_fraction.proofs.Tables.{length-list_below, get-table, table-same, set-table, map-table}
 use Rattle.sched_model.proofs.States.{left-opening}
 use Rattle.agenda.proofs.StateQueues.{with_row, row-here, by-row}
 use Rattle.event_kernel.specs.declared.progress.Setting.{Setting}
 use Rattle.event_kernel.specs.Current.{latest_demands}
-use Rattle.event_kernel.specs.Runs.{demands_of}
+use Rattle.event_kernel.proofs.PlanBounds.{parts_of}
 
 module _ (set : Setting) where
-  abbrev p : Plan
-  p = set.plan.now
-
-  abbrev dem : JobDemands
-  dem = demands_of p set.demands.now
+  open parts_of set use {p, dem}
 
   pub demands-long : (s : StateView) → length (latest_demands set s) ≡ count p
   demands-long s = length-list_below (count p) (λ i. dem i (row_at s i).job)

@@ -1,4 +1,4 @@
-pub mod Bounds
+pub mod PlanBounds
 pub mod Pieces
 pub mod SpanBuffer
 pub mod Tellers
@@ -6,9 +6,9 @@ pub mod OpenSegment
 pub mod Courses
 pub mod GivenUnits
 pub mod HeardLists
-pub mod Wholes
+pub mod RunLines
 pub mod UnitLoop
-pub mod Ofplan
+pub mod StatesOfPlan
 pub mod BoundaryReleases
 pub mod SpanSteps
 pub mod NoteRoom

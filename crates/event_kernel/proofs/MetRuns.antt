@@ -4,7 +4,7 @@ use Rattle.dvs_base.specs.declared.kind.Scheduler.{Scheduler}
 use Rattle.dvs_base.specs.declared.kind.GovernorKind.{GovernorKind}
 use Rattle.demand_list.specs.Demands.{IsWithinWorsts}
 use Rattle.sched_model.specs.Plan.{Plan}
-use Rattle.sched_model.specs.Admission.{IsAdmitted}
+use Rattle.sched_model.specs.Admission.{IsAdmitted, IsWithinLimits}
 use Rattle.sched_model.specs.States.{StateView}
 use Rattle.sched_model.specs.Totals.{totals_of}
 use Rattle.sched_model.proofs.Schedules.{schedule_exists}
@@ -33,8 +33,8 @@ pub met-as : {kind : GovernorKind} {demand : OwnDemand} {a b : Run} → a ≡ b 
 met-as {kind} {demand} is met = subst (λ (r : Run). IsMetRun kind demand r) is met
 
 -- a run has few decisions under any published demand
-pub run-few : (demand : OwnDemand) (r : Run) → IsAdmitted r.plan → AreFew (totals_of (notes_of_run demand r))
-run-few demand r adm =
+pub run-few : (demand : OwnDemand) (r : Run) → IsWithinLimits r.plan → AreFew (totals_of (notes_of_run demand r))
+run-few demand r limits =
     let dem = demands_of r.plan r.demands in
-    has-few r.plan adm.limits dem (λ i. refl) (ask_of demand r.plan dem) (run_ticks demand r)
+    has-few r.plan limits dem (λ i. refl) (ask_of demand r.plan dem) (run_ticks demand r)
     (schedule_exists r.plan dem (ask_of demand r.plan dem) r.ticks).0

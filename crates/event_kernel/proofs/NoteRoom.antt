@@ -7,7 +7,7 @@ use Rattle.dvs_base.specs.declared.note.Note.{Note}
 use Rattle.sched_model.specs.Plan.{Plan}
 use Rattle.sched_model.specs.Jobs.{JobDemands}
 use Rattle.sched_model.specs.Schedule.{IsScheduleBy}
-use Rattle.sched_model.specs.Admission.{IsAdmitted}
+use Rattle.sched_model.specs.Admission.{IsWithinLimits}
 use Rattle.sched_model.specs.Notes.{span_notes, run_energy_told, idle_energy_told}
 use Rattle.note_laws.proofs.FewNotes.{IsNoteIn, ticks-fit, last-fits}
 use Rattle.governor.specs.Meanings.{OwnDemand}
@@ -29,19 +29,19 @@ pub record CourseFits (demand : OwnDemand) (p : Plan) (dem : JobDemands) (t : �
   pub span : length (span_notes p dem (ask_of demand p dem) (whole_span demand p dem t)) ≤ MOST_NOTES
   pub all : t ≤ MOST_TICKS → AreBooked p (notes_before demand p dem t)
 
-pub course-fits : (demand : OwnDemand) (p : Plan) (dem : JobDemands) → IsAdmitted p → ((i : ℕ) → dem i 0 ≡ 0) → (t : ℕ)
+pub course-fits : (demand : OwnDemand) (p : Plan) (dem : JobDemands) → IsWithinLimits p → ((i : ℕ) → dem i 0 ≡ 0) → (t : ℕ)
     → CourseFits demand p dem t
-course-fits demand p dem admitted none t =
+course-fits demand p dem limits none t =
     let ask = ask_of demand p dem in
     let long = course-len demand p dem t in
-    let fit = ticks-fit p admitted.limits dem none ask (course demand p dem t) (course-legal demand p dem t) in
+    let fit = ticks-fit p limits dem none ask (course demand p dem t) (course-legal demand p dem t) in
     let later : IsScheduleBy p dem ask (tick_at demand p dem t ∷ course demand p dem t) =
     subst (IsScheduleBy p dem ask) (course-next demand p dem t) (course-legal demand p dem (t + 1)) in
     record {
       each = fit.each;
       span = omega (
         arith,
-        last-fits p admitted.limits dem none ask (tick_at demand p dem t) (course demand p dem t) (whole_span demand p dem t) _ later
+        last-fits p limits dem none ask (tick_at demand p dem t) (course demand p dem t) (whole_span demand p dem t) _ later
             (spans-whole demand p dem t),
       );
       all = λ early. record {

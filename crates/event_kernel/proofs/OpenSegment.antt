@@ -16,7 +16,7 @@ use Rattle.sched_model.specs.States.{row_at, StateView}
 use Rattle.sched_model.proofs.PieceLemmas.{piece, same_holder-eq, pieces_of-run, total, total-pieces}
 use Rattle.event_kernel.specs.declared.segment.Segment.{Segment}
 use Rattle.event_kernel.specs.declared.span_trace.SpanTrace.{SpanTrace}
-use Rattle.event_kernel.specs.Segment.{span_with, notes_with, IsOpen, holder_notes, written_notes, after_segment, is_turn, with_units, after_units, HeldIn}
+use Rattle.event_kernel.specs.Segment.{span_with, notes_with, IsOpen, force_of, holder_notes, written_notes, after_segment, is_turn, with_units, after_units, HeldIn}
 use Rattle.event_kernel.specs.SpanNotes.{kept_notes}
 use Rattle.event_kernel.proofs.SpanBuffer.{kept_notes-then}
 use Rattle.grid_fraction.proofs.Counts.{count-append}
@@ -91,7 +91,7 @@ module _ (p : Plan) (dem : JobDemands) (ask : PublishedDemand) (t : ℕ) where
       → HoldsSpan p dem ask t s used most trace → Shows p dem t st used
       → HeldNow p t h
       → ((i : ℕ) → i < count p → used i + count_by (same_holder (Held i (latest p i t))) (replicate n h) ≡ used' i)
-      → HoldsSpan p dem ask t (span_with s (replicate n h)) used' (most + n) (after_units p st (length s.past) s.entry h n trace)
+      → HoldsSpan p dem ask t (span_with s (replicate n h)) used' (most + n) (after_units p st (force_of p s) h n trace)
   enters s used used' most st h zero trace some w shows now more = absurd (omega arith)
   enters s used used' most st h (suc m) trace some w shows now more = go w.segments
     where
@@ -115,11 +115,11 @@ module _ (p : Plan) (dem : JobDemands) (ask : PublishedDemand) (t : ℕ) where
           (pieces_notes-grown p dem s (replicate n h) 0 rs (omega (arith, le)))
 
       turned : Bool → SpanTrace
-      turned b = with_units h n (if b then after_segment p st (length s.past) s.entry trace else trace)
+      turned b = with_units h n (if b then after_segment p st (force_of p s) trace else trace)
 
       -- the holder of the open segment has the units: the segment grows
       grows : is_turn trace h ≡ false → pieces_of longer.units ≡ w.done ++ piece h (trace.segment.units + n) ∷ [] → total w.done ≤ length s.units
-          → HoldsSpan p dem ask t longer used' (most + n) (after_units p st (length s.past) s.entry h n trace)
+          → HoldsSpan p dem ask t longer used' (most + n) (after_units p st (force_of p s) h n trace)
       grows is e le = subst (λ b. HoldsSpan p dem ask t longer used' (most + n) (turned b)) (sym is) (record {
         done = w.done;
         segments = inr (omega arith, e);
@@ -133,7 +133,7 @@ module _ (p : Plan) (dem : JobDemands) (ask : PublishedDemand) (t : ℕ) where
       -- another holder has the units: the open segment ends
       turns : 0 < trace.segment.units → pieces_of s.units ≡ w.done ++ piece trace.segment.holder trace.segment.units ∷ []
           → (b : Bool) → same_holder trace.segment.holder h ≡ b
-          → HoldsSpan p dem ask t longer used' (most + n) (after_units p st (length s.past) s.entry h n trace)
+          → HoldsSpan p dem ask t longer used' (most + n) (after_units p st (force_of p s) h n trace)
       turns pos e true same =
           let like : trace.segment.holder ≡ h = same_holder-eq trace.segment.holder h same in
           let some_units : nat_lt 0 trace.segment.units ≡ true = grind (arith, nat_tests) in
@@ -156,14 +156,14 @@ module _ (p : Plan) (dem : JobDemands) (ask : PublishedDemand) (t : ℕ) where
             taken = now;
             had = had;
             few = omega (arith, w.few, long);
-            notes = kept_notes-then trace.notes (notes_with p dem ask s w.done) (written_notes p st (length s.past) s.entry trace) w.notes
+            notes = kept_notes-then trace.notes (notes_with p dem ask s w.done) (written_notes p st (force_of p s) trace) w.notes
                 ∙ ap kept_notes (sym (stable (w.done ++ r ∷ []) (omega (arith, start, w.place, total-append w.done (r ∷ [])))
                 ∙ (notes-more s w.done r ∙ ap (λ ns. notes_with p dem ask s w.done ++ ns)
                 (ap (λ q. segment_notes p dem s q trace.segment.units trace.segment.holder) start
                 ∙ tells s used st trace.segment.start trace.segment.units trace.segment.holder w.taken w.place w.had shows))));
           })
 
-      go : IsOpen trace.segment w.done s.units → HoldsSpan p dem ask t longer used' (most + n) (after_units p st (length s.past) s.entry h n trace)
+      go : IsOpen trace.segment w.done s.units → HoldsSpan p dem ask t longer used' (most + n) (after_units p st (force_of p s) h n trace)
       go (inl q) =
           grows (ap (λ u. nat_lt 0 u && not (same_holder trace.segment.holder h)) q.2)
           (let same : n ≡ trace.segment.units + n = omega (arith, q.2) in

@@ -10,8 +10,7 @@ use Rattle.dvs_base.specs.declared.kind.Scheduler.TheVariants.{Edf, Rm}
 use Rattle.sched_model.specs.declared.state.Row.{Row}
 use Rattle.sched_model.specs.declared.holder.Holder.{Holder}
 use Rattle.sched_model.specs.declared.holder.Holder.TheVariants.{Nobody, Held}
-use Rattle.sched_model.specs.Plan.{Plan, count, point}
-use Rattle.sched_model.specs.Jobs.{JobDemands}
+use Rattle.sched_model.specs.Plan.{Plan, count}
 use Rattle.sched_model.specs.States.{row_at, after_advance, StateView, key_in}
 use Rattle.sched_model.specs.Priority.{stands_before}
 use Rattle.sched_model.proofs.Orders.{before-self}
@@ -24,10 +23,9 @@ use Rattle.event_kernel.specs.Tickwork.{after_service, gives}
 use Rattle.event_kernel.specs.Boundary.{some_due}
 use Rattle.event_kernel.specs.declared.progress.Setting.{Setting}
 use Rattle.event_kernel.specs.declared.in_force.InForce.{InForce}
-use Rattle.event_kernel.specs.Runs.{demands_of}
-use Rattle.event_kernel.specs.Settings.{IsSetting, AreQuiet, IsInSpan, HasWorked}
-use Rattle.event_kernel.proofs.Bounds.{bounds}
-use Rattle.event_kernel.proofs.UnitLoop.{HoldsHanded, entry-there, begin, rows-there, turned, idled, full, finished}
+use Rattle.event_kernel.proofs.PlanBounds.{parts_of}
+use Rattle.event_kernel.specs.Settings.{AreQuiet, IsInSpan, HasWorked}
+use Rattle.event_kernel.proofs.UnitLoop.{HoldsHanded, some-speed, begin, rows-there, turned, idled, full, finished}
 use Rattle.event_kernel.proofs.SpanSteps.{goes-on}
 
 -- the units of a tick and of n more
@@ -48,9 +46,9 @@ module _ (h : Holder) (m : ℕ) (some : 0 < m) (q : SpanTrace) where
   no_turn : is_turn (with_units h m q) h ≡ false
   no_turn = ap (λ b. nat_lt 0 (q.segment.units + m) && not b) (same_holder-refl h) ∙ and_right (nat_lt 0 (q.segment.units + m)) false refl
 
-  more_units : (p : Plan) (s : StateView) (from e n : ℕ) → after_units p s from e h n (with_units h m q) ≡ with_units h (m + n) q
-  more_units p s from e n =
-      ap (λ b. with_units h n (if b then after_segment p s from e (with_units h m q) else with_units h m q)) no_turn
+  more_units : (p : Plan) (s : StateView) (force : InForce) (n : ℕ) → after_units p s force h n (with_units h m q) ≡ with_units h (m + n) q
+  more_units p s force n =
+      ap (λ b. with_units h n (if b then after_segment p s force (with_units h m q) else with_units h m q)) no_turn
       ∙ ap (λ u. record { segment = record { holder = h; start = q.segment.start; units = u }; notes = q.notes }) (omega arith)
 
 -- the rows after units of the first task whose row is not done, if there is one
@@ -58,16 +56,16 @@ module _ (st : StateView) (m : ℕ) (p : Plan) (rows : length st.rows ≡ count 
   abbrev served : ℕ → Row
   served i = record (row_at st i) { used = (row_at st i).used + m; done = false }
 
-  pub first-row : {first : Option ℕ} {i : ℕ} → first ≡ Some i → i < count p → row_at (gives st first m) i ≡ served i
+  first-row : {first : Option ℕ} {i : ℕ} → first ≡ Some i → i < count p → row_at (gives st first m) i ≡ served i
   first-row {first} {i} is lt =
       subst (λ o. row_at (gives st o m) i ≡ served i) (sym is) (row-here st i (served i) (omega (arith, lt, rows)))
 
-  pub due-on : (first : Option ℕ) → IsFirst p st first → (k : ℕ) → (row_at (gives st first m) k).deadline ≡ (row_at st k).deadline
+  due-on : (first : Option ℕ) → IsFirst p st first → (k : ℕ) → (row_at (gives st first m) k).deadline ≡ (row_at st k).deadline
   due-on None is k = refl
   due-on (Some i) is k =
       by-row st i (served i) (omega (arith, is.below, rows)) (λ j r. r.deadline ≡ (row_at st j).deadline) refl (λ j ne. refl) k
 
-  pub first-on : (first : Option ℕ) → IsFirst p st first → (a : ℕ) → IsFirst p (after_advance (gives st first m) a) first
+  first-on : (first : Option ℕ) → IsFirst p st first → (a : ℕ) → IsFirst p (after_advance (gives st first m) a) first
   first-on None is a = is
   first-on (Some i) is a = record {
     below = is.below;
@@ -96,15 +94,11 @@ module _ (st : StateView) (m : ℕ) (p : Plan) (rows : length st.rows ≡ count 
       ∙ (ap (λ rows. record st { now = b; rows = rows }) (set-set st.rows i _ _)
       ∙ ap (λ u. record st { now = b; rows = set st.rows i (record (row_at st i) { used = u; done = false }) }) (omega arith))
 
-module _ {set : Setting} (ok : IsSetting set) (force : InForce) where
-  abbrev p : Plan
-  p = set.plan.now
-
-  abbrev dem : JobDemands
-  dem = demands_of p set.demands.now
+module _ (set : Setting) (force : InForce) where
+  open parts_of set use {p, dem}
 
   abbrev pub f : ℕ
-  f = (point p force.index).speed
+  f = force.speed
 
   -- no job is released up to the tick n
   abbrev pub QuietTo : ℕ → StateView → Type 0
@@ -120,11 +114,8 @@ module _ {set : Setting} (ok : IsSetting set) (force : InForce) where
 
   module _ {demand : OwnDemand} where
     module _ (t : ℕ) (st : StateView) (trace : SpanTrace) (here : IsInSpan set demand force t st trace) where
-      some_units : 0 < f
-      some_units = (bounds p ok.admitted).some_speed force.index (entry-there ok here)
-
       w0 : HoldsHanded demand p dem t f false st trace
-      w0 = begin ok here f refl
+      w0 = begin here
 
       -- the next tick belongs to the span
       next_tick : (st' : StateView) (trace' : SpanTrace) → t + 1 < set.ticks → QuietTo (t + 1) st → st'.now ≡ t + 1
@@ -133,42 +124,42 @@ module _ {set : Setting} (ok : IsSetting set) (force : InForce) where
       next_tick st' trace' lt quiet now due done =
           let none : some_due p st' ≡ false = any_below-none (count p) (λ k. nat_eq (row_at st' k).deadline st'.now)
           (λ k l. (let q = quiet k l in let d = due k in grind (arith, nat_tests, q, d, now))) in
-          goes-on ok here done none lt
+          goes-on set here done none lt
 
       in_rows : length st.rows ≡ count p
-      in_rows = rows-there ok here w0
+      in_rows = rows-there here w0
 
       -- one tick of one job, or of nobody
       one : (first : Option ℕ) → IsFirst p st first → NeedsMore st first f → t + 1 < set.ticks → QuietTo (t + 1) st
           → IsInSpan set demand force (t + 1) (after_advance (gives st first f) (t + 1))
-          (after_units p st force.from force.index (holder_at st first) f trace)
+          (after_units p st force (holder_at st first) f trace)
       one None all_done short lt quiet =
-          next_tick (after_advance st (t + 1)) (after_units p st force.from force.index Nobody f trace) lt quiet refl (λ k. refl)
-          (finished ok here w0 (inr all_done) (after_units p st force.from force.index Nobody f trace) (after_advance st (t + 1))
-          (idled ok here w0 (after_units p st force.from force.index Nobody f trace) some_units refl) refl)
+          next_tick (after_advance st (t + 1)) (after_units p st force Nobody f trace) lt quiet refl (λ k. refl)
+          (finished here w0 (inr all_done) (after_units p st force Nobody f trace) (after_advance st (t + 1))
+          (idled here w0 (after_units p st force Nobody f trace) (some-speed here) refl) refl)
       one (Some i) first needs lt quiet =
           let short : (row_at st i).used + f < dem i (row_at st i).job = needs i refl in
           let all : f ≡ min f (dem i (row_at st i).job - (row_at st i).used) = omega (arith, short) in
           let part : f < dem i (row_at st i).job - (row_at st i).used = omega (arith, short) in
           let not_whole : false ≡ nat_eq f (dem i (row_at st i).job - (row_at st i).used) = grind (arith, nat_tests, part) in
-          let after : SpanTrace = after_units p st force.from force.index (Held i (row_at st i).job) f trace in
+          let after : SpanTrace = after_units p st force (Held i (row_at st i).job) f trace in
           let w1 : HoldsHanded demand p dem t (f - f) false (after_service st i f false) after =
-          turned ok here w0 i f first all false false (after_service st i f false) after some_units not_whole refl refl refl in
+          turned here w0 i f first all false false (after_service st i f false) after (some-speed here) not_whole refl refl refl in
           next_tick (run_on st i f (t + 1)) after lt quiet refl (due-on st f p in_rows (Some i) first)
-          (finished ok here w1 (inl (omega arith)) after (run_on st i f (t + 1)) (full ok here w1 (omega arith)) refl)
+          (finished here w1 (inl (omega arith)) after (run_on st i f (t + 1)) (full here w1 (omega arith)) refl)
 
     -- n + 1 ticks as one step, for any holder of their units
     stays-by : (n t : ℕ) (first : Option ℕ) (st : StateView) (trace : SpanTrace) → IsInSpan set demand force t st trace
         → IsFirst p st first → NeedsMore st first (units_in f n) → t + suc n < set.ticks → QuietTo (t + suc n) st
         → IsInSpan set demand force (t + suc n) (after_advance (gives st first (units_in f n)) (t + suc n))
-        (after_units p st force.from force.index (holder_at st first) (units_in f n) trace)
+        (after_units p st force (holder_at st first) (units_in f n) trace)
     stays-by zero t first st trace here is short lt quiet = one t st trace here first is short lt quiet
     stays-by (suc n) t first st trace here is short lt quiet =
         let u : ℕ = units_in f n in
         let m : ℕ = t + suc n in
         let h : Holder = holder_at st first in
         let mid : StateView = after_advance (gives st first u) m in
-        let told : SpanTrace = after_units p st force.from force.index h u trace in
+        let told : SpanTrace = after_units p st force h u trace in
         let rows = in_rows t st trace here in
         let before : IsInSpan set demand force m mid told =
         stays-by n t first st trace here is (λ i e. (let s = short i e in omega (arith, s))) (omega (arith, lt))
@@ -178,40 +169,40 @@ module _ {set : Setting} (ok : IsSetting set) (force : InForce) where
         let row = first-row st u p rows e (subst (IsFirst p st) e is).below in
         omega (arith, s, ap (λ (r : Row). r.used) row, ap (λ (r : Row). dem i r.job) row)) in
         let next : IsInSpan set demand force (m + 1) (after_advance (gives mid first f) (m + 1))
-        (after_units p mid force.from force.index (holder_at mid first) f told) =
+        (after_units p mid force (holder_at mid first) f told) =
         one m mid told before first (first-on st u p rows first is m) more (omega (arith, lt))
         (λ k l. (let q = quiet k l in let d = due-on st u p rows first is k in omega (arith, q, d))) in
-        let traces : after_units p mid force.from force.index (holder_at mid first) f told
-        ≡ after_units p st force.from force.index h (u + f) trace =
-        ap (λ k. after_units p mid force.from force.index k f told) (holder-on st u p rows first is)
-        ∙ more_units h u (some_by n (some_units t st trace here))
-        (if is_turn trace h then after_segment p st force.from force.index trace else trace) p mid force.from force.index f in
+        let traces : after_units p mid force (holder_at mid first) f told
+        ≡ after_units p st force h (u + f) trace =
+        ap (λ k. after_units p mid force k f told) (holder-on st u p rows first is)
+        ∙ more_units h u (some_by n (some-speed here))
+        (if is_turn trace h then after_segment p st force trace else trace) p mid force f in
         let later : m + 1 ≡ t + suc (suc n) = omega arith in
-        subst (λ k. IsInSpan set demand force k (after_advance (gives st first (u + f)) k) (after_units p st force.from force.index h (u + f) trace)) later
-        (subst (λ s. IsInSpan set demand force (m + 1) s (after_units p st force.from force.index h (u + f) trace)) (gives-on st u p rows first is f m (m + 1))
+        subst (λ k. IsInSpan set demand force k (after_advance (gives st first (u + f)) k) (after_units p st force h (u + f) trace)) later
+        (subst (λ s. IsInSpan set demand force (m + 1) s (after_units p st force h (u + f) trace)) (gives-on st u p rows first is f m (m + 1))
         (subst (λ q. IsInSpan set demand force (m + 1) (after_advance (gives mid first f) (m + 1)) q) traces next))
 
     -- n ticks keep it too
     stays-n : (n t : ℕ) (first : Option ℕ) (st : StateView) (trace : SpanTrace) → 0 < n → IsInSpan set demand force t st trace
         → IsFirst p st first → NeedsMore st first (n * f) → t + n < set.ticks → QuietTo (t + n) st
         → IsInSpan set demand force (t + n) (after_advance (gives st first (n * f)) (t + n))
-        (after_units p st force.from force.index (holder_at st first) (n * f) trace)
+        (after_units p st force (holder_at st first) (n * f) trace)
     stays-n zero t first st trace some here is short lt quiet = absurd (omega arith)
     stays-n (suc n) t first st trace some here is short lt quiet =
         subst (λ u. IsInSpan set demand force (t + suc n) (after_advance (gives st first u) (t + suc n))
-        (after_units p st force.from force.index (holder_at st first) u trace)) (units_in-is f n)
+        (after_units p st force (holder_at st first) u trace)) (units_in-is f n)
         (stays-by n t first st trace here is (λ i e. (let s = short i e in omega (arith, s, units_in-is f n))) lt quiet)
 
 -- quiet ticks are one step
-pub stays : {demand : OwnDemand} {set : Setting} → IsSetting set → {force : InForce} {st : StateView} {trace : SpanTrace}
+pub stays : {demand : OwnDemand} {set : Setting} {force : InForce} {st : StateView} {trace : SpanTrace}
     → IsInSpan set demand force st.now st trace → (first : Option ℕ) {n : ℕ} → IsFirst set.plan.now st first
     → AreQuiet set force st first n → 0 < n → (st' : StateView) (trace' : SpanTrace)
-    → st' ≡ after_advance (gives st first (n * (point set.plan.now force.index).speed)) (st.now + n)
-    → trace' ≡ after_units set.plan.now st force.from force.index (holder_at st first) (n * (point set.plan.now force.index).speed) trace
+    → st' ≡ after_advance (gives st first (n * force.speed)) (st.now + n)
+    → trace' ≡ after_units set.plan.now st force (holder_at st first) (n * force.speed) trace
     → IsInSpan set demand force st'.now st' trace'
-stays {demand} {set} ok {force} {st} {trace} here first {n} is quiet some st' trace' moved traces =
+stays {demand} {set} {force} {st} {trace} here first {n} is quiet some st' trace' moved traces =
     subst (λ (v : StateView). IsInSpan set demand force v.now v trace') (sym moved)
     (subst
-    (λ q. IsInSpan set demand force (st.now + n) (after_advance (gives st first (n * (point set.plan.now force.index).speed)) (st.now + n)) q)
+    (λ q. IsInSpan set demand force (st.now + n) (after_advance (gives st first (n * force.speed)) (st.now + n)) q)
     (sym traces)
-    (stays-n ok force n st.now first st trace some here is quiet.not_done quiet.before_end quiet.no_release))
+    (stays-n set force n st.now first st trace some here is quiet.not_done quiet.before_end quiet.no_release))

@@ -27,19 +27,16 @@ use Rattle.event_kernel.proofs.HeardLists.{heard-append, balked-append, balked_a
 use Rattle.event_kernel.specs.Tickwork.{notes_before}
 use Rattle.event_kernel.specs.declared.progress.Setting.{Setting}
 use Rattle.event_kernel.specs.declared.in_force.InForce.{InForce}
-use Rattle.event_kernel.specs.Settings.{IsSetting, IsBetween, HasWalked}
+use Rattle.event_kernel.proofs.PlanBounds.{parts_of}
+use Rattle.event_kernel.specs.Settings.{IsBetween, HasWalked}
 use Rattle.event_kernel.proofs.RunAccount.{book-all, booked-totals}
 use Rattle.event_kernel.proofs.NoteRoom.{AreBooked, course-fits}
 use Rattle.event_kernel.proofs.SpanSteps.{closing-notes}
 use Rattle.event_kernel.proofs.Courses.{course-len}
 
-module _ {demand : OwnDemand} {set : Setting} (ok : IsSetting set) {force : InForce} {s : StateView} {trace : SpanTrace}
+module _ {demand : OwnDemand} {set : Setting} {force : InForce} {s : StateView} {trace : SpanTrace}
     (h : HasWalked set demand force (s.now - 1) s trace) where
-  abbrev p : Plan
-  p = set.plan.now
-
-  abbrev dem : JobDemands
-  dem = demands_of p set.demands.now
+  open parts_of set use {p, dem}
 
   next : s.now - 1 + 1 ≡ s.now
   next = sym h.now
@@ -50,10 +47,10 @@ module _ {demand : OwnDemand} {set : Setting} (ok : IsSetting set) {force : InFo
     decision = subst (λ n. n < set.ticks → is_decision p dem (course demand p dem n) ≡ true) next h.decision;
   }
 
-  pub close-notes : notes_before demand p dem s.now ≡ notes_before demand p dem force.from ++ (ended_trace p s force.from force.index trace).notes
+  pub close-notes : notes_before demand p dem s.now ≡ notes_before demand p dem force.from ++ (ended_trace p s force trace).notes
   close-notes =
       ap (notes_before demand p dem) (sym next)
-      ∙ closing-notes ok h (course-fits demand p dem ok.admitted ok.within.none (s.now - 1)).span
+      ∙ closing-notes set h (course-fits demand p dem set.sound.limits set.sound.within.none (s.now - 1)).span
 
 -- the notes of a run up to a tick
 module _ (demand : OwnDemand) (set : Setting) where
@@ -78,11 +75,11 @@ module _ (demand : OwnDemand) (set : Setting) where
       )
 
   -- the notes of a span can be added to the account, and it has them then
-  pub span-booked : IsSetting set → (t t' : ℕ) (ns : List Note) (b : Books) (e : ℕ) → t' ≤ set.ticks → up_to t' ≡ up_to t ++ ns
+  pub span-booked : (t t' : ℕ) (ns : List Note) (b : Books) (e : ℕ) → t' ≤ set.ticks → up_to t' ≡ up_to t ++ ns
       → HasBooked set.plan.now b (up_to t) → e < length set.plan.now.machine.points
       → CanBook b ns e × HasBooked set.plan.now (all_booked b ns e) (up_to t')
-  span-booked ok t t' ns b e early is h lt =
-      let fits = (course-fits demand set.plan.now jobs ok.admitted ok.within.none t').all (omega (arith, early, ok.low_ticks)) in
+  span-booked t t' ns b e early is h lt =
+      let fits = (course-fits demand set.plan.now jobs set.sound.limits set.sound.within.none t').all (omega (arith, early, set.sound.low_ticks)) in
       let all = book-all set.plan.now ns b (up_to t) e h (subst (AreBooked set.plan.now) is fits) lt in
       (all.0, subst (HasBooked set.plan.now (all_booked b ns e)) (sym is) all.1)
 

@@ -1,7 +1,7 @@
 -- From one decision to the next.
-use Rattle.std.proofs.Common.{◌≡◌, ℕ, zero, suc, ◌+◌, ◌-◌, ◌<◌, ◌≤◌, Bool, true, false, ◌||◌, List, [], ◌∷◌, ◌++◌, length, refl, arith, if◌then◌else◌, ap, ap₂, ◌∙◌, sym, subst, ◌⊎◌, inl, inr, nat_eq, nat_lt, nat_le, add-one, drop, true≢false}
+use Rattle.std.proofs.Common.{◌≡◌, ℕ, zero, suc, ◌+◌, ◌-◌, ◌<◌, ◌≤◌, Bool, true, false, ◌||◌, List, [], ◌∷◌, ◌++◌, length, refl, arith, if◌then◌else◌, ap, ap₂, ◌∙◌, sym, subst, inl, inr, nat_eq, nat_lt, nat_le, add-one, drop, true≢false}
 use Rattle.std.specs.Prelude.{count_by}
-use Rattle.std.proofs.Math.Logic.{⊎_elim, ⊎_map}
+use Rattle.std.proofs.Math.Logic.{⊎_elim}
 use Rattle.std.proofs.lemmas.Bool.{cases_lt, or_cases, or_parts, or_left, or_right}
 use Rattle.std.proofs.lemmas.Bool.Decides.{nat_tests}
 use Rattle.dvs_base.specs.declared.note.Note.{Note}
@@ -10,23 +10,22 @@ use Rattle.dvs_base.specs.declared.limits.TheConstants.{MOST_TICKS}
 use Rattle.sched_model.specs.declared.state.Row.{Row}
 use Rattle.sched_model.specs.declared.holder.Holder.{Holder}
 use Rattle.sched_model.specs.declared.holder.Holder.TheVariants.{Nobody, Held}
-use Rattle.event_kernel.proofs.Bounds.{Bounds, bounds}
+use Rattle.event_kernel.proofs.PlanBounds.{parts_of, bounds}
 use Rattle.sched_model.specs.Plan.{Plan, count, period, point}
 use Rattle.sched_model.specs.Jobs.{JobDemands, latest, due, releases_at, is_release}
 use Rattle.sched_model.specs.Ticks.{PublishedDemand, Tick, at, exec, IsMet}
 use Rattle.sched_model.specs.Decision.{is_decision}
 use Rattle.sched_model.specs.Schedule.{entry_in_force, schedule_by}
-use Rattle.sched_model.specs.Notes.{Span, spans_of, pieces_of, same_holder, position_of, all_release_notes, span_notes, segment_notes, notes_before_end}
+use Rattle.sched_model.specs.Notes.{Span, spans_of, pieces_of, same_holder, all_release_notes, span_notes, segment_notes, notes_before_end}
 use Rattle.sched_model.specs.States.{row_at, prior_row, prior_state, StateView, state_of}
 use Rattle.sched_model.proofs.Schedules.{length-list_below, force-decided}
-use Rattle.sched_model.proofs.Limits.{every_period}
 use Rattle.sched_model.proofs.Spans.{notes-span, stays}
 use Rattle.sched_model.proofs.States.{due_released, row_at-prior_state, state-still}
 use Rattle.grid_fraction.proofs.Searches.{any_below-same}
 use Rattle.event_kernel.specs.declared.span_trace.SpanTrace.{SpanTrace}
 use Rattle.governor.specs.Meanings.{OwnDemand}
 use Rattle.governor.specs.Schedule.{ask_of, course}
-use Rattle.event_kernel.specs.Segment.{first_span, notes_with, IsOpen, holder_notes, written_notes, after_segment, ended_trace, new_trace, CanAdd}
+use Rattle.event_kernel.specs.Segment.{first_span, notes_with, IsOpen, force_at, force_of, written_notes, after_segment, ended_trace, new_trace, CanAdd}
 use Rattle.event_kernel.specs.declared.notes.TheConstants.{MOST_NOTES}
 use Rattle.event_kernel.specs.SpanNotes.{kept_notes}
 use Rattle.event_kernel.proofs.SpanBuffer.{kept_notes-then, kept_notes-all}
@@ -35,8 +34,7 @@ use Rattle.event_kernel.specs.Tickwork.{had_at, span_at, tick_at, whole_span, no
 use Rattle.event_kernel.specs.Boundary.{some_due, speed_note}
 use Rattle.event_kernel.specs.declared.progress.Setting.{Setting}
 use Rattle.event_kernel.specs.declared.in_force.InForce.{InForce}
-use Rattle.event_kernel.specs.Runs.{demands_of}
-use Rattle.event_kernel.specs.Settings.{IsSetting, IsAtBoundary, IsBetween, IsInSpan, HasWorked, HasWalked}
+use Rattle.event_kernel.specs.Settings.{IsAtBoundary, IsBetween, IsInSpan, HasWorked, HasWalked}
 use Rattle.event_kernel.proofs.OpenSegment.{Shows, held-in, tells, notes-more, open-start}
 use Rattle.event_kernel.proofs.Courses.{course-next, course-len, exec-within}
 use Rattle.agenda.specs.Agenda.{NonePast}
@@ -142,15 +140,9 @@ module _ (demand : OwnDemand) (p : Plan) (dem : JobDemands) where
       ap (λ (v : StateView). speed_note p v.now (demand p v)) e
       ∙ ap (λ n. speed_note p n (demand p (state_of p dem (course demand p dem t)))) (course-len demand p dem t)
 
-module _ {set : Setting} (ok : IsSetting set) where
-  abbrev p : Plan
-  p = set.plan.now
-
-  abbrev dem : JobDemands
-  dem = demands_of p set.demands.now
-
-  adm : Bounds p
-  adm = bounds p ok.admitted
+module _ (set : Setting) where
+  open parts_of set use {p, dem}
+  open bounds set.plan.now set.sound.limits use {some_period}
 
   module _ {demand : OwnDemand} where
     decision-is : {t : ℕ} {s : StateView} {trace : SpanTrace} {completed : Bool} → HasWorked set demand t s trace completed
@@ -158,7 +150,7 @@ module _ {set : Setting} (ok : IsSetting set) where
     decision-is {t} {s} h =
         ap (is_decision p dem) (course-next demand p dem t)
         ∙ ap₂ (λ a b. a || b)
-        (sym (due-is demand p dem (every_period p adm.limits) (tick_at demand p dem t ∷ course demand p dem t) s
+        (sym (due-is demand p dem some_period (tick_at demand p dem t ∷ course demand p dem t) s
         (h.state ∙ ap (prior_state p dem) (course-next demand p dem t))))
         (sym h.completes)
 
@@ -182,7 +174,7 @@ module _ {set : Setting} (ok : IsSetting set) where
           where
             closed_at : (k : ℕ) → latest p i (length past) ≡ k → (prior_row p dem (x ∷ past) i).done ≡ true
             closed_at zero first =
-                let needs : dem i (latest p i (length past)) ≡ 0 = ap (dem i) first ∙ ok.within.none i in
+                let needs : dem i (latest p i (length past)) ≡ 0 = ap (dem i) first ∙ set.sound.within.none i in
                 grind (arith, nat_tests, needs)
             closed_at (suc k) born =
                 let here : exec p (at (due p i (latest p i (length past))) (x ∷ past)) i (latest p i (length past)) ≡ dem i (latest p i (length past)) =
@@ -193,17 +185,17 @@ module _ {set : Setting} (ok : IsSetting set) where
                 let enough : dem i (latest p i (length past)) ≤ exec p (x ∷ past) i (latest p i (length past)) = omega (arith, all) in
                 grind (arith, nat_tests, enough)
 
-    pub begins-span : (force : InForce) (s0 s : StateView) (trace : SpanTrace) → s0.now < set.ticks → IsBetween set demand s0 → force.from ≡ s0.now
-        → s ≡ state_of p dem (course demand p dem s0.now) → force.index ≡ lowest_entry p.machine (demand p s)
+    pub begins-span : (force : InForce) (s0 s : StateView) (trace : SpanTrace) → s0.now < set.ticks → IsBetween set demand s0
+        → s ≡ state_of p dem (course demand p dem s0.now) → force ≡ force_at p s.now (lowest_entry p.machine (demand p s))
         → trace ≡ new_trace (kept_notes (all_release_notes p dem s0.now ++ speed_note p s.now (demand p s) ∷ []))
         → IsInSpan set demand force s.now s trace
-    begins-span force s0 s trace lt b from is ee pe = subst (λ n. IsInSpan set demand force n s trace) (sym same) (record {
+    begins-span force s0 s trace lt b is ee pe = subst (λ n. IsInSpan set demand force n s trace) (sym same) (record {
       before_end = lt;
       later = omega (arith, from);
       state = is;
       began = ap (λ (x : Span). x.past) new ∙ ap (course demand p dem) (sym from);
-      entry = in_force ∙ sym (ap (λ (x : Span). x.entry) new);
-      in_force = in_force;
+      force_is = ee ∙ (ap₂ (force_at p) (ap (λ (v : StateView). v.now) is) picked ∙ sym (ap (force_of p) new));
+      in_force = ap (λ (f : InForce). f.index) ee ∙ picked;
       writing = subst (λ x. HoldsSpan p dem (ask_of demand p dem) t x (had_at p (course demand p dem t)) (most_units t) trace) (sym new)
           (subst (λ q. HoldsSpan p dem (ask_of demand p dem) t fresh (had_at p (course demand p dem t)) (most_units t) q) (sym pe) (record {
             done = [];
@@ -229,10 +221,13 @@ module _ {set : Setting} (ok : IsSetting set) where
         new : span_at demand p dem t ≡ fresh
         new = span-new demand p dem t (b.decision lt)
 
-        in_force : force.index ≡ entry_in_force p dem (ask_of demand p dem) (course demand p dem t)
-        in_force =
-            ee ∙ (ap (λ v. lowest_entry p.machine (demand p v)) is
-            ∙ sym (force-decided p dem (ask_of demand p dem) (course demand p dem t) (b.decision lt)))
+        from : force.from ≡ t
+        from = ap (λ (f : InForce). f.from) ee ∙ same
+
+        picked : lowest_entry p.machine (demand p s) ≡ entry_in_force p dem (ask_of demand p dem) (course demand p dem t)
+        picked =
+            ap (λ v. lowest_entry p.machine (demand p v)) is
+            ∙ sym (force-decided p dem (ask_of demand p dem) (course demand p dem t) (b.decision lt))
 
         plus_none : (i : ℕ) → exec p (course demand p dem t) i (latest p i t) + 0 ≡ had_at p (course demand p dem t) i
         plus_none i = let z : exec p (course demand p dem t) i (latest p i t) + 0 ≡ exec p (course demand p dem t) i (latest p i t) = omega arith in
@@ -244,9 +239,9 @@ module _ {set : Setting} (ok : IsSetting set) where
     goes-on {force} {t} {s0} {s} {trace0} {trace} i h quiet lt = record {
       before_end = lt;
       later = omega (arith, i.later);
-      state = h.state ∙ state-still p dem (every_period p adm.limits) (course demand p dem (t + 1)) ok.within.none no_release;
+      state = h.state ∙ state-still p dem some_period (course demand p dem (t + 1)) set.sound.within.none no_release;
       began = ap (λ (x : Span). x.past) on ∙ i.began;
-      entry = i.entry ∙ sym (ap (λ (x : Span). x.entry) on);
+      force_is = i.force_is ∙ sym (ap (force_of p) on);
       in_force = i.in_force ∙ sym still;
       writing = subst (λ x. HoldsSpan p dem (ask_of demand p dem) (t + 1) x (had_at p (course demand p dem (t + 1))) (most_units (t + 1)) trace)
           (sym on) (record {
@@ -278,12 +273,12 @@ module _ {set : Setting} (ok : IsSetting set) where
         on = span-on demand p dem t none
 
         no_release : is_release p (length (course demand p dem (t + 1))) ≡ false
-        no_release = sym (due-is demand p dem (every_period p adm.limits) (course demand p dem (t + 1)) s h.state) ∙ quiet
+        no_release = sym (due-is demand p dem some_period (course demand p dem (t + 1)) s h.state) ∙ quiet
 
         steady : (k : ℕ) → k < count p → latest p k (t + 1) ≡ latest p k t
         steady k l =
             ap (latest p k) (sym (course-len demand p dem (t + 1)) ∙ ap length (course-next demand p dem t))
-            ∙ (stays p dem (every_period p adm.limits) x past (ap (is_decision p dem) (sym (course-next demand p dem t)) ∙ none) k l
+            ∙ (stays p dem some_period x past (ap (is_decision p dem) (sym (course-next demand p dem t)) ∙ none) k l
             ∙ ap (latest p k) (course-len demand p dem t))
 
         still : entry_in_force p dem (ask_of demand p dem) (course demand p dem (t + 1)) ≡ entry_in_force p dem (ask_of demand p dem) past
@@ -296,23 +291,6 @@ module _ {set : Setting} (ok : IsSetting set) where
         held Nobody q = tt
         held (Held k j) q = (q.0, q.1 ∙ sym (steady k q.0))
 
-    -- the span ends after a tick
-    pub ends-span : {force : InForce} {t : ℕ} {s0 s : StateView} {trace0 trace : SpanTrace} {completed : Bool} → IsInSpan set demand force t s0 trace0
-        → HasWorked set demand t s trace completed
-        → (completed ≡ true) ⊎ ((t + 1 ≡ set.ticks) ⊎ (some_due p s ≡ true))
-        → HasWalked set demand force t s trace
-    ends-span {force} {t} {s0} {s} {trace0} {trace} {completed} i h why = record {
-      now = ap (λ (v : StateView). v.now) h.state ∙ course-len demand p dem (t + 1);
-      before_end = i.before_end;
-      later = i.later;
-      began = i.began;
-      entry = i.entry;
-      completed = completed;
-      worked = h;
-      decision = λ lt. decision-is h ∙ ⊎_elim (or_right (some_due p s) completed)
-          (⊎_elim (λ q. absurd (omega (arith, q, lt))) (or_left (some_due p s) completed)) why;
-    }
-
     -- whether the span ends, as the functions of the code compute it
     module _ {force : InForce} {t : ℕ} {s0 s : StateView} {trace0 trace : SpanTrace} {completed : Bool} (i : IsInSpan set demand force t s0 trace0)
         (h : HasWorked set demand t s trace completed) where
@@ -320,15 +298,24 @@ module _ {set : Setting} (ok : IsSetting set) where
       now-next = ap (λ (v : StateView). v.now) h.state ∙ course-len demand p dem (t + 1)
 
       pub past-next : NonePast p s
-      past-next = subst (λ (v : StateView). NonePast p v) (sym h.state) (prior-past p dem (course demand p dem (t + 1)) (every_period p adm.limits))
+      past-next = subst (λ (v : StateView). NonePast p v) (sym h.state) (prior-past p dem (course demand p dem (t + 1)) some_period)
 
       last-is : t ≡ s.now - 1
       last-is = omega (arith, now-next)
 
       pub walked-end : (completed || (nat_eq s.now set.ticks || some_due p s)) ≡ true → HasWalked set demand force (s.now - 1) s trace
-      walked-end ends =
-          subst (λ n. HasWalked set demand force n s trace) last-is
-          (ends-span i h (⊎_map (λ q. q) (λ r. ⊎_map at (λ q. q) (or_cases (nat_eq s.now set.ticks) (some_due p s) r)) (or_cases completed _ ends)))
+      walked-end ends = subst (λ n. HasWalked set demand force n s trace) last-is (record {
+        now = now-next;
+        before_end = i.before_end;
+        later = i.later;
+        began = i.began;
+        force_is = i.force_is;
+        completed = completed;
+        worked = h;
+        decision = λ lt. decision-is h ∙ ⊎_elim (or_right (some_due p s) completed) (λ r.
+            ⊎_elim (λ q. absurd (omega (arith, at q, lt))) (or_left (some_due p s) completed) (or_cases (nat_eq s.now set.ticks) (some_due p s) r))
+            (or_cases completed _ ends);
+      })
         where
           at : nat_eq s.now set.ticks ≡ true → t + 1 ≡ set.ticks
           at q = let same : s.now ≡ set.ticks = grind (arith, nat_tests) in sym now-next ∙ same
@@ -348,9 +335,6 @@ module _ {set : Setting} (ok : IsSetting set) where
     module _ {force : InForce} {last : ℕ} {s : StateView} {trace : SpanTrace} (h : HasWalked set demand force last s trace) where
       abbrev pub whole : Span
       whole = whole_span demand p dem last
-
-      from_is : force.from ≡ length whole.past
-      from_is = sym (ap length h.began ∙ course-len demand p dem force.from)
 
       w : HoldsSpan p dem (ask_of demand p dem) last whole (λ i. exec p (course demand p dem (last + 1)) i (latest p i last)) (most_units (last + 1)) trace
       w = h.worked.writing
@@ -372,27 +356,26 @@ module _ {set : Setting} (ok : IsSetting set) where
         within = λ i lt. exec-within demand p dem (last + 1) i (latest p i last) lt;
       }
 
-      told-last : segment_notes p dem whole trace.segment.start trace.segment.units trace.segment.holder ≡ written_notes p s force.from force.index trace
+      told-last : segment_notes p dem whole trace.segment.start trace.segment.units trace.segment.holder ≡ written_notes p s force trace
       told-last =
           tells p dem (ask_of demand p dem) last whole (λ i. exec p (course demand p dem (last + 1)) i (latest p i last)) s trace.segment.start
           trace.segment.units trace.segment.holder w.taken w.place w.had shown
-          ∙ ap₂ (λ n m. holder_notes p s (position_of n ((point p m).speed)) m trace.segment.start trace.segment.units trace.segment.holder)
-          (sym from_is) (sym h.entry)
+          ∙ ap (λ f. written_notes p s f trace) (sym h.force_is)
 
       -- the trace has the notes of the span
-      ended_trace-whole : (ended_trace p s force.from force.index trace).notes ≡ kept_notes (span_notes p dem (ask_of demand p dem) whole)
+      ended_trace-whole : (ended_trace p s force trace).notes ≡ kept_notes (span_notes p dem (ask_of demand p dem) whole)
       ended_trace-whole = go w.segments
         where
-          go : IsOpen trace.segment w.done whole.units → (ended_trace p s force.from force.index trace).notes
+          go : IsOpen trace.segment w.done whole.units → (ended_trace p s force trace).notes
               ≡ kept_notes (span_notes p dem (ask_of demand p dem) whole)
           go (inl q) =
-              ap (λ b. (if b then after_segment p s force.from force.index trace else trace).notes) (ap (nat_lt 0) q.2)
+              ap (λ b. (if b then after_segment p s force trace else trace).notes) (ap (nat_lt 0) q.2)
               ∙ (w.notes ∙ ap (λ rs. kept_notes (notes_with p dem (ask_of demand p dem) whole rs)) (q.1 ∙ sym (ap pieces_of q.0)))
           go (inr q) =
               let pos = q.0 in
               let some : nat_lt 0 trace.segment.units ≡ true = grind (arith, nat_tests) in
-              ap (λ b. (if b then after_segment p s force.from force.index trace else trace).notes) some
-              ∙ (kept_notes-then trace.notes (notes_with p dem (ask_of demand p dem) whole w.done) (written_notes p s force.from force.index trace) w.notes
+              ap (λ b. (if b then after_segment p s force trace else trace).notes) some
+              ∙ (kept_notes-then trace.notes (notes_with p dem (ask_of demand p dem) whole w.done) (written_notes p s force trace) w.notes
               ∙ ap kept_notes (sym (ap (notes_with p dem (ask_of demand p dem) whole) q.1
               ∙ (notes-more p dem (ask_of demand p dem) last whole w.done (record { holder = trace.segment.holder; units = trace.segment.units })
               ∙ ap (λ ns. notes_with p dem (ask_of demand p dem) whole w.done ++ ns)
@@ -400,16 +383,17 @@ module _ {set : Setting} (ok : IsSetting set) where
               (open-start p dem (ask_of demand p dem) last trace.segment w.done whole.units q.0 q.1 w.place) ∙ told-last)))))
 
       pub closing-notes : length (span_notes p dem (ask_of demand p dem) whole) ≤ MOST_NOTES
-          → notes_before demand p dem (last + 1) ≡ notes_before demand p dem force.from ++ (ended_trace p s force.from force.index trace).notes
+          → notes_before demand p dem (last + 1) ≡ notes_before demand p dem force.from ++ (ended_trace p s force trace).notes
       closing-notes few =
           notes-whole demand p dem last
           ∙ ap₂ (λ (ps : List Tick) ns. notes_to demand p dem ps ++ ns) h.began
           (sym (ended_trace-whole ∙ kept_notes-all (span_notes p dem (ask_of demand p dem) whole) few))
 
-      pub closing-can : force.index < length p.machine.points → CanAdd p s force.from force.index trace
-      closing-can there = record {
+      pub closing-can : force.index < length p.machine.points → 0 < force.speed → CanAdd p s force trace
+      closing-can there some = record {
         entry = there;
-        place = omega (arith, w.place, w.few, h.later, h.before_end, ok.low_ticks);
+        some_speed = some;
+        place = omega (arith, w.place, w.few, h.later, h.before_end, set.sound.low_ticks);
         task = held-in p last rows trace.segment.holder w.taken;
       }
         where

@@ -1,12 +1,11 @@
 -- The loop over the units of one tick.
-use Rattle.std.proofs.Common.{◌≡◌, ℕ, ◌+◌, ◌-◌, ◌<◌, ◌≤◌, min, Bool, true, false, not, ◌&&◌, ◌||◌, List, [], ◌∷◌, ◌++◌, length, replicate, refl, arith, ap, ap₂, ◌∙◌, sym, subst, ◌⊎◌, append-nil, append_assoc, nat_eq, nat_le}
+use Rattle.std.proofs.Common.{◌≡◌, ℕ, ◌+◌, ◌-◌, ◌<◌, ◌≤◌, min, Bool, true, false, not, ◌&&◌, ◌||◌, List, [], ◌∷◌, ◌++◌, length, replicate, refl, arith, ap, ap₂, ◌∙◌, sym, subst, ◌⊎◌, append-nil, append_assoc, if◌then◌else◌, nat_eq, nat_le, nat_lt}
 use Rattle.std.specs.Prelude.{count_by}
 use Rattle.std.proofs.Math.Logic.{⊎_map}
-use Rattle.freq_table.specs.declared.machine.Point.{Point}
-use Rattle.freq_table.specs.Tables.{Table, point_at, speed_at}
 use Rattle.grid_fraction.specs.Numbers.{sum_below, any_below}
 use Rattle.grid_fraction.proofs.Sums.{sum_below-same}
 use Rattle.grid_fraction.proofs.Searches.{any_below-same}
+use Rattle.std.proofs.lemmas.Bool.Decides.{nat_tests}
 use Rattle.freq_table.specs.declared.limits.TheConstants.{TOP_SPEED}
 use Rattle.sched_model.specs.declared.state.Row.{Row}
 use Rattle.sched_model.specs.declared.holder.Holder.{Holder}
@@ -21,24 +20,22 @@ use Rattle.sched_model.specs.Notes.{Span, tick_units, same_holder}
 use Rattle.sched_model.specs.States.{row_at, prior_row, prior_state, after_advance, CanRun, StateView, state_of}
 use Rattle.sched_model.specs.Greedy.{IsFirstOpen}
 use Rattle.sched_model.proofs.Schedules.{length-list_below, force-within}
-use Rattle.sched_model.proofs.Tables.{get-table, table-same}
+use Rattle.grid_fraction.proofs.Tables.{get-table, table-same}
 use Rattle.sched_model.proofs.Allotments.{handed-end}
 use Rattle.sched_model.proofs.Orders.{in_order-below}
 use Rattle.sched_model.proofs.JobLaws.{exec-legal}
-use Rattle.sched_model.proofs.Limits.{every_period}
 use Rattle.sched_model.proofs.States.{row_by, row-ran, state-ran}
 use Rattle.agenda.specs.Agenda.{IsFirstUndone}
 use Rattle.governor.specs.Meanings.{OwnDemand}
 use Rattle.governor.specs.Schedule.{ask_of, course}
 use Rattle.event_kernel.specs.declared.span_trace.SpanTrace.{SpanTrace}
-use Rattle.event_kernel.specs.Segment.{after_units, CanEnter}
+use Rattle.event_kernel.specs.Segment.{after_idle, after_units, force_of, CanEnter}
 use Rattle.event_kernel.specs.SpanTraces.{HeldNow, HoldsSpan}
 use Rattle.event_kernel.specs.Tickwork.{after_service, span_at, tick_at, whole_span, most_units}
 use Rattle.event_kernel.specs.declared.progress.Setting.{Setting}
 use Rattle.event_kernel.specs.declared.in_force.InForce.{InForce}
-use Rattle.event_kernel.specs.Runs.{demands_of}
-use Rattle.event_kernel.specs.Settings.{IsSetting, IsInSpan, HasWorked}
-use Rattle.event_kernel.proofs.Bounds.{Bounds, bounds}
+use Rattle.event_kernel.specs.Settings.{IsInSpan, HasWorked}
+use Rattle.event_kernel.proofs.PlanBounds.{parts_of, bounds}
 use Rattle.event_kernel.proofs.Courses.{course-next, course-len, exec-within}
 use Rattle.event_kernel.proofs.OpenSegment.{Shows, held-in, enters}
 use Rattle.event_kernel.proofs.GivenUnits.{raised, sum-raised, key, job, had, units_by, given_units-same, given_row, ends_in, HasHanded, start, start-units, row-is, shows, first-open, none-open, gives, gives-units, gives-had, count_idle}
@@ -69,28 +66,22 @@ module _ (demand : OwnDemand) (p : Plan) (dem : JobDemands) (t : ℕ) where
       → Wrote given us more trace → Shows p dem (length past) st (λ i. had p dem past i + given i) → HeldNow p (length past) h
       → ((i : ℕ) → i < count p → (had p dem past i + given i) + count_by (same_holder (Held i (job p dem past i))) (replicate n h)
       ≡ had p dem past i + given' i) → us ++ replicate n h ≡ vs → more + n ≡ more'
-      → Wrote given' vs more' (after_units p st (length (span_at demand p dem t).past) (span_at demand p dem t).entry h n trace)
+      → Wrote given' vs more' (after_units p st (force_of p (span_at demand p dem t)) h n trace)
   wrote-more given given' us vs more more' st h n trace some w sh now had_is units much =
       let s0 = span_at demand p dem t in
       let e = enters p dem (ask_of demand p dem) (length past) (record { past = s0.past; entry = s0.entry; units = s0.units ++ us })
       (λ i. had p dem past i + given i) (λ i. had p dem past i + given' i) (most_units (length past) + more) st h n trace some w sh now had_is in
       let all : most_units (length past) + more + n ≡ most_units (length past) + more' = omega (arith, much) in
       subst (λ m. HoldsSpan p dem (ask_of demand p dem) (length past) (record { past = s0.past; entry = s0.entry; units = s0.units ++ vs })
-      (λ i. had p dem past i + given' i) m (after_units p st (length s0.past) s0.entry h n trace)) all
+      (λ i. had p dem past i + given' i) m (after_units p st (force_of p s0) h n trace)) all
       (subst (λ ls. HoldsSpan p dem (ask_of demand p dem) (length past) (record { past = s0.past; entry = s0.entry; units = ls })
-      (λ i. had p dem past i + given' i) (most_units (length past) + more + n) (after_units p st (length s0.past) s0.entry h n trace))
+      (λ i. had p dem past i + given' i) (most_units (length past) + more + n) (after_units p st (force_of p s0) h n trace))
       (append_assoc s0.units us (replicate n h) ∙ ap (λ ls. s0.units ++ ls) units) e)
 
-module _ {demand : OwnDemand} {set : Setting} (ok : IsSetting set) {force : InForce} {t : ℕ} {st0 : StateView} {trace0 : SpanTrace}
+module _ {demand : OwnDemand} {set : Setting} {force : InForce} {t : ℕ} {st0 : StateView} {trace0 : SpanTrace}
     (at : IsInSpan set demand force t st0 trace0) where
-  abbrev p : Plan
-  p = set.plan.now
-
-  abbrev dem : JobDemands
-  dem = demands_of p set.demands.now
-
-  adm : Bounds p
-  adm = bounds p ok.admitted
+  open parts_of set use {p, dem}
+  open bounds set.plan.now set.sound.limits use {some_period, some_point, some_speed, low_speed}
 
   abbrev so_far : List Tick
   so_far = past demand p dem t
@@ -105,19 +96,17 @@ module _ {demand : OwnDemand} {set : Setting} (ok : IsSetting set) {force : InFo
   within i lt = exec-within demand p dem t i (job p dem so_far i) lt
 
   pub entry-there : force.index < length p.machine.points
-  entry-there = subst (λ m. m < length p.machine.points) (sym at.in_force) (force-within p dem (ask_of demand p dem) adm.some_point so_far)
+  entry-there = subst (λ m. m < length p.machine.points) (sym at.in_force) (force-within p dem (ask_of demand p dem) some_point so_far)
 
-  -- the entry in force, and its speed, in a table that is the machine's
-  module _ {m : Table} (is : m ≡ p.machine) where
-    pub entry-in : force.index < length m.points
-    entry-in = subst (λ (x : Table). force.index < length x.points) (sym is) entry-there
+  pub speed-is : force.speed ≡ (point p force.index).speed
+  speed-is = ap (λ (f : InForce). f.speed) at.force_is ∙ ap (λ (f : InForce). (point p f.index).speed) (sym at.force_is)
 
-    pub speed-in : {q : Point} → q ≡ point_at m force.index → q.speed ≡ (point p force.index).speed
-    speed-in e = ap (λ (q : Point). q.speed) e ∙ ap (λ (x : Table). speed_at x force.index) is
+  pub some-speed : 0 < force.speed
+  some-speed = omega (arith, speed-is, some_speed force.index entry-there)
 
-  pub begin : (speed : ℕ) → speed ≡ (point p force.index).speed → HoldsHanded demand p dem t speed false st0 trace0
-  begin speed is =
-      subst (λ f. HoldsHanded demand p dem t f false st0 trace0) (sym (is ∙ ap (λ m. (point p m).speed) at.in_force))
+  pub begin : HoldsHanded demand p dem t force.speed false st0 trace0
+  begin =
+      subst (λ f. HoldsHanded demand p dem t f false st0 trace0) (sym (speed-is ∙ ap (λ m. (point p m).speed) at.in_force))
       (subst (λ s. HoldsHanded demand p dem t (fast demand p dem t) false s trace0) (sym at.state) (record {
         given = λ _. 0;
         hand = start p dem so_far (fast demand p dem t);
@@ -147,24 +136,25 @@ module _ {demand : OwnDemand} {set : Setting} (ok : IsSetting set) {force : InFo
     rows-there = ap (λ (s : StateView). length s.rows) w.hand.state ∙ length-list_below (count p) (given_row p dem so_far w.given)
 
     slow : fast demand p dem t ≤ TOP_SPEED
-    slow = adm.low_speed (entry_in_force p dem (ask_of demand p dem) so_far)
+    slow = low_speed (entry_in_force p dem (ask_of demand p dem) so_far)
 
     -- at most as many units as are left can be added
-    pub can-enter : {units : ℕ} → units ≤ rest → CanEnter p st force.from force.index units trace
+    pub can-enter : {units : ℕ} → units ≤ rest → CanEnter p st force units trace
     can-enter le = record {
       can = record {
         entry = entry-there;
-        place = omega (arith, w.writing.place, w.writing.few, w.hand.sum, slow, long, at.before_end, ok.low_ticks, at.later);
+        some_speed = some-speed;
+        place = omega (arith, w.writing.place, w.writing.few, w.hand.sum, slow, long, at.before_end, set.sound.low_ticks, at.later);
         task = held-in p (length so_far) rows-there trace.segment.holder w.writing.taken;
       };
-      fits = omega (arith, w.writing.place, w.writing.few, w.hand.sum, slow, long, at.before_end, ok.low_ticks, le);
+      fits = omega (arith, w.writing.place, w.writing.few, w.hand.sum, slow, long, at.before_end, set.sound.low_ticks, le);
     }
 
     sh : Shows p dem (length so_far) st (λ i. had p dem so_far i + w.given i)
     sh = shows p dem so_far w.hand within
 
-    entered-is : (h : Holder) (n : ℕ) → after_units p st force.from force.index h n trace ≡ after_units p st (length s0.past) s0.entry h n trace
-    entered-is h n = ap₂ (λ f m. after_units p st f m h n trace) (sym (ap length at.began ∙ course-len demand p dem force.from)) at.entry
+    entered-is : (h : Holder) (n : ℕ) → after_units p st force h n trace ≡ after_units p st (force_of p s0) h n trace
+    entered-is h n = ap (λ f. after_units p st f h n trace) at.force_is
 
     -- the first task that is not done gets units
     module _ (i share : ℕ) (u : IsFirstUndone p st (count p) i) (se : share ≡ min rest (dem i (row_at st i).job - (row_at st i).used)) where
@@ -185,7 +175,7 @@ module _ {demand : OwnDemand} {set : Setting} (ok : IsSetting set) {force : InFo
             record {
               task = omega (arith, u.below, rows-there);
               open_job = u.open_job;
-              room = omega (arith, se, used, need, ap (λ (r : Row). r.worst) row, o.needs, ok.within.most i (job p dem so_far i) u.below);
+              room = omega (arith, se, used, need, ap (λ (r : Row). r.worst) row, o.needs, set.sound.within.most i (job p dem so_far i) u.below);
             },
             omega (arith, used, need, o.needs),
             λ pos. omega (arith, se, used, need, o.needs),
@@ -193,7 +183,7 @@ module _ {demand : OwnDemand} {set : Setting} (ok : IsSetting set) {force : InFo
 
       pub turned : (whole now : Bool) (st' : StateView) (trace' : SpanTrace) → 0 < rest → whole ≡ nat_eq share (dem i (row_at st i).job - (row_at st i).used)
           → now ≡ (completed || whole) → st' ≡ after_service st i share whole
-          → trace' ≡ after_units p st force.from force.index (Held i (row_at st i).job) share trace
+          → trace' ≡ after_units p st force (Held i (row_at st i).job) share trace
           → HoldsHanded demand p dem t (rest - share) now st' trace'
       turned whole now st' trace' pos we ne sis pis = record {
         given = raised w.given i share;
@@ -203,7 +193,7 @@ module _ {demand : OwnDemand} {set : Setting} (ok : IsSetting set) {force : InFo
             let hold : Held i (row_at st i).job ≡ Held i (job p dem so_far i) = ap (λ (r : Row). Held i r.job) row in
             subst (λ q. Wrote demand p dem t (raised w.given i share) (units_by p dem so_far (raised w.given i share))
             (sum_below (count p) (raised w.given i share)) q)
-            (sym (pis ∙ (entered-is (Held i (row_at st i).job) share ∙ ap (λ h. after_units p st (length s0.past) s0.entry h share trace) hold)))
+            (sym (pis ∙ (entered-is (Held i (row_at st i).job) share ∙ ap (λ h. after_units p st (force_of p s0) h share trace) hold)))
             (wrote-more demand p dem t w.given (raised w.given i share) (units_by p dem so_far w.given) _ (sum_below (count p) w.given) _ st
             (Held i (job p dem so_far i)) share trace (ready.2 pos) w.writing sh (u.below, refl) (λ k lt. gives-had p dem so_far w.given i share k)
             (sym (gives-units p dem so_far w.hand i share pos o))
@@ -221,11 +211,20 @@ module _ {demand : OwnDemand} {set : Setting} (ok : IsSetting set) {force : InFo
         (subst (λ us. Wrote demand p dem t w.given us (sum_below (count p) w.given) trace)
         (sym (ap (λ n. units_by p dem so_far w.given ++ replicate n Nobody) none ∙ append-nil (units_by p dem so_far w.given))) w.writing)
 
-    pub idled : (trace' : SpanTrace) → 0 < rest → trace' ≡ after_units p st force.from force.index Nobody rest trace → HasIdled trace'
+    pub idled : (trace' : SpanTrace) → 0 < rest → trace' ≡ after_units p st force Nobody rest trace → HasIdled trace'
     idled trace' pos pis =
         subst (λ q. HasIdled q) (sym (pis ∙ entered-is Nobody rest))
         (wrote-more demand p dem t w.given w.given (units_by p dem so_far w.given) _ (sum_below (count p) w.given) _ st Nobody rest trace pos w.writing sh
         tt (λ i lt. omega (arith, count_idle i (job p dem so_far i) rest)) refl refl)
+
+    pub idle : (trace' : SpanTrace) → trace' ≡ after_idle p st force rest trace → HasIdled trace'
+    idle trace' is = go (nat_lt 0 rest) refl
+      where
+        go : (b : Bool) → nat_lt 0 rest ≡ b → HasIdled trace'
+        go true e = idled trace' (grind (arith, nat_tests)) (is ∙ ap (λ b. if b then after_units p st force Nobody rest trace else trace) e)
+        go false e =
+            let none : rest ≡ 0 = grind (arith, nat_tests) in
+            subst HasIdled (sym (is ∙ ap (λ b. if b then after_units p st force Nobody rest trace else trace) e)) (full none)
 
     -- at the end of the loop the units are those of the schedule's tick
     module _ (ends : (rest ≡ 0) ⊎ ((k : ℕ) → k < count p → (row_at st k).done ≡ true)) where
@@ -246,7 +245,7 @@ module _ {demand : OwnDemand} {set : Setting} (ok : IsSetting set) {force : InFo
       had-next : (i : ℕ) → i < count p → had p dem so_far i + w.given i ≡ exec p (x ∷ so_far) i (job p dem so_far i)
       had-next i lt =
           ap (λ v. had p dem so_far i + v) (same i lt)
-          ∙ sym (exec-legal p dem x so_far i (every_period p adm.limits i) (ok.within.none i) (own i lt))
+          ∙ sym (exec-legal p dem x so_far i (some_period i) (set.sound.within.none i) (own i lt))
 
       units : units_by p dem so_far w.given ++ replicate rest Nobody ≡ tick_units p so_far x
       units =
@@ -262,8 +261,8 @@ module _ {demand : OwnDemand} {set : Setting} (ok : IsSetting set) {force : InFo
           (table-same (count p) (given_row p dem so_far w.given) (prior_row p dem (x ∷ so_far)) (λ i lt.
           ap (λ g. row_by (due p i (job p dem so_far i)) (job p dem so_far i) (had p dem so_far i + g)
           (nat_le (dem i (job p dem so_far i)) (had p dem so_far i + g)) (worst p i)) (same i lt)
-          ∙ sym (row-ran p dem (every_period p adm.limits) x so_far i (ok.within.none i) (own i lt))))
-          ∙ sym (state-ran p dem (every_period p adm.limits) x so_far))
+          ∙ sym (row-ran p dem some_period x so_far i (set.sound.within.none i) (own i lt))))
+          ∙ sym (state-ran p dem some_period x so_far))
 
       completes : any_below (count p) (ends_in p dem so_far w.given) ≡ any_below (count p) (completes_in p dem x so_far)
       completes =

@@ -10,3 +10,4 @@ pub mod Boundary
 pub mod Settings
 pub mod Current
 pub mod Start
+pub mod Tellers

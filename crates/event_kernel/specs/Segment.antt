@@ -14,6 +14,7 @@ use Rattle.sched_model.specs.Schedule.{entry_in_force}
 use Rattle.sched_model.specs.Notes.{Span, spans_of, Piece, all_release_notes, pieces_notes, pieces_of, run_energy, idle_energy, position_of, same_holder}
 use Rattle.sched_model.specs.States.{row_at, StateView}
 use Rattle.agenda.specs.Agenda.{IsFirstUndone}
+use Rattle.event_kernel.specs.declared.in_force.InForce.{InForce}
 use Rattle.event_kernel.specs.declared.segment.Segment.{Segment}
 use Rattle.event_kernel.specs.declared.span_trace.SpanTrace.{SpanTrace}
 use Rattle.event_kernel.specs.SpanNotes.{kept_notes}
@@ -54,19 +55,28 @@ holder_notes p s at_unit e q units (Held i k) =
     Run (at_unit q) (at_unit (q + units)) i k units (run_energy p e units)
     ∷ (if (row_at s i).done then Done (at_unit (q + units)) i k (row_at s i).used ∷ [] else [])
 
+-- the entry e in force from tick t on
+abbrev pub force_at : Plan → ℕ → ℕ → InForce
+force_at p t e = record { from = t; index = e; speed = (point p e).speed }
+
+-- the entry in force in a span
+abbrev pub force_of : Plan → Span → InForce
+force_of p s = force_at p (length s.past) s.entry
+
 -- the notes of the open segment
-abbrev pub written_notes : Plan → StateView → ℕ → ℕ → SpanTrace → List Note
-written_notes p s from e trace = holder_notes p s (position_of from ((point p e).speed)) e trace.segment.start trace.segment.units trace.segment.holder
+abbrev pub written_notes : Plan → StateView → InForce → SpanTrace → List Note
+written_notes p s force trace =
+    holder_notes p s (position_of force.from force.speed) force.index trace.segment.start trace.segment.units trace.segment.holder
 
 -- the trace after these notes are added
 abbrev pub with_notes : SpanTrace → List Note → SpanTrace
-with_notes trace notes = record { segment = trace.segment; notes = kept_notes (trace.notes ++ notes) }
+with_notes trace notes = record trace { notes = kept_notes (trace.notes ++ notes) }
 
 -- the trace after the notes of its segment are added: the holder's next segment is open, without units
-abbrev pub after_segment : Plan → StateView → ℕ → ℕ → SpanTrace → SpanTrace
-after_segment p s from e trace = record {
+abbrev pub after_segment : Plan → StateView → InForce → SpanTrace → SpanTrace
+after_segment p s force trace = record {
   segment = record { holder = trace.segment.holder; start = trace.segment.start + trace.segment.units; units = 0 };
-  notes = kept_notes (trace.notes ++ written_notes p s from e trace);
+  notes = kept_notes (trace.notes ++ written_notes p s force trace);
 }
 
 -- whether a unit of the holder h ends the open segment
@@ -78,27 +88,32 @@ abbrev pub with_units : Holder → ℕ → SpanTrace → SpanTrace
 with_units h n trace = record { segment = record { holder = h; start = trace.segment.start; units = trace.segment.units + n }; notes = trace.notes }
 
 -- the trace after n units of the holder h: if another holder's segment is open, its notes are added first
-abbrev pub after_units : Plan → StateView → ℕ → ℕ → Holder → ℕ → SpanTrace → SpanTrace
-after_units p s from e h n trace = with_units h n (if is_turn trace h then after_segment p s from e trace else trace)
+abbrev pub after_units : Plan → StateView → InForce → Holder → ℕ → SpanTrace → SpanTrace
+after_units p s force h n trace = with_units h n (if is_turn trace h then after_segment p s force trace else trace)
+
+-- the trace after n units in which nobody runs, if there are any
+abbrev pub after_idle : Plan → StateView → InForce → ℕ → SpanTrace → SpanTrace
+after_idle p s force n trace = if nat_lt 0 n then after_units p s force Nobody n trace else trace
 
 -- the trace at the end of a span: the notes of the open segment are added
-abbrev pub ended_trace : Plan → StateView → ℕ → ℕ → SpanTrace → SpanTrace
-ended_trace p s from e trace = if nat_lt 0 trace.segment.units then after_segment p s from e trace else trace
+abbrev pub ended_trace : Plan → StateView → InForce → SpanTrace → SpanTrace
+ended_trace p s force trace = if nat_lt 0 trace.segment.units then after_segment p s force trace else trace
 
 -- the holder is nobody, or a job of one of the first n tasks
 abbrev pub HeldIn : ℕ → Holder → Type 0
 HeldIn n Nobody = Unit {0}
 HeldIn n (Held i k) = i < n
 
--- the open segment's entry and task exist, and its position fits into its number
-pub record CanAdd (p : Plan) (s : StateView) (from e : ℕ) (trace : SpanTrace) : Type 0 where
-  pub entry : e < length p.machine.points
-  pub place : from + trace.segment.start + trace.segment.units < 2 ^ 63
+-- the open segment's entry and task exist, the entry has a speed, and the segment's position fits into its number
+pub record CanAdd (p : Plan) (s : StateView) (force : InForce) (trace : SpanTrace) : Type 0 where
+  pub entry : force.index < length p.machine.points
+  pub some_speed : 0 < force.speed
+  pub place : force.from + trace.segment.start + trace.segment.units < 2 ^ 63
   pub task : HeldIn (length s.rows) trace.segment.holder
 
 -- units can be entered: the notes of the open segment can be added first, and its units with the new ones are few enough
-pub record CanEnter (p : Plan) (s : StateView) (from e units : ℕ) (trace : SpanTrace) : Type 0 where
-  pub can : CanAdd p s from e trace
+pub record CanEnter (p : Plan) (s : StateView) (force : InForce) (units : ℕ) (trace : SpanTrace) : Type 0 where
+  pub can : CanAdd p s force trace
   pub fits : trace.segment.units + units < u64_end
 
 -- a trace with these notes, and no segment yet

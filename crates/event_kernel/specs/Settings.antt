@@ -1,22 +1,22 @@
 -- What the contracts of a run say: its setting, and how far the run is.
-use Rattle.std.specs.Prelude.{◌≡◌, ◌⊎◌, ℕ, ◌+◌, ◌*◌, ◌<◌, ◌≤◌, Bool, true, Option, Some}
+use Rattle.std.specs.Prelude.{◌≡◌, ℕ, ◌+◌, ◌*◌, ◌<◌, ◌≤◌, Bool, true, List, ◌++◌, Option, Some}
 use Rattle.grid_fraction.specs.Numbers.{any_below}
+use Rattle.dvs_base.specs.declared.note.Note.{Note}
 use Rattle.dvs_base.specs.declared.limits.TheConstants.{MOST_TICKS}
-use Rattle.sched_model.specs.Plan.{Plan, count, point}
-use Rattle.sched_model.specs.Admission.{IsAdmitted}
-use Rattle.sched_model.specs.Jobs.{JobDemands, latest, IsWithin}
+use Rattle.sched_model.specs.Plan.{Plan, count}
+use Rattle.sched_model.specs.Jobs.{JobDemands, latest}
 use Rattle.sched_model.specs.Ticks.{exec, IsMet}
 use Rattle.sched_model.specs.Decision.{is_decision, completes_in}
 use Rattle.sched_model.specs.Schedule.{entry_in_force}
 use Rattle.sched_model.specs.States.{row_at, prior_state, state_of, StateView}
 use Rattle.governor.specs.Meanings.{OwnDemand}
 use Rattle.governor.specs.Schedule.{ask_of, course}
-use Rattle.agenda.specs.Agenda.{IsFirstUndone}
 use Rattle.event_kernel.specs.declared.progress.Setting.{Setting}
 use Rattle.event_kernel.specs.declared.in_force.InForce.{InForce}
 use Rattle.event_kernel.specs.declared.span_trace.SpanTrace.{SpanTrace}
-use Rattle.event_kernel.specs.Runs.{demands_of, IsListOf}
-use Rattle.event_kernel.specs.Tickwork.{had_at, span_at, tick_at, whole_span, most_units}
+use Rattle.event_kernel.specs.Runs.{demands_of}
+use Rattle.event_kernel.specs.Segment.{force_of}
+use Rattle.event_kernel.specs.Tickwork.{had_at, span_at, tick_at, whole_span, notes_before, most_units}
 use Rattle.event_kernel.specs.SpanTraces.{HoldsSpan}
 
 module _ (set : Setting) where
@@ -26,42 +26,21 @@ module _ (set : Setting) where
   abbrev dem : JobDemands
   dem = demands_of set.plan.now set.demands.now
 
-  -- the plan is admitted, the list has its declared worst cases, no demand exceeds its worst case, the ticks are few
-  pub record IsSetting : Type 0 where
-    pub admitted : IsAdmitted p
-    pub list : IsListOf p set.demands.now
-    pub within : IsWithin p dem
-    pub low_ticks : set.ticks ≤ MOST_TICKS
-
-  -- The tick is the last of its span: the run ends after it, or a job is released at its end, or the first incomplete
-  -- job gets all that it needs.
-  abbrev pub IsLastTick : InForce → StateView → Type 0
-  IsLastTick force s =
-      (s.now + 1 ≡ set.ticks)
-      ⊎ (((i : ℕ) × (i < count p) × ((row_at s i).deadline ≡ s.now + 1))
-      ⊎ ((i : ℕ) × IsFirstUndone p s (count p) i × (dem i (row_at s i).job ≤ (row_at s i).used + (point p force.index).speed)))
-
-  -- The tick after n more is the last of its span: the run ends after it, or a job is released at its end, or the first
-  -- job, which has all units up to then, gets all that it needs.
-  abbrev pub IsLastAfter : InForce → StateView → Option ℕ → ℕ → Type 0
-  IsLastAfter force s first n =
-      (s.now + n + 1 ≡ set.ticks)
-      ⊎ (((i : ℕ) × (i < count p) × ((row_at s i).deadline ≡ s.now + n + 1))
-      ⊎ ((i : ℕ) × (first ≡ Some i)
-      × (dem i (row_at s i).job ≤ (row_at s i).used + n * (point p force.index).speed + (point p force.index).speed)))
-
   -- The n ticks after a state are quiet: the run doesn't end in them, no job is released in them or at their end, and
-  -- the first job is not completed in them. The tick after them is the last of its span.
+  -- the first job is not completed in them.
   pub record AreQuiet (force : InForce) (s : StateView) (first : Option ℕ) (n : ℕ) : Type 0 where
     pub before_end : s.now + n < set.ticks
     pub no_release : (k : ℕ) → k < count p → s.now + n < (row_at s k).deadline
-    pub not_done : (i : ℕ) → first ≡ Some i → (row_at s i).used + n * (point p force.index).speed < dem i (row_at s i).job
-    pub last : IsLastAfter force s first n
+    pub not_done : (i : ℕ) → first ≡ Some i → (row_at s i).used + n * force.speed < dem i (row_at s i).job
 
   module _ (demand : OwnDemand) where
     -- the state at the tick t of a governor's schedule, after its releases
     abbrev pub state_at : ℕ → StateView
     state_at t = state_of p dem (course demand p dem t)
+
+    -- these notes are those from one tick to another
+    abbrev pub AddsNotes : ℕ → ℕ → List Note → Type 0
+    AddsNotes from to notes = notes_before demand p dem to ≡ notes_before demand p dem from ++ notes
 
     -- every deadline before the tick t is met
     abbrev pub IsMetBy : ℕ → Type 0
@@ -84,7 +63,7 @@ module _ (set : Setting) where
       pub later : force.from ≤ t
       pub state : s ≡ state_of p dem (course demand p dem t)
       pub began : (span_at demand p dem t).past ≡ course demand p dem force.from
-      pub entry : force.index ≡ (span_at demand p dem t).entry
+      pub force_is : force ≡ force_of p (span_at demand p dem t)
       pub in_force : force.index ≡ entry_in_force p dem (ask_of demand p dem) (course demand p dem t)
       pub writing : HoldsSpan p dem (ask_of demand p dem) t (span_at demand p dem t) (had_at p (course demand p dem t)) (most_units t) trace
 
@@ -101,7 +80,7 @@ module _ (set : Setting) where
       pub before_end : last < set.ticks
       pub later : force.from ≤ last
       pub began : (span_at demand p dem last).past ≡ course demand p dem force.from
-      pub entry : force.index ≡ (span_at demand p dem last).entry
+      pub force_is : force ≡ force_of p (span_at demand p dem last)
       pub completed : Bool
       pub worked : HasWorked last s trace completed
       pub decision : last + 1 < set.ticks → is_decision p dem (course demand p dem (last + 1)) ≡ true

@@ -6,11 +6,11 @@ ghost use Rattle.agenda.specs.Agenda.{NonePast, IsFirstDue, with_next_job};
 ghost use Rattle.sched_model.specs.Notes.{all_release_notes};
 ghost use Rattle.governor.specs.Steps.{IsAtDecision};
 ghost use Rattle.event_kernel.specs.SpanNotes.{kept_notes};
-ghost use Rattle.event_kernel.specs.Runs.{demands_of, IsListOf};
-ghost use Rattle.event_kernel.specs.Segment.{with_notes};
+ghost use Rattle.event_kernel.specs.Runs.{demands_of};
+ghost use Rattle.event_kernel.specs.Segment.{with_notes, force_at};
 ghost use Rattle.event_kernel.specs.Current.{IsCurrent};
 ghost use Rattle.event_kernel.specs.Boundary.{needs_nothing, opening_notes, speed_note};
-ghost use Rattle.event_kernel.specs.Settings.{IsSetting, IsAtBoundary, IsBetween, IsInSpan, IsMetBy, state_at};
+ghost use Rattle.event_kernel.specs.Settings.{IsAtBoundary, IsBetween, IsInSpan, IsMetBy, state_at};
 
 use crate::in_force::InForce;
 use crate::jobs::demand;
@@ -20,14 +20,20 @@ use dvs_base::{Note, Pos};
 use governor::Governor;
 use sched_model::{Admitted, State};
 
-// Makes one decision and adds its note; the index of the entry that it chose.
-fn decide<G: Governor>(plan: &Admitted, governor: &G, state: &State, notes: &mut SpanNotes) -> u32
+// Makes one decision and adds its note; the entry that it puts in force.
+fn decide<G: Governor>(
+    plan: &Admitted,
+    governor: &G,
+    state: &State,
+    notes: &mut SpanNotes,
+) -> InForce
     requires of { IsOfPlan plan.now state.now }
     requires counters { G.stands governor.now plan.now state.now }
     requires decision { IsAtDecision plan.now state.now }
     ensures note { notes.new ≡ kept_notes (notes.old
         ++ speed_note plan.now state.entry.now.now (G.demand plan.now state.entry.now) ∷ []) }
-    ensures index { result ≡ lowest_entry plan.now.machine (G.demand plan.now state.entry.now) }
+    ensures force { result ≡ force_at plan.now state.entry.now.now
+        (lowest_entry plan.now.machine (G.demand plan.now state.entry.now)) }
 {
     let choice = governor.choose(plan, state);
     let point = plan.machine().point(choice.index);
@@ -37,14 +43,16 @@ fn decide<G: Governor>(plan: &Admitted, governor: &G, state: &State, notes: &mut
         num: choice.demand.num,
         den: choice.demand.den,
     });
-    choice.index
+    InForce {
+        from: state.now,
+        index: choice.index,
+        speed: point.speed,
+    }
 }
 
 impl<G: Governor> Progress<G> {
     // Releases a task's next job, and completes it if its demand is 0.
     fn release_one(&mut self, set: &Setting<'_>, task: u32)
-        requires list { IsListOf set.now.plan.now set.now.demands.now }
-        requires of { IsOfPlan set.now.plan.now self.old.state }
         requires past { NonePast set.now.plan.now self.old.state }
         requires due { IsFirstDue set.now.plan.now self.old.state task }
         requires can { CanRelease set.now.plan.now self.old.state task }
@@ -53,7 +61,6 @@ impl<G: Governor> Progress<G> {
             (opening_notes (demands_of set.now.plan.now set.now.demands.now) self.old.state task) }
         ensures state { self.new.state ≡ with_next_job set.now.plan.now self.old.state task
             (needs_nothing (demands_of set.now.plan.now set.now.demands.now) self.old.state task) }
-        ensures of { IsOfPlan set.now.plan.now self.new.state }
         ensures current { IsCurrent G.stands set.now self.new }
     {
         let state = &self.state;
@@ -88,7 +95,6 @@ impl<G: Governor> Progress<G> {
 
     // Releases every job that is due now, in the order of the tasks, and sets the mark if there was one.
     fn release_all(&mut self, set: &Setting<'_>)
-        requires set { IsSetting set.now }
         requires at { IsAtBoundary set.now G.demand self.old.state }
         requires none { self.old.trace.notes ≡ [] }
         requires current { IsCurrent G.stands set.now self.old }
@@ -110,7 +116,6 @@ impl<G: Governor> Progress<G> {
 
     /// Begins a span: its releases, then its decision. The entry in force in it, with the span's first tick.
     pub(crate) fn begin(&mut self, set: &Setting<'_>) -> InForce
-        requires set { IsSetting set.now }
         requires between { IsBetween set.now G.demand self.old.state }
         requires early { self.old.state.now < set.now.ticks }
         requires met { IsMetBy set.now G.demand self.old.state.now }
@@ -120,10 +125,8 @@ impl<G: Governor> Progress<G> {
         ensures same { self.new.state.now ≡ self.old.state.now }
         ensures current { IsCurrent G.stands set.now self.new }
     {
-        let from = self.now();
         self.trace.clear();
         self.release_all(set);
-        let index = decide(set.plan, &self.governor, &self.state, &mut self.trace.notes);
-        InForce { from, index }
+        decide(set.plan, &self.governor, &self.state, &mut self.trace.notes)
     }
 }

@@ -59,7 +59,7 @@ pub(crate) fn demand(plan: &Admitted, demands: &Demands, task: u32, job: u64) ->
     ensures { result ≡ demands_of plan.now demands.now task job }
 {
     let _within = demands.worsts();
-    demands.units(task, job) + 2 * plan.machine().charge()
+    demands.units(task, job) + plan.machine().job_charge()
 }
 
 /// The work units that a task's latest job still needs, from the demands of the latest jobs.

@@ -9,7 +9,7 @@ ghost use Rattle.event_kernel.specs.declared.kernel.KernelFault.TheVariants as f
 ghost use Rattle.sched_model.specs.Jobs.{released_jobs};
 ghost use Rattle.dvs_base.specs.declared.limits.TheConstants.{MOST_JOBS, MOST_TICKS};
 ghost use Rattle.note_laws.specs.LineCounts.{AreFew};
-ghost use Rattle.event_kernel.specs.Runs.{IsListOf, notes_of_run};
+ghost use Rattle.event_kernel.specs.Runs.{IsListOf, run_for, notes_of_run};
 ghost use Rattle.event_kernel.specs.MetRun.{IsMetRun};
 ghost use Rattle.dvs_base.specs.Outside.{Rose};
 
@@ -47,6 +47,7 @@ pub struct Kernel<'a, G: Governor> {
     pub(crate) set: Setting<'a>,
     pub(crate) progress: Progress<G>,
     account: Account,
+    walk: Walk,
 }
 
 impl<'a, G: Governor> Model for Kernel<'a, G> {
@@ -88,7 +89,7 @@ impl<'a, G: Governor> Kernel<'a, G> {
         requires stands { G.stands governor plan.now (opening plan.now) }
         requires some_ticks { 1 ≤ ticks }
         requires low_ticks { ticks ≤ MOST_TICKS }
-        ensures kernel { IfOk result (λ k. k ≡ record { plan = plan.now; demands = demands.now; ticks = ticks }) }
+        ensures kernel { IfOk result (λ k. k ≡ run_for plan.now demands.now ticks) }
         ensures few { OnOk result (released_jobs plan.now ticks ≤ MOST_JOBS) }
         ensures many { (n : ℕ) → IsErrOf result (KernelFault.TooManyJobs n)
             → (n ≡ released_jobs plan.now ticks) × (MOST_JOBS < n) }
@@ -111,6 +112,7 @@ impl<'a, G: Governor> Kernel<'a, G> {
             set,
             progress,
             account,
+            walk: Walk::Events,
         })
     }
 
@@ -121,7 +123,7 @@ impl<'a, G: Governor> Kernel<'a, G> {
         ensures { Drives L.heard L.balked L.stops G.the_kind G.demand self.entry to.old to.new result }
     {
         let ticks = self.set.ticks;
-        let account = self.spans(Walk::Events, to)?;
+        let account = self.spans(to)?;
         finish(ticks, &account, to)
     }
 
@@ -129,13 +131,13 @@ impl<'a, G: Governor> Kernel<'a, G> {
     pub fn tick_drive<L: Listener>(self, to: &mut L) -> Result<Totals, Stopped>
         ensures { Drives L.heard L.balked L.stops G.the_kind G.demand self.entry to.old to.new result }
     {
-        let ticks = self.set.ticks;
-        let account = self.spans(Walk::Ticks, to)?;
-        finish(ticks, &account, to)
+        let mut kernel = self;
+        kernel.walk = Walk::Ticks;
+        kernel.drive(to)
     }
 
-    // Runs the spans by this walk and hands the listener every note before the `End`; the account of those notes.
-    pub(crate) fn spans<L: Listener>(self, walk: Walk, to: &mut L) -> Result<Account, Stopped>
+    // Runs the spans and hands the listener every note before the `End`; the account of those notes.
+    pub(crate) fn spans<L: Listener>(self, to: &mut L) -> Result<Account, Stopped>
         ensures booked { IfOk result (λ a. HasBooked self.entry.plan a (notes_before_end_of G.demand self.entry)) }
         ensures account_totals { IfOk result (λ a. a.totals ≡ totals_of (notes_of_run G.demand self.entry)) }
         ensures few { IfOk result (λ a. AreFew a.totals) }
@@ -147,6 +149,7 @@ impl<'a, G: Governor> Kernel<'a, G> {
             set,
             mut progress,
             mut account,
+            walk,
         } = self;
         while progress.now() < set.ticks {
             let point = progress.span(walk, &set);

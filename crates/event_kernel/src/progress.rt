@@ -1,8 +1,5 @@
 // The parts of a run: what stays, and what changes.
-ghost use Rattle.std.specs.Prelude.{◌≡◌, ◌≤◌, IfOk};
-ghost use Rattle.sched_model.specs.States.{opening, after_advance};
-ghost use Rattle.event_kernel.specs.Current.{IsCurrent};
-ghost use Rattle.event_kernel.specs.declared.progress.Setting.{Setting};
+ghost use Rattle.event_kernel.specs.Runs.{IsSound};
 
 use crate::notes::SpanNotes;
 use crate::span_trace::SpanTrace;
@@ -13,12 +10,13 @@ use governor::Governor;
 use sched_model::{Admitted, State};
 use std::alloc::Global;
 
-/// What stays in a run: the plan, the demands of its jobs, and the number of its ticks.
+/// What stays in a run: the plan, the demands of its jobs, and the number of its ticks, which are within their limits.
 #[derive(Clone, Copy)]
 pub struct Setting<'a> {
     pub plan: &'a Admitted,
     pub demands: &'a Demands,
     pub ticks: u64,
+    ghost sound: { IsSound (record { plan = plan.now; demands = demands.now; ticks = ticks }) },
 }
 
 /// What changes in a run: the state; the governor's counters, the agenda and the demand of each task's latest job, which
@@ -33,6 +31,11 @@ pub struct Progress<G: Governor> {
 }
 
 impl<G: Governor> Progress<G> {
+    ghost use Rattle.std.specs.Prelude.{◌≡◌, ◌≤◌, IfOk};
+    ghost use Rattle.sched_model.specs.States.{opening, after_advance};
+    ghost use Rattle.event_kernel.specs.Current.{IsCurrent};
+    ghost use Rattle.event_kernel.specs.declared.progress.Setting.{Setting};
+
     /// A run before its first tick, with room for the notes of a span. It fails only if memory runs out.
     pub(crate) fn new(alloc: Global, set: &Setting<'_>, governor: G) -> Result<Self, NoMemory>
         requires { G.stands governor set.now.plan.now (opening set.now.plan.now) }

@@ -1,39 +1,37 @@
 // The ticks of a span before its last one.
-ghost use Rattle.std.specs.Prelude.{◌≡◌, ◌*◌, IfSome};
-ghost use Rattle.sched_model.specs.States.{CanRun, IsOfPlan};
+ghost use Rattle.std.specs.Prelude.{◌≡◌, ◌≤◌, IfSome};
+ghost use Rattle.sched_model.specs.States.{CanRun};
 ghost use Rattle.event_kernel.specs.Segment.{IsFirst};
 ghost use Rattle.event_kernel.specs.Current.{IsCurrent};
 ghost use Rattle.event_kernel.specs.Tickwork.{gives};
-ghost use Rattle.event_kernel.specs.Settings.{IsSetting, IsInSpan, IsLastTick, AreQuiet};
+ghost use Rattle.event_kernel.specs.Settings.{IsInSpan, AreQuiet};
 
 use crate::in_force::InForce;
 use crate::jobs::{holder_of, lacking};
 use crate::progress::{Progress, Setting};
+use crate::span::Walk;
 use crate::span_trace::Moment;
 use governor::Governor;
 
 impl<G: Governor> Progress<G> {
     // The number of ticks before the span's last one.
     fn quiet_ticks(&self, set: &Setting<'_>, force: InForce, first: Option<u32>) -> u64
-        requires set { IsSetting set.now }
         requires at { IsInSpan set.now G.demand force self.now.state.now self.now.state self.now.trace }
         requires first { IsFirst set.now.plan.now self.now.state first }
         requires current { IsCurrent G.stands set.now self.now }
         ensures { AreQuiet set.now force self.now.state first result }
     {
         let state = &self.state;
-        let speed = set.plan.machine().point(force.index).speed;
         let event = set.ticks.min(self.agenda.next_release(set.plan, state));
         let most = event - 1 - state.now;
         match first {
-            Some(task) => most.min((lacking(set, state, &self.needs, task) - 1) / speed),
+            Some(task) => most.min((lacking(set, state, &self.needs, task) - 1) / force.speed),
             None => most,
         }
     }
 
     // Runs `units` of the first incomplete job, which stays incomplete; if there is none, nothing changes.
     fn serve_first(&mut self, set: &Setting<'_>, first: Option<u32>, units: u64)
-        requires of { IsOfPlan set.now.plan.now self.old.state }
         requires can { IfSome first (λ i. CanRun self.old.state i units) }
         requires first { IsFirst set.now.plan.now self.old.state first }
         requires current { IsCurrent G.stands set.now self.old }
@@ -46,30 +44,29 @@ impl<G: Governor> Progress<G> {
         }
     }
 
-    /// Runs all ticks of a span before its last one in one step: no job is released or completed in them, so one job
-    /// has all their units, or they are idle.
-    pub(crate) fn stay(&mut self, set: &Setting<'_>, force: InForce)
-        requires set { IsSetting set.now }
+    /// Runs all ticks of a span before its last one in one step, unless the walk is by ticks: no job is released or
+    /// completed in them, so one job has all their units, or they are idle.
+    pub(crate) fn stay(&mut self, walk: Walk, set: &Setting<'_>, force: InForce)
         requires at { IsInSpan set.now G.demand force self.old.state.now self.old.state self.old.trace }
         requires current { IsCurrent G.stands set.now self.old }
         ensures in_span { IsInSpan set.now G.demand force self.new.state.now self.new.state self.new.trace }
-        ensures last { IsLastTick set.now force self.new.state }
+        ensures later { self.old.state.now ≤ self.new.state.now }
         ensures current { IsCurrent G.stands set.now self.new }
     {
-        let state = &self.state;
-        let now = state.now;
-        let first = self.agenda.first_ready(set.plan, state);
+        if let Walk::Ticks = walk {
+            return;
+        }
+        let plan = set.plan;
+        let now = self.now();
+        let first = self.agenda.first_ready(plan, &self.state);
         let quiet = self.quiet_ticks(set, force, first);
         if quiet == 0 {
             return;
         }
-        let units = quiet * set.plan.machine().point(force.index).speed;
-        let holder = holder_of(&self.state, first);
-        let at = Moment {
-            plan: set.plan,
-            state: &self.state,
-            force,
-        };
+        let state = &self.state;
+        let units = quiet * force.speed;
+        let holder = holder_of(state, first);
+        let at = Moment { plan, state, force };
         self.trace.enter(at, holder, units);
         self.serve_first(set, first, units);
         self.advance(now + quiet);

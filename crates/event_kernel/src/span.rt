@@ -1,11 +1,9 @@
 // A span: the ticks from one decision to the next.
-ghost use Rattle.std.specs.Prelude.{◌≡◌, ◌-◌, ◌<◌, ◌≤◌, ◌||◌, ◌++◌, nat_eq, length};
+ghost use Rattle.std.specs.Prelude.{◌≡◌, ◌-◌, ◌<◌, ◌≤◌, ◌||◌, nat_eq, length};
 ghost use Rattle.agenda.specs.Agenda.{NonePast};
 ghost use Rattle.event_kernel.specs.Current.{IsCurrent};
 ghost use Rattle.event_kernel.specs.Boundary.{some_due};
-ghost use Rattle.event_kernel.specs.Runs.{demands_of};
-ghost use Rattle.event_kernel.specs.Settings.{IsSetting, IsBetween, IsInSpan, HasWalked, IsMetBy};
-ghost use Rattle.event_kernel.specs.Tickwork.{notes_before};
+ghost use Rattle.event_kernel.specs.Settings.{IsBetween, IsInSpan, HasWalked, IsMetBy, AddsNotes};
 
 use crate::in_force::InForce;
 use crate::progress::{Progress, Setting};
@@ -22,7 +20,6 @@ pub enum Walk {
 impl<G: Governor> Progress<G> {
     // Whether some job is released now.
     fn any_due(&self, set: &Setting<'_>) -> bool
-        requires set { IsSetting set.now }
         requires past { NonePast set.now.plan.now self.now.state }
         requires current { IsCurrent G.stands set.now self.now }
         ensures { result ≡ some_due set.now.plan.now self.entry.now.state }
@@ -32,7 +29,6 @@ impl<G: Governor> Progress<G> {
 
     // Whether the span ends before this tick: a job completed, the run ends, or a job is released.
     fn is_end(&self, set: &Setting<'_>, completed: bool) -> bool
-        requires set { IsSetting set.now }
         requires past { NonePast set.now.plan.now self.now.state }
         requires current { IsCurrent G.stands set.now self.now }
         ensures { result ≡ (completed || (nat_eq self.entry.now.state.now set.now.ticks
@@ -41,27 +37,15 @@ impl<G: Governor> Progress<G> {
         completed || self.now() == set.ticks || self.any_due(set)
     }
 
-    // Runs the ticks of a span: all but the last in one step, and then the last.
-    fn by_events(&mut self, set: &Setting<'_>, force: InForce)
-        requires set { IsSetting set.now }
-        requires at { IsInSpan set.now G.demand force self.old.state.now self.old.state self.old.trace }
-        requires current { IsCurrent G.stands set.now self.old }
-        ensures walked { HasWalked set.now G.demand force (self.new.state.now - 1) self.new.state self.new.trace }
-        ensures current { IsCurrent G.stands set.now self.new }
-    {
-        self.stay(set, force);
-        self.work(set, force);
-    }
-
-    // Runs the ticks of a span one by one, up to the next decision or the end.
-    fn by_ticks(&mut self, set: &Setting<'_>, force: InForce)
-        requires set { IsSetting set.now }
+    // Runs the ticks of a span by this walk, up to the next decision or the end.
+    fn walk_span(&mut self, walk: Walk, set: &Setting<'_>, force: InForce)
         requires at { IsInSpan set.now G.demand force self.old.state.now self.old.state self.old.trace }
         requires current { IsCurrent G.stands set.now self.old }
         ensures walked { HasWalked set.now G.demand force (self.new.state.now - 1) self.new.state self.new.trace }
         ensures current { IsCurrent G.stands set.now self.new }
     {
         loop {
+            self.stay(walk, set, force);
             let completed = self.work(set, force);
             if self.is_end(set, completed) {
                 return;
@@ -69,24 +53,9 @@ impl<G: Governor> Progress<G> {
         }
     }
 
-    // Runs the ticks of a span by this walk, up to the next decision or the end.
-    fn walk_span(&mut self, walk: Walk, set: &Setting<'_>, force: InForce)
-        requires set { IsSetting set.now }
-        requires at { IsInSpan set.now G.demand force self.old.state.now self.old.state self.old.trace }
-        requires current { IsCurrent G.stands set.now self.old }
-        ensures walked { HasWalked set.now G.demand force (self.new.state.now - 1) self.new.state self.new.trace }
-        ensures current { IsCurrent G.stands set.now self.new }
-    {
-        match walk {
-            Walk::Events => self.by_events(set, force),
-            Walk::Ticks => self.by_ticks(set, force),
-        }
-    }
-
     /// Runs one span: its releases, its decision, and the ticks up to the next decision or the end. The trace has its
     /// notes then. The entry that was in force.
     pub(crate) fn span(&mut self, walk: Walk, set: &Setting<'_>) -> u32
-        requires set { IsSetting set.now }
         requires between { IsBetween set.now G.demand self.old.state }
         requires early { self.old.state.now < set.now.ticks }
         requires met { IsMetBy set.now G.demand self.old.state.now }
@@ -95,19 +64,14 @@ impl<G: Governor> Progress<G> {
         ensures later { self.old.state.now < self.new.state.now }
         ensures limit { self.new.state.now ≤ set.now.ticks }
         ensures current { IsCurrent G.stands set.now self.new }
-        ensures notes { let jobs = demands_of set.now.plan.now set.now.demands.now in
-            notes_before G.demand set.now.plan.now jobs self.new.state.now
-            ≡ notes_before G.demand set.now.plan.now jobs self.old.state.now ++ self.new.trace.notes }
+        ensures notes { AddsNotes set.now G.demand self.old.state.now self.new.state.now self.new.trace.notes }
         ensures entry { result < length set.now.plan.now.machine.points }
     {
         let force = self.begin(set);
         self.walk_span(walk, set, force);
-        let at = Moment {
-            plan: set.plan,
-            state: &self.state,
-            force,
-        };
-        self.trace.close(at);
+        let plan = set.plan;
+        let state = &self.state;
+        self.trace.close(Moment { plan, state, force });
         force.index
     }
 }

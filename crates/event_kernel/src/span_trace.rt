@@ -1,15 +1,12 @@
 // The notes of a span so far, and its open segment.
-ghost use Rattle.std.specs.Prelude.{◌≡◌, ◌+◌, ◌<◌, []};
-ghost use Rattle.dvs_base.specs.Widths.{u64_end};
+ghost use Rattle.std.specs.Prelude.{◌≡◌, []};
 ghost use Rattle.sched_model.specs.declared.holder.Holder.TheVariants.{Nobody, Held};
-ghost use Rattle.sched_model.specs.Plan.{point};
-ghost use Rattle.sched_model.specs.Notes.{position_of};
-ghost use Rattle.event_kernel.specs.Segment.{after_segment, is_turn, after_units, ended_trace, new_trace, with_notes, written_notes, CanAdd, CanEnter};
+ghost use Rattle.event_kernel.specs.Segment.{after_idle, after_segment, is_turn, after_units, ended_trace, new_trace, with_notes, written_notes, CanAdd, CanEnter};
 
 use crate::in_force::InForce;
 use crate::notes::SpanNotes;
 use crate::segment::Segment;
-use dvs_base::{Note, Pos};
+use dvs_base::Note;
 use energy::energy_of;
 use sched_model::{Admitted, Holder, State};
 
@@ -34,17 +31,6 @@ fn turns(trace: &SpanTrace, holder: Holder) -> bool
     trace.segment.units > 0 && trace.segment.holder != holder
 }
 
-fn position(from: u64, speed: u64, unit: u64) -> Pos
-    requires some { 0 < speed }
-    requires fits { from + unit < u64_end }
-    ensures { result ≡ position_of from speed unit }
-{
-    Pos {
-        tick: from + unit / speed,
-        offset: unit % speed,
-    }
-}
-
 impl SpanTrace {
     /// A trace with these notes and no segment yet.
     pub(crate) fn new(notes: SpanNotes) -> SpanTrace
@@ -64,59 +50,40 @@ impl SpanTrace {
         self.notes.clear();
     }
 
-    // The positions where the segment begins and where it ends.
-    fn ends(&self, at: Moment<'_>) -> (Pos, Pos)
-        requires { CanAdd at.plan.now at.state.now at.force.from at.force.index self.now }
-        ensures first { result.0 ≡ position_of at.entry.force.from
-            ((point at.entry.plan.now at.entry.force.index).speed) self.entry.now.segment.start }
-        ensures end { result.1 ≡ position_of at.entry.force.from
-            ((point at.entry.plan.now at.entry.force.index).speed)
-            (self.entry.now.segment.start + self.entry.now.segment.units) }
-    {
-        let speed = at.plan.machine().point(at.force.index).speed;
-        let start = self.segment.start;
-        let end = start + self.segment.units;
-        (
-            position(at.force.from, speed, start),
-            position(at.force.from, speed, end),
-        )
-    }
-
     // Adds the note of an idle segment.
     fn add_idle(&mut self, at: Moment<'_>)
-        requires can { CanAdd at.plan.now at.state.now at.force.from at.force.index self.old }
+        requires can { CanAdd at.plan.now at.state.now at.force self.old }
         requires idle { self.old.segment.holder ≡ Nobody }
         ensures { self.new ≡ with_notes self.old (written_notes at.entry.plan.now
-            at.entry.state.now at.entry.force.from at.entry.force.index self.old) }
+            at.entry.state.now at.entry.force self.old) }
     {
-        let (first, end) = self.ends(at);
-        let index = at.force.index;
-        let units = self.segment.units;
+        let force = at.force;
+        let Segment { start, units, .. } = self.segment;
         self.notes.push(Note::Idle {
-            from: first,
-            to: end,
+            from: force.position(start),
+            to: force.position(start + units),
             units,
-            energy: energy_of(at.plan.machine(), index, units, true),
+            energy: energy_of(at.plan.machine(), force.index, units, true),
         });
     }
 
     // Adds the note of a job's segment, and that of the job's completion if its row is done.
     fn add_run(&mut self, at: Moment<'_>, task: u32, job: u64)
-        requires can { CanAdd at.plan.now at.state.now at.force.from at.force.index self.old }
+        requires can { CanAdd at.plan.now at.state.now at.force self.old }
         requires held { self.old.segment.holder ≡ Held task job }
         ensures { self.new ≡ with_notes self.old (written_notes at.entry.plan.now
-            at.entry.state.now at.entry.force.from at.entry.force.index self.old) }
+            at.entry.state.now at.entry.force self.old) }
     {
-        let (first, end) = self.ends(at);
-        let index = at.force.index;
-        let units = self.segment.units;
+        let force = at.force;
+        let Segment { start, units, .. } = self.segment;
+        let end = force.position(start + units);
         self.notes.push(Note::Run {
-            from: first,
+            from: force.position(start),
             to: end,
             task,
             job,
             units,
-            energy: energy_of(at.plan.machine(), index, units, false),
+            energy: energy_of(at.plan.machine(), force.index, units, false),
         });
         let state = at.state;
         let row = state.rows[task as usize];
@@ -132,9 +99,8 @@ impl SpanTrace {
 
     // Adds the notes of the open segment, and begins the holder's next one.
     fn add_segment(&mut self, at: Moment<'_>)
-        requires { CanAdd at.plan.now at.state.now at.force.from at.force.index self.old }
-        ensures { self.new ≡ after_segment at.entry.plan.now at.entry.state.now at.entry.force.from
-            at.entry.force.index self.old }
+        requires { CanAdd at.plan.now at.state.now at.force self.old }
+        ensures { self.new ≡ after_segment at.entry.plan.now at.entry.state.now at.entry.force self.old }
     {
         match self.segment.holder {
             Holder::Nobody => self.add_idle(at),
@@ -145,9 +111,8 @@ impl SpanTrace {
 
     /// Adds units of a holder. If another holder's segment is open, its notes are added first.
     pub(crate) fn enter(&mut self, at: Moment<'_>, holder: Holder, units: u64)
-        requires { CanEnter at.plan.now at.state.now at.force.from at.force.index units self.old }
-        ensures { self.new ≡ after_units at.entry.plan.now at.entry.state.now at.entry.force.from
-            at.entry.force.index holder units self.old }
+        requires { CanEnter at.plan.now at.state.now at.force units self.old }
+        ensures { self.new ≡ after_units at.entry.plan.now at.entry.state.now at.entry.force holder units self.old }
     {
         if turns(self, holder) {
             self.add_segment(at);
@@ -156,11 +121,20 @@ impl SpanTrace {
         self.segment.units += units;
     }
 
+    /// Adds units in which nobody runs, if there are any.
+    pub(crate) fn idle(&mut self, at: Moment<'_>, units: u64)
+        requires { CanEnter at.plan.now at.state.now at.force units self.old }
+        ensures { self.new ≡ after_idle at.entry.plan.now at.entry.state.now at.entry.force units self.old }
+    {
+        if units > 0 {
+            self.enter(at, Holder::Nobody, units);
+        }
+    }
+
     /// Adds the notes of the segment that is open at the end of a span.
     pub(crate) fn close(&mut self, at: Moment<'_>)
-        requires { CanAdd at.plan.now at.state.now at.force.from at.force.index self.old }
-        ensures { self.new ≡ ended_trace at.entry.plan.now at.entry.state.now at.entry.force.from
-            at.entry.force.index self.old }
+        requires { CanAdd at.plan.now at.state.now at.force self.old }
+        ensures { self.new ≡ ended_trace at.entry.plan.now at.entry.state.now at.entry.force self.old }
     {
         if self.segment.units > 0 {
             self.add_segment(at);

@@ -1,25 +1,26 @@
 // The trace of a run, written to a sink line by line and told to probes.
-ghost use Rattle.std.specs.Prelude.{◌≡◌, ◌≤◌, [], ◌∷◌, ◌++◌, length, map, IfOk, IsOk, OnErr};
+ghost use Rattle.std.specs.Prelude.{◌≡◌, ◌≤◌, [], ◌∷◌, ◌++◌, length, IfOk, IsOk, OnErr};
 ghost use Rattle.dvs_base.specs.Outside.{Rose};
 ghost use Rattle.dvs_base.specs.declared.note.Note.TheVariants.{End};
 ghost use Rattle.note_laws.specs.LineCounts.{AreFew};
-ghost use Rattle.trace_writer.specs.RunText.{run_lines, most_lines};
+ghost use Rattle.trace_writer.specs.RunText.{most_lines};
 ghost use Rattle.sched_model.specs.Demand.{IsAlwaysMet};
 ghost use Rattle.sched_model.specs.Plan.{count, names};
 ghost use Rattle.sched_model.specs.Totals.{totals_of};
-ghost use Rattle.trace_text.specs.TraceText.{line_of_note, note_lines, text_of_lines};
-ghost use Rattle.trace_writer.specs.Lines.{WritesLines, WroteLines, StoppedIn};
+ghost use Rattle.trace_text.specs.TraceText.{line_of_note, text_of_lines};
+ghost use Rattle.probes.specs.Outputs.{outputs_of};
+ghost use Rattle.trace_writer.specs.Lines.{WritesLines};
 ghost use Rattle.trace_writer.specs.UnnotedLines.{sum_lines};
-ghost use Rattle.event_kernel.specs.Runs.{notes_of_run, MeetsDeadlines, MeetsDemands};
+ghost use Rattle.event_kernel.specs.Runs.{notes_of_run, lines_of_run, MeetsDeadlines, MeetsDemands};
+ghost use Rattle.event_kernel.specs.Tellers.{shown_by, HearsNote, BalksAt};
 
 use crate::ending::ending;
-use crate::span::Walk;
 use crate::{Kernel, Listener, Stopped};
 use dvs_base::{Failed, Line, Name, Note, Sink, Totals, Version};
 use energy::Account;
 use governor::Governor;
-use probes::{Probe, tell_all};
-use trace_writer::{Head, put_head, put_note, put_sums};
+use probes::Probe;
+use trace_writer::{Head, put_head, put_sums, tell_note};
 
 /// The sink failed before the whole trace was written.
 #[derive(Clone, Copy, Debug, PartialEq, Eq)]
@@ -47,43 +48,15 @@ struct Teller<'a, 'b, 'c, W: Sink, P: Probe> {
 }
 
 impl<'a, 'b, 'c, W: Sink, P: Probe> Listener for Teller<'a, 'b, 'c, W, P> {
-    ghost heard = { λ a n b. WroteLines (W.shows a.out.now) (W.shows b.out.now)
-        (map P.seen a.probes.now.items) (map P.seen b.probes.now.items) (line_of_note a.names.now n ∷ [])
-        × (b.out.ghost_name ≡ a.out.ghost_name) × (b.probes.ghost_name ≡ a.probes.ghost_name)
-        × (b.names.now ≡ a.names.now) };
+    ghost heard = { HearsNote W.shows P.seen };
 
-    ghost balked = { λ a n b. StoppedIn (W.shows a.out.now) (W.shows b.out.now)
-        (map P.seen a.probes.now.items) (map P.seen b.probes.now.items) (line_of_note a.names.now n ∷ [])
-        × (b.out.ghost_name ≡ a.out.ghost_name) × (b.probes.ghost_name ≡ a.probes.ghost_name)
-        × (b.names.now ≡ a.names.now) };
+    ghost balked = { BalksAt W.shows P.seen };
 
     ghost stops = { λ a. (W.shows a.out.now).faults };
 
     fn hear(&mut self, note: &Note) -> Result<(), Stopped> {
-        put_note(note, self.names, &mut self.line, self.out)?;
-        tell_all(self.probes, note);
-        Ok(())
+        Ok(tell_note(note, self.names, &mut self.line, self.out, self.probes)?)
     }
-}
-
-// Puts the `End` line, and then tells the probes the `End`; the totals.
-fn tell_end<W: Sink, P: Probe>(
-    head: Head<'_>,
-    account: &Account,
-    line: &mut Line,
-    out: &mut W,
-    probes: &mut Vec<P>,
-) -> Result<Totals, WriteFault>
-    ensures totals { IfOk result (λ t. t ≡ account.now.totals) }
-    ensures writes { WritesLines (W.shows out.old) (W.shows out.new)
-        (map P.seen probes.old.items) (map P.seen probes.new.items)
-        (line_of_note (names head.entry.plan.now)
-        (End head.entry.ticks account.now.totals.run account.now.totals.idle) ∷ []) result }
-{
-    let (totals, end) = ending(head.ticks, account);
-    put_note(&end, head.plan.names(), line, out)?;
-    tell_all(probes, &end);
-    Ok(totals)
 }
 
 // Puts the lines of the energies and the `End` line, and tells the probes the `End`; the totals.
@@ -96,17 +69,19 @@ fn tell_tail<W: Sink, P: Probe>(
 ) -> Result<Totals, WriteFault>
     requires { length account.now.by_task ≡ count head.plan.now }
     ensures totals { IfOk result (λ t. t ≡ account.now.totals) }
-    ensures writes_tail { WritesLines (W.shows out.old) (W.shows out.new)
-        (map P.seen probes.old.items) (map P.seen probes.new.items)
+    ensures writes_tail { WritesLines (outputs_of W.shows P.seen out.old probes.old)
+        (outputs_of W.shows P.seen out.new probes.new)
         (sum_lines head.entry.version head.entry.plan.now account.now.by_task ++ line_of_note (names head.entry.plan.now)
         (End head.entry.ticks account.now.totals.run account.now.totals.idle) ∷ []) result }
 {
     put_sums(head, account.by_task(), out)?;
-    tell_end(head, account, line, out, probes)
+    let (totals, end) = ending(head.ticks, account);
+    tell_note(&end, head.plan.names(), line, out, probes)?;
+    Ok(totals)
 }
 
-// Writes the lines of a run after its head through a teller; the totals.
-fn notes_into<G: Governor, W: Sink, P: Probe>(
+// Writes the lines of a run through a teller; the totals.
+fn lines_into<G: Governor, W: Sink, P: Probe>(
     kernel: Kernel<'_, G>,
     head: Head<'_>,
     teller: &mut Teller<'_, '_, '_, W, P>,
@@ -116,14 +91,14 @@ fn notes_into<G: Governor, W: Sink, P: Probe>(
     requires names { teller.old.names.now ≡ names head.plan.now }
     ensures totals { IfOk result (λ t. t ≡ totals_of (notes_of_run G.demand kernel.entry)) }
     ensures few { IfOk result AreFew }
-    ensures writes_notes { WritesLines (W.shows teller.old.out.now) (W.shows teller.new.out.now)
-        (map P.seen teller.old.probes.now.items) (map P.seen teller.new.probes.now.items)
-        (note_lines head.entry.version (names kernel.entry.plan) (notes_of_run G.demand kernel.entry)) result }
+    ensures writes { WritesLines (shown_by W.shows P.seen teller.old) (shown_by W.shows P.seen teller.new)
+        (lines_of_run head.entry.version head.entry.governor G.demand kernel.entry) result }
     ensures same { (teller.new.out.ghost_name ≡ teller.old.out.ghost_name)
         × (teller.new.probes.ghost_name ≡ teller.old.probes.ghost_name) }
 {
     let _admitted = head.plan.scheduler();
-    let account = kernel.spans(Walk::Events, teller)?;
+    put_head(head, teller.out)?;
+    let account = kernel.spans(teller)?;
     tell_tail(head, &account, &mut teller.line, teller.out, teller.probes)
 }
 
@@ -138,18 +113,16 @@ impl<'a, G: Governor> Kernel<'a, G> {
         probes: &mut Vec<P>,
         version: Version,
     ) -> Result<Totals, WriteFault>
-        ensures wrote { WritesLines (W.shows out.old) (W.shows out.new)
-            (map P.seen probes.old.items) (map P.seen probes.new.items)
-            (run_lines version self.entry.plan G.the_kind self.entry.ticks (notes_of_run G.demand self.entry))
-            result }
-        ensures sure { length (text_of_lines (run_lines version self.entry.plan G.the_kind self.entry.ticks
-            (notes_of_run G.demand self.entry))) ≤ (W.shows out.old).sure → IsOk result }
+        ensures wrote { WritesLines (outputs_of W.shows P.seen out.old probes.old)
+            (outputs_of W.shows P.seen out.new probes.new) (lines_of_run version G.the_kind G.demand self.entry) result }
+        ensures sure { length (text_of_lines (lines_of_run version G.the_kind G.demand self.entry))
+            ≤ (W.shows out.old).sure → IsOk result }
         ensures totals { IfOk result (λ t. t ≡ totals_of (notes_of_run G.demand self.entry)) }
         // At most one more decision than releases and completions together, so at most one more than two a job.
         ensures few { IfOk result AreFew }
         // At most seven lines for each job released in the ticks, and five more; in version 2 also two for each task.
-        ensures lines { length (run_lines version self.entry.plan G.the_kind self.entry.ticks
-            (notes_of_run G.demand self.entry)) ≤ most_lines version self.entry.plan self.entry.ticks }
+        ensures lines { length (lines_of_run version G.the_kind G.demand self.entry)
+            ≤ most_lines version self.entry.plan self.entry.ticks }
         ensures deadlines { MeetsDeadlines G.demand self.entry }
         ensures demands { IsAlwaysMet G.the_kind → MeetsDemands G.demand self.entry }
         ensures never_falls { (W.shows out.old).faults ≤ (W.shows out.new).faults }
@@ -161,13 +134,12 @@ impl<'a, G: Governor> Kernel<'a, G> {
             plan: self.set.plan,
             ticks: self.set.ticks,
         };
-        put_head(head, out)?;
         let mut teller = Teller {
             out,
             probes,
             names: head.plan.names(),
             line: Line::new(),
         };
-        notes_into(self, head, &mut teller)
+        lines_into(self, head, &mut teller)
     }
 }

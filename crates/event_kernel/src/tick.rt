@@ -1,29 +1,26 @@
 // The work of one tick.
 ghost use Rattle.std.specs.Prelude.{◌≡◌};
 ghost use Rattle.sched_model.specs.Plan.{count};
-ghost use Rattle.sched_model.specs.States.{CanRun, IsOfPlan};
+ghost use Rattle.sched_model.specs.States.{CanRun};
 ghost use Rattle.agenda.specs.Agenda.{IsFirstUndone};
 ghost use Rattle.event_kernel.specs.Current.{IsCurrent};
 ghost use Rattle.event_kernel.specs.Tickwork.{after_service};
-ghost use Rattle.event_kernel.specs.Settings.{IsSetting, IsInSpan, HasWorked};
+ghost use Rattle.event_kernel.specs.Settings.{IsInSpan, HasWorked};
 
 use crate::in_force::InForce;
 use crate::jobs::{holder_of, lacking};
 use crate::progress::{Progress, Setting};
 use crate::span_trace::Moment;
 use governor::Governor;
-use sched_model::Holder;
 
 impl<G: Governor> Progress<G> {
     /// Runs `units` of the first incomplete job, and completes it if `ends`. The governor and the agenda hear of it.
     pub(crate) fn serve(&mut self, set: &Setting<'_>, task: u32, units: u64, ends: bool)
-        requires of { IsOfPlan set.now.plan.now self.old.state }
         requires can { CanRun self.old.state task units }
         requires first { IsFirstUndone set.now.plan.now self.old.state (count set.now.plan.now) task }
         requires current { IsCurrent G.stands set.now self.old }
         ensures state { self.new.state ≡ after_service self.old.state task units ends }
         ensures current { IsCurrent G.stands set.now self.new }
-        ensures of { IsOfPlan set.now.plan.now self.new.state }
         ensures trace { self.new.trace ≡ self.old.trace }
     {
         self.governor.ran(set.plan, &self.state, task, units);
@@ -38,41 +35,31 @@ impl<G: Governor> Progress<G> {
 
     /// Runs the units of one tick; whether a job completes in it.
     pub(crate) fn work(&mut self, set: &Setting<'_>, force: InForce) -> bool
-        requires set { IsSetting set.now }
         requires at { IsInSpan set.now G.demand force self.old.state.now self.old.state self.old.trace }
         requires current { IsCurrent G.stands set.now self.old }
         ensures worked { HasWorked set.now G.demand self.old.state.now self.new.state self.new.trace result }
         ensures current { IsCurrent G.stands set.now self.new }
     {
-        let state = &self.state;
-        let now = state.now;
-        let mut rest = set.plan.machine().point(force.index).speed;
+        let plan = set.plan;
+        let now = self.now();
+        let mut rest = force.speed;
         let mut completed = false;
         while rest > 0 {
-            let Some(task) = self.agenda.first_ready(set.plan, &self.state) else {
+            let state = &self.state;
+            let Some(task) = self.agenda.first_ready(plan, state) else {
                 break;
             };
-            let lacks = lacking(set, &self.state, &self.needs, task);
+            let lacks = lacking(set, state, &self.needs, task);
             let share = rest.min(lacks);
-            let holder = holder_of(&self.state, Some(task));
-            let at = Moment {
-                plan: set.plan,
-                state: &self.state,
-                force,
-            };
+            let holder = holder_of(state, Some(task));
+            let at = Moment { plan, state, force };
             self.trace.enter(at, holder, share);
             self.serve(set, task, share, share == lacks);
-            completed = completed || share == lacks;
+            completed |= share == lacks;
             rest -= share;
         }
-        if rest > 0 {
-            let at = Moment {
-                plan: set.plan,
-                state: &self.state,
-                force,
-            };
-            self.trace.enter(at, Holder::Nobody, rest);
-        }
+        let state = &self.state;
+        self.trace.idle(Moment { plan, state, force }, rest);
         self.advance(now + 1);
         completed
     }

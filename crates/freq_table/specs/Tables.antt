@@ -1,5 +1,5 @@
 -- A machine: its table of speeds, its idle share and its charge, and the entry that a demand picks.
-use Rattle.std.specs.Prelude.{ℕ, ◌+◌, ◌-◌, ◌<◌, ◌≤◌, min, List, length, slice_index_or}
+use Rattle.std.specs.Prelude.{ℕ, ◌+◌, ◌-◌, ◌*◌, ◌<◌, ◌≤◌, min, List, length, slice_index_or}
 use Rattle.grid_fraction.specs.declared.Frac.{Frac}
 use Rattle.grid_fraction.specs.Fraction.{meets}
 use Rattle.grid_fraction.specs.Numbers.{any_below, first_from}
@@ -12,6 +12,10 @@ pub record Table : Type 0 where
   pub points : List Point
   pub idle : ℕ
   pub charge : ℕ
+
+-- the units that each job is charged with: those of two switches of speed
+abbrev pub job_charge : Table → ℕ
+job_charge m = 2 * m.charge
 
 -- the entry with this number
 abbrev pub point_at : Table → ℕ → Point

@@ -1,8 +1,8 @@
 // A machine: its table of speeds, its idle share and its charge.
-ghost use Rattle.std.specs.Prelude.{◌≡◌, ◌<◌, ◌≤◌, length, vec_len, IfOk};
+ghost use Rattle.std.specs.Prelude.{◌≡◌, ◌<◌, ◌≤◌, ◌*◌, length, vec_len, IfOk};
 ghost use Rattle.dvs_base.specs.Widths.{u64_end};
 ghost use Rattle.freq_table.specs.declared.limits.TheConstants.{MOST_POINTS, MOST_IDLE, MOST_CHARGE};
-ghost use Rattle.freq_table.specs.Tables.{Table, point_at, highest_speed, lowest_pick, IsTable};
+ghost use Rattle.freq_table.specs.Tables.{Table, point_at, highest_speed, lowest_pick, job_charge, IsTable};
 ghost use Rattle.freq_table.specs.Limits.{ArePoints};
 
 use dvs_base::NoMemory;
@@ -139,5 +139,13 @@ impl Machine {
         ensures low { result ≤ MOST_CHARGE }
     {
         self.charge
+    }
+
+    /// The work units that each job is charged with, for two switches of speed.
+    pub fn job_charge(&self) -> u64
+        ensures charge { result ≡ job_charge self.now }
+        ensures low { result ≤ 2 * MOST_CHARGE }
+    {
+        2 * self.charge
     }
 }

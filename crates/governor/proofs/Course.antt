@@ -1,11 +1,11 @@
 -- The laws of a governor along its schedule: every deadline is met, and each demand but that of look-ahead. If its
 -- demand is the published one of its kind, that is the schedule of the kind.
 use Rattle.std.proofs.lemmas.Bool.Decides.{nat_tests}
-use Rattle.std.proofs.Common.{◌≡◌, ℕ, zero, suc, ◌-◌, ◌<◌, ◌≤◌, Bool, true, false, List, [], ◌∷◌, length, drop, refl, arith, if◌then◌else◌, ap, ◌∙◌, sym, subst, true≢false, ◌⊎◌, inl, inr, eq-or-lt_of_le}
+use Rattle.std.proofs.Common.{◌≡◌, ℕ, zero, suc, ◌-◌, ◌<◌, ◌≤◌, Bool, true, false, List, [], ◌∷◌, length, drop, refl, arith, ap, ◌∙◌, sym, subst, true≢false, ◌⊎◌, inl, inr, eq-or-lt_of_le}
 use Rattle.std.proofs.lemmas.Bool.{or_parts}
 use Rattle.dvs_base.specs.declared.kind.GovernorKind.{GovernorKind}
-use Rattle.freq_table.specs.Tables.{lowest_entry, lowest_pick, speed_at}
-use Rattle.sched_model.specs.Demand.{IsAlwaysMet, published}
+use Rattle.freq_table.specs.Tables.{lowest_pick, speed_at}
+use Rattle.sched_model.specs.Demand.{IsAlwaysMet}
 use Rattle.sched_model.specs.declared.state.Row.{Row}
 use Rattle.sched_model.specs.Plan.{Plan, count}
 use Rattle.sched_model.specs.Jobs.{IsWithin, JobDemands, latest, due, is_release}
@@ -140,14 +140,7 @@ module _ (kind : GovernorKind) (serves : Serving) (demand : OwnDemand) (calm : C
       (belongs_tick p dem (speed_now past) (state_of p dem past) (tick past).shares (belongs-state past k) (decides-state past k).before (legal past))
 
   kept-next : (past : List Tick) → Kept past → Kept (tick past ∷ past)
-  kept-next past k = record {
-    belongs = belongs-next past k;
-    is_calm = laws.stays_calm p dem (prior_state p dem (tick past ∷ past)) (in_run (belongs-next past k)) (entry_at past) (safe-next past k);
-    is_safe = λ e. subst (safe p (prior_state p dem (tick past ∷ past))) (sym (stays e)) (safe-next past k);
-  }
-    where
-      stays : is_decision p dem (tick past ∷ past) ≡ false → entry_at (tick past ∷ past) ≡ entry_at past
-      stays e = ap (λ d. if d then lowest_entry p.machine (ask (tick past ∷ past)) else entry_at past) e
+  kept-next past k = grind (arith, nat_tests, belongs-next past k, in_run, safe-next past k)
 
   kept-none : Kept []
   kept-none = grind (arith, nat_tests, belongs_opening)
@@ -175,8 +168,7 @@ module _ (kind : GovernorKind) (serves : Serving) (demand : OwnDemand) (calm : C
       laws.meets p dem (state_of p dem past) (in_run (belongs-state past (kept t))) (decides-state past (kept t)) (calm-state past (kept t)) other
 
 pub has-schedule : (demand : OwnDemand) (kind : GovernorKind) (p : Plan) → Publishes demand kind p → HasScheduleOf demand kind p
-has-schedule demand kind p publishes dem within t =
-    same-schedule p dem (ask_of demand p dem) (published p kind dem) (λ ask past h. sym (publishes dem within ask past h)) t
+has-schedule demand kind p publishes dem within t = grind (arith, nat_tests, same-schedule)
 
 pub publishing_laws : (demand : OwnDemand) (kind : GovernorKind) (serves : Serving)
     → ((plan : Plan) → IsAdmitted plan → serves plan.scheduler → Publishes demand kind plan) → PublishingLaws kind serves demand

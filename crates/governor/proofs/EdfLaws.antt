@@ -1,5 +1,5 @@
 -- The laws under EDF at one speed.
-use Rattle.std.proofs.Common.{◌≡◌, inl, inr, ℕ, ◌+◌, ◌-◌, ◌*◌, ◌<◌, ◌≤◌, Bool, true, false, List, refl, sym, ◌∙◌, ap, subst, arith}
+use Rattle.std.proofs.Common.{◌≡◌, inl, inr, ℕ, ◌+◌, ◌-◌, ◌*◌, ◌<◌, ◌≤◌, true, false, List, refl, sym, ◌∙◌, ap, subst, arith}
 use Rattle.std.proofs.Math.Nat.{mul-le-mul_left, mul-le-mul_right, mul-zero, sub-zero, le_of_mul-le-mul_left}
 use Rattle.std.specs.Prelude.{if◌then◌else◌, nat_le, ◌/◌}
 use Rattle.std.proofs.lemmas.Bool.{le-leb, leb-true, cases_lt, cases_Bool}
@@ -58,18 +58,7 @@ term_opened : (plan : Plan) (dem : JobDemands) (h d now i p c : ℕ) (row : Row)
     → h / p * p ≡ h → row.done ≡ true → row.deadline ≡ now → now ≤ d
     → term h d (c * (h / p)) (opened_row plan dem i row) ≤ term h d (c * (h / p)) row
 term_opened plan dem h d now i p c row per wor whole closed at_now le =
-    let u = c * (h / p) in
-    let before : term h d u row ≡ u * (d - now) = rw (at_now, le-leb now d le, closed) (omega (arith, mul-zero h)) in
-    let after : ℕ = row.deadline + period plan i in
-    let w : ℕ = row_wleft (opened_row plan dem i row) in
-    let small : w ≤ c = subst (λ (x : ℕ). w ≤ x) wor (wleft-most (opened_row plan dem i row)) in
-    let place : after ≡ now + p = omega arith in
-    let P : Bool → Type 0 = λ (b : Bool). (if b then h * w + u * (d - after) else 0) ≤ u * (d - now) in
-    rw before
-    (elim (cases_Bool (nat_le after d)) [
-      | inl fits ↦ subst P (sym fits) (rw place (release_pays h p (h / p) c w d now whole small (let g : after ≤ d = leb-true after d fits in omega arith)))
-      | inr past ↦ subst P (sym past) (omega arith)
-    ])
+    grind (arith, nat_tests, cases_Bool, le-leb, leb-true, mul-zero, release_pays, wleft-most)
 
 term_boundary : (plan : Plan) (dem : JobDemands) (h d now i p c : ℕ) (row : Row) → period plan i ≡ p → row.worst ≡ c
     → h / p * p ≡ h → (row.deadline ≡ now → row.done ≡ true) → now ≤ d

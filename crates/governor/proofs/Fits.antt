@@ -31,12 +31,7 @@ full_enough plan adm = record { edf = edf_test plan adm; rm = rm_test plan adm }
 
 -- the lowest entry that meets the highest speed has the highest speed
 pub full_speed : (plan : Plan) → IsWithinLimits plan → speed_at plan.machine (lowest_entry plan.machine (full_demand plan)) ≡ top_speed plan
-full_speed plan lim =
-    let k = lowest_entry plan.machine (full_demand plan) in
-    let fits : top_speed plan ≤ speed_at plan.machine k * 1 = picked_meets plan.machine lim.machine (full_demand plan) (omega arith) in
-    let most : speed_at plan.machine k ≤ top_speed plan =
-    below_highest plan.machine lim.machine k (lowest_within plan.machine (full_demand plan) lim.machine.some) in
-    omega arith
+full_speed plan lim = grind (arith, nat_tests, below_highest plan.machine lim.machine, lowest_within plan.machine, picked_meets plan.machine lim.machine)
 
 pub full_met : (plan : Plan) → IsWithinLimits plan → (lowest_pick plan.machine (full_demand plan)).met ≡ true
 full_met plan lim = picked_met plan.machine lim.machine (full_demand plan) (omega arith)
@@ -62,14 +57,11 @@ meets_each s p g d F pos greatest meets =
 
 pub rm_each : (plan : Plan) (lim : IsWithinLimits plan) (F : ℕ) → (rm_static plan).num ≤ F * (rm_static plan).den
     → (i : ℕ) → i < count plan → level_work plan i ≤ F * period plan i
-rm_each plan lim F meets i h =
-    meets_each (level_work plan i) (period plan i) (level_work plan (heaviest plan)) (period plan (heaviest plan)) F
-    (some_period plan lim (heaviest plan) (heaviest_within plan lim)) (heaviest_greatest plan lim i h) meets
+rm_each plan lim F meets i h = grind (arith, nat_tests, heaviest_greatest plan lim i h, heaviest_within plan lim, meets_each, some_period plan lim)
 
 -- a speed that meets the static demand passes the test
 pub enough_at : (plan : Plan) → IsAdmitted plan → (F : ℕ) → (static_demand plan).num ≤ F * (static_demand plan).den → IsEnough F plan
 enough_at plan adm F meets = grind (arith, nat_tests, rm_each)
 
 pub static_enough : (plan : Plan) → IsAdmitted plan → IsEnough (fixed_speed plan) plan
-static_enough plan adm =
-    enough_at plan adm (fixed_speed plan) (picked_meets plan.machine adm.limits.machine (static_demand plan) (below_top plan adm))
+static_enough plan adm = grind (arith, nat_tests, below_top plan adm, enough_at plan adm, picked_meets plan.machine adm.limits.machine)

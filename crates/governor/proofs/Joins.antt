@@ -1,5 +1,5 @@
 -- The states of a list of ticks follow by the boundaries and legal ticks of a governor's laws.
-use Rattle.std.proofs.Common.{◌≡◌, ℕ, zero, suc, ◌+◌, ◌-◌, ◌<◌, ◌≤◌, min, Bool, ◌||◌, List, [], ◌∷◌, ◌++◌, length, refl, arith, ap, ap₂, ◌∙◌, sym, nat_eq, nat_le}
+use Rattle.std.proofs.Common.{◌≡◌, ℕ, zero, suc, ◌+◌, ◌-◌, ◌<◌, ◌≤◌, min, Bool, ◌||◌, List, [], ◌∷◌, ◌++◌, length, refl, arith, ap, ◌∙◌, sym, nat_eq, nat_le}
 use Rattle.std.proofs.Math.Bool.{or-false}
 use Rattle.std.proofs.lemmas.List.Folds.{list_any-append}
 use Rattle.std.proofs.lemmas.Bool.Decides.{nat_tests}
@@ -15,7 +15,7 @@ use Rattle.sched_model.specs.Jobs.{JobDemands, releases_at, is_release}
 use Rattle.sched_model.specs.Ticks.{Tick, units_left as left_at, share as share_at}
 use Rattle.sched_model.specs.Priority.{SharesOut, sum_up_to, key_of as key_at}
 use Rattle.sched_model.specs.States.{prior_row, prior_state, row_of, state_of, key_in}
-use Rattle.sched_model.proofs.Tables.{length-list_below, table-same}
+use Rattle.grid_fraction.proofs.Tables.{length-list_below, table-same}
 use Rattle.sched_model.proofs.States.{row_at-state_of, row_by, due_released, row-opened, row-kept, state-marked, state-unmarked, row-ran, state-ran}
 use Rattle.governor.specs.Steps.{each_row, is_due, boundary_row, boundary_rows, after_boundary, tick_row, after_tick, left_in, share_in, IsLegalIn}
 use Rattle.grid_fraction.proofs.Searches.{any_below-same}
@@ -34,8 +34,7 @@ each_row-table f (suc n) g = grind (arith, nat_tests, each_row-snoc, length-list
 
 any-table : (test : Row → Bool) (n : ℕ) (g : ℕ → Row) → list_any test (list_below n g) ≡ any_below n (λ i. test (g i))
 any-table test zero g = refl
-any-table test (suc n) g =
-    list_any-append test (list_below n g) (g n ∷ []) ∙ ap₂ (λ a b. a || b) (any-table test n g) (or-false (test (g n)))
+any-table test (suc n) g = grind (arith, nat_tests, list_any-append, or-false, any-table test n g)
 
 -- equal keys and equal terms give equal sums over a task and those before it
 sum_up_to-same : (n : ℕ) (key key' f f' : ℕ → ℕ) → ((j : ℕ) → j < n → key j ≡ key' j) → ((j : ℕ) → j < n → f j ≡ f' j)

@@ -7,4 +7,3 @@ pub mod EdfLaws
 pub mod RmLevels
 pub mod OneSpeedLaws
 pub mod Worst
-pub mod Lacks

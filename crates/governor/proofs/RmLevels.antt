@@ -1,8 +1,7 @@
 -- The laws under RM at one speed for one level: a task and those before it.
 use Rattle.std.proofs.lemmas.Bool.Decides.{nat_tests}
-use Rattle.std.proofs.Common.{◌≡◌, ◌⊎◌, inl, inr, ℕ, zero, suc, ◌+◌, ◌-◌, ◌*◌, ◌<◌, ◌≤◌, Bool, true, false, List, refl, sym, ◌∙◌, ap, subst, arith, add-one}
+use Rattle.std.proofs.Common.{◌≡◌, ◌⊎◌, inl, inr, ℕ, zero, suc, ◌+◌, ◌-◌, ◌*◌, ◌<◌, ◌≤◌, true, false, List, refl, sym, ◌∙◌, ap, subst, arith, add-one}
 use Rattle.std.proofs.Math.Nat.{mul-le-mul_right, mul-zero}
-use Rattle.std.specs.Prelude.{if◌then◌else◌, nat_le}
 use Rattle.std.proofs.lemmas.Bool.{le-leb, leb-true, cases_lt, cases_Bool, or_parts}
 use Rattle.dvs_base.specs.declared.kind.Scheduler.{Scheduler}
 use Rattle.dvs_base.specs.declared.kind.Scheduler.TheVariants.{Rm}
@@ -27,24 +26,7 @@ use Rattle.governor.proofs.EdfLaws.{closed_row}
 spaced : (plan : Plan) (j b k : ℕ)
     → (released_since plan j b k ≡ 0) ⊎ (b + released_since plan j b k * period plan j ≤ due_at plan j k)
 spaced plan j b zero = inl refl
-spaced plan j b (suc k) = go (nat_le b (release plan j (suc k))) refl (spaced plan j b k)
-  where
-    p : ℕ
-    p = period plan j
-
-    later : due_at plan j (suc k) ≡ due_at plan j k + p
-    later = ap (due_at plan j) (sym (add-one k)) ∙ due-suc plan j k
-
-    go : (c : Bool) → nat_le b (release plan j (suc k)) ≡ c
-        → (released_since plan j b k ≡ 0) ⊎ (b + released_since plan j b k * p ≤ due_at plan j k)
-        → (released_since plan j b k + (if c then 1 else 0) ≡ 0)
-        ⊎ (b + (released_since plan j b k + (if c then 1 else 0)) * p ≤ due_at plan j (suc k))
-    go true e (inl none) =
-        let g : b ≤ release plan j (suc k) = leb-true b (release plan j (suc k)) e in
-        inr (rw none (omega (arith, g, release-due plan j (suc k) (omega arith))))
-    go true e (inr some) = inr (omega (arith, later))
-    go false e (inl none) = inl (omega arith)
-    go false e (inr some) = inr (omega (arith, later))
+spaced plan j b (suc k) = grind (arith, nat_tests, add-one k, due-suc plan j k, leb-true b, release-due plan j (suc k), spaced plan j b k)
 
 -- if q periods cover l ticks, at most q jobs are released at b or later and before b + l
 in_window : (plan : Plan) (j b k l q : ℕ) → 0 < period plan j → (0 < k → release plan j k < b + l)

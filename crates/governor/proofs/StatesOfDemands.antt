@@ -17,7 +17,7 @@ use Rattle.sched_model.specs.Jobs.{latest_since, due as due_at, IsWithin, JobDem
 use Rattle.sched_model.specs.Admission.{IsWithinLimits}
 use Rattle.sched_model.proofs.LevelSums.{share-most, greatest-above, greatest-least, greatest-same}
 use Rattle.sched_model.proofs.JobLaws.{due-none, due-suc, release-due, latest_since-pos, latest_since-suc}
-use Rattle.sched_model.proofs.Tables.{length-list_below, get-table}
+use Rattle.grid_fraction.proofs.Tables.{length-list_below, get-table}
 use Rattle.sched_model.proofs.Limits.{some_task, some_period, low_period}
 use Rattle.governor.specs.Steps.{each_row, is_due, boundary_row, opened_row, after_boundary, share_in, left_in, left_of, release_of, last_marked, IsLegalIn, after_tick, tick_row, IsBeforeAll, IsAtDecision, Belongs}
 
@@ -94,14 +94,7 @@ opening_row_ok plan dem i = grind (arith, nat_tests, due-none)
 
 pub belongs_opening : (plan : Plan) (dem : JobDemands) → IsWithin plan dem → Belongs plan dem (opening plan)
 belongs_opening plan dem fits =
-    let ok : (i : ℕ) → i < count plan → RowOk plan dem 0 i (row_at (opening plan) i) =
-    λ i h. subst (λ (row : Row). RowOk plan dem 0 i row) (sym (opening_at plan i h)) (opening_row_ok plan dem i) in
-    let none : last_marked plan (opening plan) ≤ 0 =
-    greatest-least (count plan) (λ i. release_of plan i (row_at (opening plan) i)) 0 (λ i h. (ok i h).released) in
-    belongs_of_rows plan dem (opening plan) (length-list_below (count plan) (λ i. opening_row (offset plan i) (worst plan i)))
-    (length-list_below (count plan) (λ i. 0)) (omega (arith, none))
-    (λ i h. subst (λ (row : Row). row_wleft row ≤ slice_index (opening plan).base i) (sym (opening_at plan i h)) (omega arith))
-    fits ok
+    grind (arith, nat_tests, belongs_of_rows plan dem, greatest-least, length-list_below, opening_at plan, opening_row_ok plan dem)
 
 -- the job that is released if a row is due has the row's deadline as its release
 pub opened_release : (plan : Plan) (dem : JobDemands) (i : ℕ) (row : Row) → row.deadline ≡ due_at plan i row.job
@@ -111,15 +104,7 @@ opened_release plan dem i row e = latest_since-suc plan i row.job ∙ sym e
 -- after its release a row that is due has what each row of a state that belongs has
 opened_row_ok : (plan : Plan) (dem : JobDemands) (now i : ℕ) (row : Row) → row.deadline ≡ now
     → RowOk plan dem now i row → RowOk plan dem now i (opened_row plan dem i row)
-opened_row_ok plan dem now i row at_now ok = record {
-  worst = ok.worst;
-  used = omega arith;
-  due = omega (arith, ok.due);
-  deadline = omega (arith, ok.deadline, due-suc plan i row.job);
-  released = (let e = opened_release plan dem i row ok.deadline in omega arith);
-  open_job = λ e. omega (arith, eqb-false (dem i (row.job + 1)) 0 e);
-  closed_job = λ e pos. sym (eqb-true (dem i (row.job + 1)) 0 e);
-}
+opened_row_ok plan dem now i row at_now ok = omega (arith, due-suc, eqb-false, eqb-true, opened_release)
 
 -- a fact of the opened row, if the row is due, and of the row itself, if it isn't,
 -- is a fact of the row after the boundary
@@ -136,8 +121,7 @@ boundary_at plan dem s bel i h = get-each_row (boundary_row plan dem s.now) s.ro
 pub boundary-by : (plan : Plan) (dem : JobDemands) (s : StateView) → Belongs plan dem s → (i : ℕ) → i < count plan → (P : Row → Type 0)
     → ((row_at s i).deadline ≡ s.now → P (opened_row plan dem i (row_at s i))) → ((row_at s i).deadline ≢ s.now → P (row_at s i))
     → P (row_at (after_boundary plan dem s) i)
-boundary-by plan dem s bel i h P opened still =
-    subst P (sym (boundary_at plan dem s bel i h)) (boundary_row-by plan dem s.now i (row_at s i) P opened still)
+boundary-by plan dem s bel i h P opened still = grind (arith, nat_tests, boundary_at, boundary_row-by)
 
 pub boundary_long : (plan : Plan) (dem : JobDemands) (s : StateView) → length (after_boundary plan dem s).rows ≡ length s.rows
 boundary_long plan dem s = length-each_row (boundary_row plan dem s.now) 0 s.rows
@@ -183,14 +167,7 @@ marked_at plan dem s bel true some =
     rw (boundary_at plan dem s bel i h) (subst P (sym found.2) (opened_release plan dem i (row_at s i) (bel.deadline i h) ∙ at_now)) in
     let least : release i ≤ greatest_below (count plan) release = greatest-above (count plan) release i h in
     omega arith
-marked_at plan dem s bel false none =
-    let t = after_boundary plan dem s in
-    bel.base_at
-    ∙ greatest-same (count plan) (λ i. release_of plan i (row_at s i)) (λ i. release_of plan i (row_at t i))
-    (λ i h.
-    let still : is_due s.now (row_at s i) ≡ false = none_due_at (is_due s.now) s.rows i none (in_rows plan dem s bel i h) in
-    let P : Bool → Type 0 = λ (b : Bool). release_of plan i (row_at s i) ≡ release_of plan i (if b then opened_row plan dem i (row_at s i) else row_at s i) in
-    rw (boundary_at plan dem s bel i h) (subst P (sym still) refl))
+marked_at plan dem s bel false none = grind (arith, nat_tests, boundary_at, greatest-same, in_rows, none_due_at)
 
 pub belongs_boundary : (plan : Plan) (dem : JobDemands) (s : StateView) → Belongs plan dem s → Belongs plan dem (after_boundary plan dem s)
 belongs_boundary plan dem s bel = grind (arith, nat_tests, boundary_long, belongs_of_rows, length_if, length-map, marked_at, base_covers, boundary_rows_ok)

@@ -49,12 +49,10 @@ entry-same p dem ask d same [] = ap (lowest_entry p.machine) (same [])
 entry-same p dem ask d same (x ∷ past) = grind (arith, nat_tests, entry-same p dem ask d same past)
 
 pub plain_publishing : PublishingLaws Plain ServesBoth (unchanging full_demand)
-plain_publishing =
-    publishing_laws (unchanging full_demand) Plain ServesBoth (λ p adm served dem within ask past h. published-plain p dem past)
+plain_publishing = grind (arith, nat_tests, published-plain, publishing_laws)
 
 pub fixed_publishing : PublishingLaws Fixed ServesBoth (unchanging static_demand)
-fixed_publishing =
-    publishing_laws (unchanging static_demand) Fixed ServesBoth (λ p adm served dem within ask past h. published-fixed p dem past)
+fixed_publishing = grind (arith, nat_tests, published-fixed, publishing_laws)
 
 -- the published demand of static is the governor's own, so the schedules are equal
 pub published-fixed_by : (p : Plan) (dem : JobDemands) → published p Fixed dem ≡ ask_of (unchanging static_demand) p dem

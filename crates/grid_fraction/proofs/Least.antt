@@ -1,4 +1,5 @@
 -- The least of finitely many values.
+use Rattle.std.proofs.lemmas.Bool.Decides.{nat_tests}
 use Rattle.std.proofs.Common.{◌≡◌, ◌⊎◌, inl, inr, ℕ, zero, suc, ◌+◌, ◌<◌, ◌≤◌, min, refl, arith, ap, ap₂, eq-or-lt_of_le, le_of_suc-le-suc}
 use Rattle.std.proofs.lemmas.Bool.{cases_lt}
 use Rattle.grid_fraction.specs.Numbers.{least_below}
@@ -37,7 +38,4 @@ least-same (suc (suc n)) f g h =
 
 pub least-more : (n : ℕ) (f : ℕ → ℕ) → 1 ≤ n → least_below (n + 1) f ≡ min (least_below n f) (f n)
 least-more zero f some = absurd (omega arith)
-least-more (suc n) f some = rw (e n) refl
-  where
-    e : (n : ℕ) → suc n + 1 ≡ suc (suc n)
-    e n = omega arith
+least-more (suc n) f some = grind (arith, nat_tests)

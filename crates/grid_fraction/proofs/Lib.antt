@@ -4,4 +4,4 @@ pub mod Multiples
 pub mod Ceilings
 pub mod Least
 pub mod Counts
-pub mod Lists
+pub mod Tables

@@ -1,4 +1,5 @@
 -- The least common multiple: it is positive, each number divides it, and it divides every common multiple.
+use Rattle.std.proofs.lemmas.Bool.Decides.{nat_tests}
 use Prim.Native.Nat.{◌∣◌}
 use Rattle.std.proofs.Common.{◌≡◌, ℕ, zero, suc, ◌+◌, ◌*◌, ◌/◌, ◌%◌, ◌<◌, ◌≤◌, true, ◌&&◌, List, [], ◌∷◌, ◌++◌, length, get_or, ◌⊎◌, inl, inr, refl, arith, ap, ◌∙◌, sym, subst, nat_eq, eq-or-lt_of_le, mul_assoc, mul_comm, mul-add, true≢false, mul-pos, eq-eqb, eqb-true, append_assoc, append-nil, take, drop}
 use Rattle.std.proofs.Math.Nat.{dvd-mul_right_of_dvd, dvd-mul_left, dvd-mul_right, mul-dvd-mul_left, mul-dvd-mul_right, dvd_of_mul-dvd-mul_right, div-mul_cancel, mod-add-div, dvd-add_iff_left, one-dvd}
@@ -57,9 +58,7 @@ divides-from_test n k h = dvd_of_mod-eq-zero n (eqb-true _ _ h)
 -- the numbers that divide m divide every multiple of m
 divides_all-dvd : (ns : List ℕ) (m k : ℕ) → divides_all ns m ≡ true → m ∣ k → divides_all ns k ≡ true
 divides_all-dvd [] m k h d = refl
-divides_all-dvd (n ∷ ns) m k h d =
-    let parts : (nat_eq (m % n) 0 ≡ true) × (divides_all ns m ≡ true) = and_parts _ _ h in
-    rw (divides-test n k (dvd_trans n (divides-from_test n m parts.0) d), divides_all-dvd ns m k parts.1 d) refl
+divides_all-dvd (n ∷ ns) m k h d = grind (arith, nat_tests, and_parts, divides-from_test, divides-test, dvd_trans, divides_all-dvd ns m k)
 
 -- the numbers of two lists all divide k exactly if those of each list do
 pub divides_all-append : (ns ms : List ℕ) (k : ℕ) → divides_all (ns ++ ms) k ≡ (divides_all ns k && divides_all ms k)
@@ -149,10 +148,7 @@ product-pos (n ∷ ns) all = mul-pos (All-head (λ x. 0 < x) n ns all) (product-
 
 product-divided : (ns : List ℕ) → divides_all ns (product ns) ≡ true
 product-divided [] = refl
-product-divided (n ∷ ns) = rw (
-  divides-test n (n * product ns) (dvd-mul_right n (product ns)),
-  divides_all-dvd ns (product ns) (n * product ns) (product-divided ns) (dvd-mul_left (product ns) n),
-) refl
+product-divided (n ∷ ns) = grind (arith, nat_tests, divides-test, divides_all-dvd, dvd-mul_left, dvd-mul_right, product-divided ns)
 
 -- the first common multiple from 1 on is the least common multiple
 pub least_common_multiple-is : (ns : List ℕ) → All (λ n. 0 < n) ns → IsLeastMultiple ns (least_common_multiple ns)
@@ -181,8 +177,7 @@ least_common_multiple-pos ns all = (least_common_multiple-is ns all).positive
 -- the quotient of the least common multiple by a number of the list, times that number, is the least common multiple
 pub mul-div-least_common_multiple : (ns : List ℕ) (i d : ℕ) → All (λ n. 0 < n) ns → i < length ns
     → least_common_multiple ns / get_or ns i d * get_or ns i d ≡ least_common_multiple ns
-mul-div-least_common_multiple ns i d all lt =
-    div-mul_cancel (get_or ns i d) (divides_all-get_or ns (least_common_multiple ns) i d (least_common_multiple-is ns all).divided lt)
+mul-div-least_common_multiple ns i d all lt = grind (arith, nat_tests, div-mul_cancel, divides_all-get_or, least_common_multiple-is)
 
 -- the least common multiple divides every number that each number of the list divides
 pub least_common_multiple-dvd : (ns : List ℕ) (k : ℕ) → All (λ n. 0 < n) ns → divides_all ns k ≡ true → least_common_multiple ns ∣ k

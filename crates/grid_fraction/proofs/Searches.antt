@@ -1,15 +1,11 @@
 -- Searches among numbers.
-use Rattle.std.proofs.Common.{◌≡◌, ℕ, zero, suc, ◌+◌, ◌<◌, ◌≤◌, Bool, true, false, ◌||◌, not, ◌⊎◌, inl, inr, refl, arith, ap, ap₂, ◌∙◌, sym, eq-or-lt_of_le, le_of_suc-le-suc, subst, true≢false, nat_le}
+use Rattle.std.proofs.Common.{◌≡◌, ℕ, zero, suc, ◌+◌, ◌<◌, ◌≤◌, Bool, true, false, ◌||◌, not, ◌⊎◌, inl, inr, refl, arith, ap, ap₂, ◌∙◌, sym, eq-or-lt_of_le, le_of_suc-le-suc, true≢false, nat_le}
 use Rattle.std.proofs.lemmas.Bool.Decides.{nat_tests}
 use Rattle.grid_fraction.specs.Numbers.{any_below, first_from, last_up_to, all_below}
 
 -- what holds below m and at m holds below m + 1
 pub below_suc : (P : ℕ → Type 0) (m : ℕ) → ((k : ℕ) → k < m → P k) → P m → (k : ℕ) → k < suc m → P k
-below_suc P m h x k lt = go (eq-or-lt_of_le (le_of_suc-le-suc lt))
-  where
-    go : (k ≡ m) ⊎ (k < m) → P k
-    go (inl e) = subst P (sym e) x
-    go (inr l) = h k l
+below_suc P m h x k lt = grind (arith, nat_tests, eq-or-lt_of_le, le_of_suc-le-suc)
 
 pub first_from-found : (n from m : ℕ) (test : ℕ → Bool) → from ≤ m → m < from + n → test m ≡ true
     → (test (first_from n from test) ≡ true) × (from ≤ first_from n from test)
@@ -43,13 +39,7 @@ any_below-none (suc n) test h = rw (any_below-none n test (λ i l. h i (omega ar
 
 pub any_below-false : (n : ℕ) (test : ℕ → Bool) → any_below n test ≡ false → (i : ℕ) → i < n → test i ≡ false
 any_below-false zero test h = λ i lt. absurd (omega arith)
-any_below-false (suc n) test h = go (any_below n test) refl (test n) refl (any_below-false n test)
-  where
-    go : (a : Bool) → any_below n test ≡ a → (b : Bool) → test n ≡ b → (any_below n test ≡ false → (i : ℕ) → i < n → test i ≡ false)
-        → (i : ℕ) → i < suc n → test i ≡ false
-    go false p false q ih = below_suc (λ i. test i ≡ false) n (ih p) q
-    go true p b q ih = absurd (true≢false (sym (ap (λ v. v || test n) p) ∙ h))
-    go false p true q ih = absurd (true≢false (sym (ap₂ (λ v w. v || w) p q) ∙ h))
+any_below-false (suc n) test h = grind (arith, nat_tests, below_suc, any_below-false n test)
 
 -- the first number that passes is at most each one that passes
 pub first_from-most : (n from m : ℕ) (test : ℕ → Bool) → from ≤ m → test m ≡ true → first_from n from test ≤ m
@@ -90,29 +80,16 @@ first_from-none (suc n) from test h =
 -- the last number up to t that passes is at most t
 pub last_up_to-le : (t : ℕ) (test : ℕ → Bool) → last_up_to t test ≤ t
 last_up_to-le zero test = omega arith
-last_up_to-le (suc t) test = go (test (suc t)) refl (last_up_to-le t test)
-  where
-    go : (b : Bool) → test (suc t) ≡ b → last_up_to t test ≤ t → last_up_to (suc t) test ≤ suc t
-    go true q ih = rw (q, last_up_to) (omega arith)
-    go false q ih = rw (q, last_up_to) (omega (arith, ih))
+last_up_to-le (suc t) test = grind (arith, nat_tests, last_up_to-le t test)
 
 pub last_up_to-greatest : (t r : ℕ) (test : ℕ → Bool) → r ≤ t → test r ≡ true → r ≤ last_up_to t test
 last_up_to-greatest zero r test le e = le
-last_up_to-greatest (suc t) r test le e = go (test (suc t)) refl (eq-or-lt_of_le le) (last_up_to-greatest t r test)
-  where
-    go : (b : Bool) → test (suc t) ≡ b → (r ≡ suc t) ⊎ (r < suc t) → (r ≤ t → test r ≡ true → r ≤ last_up_to t test) → r ≤ last_up_to (suc t) test
-    go true q c ih = rw (q, last_up_to) le
-    go false q (inl c) ih = absurd (true≢false (sym e ∙ (ap test c ∙ q)))
-    go false q (inr c) ih = rw (q, last_up_to) (ih (omega arith) e)
+last_up_to-greatest (suc t) r test le e = grind (arith, nat_tests, eq-or-lt_of_le, last_up_to-greatest t r test)
 
 -- if any of the numbers below n passes, there is such a number
 pub any-some : (n : ℕ) (test : ℕ → Bool) → any_below n test ≡ true → (i : ℕ) × (i < n) × (test i ≡ true)
 any-some zero test e = absurd (true≢false (sym e))
-any-some (suc n) test e = go (any_below n test) refl (any-some n test)
-  where
-    go : (b : Bool) → any_below n test ≡ b → (any_below n test ≡ true → (i : ℕ) × (i < n) × (test i ≡ true)) → (i : ℕ) × (i < suc n) × (test i ≡ true)
-    go true f ih = let (i, lt, on) = ih f in (i, omega arith, on)
-    go false f ih = (n, omega arith, sym (ap (λ (b : Bool). b || test n) f) ∙ e)
+any-some (suc n) test e = grind (arith, nat_tests, any-some n test)
 
 -- if each number below n passes, all do
 pub all-found : (n : ℕ) (test : ℕ → Bool) → ((k : ℕ) → k < n → test k ≡ true) → all_below n test ≡ true

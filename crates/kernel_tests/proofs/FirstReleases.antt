@@ -8,10 +8,10 @@ use Rattle.sched_model.specs.Admission.{IsAdmitted}
 use Rattle.sched_model.proofs.Limits.{every_period}
 use Rattle.sched_model.specs.States.{StateView, opening, state_of, after_release, after_mark, no_row, row_at, released_row, IsOfPlan, CanRelease}
 use Rattle.governor.specs.Steps.{IsAtDecision}
-use Rattle.event_kernel.proofs.Bounds.{Bounds, bounds}
+use Rattle.event_kernel.proofs.PlanBounds.{PlanBounds, bounds}
 use Rattle.event_kernel.proofs.BoundaryReleases.{HasReleased, releasing-start, row-there, skips, opens, can-release, released-marked, released-unmarked}
 use Rattle.event_kernel.proofs.DecisionStates.{at-decision}
-use Rattle.event_kernel.proofs.Ofplan.{of-prior, of-state}
+use Rattle.event_kernel.proofs.StatesOfPlan.{of-prior, of-state}
 
 module _ (p : Plan) where
   -- a state of a plan stays one with another row of task i, of the same worst case and no more units than that
@@ -74,8 +74,8 @@ none-released p s is = subst (HasFirstReleased p 0 false) (sym is) (record {
 })
 
 module _ (p : Plan) (adm : IsAdmitted p) where
-  b : Bounds p
-  b = bounds p adm
+  b : PlanBounds p
+  b = bounds p adm.limits
 
   module _ (m : ℕ) (any : Bool) (s : StateView) (h : HasFirstReleased p m any s) (lt : m < count p) where
     deadline-is : (row_at s m).deadline ≡ offset p m

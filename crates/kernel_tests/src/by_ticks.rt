@@ -4,7 +4,7 @@ ghost use Rattle.governor.specs.ServedSchedulers.{ServesEdf, ServesRm};
 ghost use Rattle.event_kernel.specs.Runs.{IsListOf};
 
 use crate::case::Case;
-use crate::generator::MadeFiles;
+use crate::generator::WorkloadFiles;
 use crate::heard::totals_of;
 use crate::plans::{edf_planned, rm_planned};
 use crate::runs::{HeardRun, Setup, Walk, edf_run, rm_run};
@@ -171,7 +171,7 @@ fn compare_made(rt: &(impl Abort + AllocGlobal), from: u64) -> Result<(u64, u64)
     let mut under_rm: u64 = 0;
     for made in 0..150 {
         let seed = from.saturating_add(made);
-        let files = MadeFiles::from_seed(alloc, seed)?;
+        let files = WorkloadFiles::from_seed(alloc, seed)?;
         let name = format!(in alloc; "made case {seed}")?;
         let passed = compare_case(rt, files.case().asked(name.as_str()), 20)?;
         under_edf = under_edf.saturating_add(passed.0 as u64);

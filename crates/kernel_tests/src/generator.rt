@@ -10,7 +10,7 @@ fn one_of(draws: &mut Draws, choices: [u64; 8]) -> u64 {
 
 // The files of a generated case.
 #[derive(Drop)]
-pub(crate) struct MadeFiles {
+pub(crate) struct WorkloadFiles {
     tasks: String,
     machine: String,
     demands: String,
@@ -54,9 +54,9 @@ fn make_rows(
     Ok(text)
 }
 
-impl MadeFiles {
+impl WorkloadFiles {
     // One to four tasks whose hyperperiod divides 24, on a machine on which most such sets are admitted.
-    pub(crate) fn from_seed(alloc: Global, seed: u64) -> Result<MadeFiles, AllocError> {
+    pub(crate) fn from_seed(alloc: Global, seed: u64) -> Result<WorkloadFiles, AllocError> {
         let mut draws = Draws::from_seed(seed);
         let (machine, top) = make_machine(alloc, &mut draws)?;
         let mut tasks = String::new(alloc);
@@ -77,7 +77,7 @@ impl MadeFiles {
             tasks.push_str(entry.as_str())?;
             demands.push_str(make_rows(alloc, &mut draws, task, worst)?.as_str())?;
         }
-        Ok(MadeFiles {
+        Ok(WorkloadFiles {
             tasks,
             machine,
             demands,

@@ -11,7 +11,7 @@ use Rattle.sched_model.specs.Priority.{in_order}
 use Rattle.sched_model.specs.States.{StateView, no_row, row_at, row_wleft, released_row, opening, after_release, after_run, after_finish, CanRelease, CanRun}
 use Rattle.sched_model.proofs.Orders.{in_order-same}
 use Rattle.sched_model.proofs.States.{left-opening, left-set, left-run}
-use Rattle.sched_model.proofs.Tables.{get-table, length-list_below}
+use Rattle.grid_fraction.proofs.Tables.{get-table, length-list_below}
 use Rattle.governor.specs.ServedSchedulers.{ServesEdf}
 use Rattle.governor.proofs.StatesOfDemands.{opening_at}
 use Rattle.look_ahead_laws.specs.Ahead.{deadline_at, edf_order}

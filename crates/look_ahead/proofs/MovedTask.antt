@@ -8,7 +8,7 @@ use Rattle.grid_fraction.specs.Numbers.{least_below}
 use Rattle.grid_fraction.proofs.Least.{least-above, least-below}
 use Rattle.sched_model.specs.Priority.{in_order, stands_before, insert_by}
 use Rattle.sched_model.proofs.Orders.{IsOrdered, below-at, first_ahead, in_order-below, in_order-ordered, length-in_order, stands-in_order, before-self, before-trans, before-not, before-total, IsAhead, AreBelow, in_order-same}
-use Rattle.look_ahead_laws.proofs.PutOffWork.{key_rises}
+use Rattle.sched_model.proofs.PutOffWork.{key_rises}
 use Rattle.look_ahead.specs.Counters.{stands_before_due}
 
 first-least : (key : ℕ → ℕ) (j : ℕ) (pre post : List ℕ) → IsOrdered key (pre ++ j ∷ post)

@@ -14,7 +14,7 @@ use Rattle.sched_model.specs.States.{StateView, IsOfPlan, earliest_in}
 use Rattle.sched_model.proofs.Orders.{sum_list, sum_list-snoc, in_order-below, length-in_order, below-at}
 use Rattle.governor.specs.Steps.{wleft_at}
 use Rattle.look_ahead_laws.specs.Ahead.{deadline_at, edf_order}
-use Rattle.look_ahead_laws.proofs.PutOffWork.{before_is, spread_within}
+use Rattle.sched_model.proofs.PutOffWork.{before_is, spread_within}
 use Rattle.sched_model.specs.Tests.{total_rate}
 use Rattle.sched_model.specs.Admission.{IsWithinLimits, IsAdmitted}
 use Rattle.sched_model.proofs.Limits.{low_hyper, some_task}

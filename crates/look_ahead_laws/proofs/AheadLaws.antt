@@ -24,7 +24,7 @@ use Rattle.governor.specs.Edf.{load}
 use Rattle.governor.proofs.Fits.{full_enough}
 use Rattle.governor.proofs.EdfLaws.{load_is, edf_opens, edf_releases, edf_chooses, edf_ticks, edf_stays_calm, edf_completes}
 use Rattle.look_ahead_laws.specs.Ahead.{deadline_at, edf_order, ahead_demand, AheadCalm, AheadSafe}
-use Rattle.look_ahead_laws.proofs.PutOffWork.{due_work, all_paid, before_is, rate_within, work_within}
+use Rattle.sched_model.proofs.PutOffWork.{due_work, all_paid, before_is, rate_within, work_within}
 
 -- if the highest speed doesn't meet a demand, the last entry is picked
 last_picked : (m : Table) → IsTable m → (d : Frac) → highest_speed m * d.den < d.num → lowest_entry m d ≡ last_entry m

@@ -1,4 +1,3 @@
-pub mod PutOffWork
 pub mod AheadLaws
 pub mod Whole
 pub mod AheadPublished

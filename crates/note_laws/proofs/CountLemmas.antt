@@ -25,7 +25,7 @@ use Rattle.sched_model.proofs.Spans.{stays-unreleased, IsLastSpan, IsNow}
 use Rattle.dvs_base.specs.declared.note.Note.TheVariants.{Done}
 use Rattle.sched_model.proofs.Units.{sum-own}
 use Rattle.sched_model.proofs.Walk.{EachNote, AreFirst, each-note}
-use Rattle.grid_fraction.proofs.Lists.{each-append}
+use Rattle.dvs_base.proofs.Lists.{each-append}
 use Rattle.note_laws.specs.LineCounts.{AreFew, HasFewDecisions}
 use Rattle.note_laws.specs.InTime.{IsBy}
 

@@ -21,7 +21,7 @@ use Rattle.sched_model.proofs.Spans.{notes-span, IsLastSpan, IsNow, last-span, b
 use Rattle.sched_model.proofs.NoteSums.{one_if, release-counts, pieces-most, none-sum, running, idling, run-next, idle-next, releases, completions, span-sum, none-weighs, reached-up, done_by, tells-all, all_done-next}
 use Rattle.sched_model.proofs.Units.{units-weight, shares-fit}
 use Rattle.sched_model.proofs.Walk.{EachNote, each-note, IsBeforeEnd, before-end-each}
-use Rattle.note_laws.proofs.SpanPieces.{LastHasFew, last-few}
+use Rattle.sched_model.proofs.SpanPieces.{LastHasFew, last-few}
 use Rattle.std.proofs.lemmas.Bool.Decides.{nat_tests}
 use Rattle.std.proofs.lemmas.Nat.{le-div}
 use Rattle.grid_fraction.proofs.Ceilings.{ceil-at, ceil-mono}

@@ -1,4 +1,3 @@
 pub mod CountLemmas
-pub mod SpanPieces
 pub mod FewNotes
 pub mod Examples

@@ -10,7 +10,7 @@ use Rattle.sched_model.specs.Plan.{Plan, period, count, offset}
 use Rattle.sched_model.specs.Jobs.{JobDemands, due, release, released_jobs, demand_of}
 use Rattle.sched_model.specs.Totals.{totals_of}
 use Rattle.sched_model.proofs.Schedules.{length-list_below, schedule_exists}
-use Rattle.sched_model.proofs.Tables.{get-table}
+use Rattle.grid_fraction.proofs.Tables.{get-table}
 use Rattle.note_laws.specs.InTime.{IsBy}
 use Rattle.poll_server.specs.declared.served.Outcome.TheVariants.{Pending}
 use Rattle.poll_server.specs.ServerJobs.{ServerView, budget, request_count, server_of, polled_demand, job_release}

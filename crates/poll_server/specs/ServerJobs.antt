@@ -1,8 +1,9 @@
 -- What the jobs of a polling server take: requests in order of arrival, at each release up to a budget.
-use Rattle.std.specs.Prelude.{ℕ, zero, suc, ◌+◌, ◌*◌, ◌-◌, min, nat_eq, nat_le, List, length, if◌then◌else◌}
+use Rattle.std.specs.Prelude.{ℕ, zero, suc, ◌+◌, ◌-◌, min, nat_eq, nat_le, List, length, if◌then◌else◌}
 use Rattle.grid_fraction.specs.Numbers.{sum_below, sum_where}
 use Rattle.request_list.specs.declared.requests.Request.{Request}
 use Rattle.request_list.specs.Requests.{request_at}
+use Rattle.freq_table.specs.Tables.{job_charge}
 use Rattle.sched_model.specs.Plan.{Plan, task as task_of, worst}
 use Rattle.sched_model.specs.Jobs.{release}
 
@@ -60,7 +61,7 @@ taken_units s k = min (budget s) (waiting s k)
 abbrev pub polled_demand : ServerView → ℕ → ℕ → ℕ
 polled_demand s i zero = 0
 polled_demand s i (suc k) =
-    if nat_eq i s.task then taken_units s (suc k) + 2 * s.plan.machine.charge else worst s.plan i
+    if nat_eq i s.task then taken_units s (suc k) + job_charge s.plan.machine else worst s.plan i
 
 -- the units of the first n requests
 abbrev pub asked_below : ServerView → ℕ → ℕ

@@ -9,13 +9,14 @@ use Rattle.sched_model.specs.Plan.{Plan}
 use Rattle.demand_list.specs.Demands.{DemandsView}
 use Rattle.probes.specs.Tallies.{told_notes}
 use Rattle.command_files.specs.Files.{NamedFile, FailsFrom, files_of, passes}
-use Rattle.command_files.specs.PlannedRuns.{prepared_of, run_with}
+use Rattle.rtdvs_top.specs.PlannedRuns.{prepared_of}
 use Rattle.rtdvs_top.specs.Asked.{Asked, asked_of, with_files}
-use Rattle.rtdvs_top.specs.Promised.{Outside, Promised}
+use Rattle.rtdvs_top.specs.Promised.{Outside, Promised, outputs}
 use Rattle.rtdvs_top.specs.Promises.{Answers, AdmitsByTest, IsDoneOrDenied, IsSureOf, LoadFailed, ProvesLeast, ProvesPoll, ProvesRun, ProvesTests, PutsNotes, TellsProbes, Writes, WritesPart}
 use Rattle.rtdvs_top.specs.ToldRuns.{IfAsked, notes_under}
 use Rattle.rtdvs_top.specs.Trace.{AcceptsScheduleTexts}
 use Rattle.promise_tests.specs.Said.{Stayed, IsDeniedByAnswer, LacksOne, LacksItsFile, HasWhole, HasBeginning, HasRoom, IsDecided, MissesNone, FailsItsTest, FailsAtLower, IsScheduled, NeverDiffers, HasResponses, ServesRequests, CostsLeast, HasNotes, CountsNotes, LoadsFew, Says}
+use Rattle.event_kernel.specs.Runs.{run_for}
 
 -- a count that stayed didn't rise
 not-rose : (before now : ℕ) → Stayed before now → Rose before now → ⊥
@@ -137,10 +138,10 @@ module _ (command : Result CommandView WordFault) (files : Files) (old new : Out
 
   pub counts-notes : CountsNotes command files old new s
   counts-notes r is asks done =
-      let t = subst (λ (t : Status). TellsProbes (with_files files (run r)) old.out new.out old.probes new.probes t) done
-      (of-command (λ a. TellsProbes a old.out new.out old.probes new.probes s) (run r) is p.told) in
+      let t = subst (λ (t : Status). TellsProbes (with_files files (run r)) (outputs old) (outputs new) t) done
+      (of-command (λ a. TellsProbes a (outputs old) (outputs new) s) (run r) is p.told) in
       let h = subst (λ (b : Bool). IfAsked b ((plan : Plan) × (d : DemandsView) × (prepared_of r t.0 files ≡ Ok (plan, d))
-      × (new.probes ≡ told_notes (notes_under r.governor (run_with r plan d)) old.probes))) asks t.2 in
+      × (new.probes ≡ told_notes (notes_under r.governor (run_for plan d r.ticks)) old.probes))) asks t.2 in
       (t.0, h.0, h.1, t.1, h.2, h.3)
 
   pub loads-few : LoadsFew command files old new s

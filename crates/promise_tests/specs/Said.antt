@@ -17,7 +17,7 @@ use Rattle.sched_model.specs.Plan.{Plan, plan_of}
 use Rattle.sched_model.specs.Ticks.{IsMet}
 use Rattle.energy_bound.specs.Schedules.{IsLeast}
 use Rattle.energy_bound.specs.declared.least.Least.{Least}
-use Rattle.event_kernel.specs.Runs.{Run}
+use Rattle.event_kernel.specs.Runs.{Run, run_for}
 use Rattle.poll_server.specs.ServerJobs.{ServerView}
 use Rattle.probes.specs.Tallies.{told_notes}
 use Rattle.words.specs.Commands.{CommandView, RunView, AdmitView, TracedView, ResponseView, PollView, LeastView, run, admit, traced, response, poll, least, asks_probes}
@@ -29,7 +29,7 @@ use Rattle.statuses.specs.declared.status.Status.{Status}
 use Rattle.statuses.specs.declared.status.Status.TheVariants as status
 use Rattle.command_files.specs.Files.{NamedFile, files_of, names_by}
 use Rattle.command_files.specs.Meanings.{machine_at, tasks_at}
-use Rattle.command_files.specs.PlannedRuns.{prepared_of, run_with}
+use Rattle.rtdvs_top.specs.PlannedRuns.{prepared_of}
 use Rattle.rtdvs_top.specs.Asked.{loads_wanted}
 use Rattle.rtdvs_top.specs.Poll.{HasServed, polling_of}
 use Rattle.rtdvs_top.specs.Promised.{Outside}
@@ -97,7 +97,7 @@ module _ (command : Result CommandView WordFault) (files : Files) (old new : Out
   MissesNone =
       (r : RunView) → command ≡ Ok (run r) → s ≡ status.Done
       → (tasks : List Task) × (machine : Table) × (demands : DemandsView) × MeansRun r files tasks machine demands
-      × (let w : Run = run_with r (plan_of tasks machine r.scheduler) demands in IsMet w.plan (job_demands w) (ticks_under r.governor w))
+      × (let w : Run = run_for (plan_of tasks machine r.scheduler) demands r.ticks in IsMet w.plan (job_demands w) (ticks_under r.governor w))
 
   -- a plan that is denied fails its scheduler's test
   abbrev pub FailsItsTest : Type 0
@@ -156,7 +156,7 @@ module _ (command : Result CommandView WordFault) (files : Files) (old new : Out
       (r : RunView) → command ≡ Ok (run r) → r.probes ≡ true → s ≡ status.Done
       → (tasks : List Task) × (p : Plan) × (d : DemandsView) × (tasks_at r.tasks files ≡ Ok tasks)
       × (prepared_of r tasks files ≡ Ok (p, d))
-      × (new.probes ≡ told_notes (notes_under r.governor (run_with r p d)) old.probes)
+      × (new.probes ≡ told_notes (notes_under r.governor (run_for p d r.ticks)) old.probes)
 
   -- the shelf keeps its files, and no more loads are made than the answer needs
   pub record LoadsFew : Type 0 where

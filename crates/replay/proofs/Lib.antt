@@ -4,3 +4,4 @@ pub mod Texts
 pub mod SameTexts
 pub mod ComparedNotes
 pub mod Examples
+pub mod TracePuts

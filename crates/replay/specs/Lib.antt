@@ -1,3 +1,4 @@
 pub mod Comparison
 pub mod Replays
 pub mod SameTexts
+pub mod NotePuts

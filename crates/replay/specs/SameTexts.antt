@@ -5,9 +5,11 @@ use Rattle.dvs_base.specs.declared.kind.Version.{Version}
 use Rattle.task_model.specs.DemandRows.{DemandRow}
 use Rattle.sched_model.specs.Plan.{Plan, names}
 use Rattle.sched_model.specs.Jobs.{JobDemands, demand_of, IsWithin}
+use Rattle.sched_model.specs.RunNotes.{run_notes}
 use Rattle.sched_model.specs.Schedule.{schedule}
 use Rattle.trace_reader.specs.Traces.{TraceView, IsTrace, text_of}
 use Rattle.trace_writer.specs.RunText.{task_texts, run_text_in}
+use Rattle.replay_laws.specs.FixedDemands.{fixed_of}
 use Rattle.replay_laws.specs.OwnList.{Asking, ticks_by, notes_by, TellSame}
 use Rattle.trace_laws.specs.RunTraces.{IsLimitedRun}
 
@@ -46,3 +48,14 @@ HasSameText p =
     → IsLimitedRun p g (demand_of p rows) ticks → IsLimitedRun p g (demand_of p others) ticks
     → (run_text_in v p g (demand_of p others) ticks ≡ run_text_in v p g (demand_of p rows) ticks)
     ↔ TellSame p (demand_of p rows) (demand_of p others) (schedule p g (demand_of p rows) ticks)
+
+-- the demands of the list that the notes of a run fix
+abbrev pub own_demand : Plan → GovernorKind → JobDemands → ℕ → ℕ → ℕ → ℕ
+own_demand p kind dem ticks = demand_of p (fixed_of p (run_notes p kind dem ticks))
+
+-- the text of a run in either version is that of the run for the list that its notes fix
+abbrev pub TextHasOwnList : Plan → GovernorKind → Type 0
+TextHasOwnList p kind =
+    (v : Version) (ticks : ℕ) (rows : List DemandRow) → IsWithin p (demand_of p rows)
+    → let dem = demand_of p rows in
+    run_text_in v p kind dem ticks ≡ run_text_in v p kind (own_demand p kind dem ticks) ticks

@@ -71,7 +71,7 @@ fn fix(plan: &Admitted, note: &Note, demands: &mut Demands) -> Result<(), NoMemo
     } = *note
     {
         if job > 0 {
-            let charged = 2 * plan.machine().charge();
+            let charged = plan.machine().job_charge();
             demands.set(task, job, used.saturating_sub(charged))?;
         }
     }

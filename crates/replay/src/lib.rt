@@ -1,4 +1,5 @@
-//! Replays a trace: whether its notes are those of a governor's schedule, and at which line they first differ.
+//! Replays a trace: whether its notes are those of a governor's schedule, and at which line they first differ. Writes a
+//! trace in either version.
 //!
 //! A trace fixes the demand of each job whose end it has; each other job has its worst case. The kernel runs the plan
 //! for these demands into a listener that compares note by note and stops at the first unequal one, so no second trace
@@ -10,6 +11,8 @@ mod check;
 mod compared;
 mod ends;
 mod fault;
+mod trace;
 
 pub use check::replay;
 pub use fault::ReplayFault;
+pub use trace::put_trace;

@@ -18,7 +18,7 @@ use Rattle.sched_model.specs.Notes.{Span, had_by, notes_before_end, notes_of}
 use Rattle.sched_model.proofs.NoteSums.{one_if, tells_done, same-numbers}
 use Rattle.sched_model.proofs.Spans.{IsLastSpan, IsNow}
 use Rattle.sched_model.proofs.Walk.{EachNote, AreFirst, each-note, IsBeforeEnd, notes-each}
-use Rattle.grid_fraction.proofs.Lists.{each-append}
+use Rattle.dvs_base.proofs.Lists.{each-append}
 use Rattle.note_laws.proofs.CountLemmas.{count-next, told-once}
 use Rattle.sched_model.proofs.Schedules.{schedule_exists, schedule_unique, exec-most}
 use Rattle.demand_list.specs.Demands.{IsDemands, IsRow}

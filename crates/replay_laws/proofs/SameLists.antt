@@ -15,12 +15,10 @@ use Rattle.sched_model.specs.Admission.{IsWithinLimits}
 use Rattle.sched_model.proofs.NoteSums.{tells_done}
 use Rattle.dvs_base.specs.declared.kind.GovernorKind.{GovernorKind}
 use Rattle.sched_model.specs.Demand.{published}
-use Rattle.trace_text.specs.TraceText.{text_of_lines}
-use Rattle.trace_writer.specs.RunText.{run_lines}
 use Rattle.governor.specs.Schedule.{ask_of}
 use Rattle.replay_laws.proofs.SameNotes.{IsBlind, blind-own}
 use Rattle.replay_laws.specs.FixedDemands.{fixed_of}
-use Rattle.replay_laws.specs.OwnList.{Asking, ticks_by, notes_by, TellSame, HasSameNotes, AreOwn, HasOwnList, TextHasOwnList, OwnLists}
+use Rattle.replay_laws.specs.OwnList.{Asking, ticks_by, notes_by, TellSame, HasSameNotes, AreOwn, HasOwnList, OwnLists}
 use Rattle.replay_laws.proofs.OwnDemands.{looks-at-none, told, own-told, told-finished, tell-same, own-notes, fixed-demand, IsOfTask, notes-fit, notes-of-tasks, fixed-within, fixed-demands}
 use Rattle.replay_laws.proofs.BlindDemands.{blind-published}
 
@@ -111,10 +109,6 @@ module _ (p : Plan) (lim : IsWithinLimits p) (ask : Asking) (blind : IsBlind p a
         fixed-demands p lim notes h.fit (subst (AllByRecursion (IsOfTask p)) (sym h.notes_are) (notes-of-tasks p lim own (ask own) (ticks_by p ask own ticks)));
   }
 
-text-own : (p : Plan) → IsWithinLimits p → (kind : GovernorKind) → TextHasOwnList p kind
-text-own p lim kind v ticks rows within =
-    ap (λ notes. text_of_lines (run_lines v p kind ticks notes)) (own-notes p lim (published p kind) (blind-published p lim kind) rows within ticks)
-
 -- the law of fixed demands holds for any function of the states as published demand, and for each kind of governor
 pub own-lists : (p : Plan) → IsWithinLimits p → OwnLists p
 own-lists p lim = record {
@@ -125,5 +119,4 @@ own-lists p lim = record {
   published_looks = λ kind. looks-at-none p lim (published p kind) (blind-published p lim kind);
   published_own = λ kind. has-own-list p lim (published p kind) (blind-published p lim kind);
   published_same = λ kind. has-same-notes p lim (published p kind) (blind-published p lim kind);
-  text = text-own p lim;
 }

@@ -20,7 +20,7 @@ use Rattle.sched_model.specs.States.{row_of, state_of}
 use Rattle.sched_model.specs.Admission.{IsWithinLimits}
 use Rattle.sched_model.proofs.Limits.{latest-early, every_period}
 use Rattle.sched_model.proofs.Schedules.{exec-drop, share-legal}
-use Rattle.sched_model.proofs.Tables.{table-same}
+use Rattle.grid_fraction.proofs.Tables.{table-same}
 use Rattle.governor.specs.Meanings.{OwnDemand}
 use Rattle.governor.specs.Schedule.{ask_of}
 use Rattle.grid_fraction.proofs.Sums.{sum_below-same}

@@ -2,7 +2,6 @@
 use Rattle.std.specs.Prelude.{◌≡◌, ◌↔◌, ◌<◌, ◌≤◌, ℕ, true, false, List, length}
 use Rattle.std.specs.List.{AllByRecursion}
 use Rattle.dvs_base.specs.declared.kind.GovernorKind.{GovernorKind}
-use Rattle.dvs_base.specs.declared.kind.Version.{Version}
 use Rattle.dvs_base.specs.declared.note.Note.{Note}
 use Rattle.dvs_base.specs.declared.note.Note.TheVariants.{Done}
 use Rattle.task_model.specs.DemandRows.{DemandRow}
@@ -13,8 +12,6 @@ use Rattle.sched_model.specs.Ticks.{PublishedDemand, Tick, exec, is_done}
 use Rattle.sched_model.specs.Demand.{published}
 use Rattle.sched_model.specs.Schedule.{schedule_by}
 use Rattle.sched_model.specs.Notes.{notes_of}
-use Rattle.sched_model.specs.RunNotes.{run_notes}
-use Rattle.trace_writer.specs.RunText.{run_text_in}
 use Rattle.governor.specs.Meanings.{OwnDemand}
 use Rattle.governor.specs.Schedule.{ask_of}
 use Rattle.replay_laws.specs.FixedDemands.{fixed_of, fixed_list, fixed_demand}
@@ -79,17 +76,6 @@ pub record HasOwnList (p : Plan) (ask : Asking) : Type 0 where
       → AreOwn p ask ticks notes → AreNotesFor p ask ticks notes (fixed_of p notes)
   pub list : (ticks : ℕ) (notes : List Note) → AreOwn p ask ticks notes → IsDemands (fixed_list p notes)
 
--- the demands of the list that the notes of a run fix
-abbrev pub own_demand : Plan → GovernorKind → JobDemands → ℕ → ℕ → ℕ → ℕ
-own_demand p kind dem ticks = demand_of p (fixed_of p (run_notes p kind dem ticks))
-
--- the text of a run in either version is that of the run for the list that its notes fix
-abbrev pub TextHasOwnList : Plan → GovernorKind → Type 0
-TextHasOwnList p kind =
-    (v : Version) (ticks : ℕ) (rows : List DemandRow) → IsWithin p (demand_of p rows)
-    → let dem = demand_of p rows in
-    run_text_in v p kind dem ticks ≡ run_text_in v p kind (own_demand p kind dem ticks) ticks
-
 -- the demand list that notes fix has the demands that they fix
 abbrev pub HasFixedDemands : Plan → Type 0
 HasFixedDemands p =
@@ -104,4 +90,3 @@ pub record OwnLists (p : Plan) : Type 0 where
   pub published_looks : (kind : GovernorKind) → LooksAtNone p (published p kind)
   pub published_own : (kind : GovernorKind) → HasOwnList p (published p kind)
   pub published_same : (kind : GovernorKind) → HasSameNotes p (published p kind)
-  pub text : (kind : GovernorKind) → TextHasOwnList p kind

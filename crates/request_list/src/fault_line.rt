@@ -3,7 +3,7 @@ ghost use Rattle.std.specs.Prelude.{◌≡◌, ◌≤◌, length};
 ghost use Rattle.request_list.specs.FaultLines.{request_column_word, request_fault_text};
 
 use crate::{MOST_REQUESTS, RequestColumn, RequestFault};
-use csv_text::{bad_number_line, row_line};
+use csv_text::{bad_number_line, fields_line, row_line};
 use dvs_base::{Line, Part, Short, line_of, too_many_line};
 
 fn request_column_word(column: RequestColumn) -> &'static [u8]
@@ -30,13 +30,7 @@ pub fn request_fault_line(why: &RequestFault) -> Line
     match why {
         RequestFault::Header => line_of(&[Part::Word(b"requests: wrong header\n")]),
         RequestFault::TooMany { count } => too_many_rows(*count),
-        RequestFault::Fields { row, count } => {
-            row_line(
-                b"requests",
-                *row,
-                &[Part::Number(*count), Part::Word(b" fields\n")],
-            )
-        }
+        RequestFault::Fields { row, count } => fields_line(b"requests", *row, *count),
         RequestFault::BadNumber { row, column } => bad_number_line(
             b"requests",
             *row,

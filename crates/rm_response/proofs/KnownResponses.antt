@@ -9,7 +9,7 @@ use Rattle.std.proofs.lemmas.List.{ext_get_or, at_drop_more}
 use Rattle.grid_fraction.proofs.Searches.{below_suc}
 use Rattle.sched_model.specs.Plan.{Plan, count, period, offset}
 use Rattle.sched_model.specs.Priority.{stands_before, in_order}
-use Rattle.sched_model.proofs.Tables.{get-table, length-list_below}
+use Rattle.grid_fraction.proofs.Tables.{get-table, length-list_below}
 use Rattle.rm_response_laws.specs.Responses.{response, HasResponse, EarlierRespond, IsUnserved, AllRespond, IsFirstDoneAt}
 use Rattle.rm_response_laws.proofs.ResponseSearch.{response-bound, unserved-before}
 use Rattle.dvs_base.specs.declared.kind.Scheduler.TheVariants.{Rm}

@@ -1,5 +1,5 @@
 -- The loads of a relaxed search, one by one, and that they can be taken away in turn.
-use Rattle.std.proofs.Common.{◌≡◌, ℕ, ◌+◌, ◌-◌, ◌*◌, ◌<◌, ◌≤◌, List, [], ◌∷◌, ◌++◌, length, take, Option, Some, None, is_some, true, length-append, ◌∙◌, ap, refl, arith}
+use Rattle.std.proofs.Common.{◌≡◌, ℕ, ◌+◌, ◌-◌, ◌*◌, ◌<◌, ◌≤◌, List, [], ◌∷◌, ◌++◌, length, take, Option, Some, None, is_some, true, false, length-append, ◌∙◌, ap, refl, subst, arith}
 use Rattle.std.specs.Prelude.{All, slice_index_or}
 use Rattle.std.proofs.lemmas.List.{take_more}
 use Rattle.std.proofs.Math.Nat.{mul-le-mul_right}
@@ -10,8 +10,8 @@ use Rattle.rm_response_laws.proofs.Ceilings.{ceil-after}
 use Rattle.rm_response.specs.declared.loads.Load.{Load}
 use Rattle.rm_response.specs.declared.supply.Supply.{Supply}
 use Rattle.rm_response.specs.Loads.{held, work_of, IsLoad, HasRate, AreInTurn}
-use Rattle.rm_response.specs.Fits.{FindsFit, IsRelaxed}
-use Rattle.rm_response.proofs.LoadFits.{done-fewer, rate-held}
+use Rattle.rm_response.specs.Fits.{FindsFit, IsFrom, NoneFits, IsRelaxed}
+use Rattle.rm_response.proofs.LoadFits.{done-fewer, found-from, rate-held}
 
 -- a supply with these units
 abbrev pub with_units : Supply → ℕ → Supply
@@ -79,3 +79,19 @@ turn-found s x xs job (Some t) own fit some turn =
     let all : held t x ≡ x.worst = ap (λ n. n * x.worst) one ∙ omega arith in
     let done = done-fewer s (work_of (x ∷ xs) t) (job + work_of xs t) t (omega (arith, sum_by-cons (held t) x xs, all, own)) fit.done in
     (record { ticks = t; some = fit.from; within = fit.within; done = done }, turn)
+
+-- what does not fit beside relaxed loads does not fit beside all
+relaxed-none : (s : Supply) (xs : List Load) (lower : Supply) (ys : List Load) (rest low end : ℕ) → IsRelaxed s xs lower ys
+    → NoneFits lower ys rest low end → NoneFits s xs rest low end
+relaxed-none s xs lower ys rest low end is none t from lt =
+    let more : lower.units * t < (rest + work_of ys t) * s.hyper =
+    subst (λ h. lower.units * t < (rest + work_of ys t) * h) is.same_hyper (none t from lt) in
+    omega (arith, more, is.work t)
+
+-- a search beside relaxed loads that finds nothing decides
+pub none-found : (s : Supply) (xs : List Load) (lower : Supply) (ys : List Load) (rest low most least : ℕ) (found : Option ℕ)
+    → IsFrom s xs rest low most least → IsRelaxed s xs lower ys → FindsFit lower ys rest least most found
+    → is_some found ≡ false → NoneFits s xs rest low (most + 1)
+none-found s xs lower ys rest low most least None from is none none' =
+    found-from s xs rest low most least None from (relaxed-none s xs lower ys rest least (most + 1) is none)
+none-found s xs lower ys rest low most least (Some t) from is fit none' = absurd cc

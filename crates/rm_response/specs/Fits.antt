@@ -1,5 +1,5 @@
 -- Work that fits into some ticks beside loads (after Bini and Buttazzo 2004).
-use Rattle.std.specs.Prelude.{ℕ, List, [], ◌∷◌, All, length, take, ◌+◌, ◌*◌, ◌≡◌, ◌<◌, ◌≤◌, Option, MatchOption}
+use Rattle.std.specs.Prelude.{ℕ, List, [], ◌∷◌, All, IfSome, slice_get, length, take, ◌+◌, ◌*◌, ◌≡◌, ◌<◌, ◌≤◌, Option, MatchOption}
 use Rattle.rm_response.specs.declared.loads.Load.{Load}
 use Rattle.rm_response.specs.declared.supply.Supply.{Supply}
 use Rattle.rm_response.specs.declared.relaxed.Relaxed.{Relaxed}
@@ -70,8 +70,7 @@ pub record IsRelaxedSearch (s : Supply) (xs : List Load) (r : Relaxed) : Type 0 
 abbrev pub IsNode : Supply → List Load → Relaxed → Type 0
 IsNode s xs r = 1 ≤ r.count → IsRelaxedSearch s xs r
 
--- the first of the nodes is for all loads, and the later ones for the loads after the first
+-- a node is at the number of the last loads that it is for
 abbrev pub AreNodes : Supply → List Load → List Relaxed → Type 0
-AreNodes s xs [] = Unit {0}
-AreNodes s [] (r ∷ rs) = Unit {0}
-AreNodes s (x ∷ xs) (r ∷ rs) = IsNode s (x ∷ xs) r × AreNodes s xs rs
+AreNodes s [] rs = Unit {0}
+AreNodes s (x ∷ xs) rs = IfSome (slice_get rs (length (x ∷ xs))) (IsNode s (x ∷ xs)) × AreNodes s xs rs

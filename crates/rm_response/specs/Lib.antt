@@ -3,3 +3,4 @@ pub mod Known
 pub mod Supplies
 pub mod Loads
 pub mod Fits
+pub mod Earlier

@@ -7,6 +7,7 @@
 //! show it.
 #![tactic(auto)]
 
+mod earlier;
 mod loads;
 mod nodes;
 mod relaxed;

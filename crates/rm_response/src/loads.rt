@@ -1,11 +1,11 @@
 // Loads: tasks whose jobs count beside other work, in the order in which the search takes them away.
-ghost use Rattle.std.specs.Prelude.{◌≡◌, ◌≤◌, ◌<◌, ◌^◌, IfSome, length, take, All, slice_index_or, vec_len, vec_capacity};
+ghost use Rattle.std.specs.Prelude.{◌≡◌, ◌≤◌, ◌<◌, ◌^◌, IfSome, length, take, All, slice_index_or};
 ghost use Rattle.dvs_base.specs.declared.kind.Scheduler.TheVariants.{Rm};
 ghost use Rattle.dvs_base.specs.declared.limits.TheConstants.{MOST_TASKS};
 ghost use Rattle.task_model.specs.declared.limits.TheConstants.{LONGEST_PERIOD};
 ghost use Rattle.sched_model.specs.Plan.{plan_of};
 ghost use Rattle.rm_response.specs.declared.loads.Load.{Load};
-ghost use Rattle.rm_response.specs.Loads.{IsLoad, IsJoined, IsAdded, held, work_of, rates_of, load_of};
+ghost use Rattle.rm_response.specs.Loads.{IsLoad, held, work_of, rates_of, load_of};
 
 use freq_table::Machine;
 use grid_fraction::up;
@@ -75,7 +75,7 @@ pub(crate) fn rates_of(loads: &[Load]) -> u128
 
 // The place among loads for one with the worst case `worst` that has the response `response`: after those with greater
 // worst cases, up to the first whose period is below the response.
-fn place_among(loads: &[Load], worst: u64, response: u64) -> usize
+pub(crate) fn place_among(loads: &[Load], worst: u64, response: u64) -> usize
     ensures within { result ≤ length loads.now }
     ensures long { All (λ x. response ≤ x.period) (take result loads.now) }
 {
@@ -88,7 +88,7 @@ fn place_among(loads: &[Load], worst: u64, response: u64) -> usize
 }
 
 // The place of the first load with this period, if there is one.
-fn place_of(loads: &[Load], period: u64) -> Option<usize>
+pub(crate) fn place_of(loads: &[Load], period: u64) -> Option<usize>
     ensures place { IfSome result (λ k. k < length loads.now) }
     ensures same { IfSome result (λ k. (d : Load) → (slice_index_or loads.now k d).period ≡ period) }
 {
@@ -98,35 +98,4 @@ fn place_of(loads: &[Load], period: u64) -> Option<usize>
         }
     }
     None
-}
-
-// Takes the load of the same period out of loads, if there is one, and makes one of both.
-fn joined(loads: &mut Vec<Load>, load: Load) -> Load
-    requires low { IsLoad load }
-    requires each { All IsLoad loads.old.items }
-    ensures joined { IsJoined load loads.old.items result loads.new.items }
-    ensures capacity { vec_capacity loads.old ≤ vec_capacity loads.new }
-{
-    let Some(k) = place_of(loads, load.period) else {
-        return load;
-    };
-    let other = loads.remove(k);
-    Load {
-        period: load.period,
-        worst: load.worst + other.worst,
-        rate: load.rate + other.rate,
-    }
-}
-
-// Puts a load with this response into its place, as one with the load of the same period.
-pub(crate) fn add(loads: &mut Vec<Load>, load: Load, response: u64)
-    requires room { vec_len loads.old < vec_capacity loads.old }
-    requires low { IsLoad load }
-    requires each { All IsLoad loads.old.items }
-    ensures added { IsAdded response load loads.old.items loads.new.items }
-    ensures capacity { vec_capacity loads.old ≤ vec_capacity loads.new }
-{
-    let both = joined(loads, load);
-    let place = place_among(loads, both.worst, response);
-    let _room_was_reserved = loads.insert(place, both);
 }

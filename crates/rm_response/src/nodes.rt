@@ -1,10 +1,10 @@
-// The nodes of a search: relaxed loads for each of its depths, made ready before it begins.
+// The node of a search for some loads: relaxed loads that count before the first load is taken away.
 ghost use Rattle.std.specs.Prelude.{◌≡◌, ◌≤◌, ◌<◌, IsTrue, IfSome, length, All};
 ghost use Rattle.dvs_base.specs.declared.limits.TheConstants.{MOST_TASKS};
 ghost use Rattle.rm_response.specs.declared.relaxed.TheConstants.{MOST_HEAVY};
 ghost use Rattle.rm_response.specs.Supplies.{IsSupply};
-ghost use Rattle.rm_response.specs.Loads.{IsLoad, AreInTurn, AreLoads, HasRate};
-ghost use Rattle.rm_response.specs.Fits.{IsNode, AreNodes};
+ghost use Rattle.rm_response.specs.Loads.{IsLoad, AreInTurn, HasRate};
+ghost use Rattle.rm_response.specs.Fits.{IsNode};
 
 use crate::loads::Load;
 use crate::relaxed::{MOST_HEAVY, Relaxed, relaxed_by};
@@ -110,30 +110,20 @@ fn node_one_by_one(supply: Supply, loads: &[Load]) -> Relaxed
     node
 }
 
-// The loads of greatest worst case count with their jobs, as far as they can be taken away in turn.
-fn node_of(supply: Supply, loads: &[Load]) -> Relaxed
+// The node for loads: those of greatest worst case count with their jobs, as far as they can be taken away in turn. Loads
+// that are `MOST_HEAVY` or fewer have none.
+pub(crate) fn node_of(supply: Supply, loads: &[Load]) -> Relaxed
     requires supply { IsSupply supply }
-    requires many { MOST_HEAVY < length loads.now }
     requires few { length loads.now ≤ MOST_TASKS }
     requires each { All IsLoad loads.now }
     requires rates { All (HasRate supply.hyper) loads.now }
     ensures { IsNode supply loads.now result }
 {
+    if loads.len() <= MOST_HEAVY {
+        return Relaxed::default();
+    }
     match node_by(supply, loads, &marked(loads)) {
         Some(node) => node,
         None => node_one_by_one(supply, loads),
     }
-}
-
-// The nodes for the loads from each place on. The last loads, `MOST_HEAVY` or fewer, have none.
-pub(crate) fn nodes_of(supply: Supply, loads: &[Load]) -> [Relaxed; MOST_TASKS]
-    requires supply { IsSupply supply }
-    requires loads { AreLoads supply loads.now }
-    ensures { AreNodes supply loads.now result }
-{
-    let mut nodes = [Relaxed::default(); MOST_TASKS];
-    for k in 0..loads.len().saturating_sub(MOST_HEAVY) {
-        nodes[k] = node_of(supply, &loads[k..]);
-    }
-    nodes
 }

@@ -8,14 +8,15 @@ ghost use Rattle.sched_model.specs.Plan.{plan_of, count, period};
 ghost use Rattle.sched_model.specs.Priority.{in_order};
 ghost use Rattle.governor.specs.Worst.{level_work_in};
 ghost use Rattle.rm_response_laws.specs.Responses.{response, AllRespond, IsUnserved, MeetsAllDeadlines};
-ghost use Rattle.rm_response.specs.Supplies.{IsSupply};
+ghost use Rattle.rm_response.specs.Supplies.{IsSupply, full_supply};
 ghost use Rattle.rm_response.specs.Loads.{AreBefore, AreLoads};
 ghost use Rattle.rm_response.specs.Fits.{IsFirstFit};
+ghost use Rattle.rm_response.specs.Earlier.{HasNodes};
 ghost use Rattle.rm_response.specs.Denials.{IsFirstLate, responses, AreLeast, misses_at, IsResponseDenial, IsMissedAtPeriod, IsShownMiss, exact_answer};
 ghost use Rattle.rm_response.specs.Known.{AreAllKnown, late_task};
 
-use crate::loads::{Load, add, load_of, work_of};
-use crate::nodes::nodes_of;
+use crate::earlier::Earlier;
+use crate::loads::{load_of, work_of};
 use crate::search::{Span, first_fitting, fits, raised};
 use crate::supply::{Supply, full_supply};
 use freq_table::Machine;
@@ -25,7 +26,7 @@ use std::marker::Model;
 use task_model::TaskSet;
 
 // The most times that the first ticks are raised for one task before the ticks up to the task's period are halved.
-const MOST_STEPS: u32 = 1000;
+const MOST_STEPS: u32 = 250;
 
 /// The response of each task in ticks, in file order: the least tick at which its first job is complete under RM at
 /// the highest speed when all jobs have their worst cases.
@@ -75,30 +76,37 @@ struct Late {
     work: u128,
 }
 
-// The first of the ticks of the span into which `rest` units fit beside the work of the loads; one more than the last
-// if there is none. The nodes have room here, so that a task that needs no search does not pay for it.
+// The first of the ticks of the span into which `rest` units fit beside the earlier loads; one more than the last if there
+// is none. The nodes are made here, so that a task that needs no search does not pay for them. If memory runs out, the
+// search has fewer of them and takes longer.
 #[inline(never)]
-fn searched(supply: Supply, loads: &[Load], rest: u128, span: Span) -> u64
+fn searched(supply: Supply, earlier: &mut Earlier, rest: u128, span: Span) -> u64
     requires supply { IsSupply supply }
-    requires loads { AreLoads supply loads.now }
+    requires loads { AreLoads supply earlier.old.loads.items }
+    requires nodes { HasNodes supply earlier.old }
     requires low_rest { rest ≤ 2 ^ 102 }
     requires some_ticks { 1 ≤ span.first }
     requires in_span { span.first ≤ span.last }
     requires low_ticks { span.last ≤ LONGEST_PERIOD }
-    ensures { IsFirstFit supply loads.now rest span.first span.last result }
+    ensures first { IsFirstFit supply earlier.old.loads.items rest span.first span.last result }
+    ensures loads { earlier.new.loads ≡ earlier.old.loads }
+    ensures nodes { HasNodes supply earlier.new }
 {
-    let nodes = nodes_of(supply, loads);
-    first_fitting(supply, loads, rest, span, &nodes)
+    let _made = earlier.make_nodes(supply);
+    first_fitting(supply, &earlier.loads, rest, span, &earlier.nodes)
 }
 
 // The response of task i in ticks; one more than its period if it has none. `from` is a number of ticks, and fewer
-// ticks don't serve its level. The loads are the tasks before it.
-fn response_of(tasks: &TaskSet, machine: &Machine, loads: &[Load], from: u64, i: u32) -> u64
+// ticks don't serve its level. The earlier loads are the tasks before it.
+fn response_of(tasks: &TaskSet, machine: &Machine, earlier: &mut Earlier, from: u64, i: u32) -> u64
     requires task { i < length tasks.now }
-    requires before { AreBefore (plan_of tasks.now machine.now Rm) i loads.now }
+    requires before { AreBefore (plan_of tasks.now machine.now Rm) i earlier.old.loads.items }
+    requires nodes { HasNodes (full_supply (plan_of tasks.now machine.now Rm)) earlier.old }
     requires some { 1 ≤ from }
     requires unserved { IsUnserved (plan_of tasks.now machine.now Rm) i from }
-    ensures { result ≡ response (plan_of tasks.now machine.now Rm) i }
+    ensures response { result ≡ response (plan_of tasks.now machine.now Rm) i }
+    ensures loads { earlier.new.loads ≡ earlier.old.loads }
+    ensures nodes { HasNodes (full_supply (plan_of tasks.now machine.now Rm)) earlier.new }
 {
     let _task_limits = tasks.as_slice();
     let last = tasks.task(i).period;
@@ -107,25 +115,26 @@ fn response_of(tasks: &TaskSet, machine: &Machine, loads: &[Load], from: u64, i:
     }
     let supply = full_supply(tasks, machine);
     let job = u128::from(worst(tasks, machine, i));
+    let loads = earlier.loads.as_slice();
     let first = raised(supply, loads, job, Span { first: from, last }, MOST_STEPS);
     if first > last || fits(supply, loads, job, first) {
         return first;
     }
-    searched(supply, loads, job, Span { first, last })
+    searched(supply, earlier, job, Span { first, last })
 }
 
 // The responses in file order, written over `entries`. They are computed in RM order, and the error is the first task
-// in it without a response. `loads` has room for all tasks.
+// in it without a response. `earlier` has room for all tasks.
 fn respond(
     mut entries: Vec<u64>,
-    mut loads: Vec<Load>,
+    mut earlier: Earlier,
     order: &[u32],
     tasks: &TaskSet,
     machine: &Machine,
 ) -> Result<Vec<u64>, Late>
     requires one_each { length entries.items ≡ length tasks.now }
-    requires no_loads { loads.items ≡ [] }
-    requires room { length tasks.now ≤ vec_capacity loads }
+    requires no_loads { earlier.loads.items ≡ [] }
+    requires room { length tasks.now ≤ vec_capacity earlier.loads }
     requires order { let p = plan_of tasks.now machine.now Rm in order.now ≡ in_order (period p) (count p) }
     ensures known { IfOk result (λ v. AreAllKnown (plan_of tasks.now machine.now Rm) v.items) }
     ensures late { let p = plan_of tasks.now machine.now Rm in
@@ -139,14 +148,14 @@ fn respond(
     let _machine_limits = machine.as_slice();
     let mut from = 1;
     for &task in order {
-        let response = response_of(tasks, machine, &loads, from, task);
+        let response = response_of(tasks, machine, &mut earlier, from, task);
         let period = tasks.task(task).period;
         if response > period {
-            let work = u128::from(worst(tasks, machine, task)) + work_of(&loads, period);
+            let work = u128::from(worst(tasks, machine, task)) + work_of(&earlier.loads, period);
             return Err(Late { task, work });
         }
         entries[task as usize] = response;
-        add(&mut loads, load_of(tasks, machine, task), response);
+        earlier.add(load_of(tasks, machine, task), response);
         from = response;
     }
     Ok(entries)
@@ -195,8 +204,8 @@ pub fn rm_response(
     let count = tasks.count() as usize;
     let order = rm_order(alloc, tasks).map_err(|_| ResponseFault::NoMemory)?;
     let entries = vec![in alloc; 0; count].map_err(|_| ResponseFault::NoMemory)?;
-    let loads = Vec::with_capacity(alloc, count).map_err(|_| ResponseFault::NoMemory)?;
-    match respond(entries, loads, &order, tasks, machine) {
+    let earlier = Earlier::with_capacity(alloc, count).map_err(|_| ResponseFault::NoMemory)?;
+    match respond(entries, earlier, &order, tasks, machine) {
         Ok(ticks) => Ok(Response { ticks }),
         Err(late) => Err(missing(tasks, machine, late)),
     }

@@ -1,5 +1,5 @@
 // The search for ticks into which work fits beside loads (after Bini and Buttazzo 2004).
-ghost use Rattle.std.specs.Prelude.{◌≡◌, ◌≤◌, ◌+◌, ◌^◌, IsTrue, IsFalse, length, drop, All};
+ghost use Rattle.std.specs.Prelude.{◌≡◌, ◌≤◌, ◌+◌, ◌^◌, IsTrue, IsFalse, length, All};
 ghost use Rattle.dvs_base.specs.Widths.{u64_end};
 ghost use Rattle.dvs_base.specs.declared.limits.TheConstants.{MOST_TASKS};
 ghost use Rattle.task_model.specs.declared.limits.TheConstants.{LONGEST_PERIOD};
@@ -12,7 +12,7 @@ use crate::relaxed::Relaxed;
 use crate::supply::{Supply, most_in};
 
 // The most times that the first of the ticks is raised in one call of `fitting`.
-const MOST_RAISES: u32 = 4;
+const MOST_RAISES: u32 = 1;
 
 /// The ticks `first` to `last`.
 #[derive(Clone, Copy)]
@@ -90,16 +90,23 @@ pub(crate) fn raised(supply: Supply, loads: &[Load], rest: u128, span: Span, ste
     first
 }
 
-// What the ends of the span decide.
+// What the ends of the span decide. They are looked at only if the first load has a release in the span: otherwise it can
+// be taken away in one way only, at less cost.
 fn ends_of(supply: Supply, loads: &[Load], rest: u128, span: Span) -> Ends
     requires supply { IsSupply supply }
     requires few { length loads.now ≤ MOST_TASKS }
     requires each { All IsLoad loads.now }
     requires low_rest { rest ≤ u64_end }
+    requires some_ticks { 1 ≤ span.first }
     requires in_span { span.first ≤ span.last }
     requires low_ticks { span.last ≤ LONGEST_PERIOD }
     ensures { EndsDecide supply loads.now rest span.first span.last result }
 {
+    if let Some((load, _)) = loads.split_first()
+        && (span.last - 1) / load.period * load.period < span.first
+    {
+        return Ends::From(span.first);
+    }
     if fits(supply, loads, rest, span.last) {
         return Ends::Fit(span.last);
     }
@@ -113,19 +120,9 @@ fn ends_of(supply: Supply, loads: &[Load], rest: u128, span: Span) -> Ends
     Ends::From(first)
 }
 
-// The nodes for the loads after the first.
-fn later_nodes(nodes: &[Relaxed]) -> &[Relaxed]
-    ensures { result.now ≡ drop 1 nodes.now }
-{
-    let Some((_, later)) = nodes.split_first() else {
-        return nodes;
-    };
-    later
-}
-
 // One of the ticks of the span into which `rest` units fit beside the work of the loads, if any. Unless the ends of the
-// span or the loads of the first node decide, the first load is taken away: as many of its jobs count as begin in the
-// last of the ticks or, up to its release before that, as begin up to there.
+// span decide, the first load is taken away: as many of its jobs count as begin in the last of the ticks or, up to its
+// release before that, as begin up to there. If it has a release in the span, the node for the loads can refuse first.
 pub(crate) fn fitting(
     supply: Supply,
     loads: &[Load],
@@ -155,19 +152,19 @@ pub(crate) fn fitting(
     };
     let last = span.last;
     let left = Span { first, last };
-    if let Some((node, _)) = nodes.split_first()
+    let release = (last - 1) / load.period * load.period;
+    if release >= first
+        && let Some(node) = nodes.get(loads.len())
         && node.count > 0
         && fitting(node.supply, node.heavy(), rest, left, &[]).is_none()
     {
         return None;
     }
-    let release = (last - 1) / load.period * load.period;
     let begun = Span {
         first: first.max(release + 1),
         last,
     };
-    let later = later_nodes(nodes);
-    let found = fitting(supply, others, rest + held(*load, last), begun, later);
+    let found = fitting(supply, others, rest + held(*load, last), begun, nodes);
     if found.is_some() || release < first {
         return found;
     }
@@ -175,7 +172,7 @@ pub(crate) fn fitting(
         first,
         last: release,
     };
-    fitting(supply, others, rest + held(*load, release), ended, later)
+    fitting(supply, others, rest + held(*load, release), ended, nodes)
 }
 
 // The first of the ticks of the span into which `rest` units fit beside the work of the loads; one more than the last

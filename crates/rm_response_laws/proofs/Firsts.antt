@@ -16,7 +16,7 @@ use Rattle.sched_model.proofs.Limits.{some_period}
 use Rattle.sched_model.proofs.LevelSums.{sum_where-plus, sum_up_to-where, sum_where-term, sum_where-zero, up_to-self}
 use Rattle.governor.specs.Rm.{level}
 use Rattle.governor.specs.Worst.{level_work_in}
-use Rattle.governor.proofs.Lacks.{lack, lack_after, IsQuiet, lack-quiet, lack-released, level_down, lack-long, lack-falls, lack-empties}
+use Rattle.sched_model.proofs.Lacks.{lack, lack_after, IsQuiet, lack-quiet, lack-released, level_down, lack-long, lack-falls, lack-empties}
 use Rattle.dvs_base.specs.declared.kind.Scheduler.TheVariants.{Rm}
 use Rattle.sched_model.proofs.JobLaws.{due-none, release-suc, latest-is, exec-early, worst_demand-pos}
 use Rattle.rm_response_laws.proofs.Ceilings.{ceil-after}

@@ -8,6 +8,7 @@ use Rattle.sched_model.specs.Plan.{Plan, plan_of}
 use Rattle.words.specs.declared.command.WordFault.{WordFault}
 use Rattle.words.specs.Commands.{CommandView, RunView, run, admit, traced, workload, response, constrain, poll, least, asks_probes}
 use Rattle.probes.specs.Tallies.{ProbeView, told_notes}
+use Rattle.probes.specs.Outputs.{Outputs}
 use Rattle.probes.specs.Program.{program_probes}
 use Rattle.statuses.specs.declared.status.Status.{Status}
 use Rattle.statuses.specs.declared.status.Status.TheVariants as status
@@ -20,7 +21,7 @@ use Rattle.statuses.specs.ProbeLines.{probe_lines}
 use Rattle.statuses.specs.Noted.{NotedAs, noted_text}
 use Rattle.command_files.specs.Files.{names_by}
 use Rattle.command_files.specs.Meanings.{tasks_at}
-use Rattle.command_files.specs.PlannedRuns.{prepared_of, run_with}
+use Rattle.rtdvs_top.specs.PlannedRuns.{prepared_of}
 use Rattle.rtdvs_top.specs.ToldRuns.{IfAsked, notes_under}
 use Rattle.rtdvs_top.specs.Response.{RespondsOrIsDenied}
 use Rattle.rtdvs_top.specs.Trace.{AcceptsScheduleTexts, IsDoneUnless}
@@ -32,6 +33,7 @@ use Rattle.rtdvs_c.specs.declared.TheConstants.{NO_MEMORY}
 use Rattle.rtdvs_c.specs.declared.reply.Reply.{Reply}
 use Rattle.rtdvs_c.specs.Replies.{ReplyView, FitsLimits, Shows, shown_shelf, reply_from, status_of, text_of, told_by, probes_after}
 use Rattle.rtdvs_c.specs.Proves.{holding, status_at, answered, IsAnsweredOrDenied, ProvesCommand, Proves, IsReply}
+use Rattle.event_kernel.specs.Runs.{run_for}
 
 -- what the top call promises over these files, if both texts were empty and no put failed
 abbrev pub PromisedWhole : Files → Result CommandView WordFault → CallShelf → CallShelf → List ℕ → List ℕ → List ProbeView → Status → Type 0
@@ -81,6 +83,10 @@ put-whole text noted (inr some) = absurd (not-rose some.rose)
 reply-with : (code code' : ℕ) (text text' notes notes' : List ℕ) → code ≡ code' → text ≡ text' → notes ≡ notes'
     → (let a : ReplyView = record { code = code; text = text; notes = notes } in a) ≡ record { code = code'; text = text'; notes = notes' }
 reply-with code code' text text' notes notes' c t n = rw (c, t, n) refl
+
+-- what a sink that holds these bytes shows beside these probes
+abbrev shown : List ℕ → List ProbeView → Outputs
+shown bytes ps = record { sink = holding bytes; probes = ps }
 
 module _ (files : Files) (c : CommandView) (s : Status) (text noted : List ℕ) (old new : CallShelf) (after : List ProbeView)
     (left : Left s text) (p : PromisedWhole files (Ok c) old new text noted after s) where
@@ -171,20 +177,20 @@ module _ (files : Files) (c : CommandView) (s : Status) (text noted : List ℕ) 
       same false names ps qs s h = refl
 
       told-as : (r : RunView) → r.probes ≡ true
-          → TellsProbes (with_files files (run r)) (holding []) (holding text) program_probes after status.Done
+          → TellsProbes (with_files files (run r)) (shown [] program_probes) (shown text after) status.Done
           → after ≡ probes_after (run r) files
       told-as r asks h =
           let tasks : List Task = h.0 in
           let known : tasks_at r.tasks files ≡ Ok tasks = h.1 in
           let t = subst (λ b. IfAsked b ((plan : Plan) × (d : DemandsView) × (prepared_of r tasks files ≡ Ok (plan, d))
-          × (after ≡ told_notes (notes_under r.governor (run_with r plan d)) program_probes))) asks h.2 in
+          × (after ≡ told_notes (notes_under r.governor (run_for plan d r.ticks)) program_probes))) asks h.2 in
           t.3 ∙ sym (ap (λ x. told_by r (and_then x (λ ts. prepared_of r ts files))) known ∙ ap (told_by r) t.2)
 
-      go : (c : CommandView) → TellsProbes (with_files files c) (holding []) (holding text) program_probes after s
+      go : (c : CommandView) → TellsProbes (with_files files c) (shown [] program_probes) (shown text after) s
           → noted_text (asks_probes c) (names_by c files) after s ≡ noted_text (asks_probes c) (names_by c files) (probes_after c files) s
       go (run r) h =
           same r.probes (names_by (run r) files) after (probes_after (run r) files) s
-          (λ asks done. told-as r asks (subst (TellsProbes (with_files files (run r)) (holding []) (holding text) program_probes after) done h))
+          (λ asks done. told-as r asks (subst (TellsProbes (with_files files (run r)) (shown [] program_probes) (shown text after)) done h))
       go (admit a) h = refl
       go (traced r) h = refl
       go (workload seed) h = refl

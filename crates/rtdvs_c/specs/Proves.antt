@@ -8,14 +8,13 @@ use Rattle.freq_table.specs.Tables.{Table}
 use Rattle.demand_list.specs.Demands.{DemandsView}
 use Rattle.sched_model.specs.Plan.{plan_of}
 use Rattle.sched_model.specs.Jobs.{released_jobs}
-use Rattle.event_kernel.specs.Runs.{Run}
+use Rattle.event_kernel.specs.Runs.{Run, run_for}
 use Rattle.words.specs.declared.command.WordFault.{WordFault}
 use Rattle.words.specs.Commands.{CommandView, RunView, run, response}
 use Rattle.statuses.specs.declared.status.Denied.{Denied}
 use Rattle.statuses.specs.declared.status.Status.{Status}
 use Rattle.statuses.specs.declared.status.Status.TheVariants as status
 use Rattle.statuses.specs.Status.{IsShown}
-use Rattle.command_files.specs.PlannedRuns.{run_with}
 use Rattle.rtdvs_top.specs.Asked.{with_files}
 use Rattle.rtdvs_top.specs.Run.{HasMet, text_under}
 use Rattle.rtdvs_top.specs.Response.{MeansPlan, RespondsOrIsDenied}
@@ -56,8 +55,8 @@ abbrev pub IsAnsweredOrDenied : Files → CommandView → Type 0
 IsAnsweredOrDenied files (run r) =
     (tasks : List Task) (machine : Table) (demands : DemandsView) → MeansRun r files tasks machine demands
     → released_jobs (plan_of tasks machine r.scheduler) r.ticks ≤ MOST_JOBS
-    → IsAnsweredRun (answer_of_command (run r) files) r (run_with r (plan_of tasks machine r.scheduler) demands)
-    ⊎ IsDeniedRun (answer_of_command (run r) files) (run_with r (plan_of tasks machine r.scheduler) demands)
+    → IsAnsweredRun (answer_of_command (run r) files) r (run_for (plan_of tasks machine r.scheduler) demands r.ticks)
+    ⊎ IsDeniedRun (answer_of_command (run r) files) (run_for (plan_of tasks machine r.scheduler) demands r.ticks)
 IsAnsweredOrDenied files (response r) =
     (tasks : List Task) (machine : Table) → MeansPlan r files tasks machine
     → RespondsOrIsDenied (plan_of tasks machine Rm) (status_at files (response r))

@@ -17,7 +17,7 @@ use Rattle.statuses.specs.StatusLines.{status_text}
 use Rattle.statuses.specs.Noted.{noted_text}
 use Rattle.command_files.specs.Meanings.{tasks_at}
 use Rattle.command_files.specs.Files.{names_by}
-use Rattle.command_files.specs.PlannedRuns.{prepared_of, run_with}
+use Rattle.rtdvs_top.specs.PlannedRuns.{prepared_of}
 use Rattle.rtdvs_top.specs.ToldRuns.{notes_under}
 use Rattle.rtdvs_top.specs.Promises.{answer_of_command}
 use Rattle.rtdvs_c.specs.declared.TheConstants.{NO_ROOM, NO_WORDS}
@@ -27,6 +27,7 @@ use Rattle.rtdvs_c.specs.declared.files.CallShelf.{CallShelf}
 use Rattle.rtdvs_c.specs.declared.reply.Reply.{Reply}
 use Rattle.rtdvs_c.specs.WordList.{asked_by}
 use Rattle.rtdvs_c.specs.Texts.{last}
+use Rattle.event_kernel.specs.Runs.{run_for}
 
 -- the files of a call by their names; the third has four names, one for each option that it can be the file of
 abbrev pub call_files : List ℕ → List ℕ → List ℕ → Files
@@ -54,7 +55,7 @@ text_of (Err s) = []
 
 -- the program's probes after a run: they were told its notes, one by one
 abbrev pub told_by : RunView → Result (Plan × DemandsView) Status → List ProbeView
-told_by r (Ok x) = told_notes (notes_under r.governor (run_with r x.0 x.1)) program_probes
+told_by r (Ok x) = told_notes (notes_under r.governor (run_for x.0 x.1 r.ticks)) program_probes
 told_by r (Err s) = program_probes
 
 -- the program's probes after a command

@@ -19,16 +19,16 @@ use Rattle.cc_rm_laws.proofs.CcRmLaws.{cc_rm_laws}
 use Rattle.cc_rm_laws.proofs.RmCyclePublished.{cycle_publishing as rm_cycle_publishing}
 use Rattle.look_ahead_laws.proofs.AheadLaws.{ahead_laws}
 use Rattle.look_ahead_laws.proofs.AheadPublished.{ahead_publishing}
-use Rattle.event_kernel.specs.Runs.{Run}
+use Rattle.event_kernel.specs.Runs.{Run, run_for}
 use Rattle.event_kernel.proofs.MetRuns.{run-met}
 use Rattle.rtdvs_top.specs.Run.{HasMet}
 use Rattle.rtdvs_top.proofs.Published.{met-published}
-use Rattle.command_files.specs.PlannedRuns.{IsReadyRun}
+use Rattle.rtdvs_top.specs.PlannedRuns.{IsReadyRun}
 
 module _ (v : Version) (p : Plan) (d : DemandsView) (ticks : ℕ) where
   -- the run of the plan for `ticks` ticks
   abbrev whole : Run
-  whole = record { plan = p; demands = d; ticks = ticks }
+  whole = run_for p d ticks
 
   -- what the run meets under a governor of these meanings, whose laws hold
   met-by : (kind : GovernorKind) (serves : Serving) (demand : OwnDemand) (calm : Condition) (safe : EntryCondition)

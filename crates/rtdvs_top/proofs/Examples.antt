@@ -15,7 +15,8 @@ use Rattle.freq_table.specs.Tables.{Table}
 use Rattle.sched_model.specs.Plan.{Plan, period, plan_of}
 use Rattle.sched_model.specs.Jobs.{released_jobs}
 use Rattle.event_kernel.specs.Runs.{Run as RunOf}
-use Rattle.probes.specs.Tallies.{ProbeView, told_notes}
+use Rattle.probes.specs.Tallies.{told_notes}
+use Rattle.probes.specs.Outputs.{Outputs}
 use Rattle.rm_response_laws.specs.Responses.{is_first_done}
 use Rattle.words.specs.Commands.{ConstrainView, RunView, CommandView, run, admit, traced, workload, response, constrain, poll, least}
 use Rattle.words.specs.declared.command.TraceUse.{TraceUse}
@@ -272,6 +273,5 @@ unfolding digits
 named_tasks files old new tasks notes = rw tasks at notes
 
 -- the probes of a run that is done were told its notes
-told_all : (r : RunOf) (old new : SinkView) (before after : List ProbeView) → TellsRun One Plain r old new before after Done
-    → after ≡ told_notes (notes_under Plain r) before
-told_all r old new before after told = told
+told_all : (r : RunOf) (old new : Outputs) → TellsRun One Plain r old new Done → new.probes ≡ told_notes (notes_under Plain r) old.probes
+told_all r old new told = told

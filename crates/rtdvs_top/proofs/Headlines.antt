@@ -13,7 +13,7 @@ use Rattle.words.specs.Commands.{RunView, CommandView, run, response}
 use Rattle.command_files.specs.Meanings.{tasks_at, machine_at, demands_at}
 use Rattle.command_files.specs.Admissions.{admission}
 use Rattle.rtdvs_top.specs.Run.{within_jobs, answer_of_prepared}
-use Rattle.command_files.specs.PlannedRuns.{prepared_of, run_with, IsReadyRun}
+use Rattle.rtdvs_top.specs.PlannedRuns.{prepared_of, IsReadyRun}
 use Rattle.rtdvs_top.specs.Promises.{answer_of_command, run_plan, MeansRun, IsDoneRun, IsDeniedBy, ProvesRun, ProvesTests, RunsOrIsDenied, Answers, IsDoneOrDenied}
 use Rattle.rtdvs_top.specs.Asked.{Asked, asked_with, with_files}
 use Rattle.rtdvs_top.specs.Prepared.{EndsAs, ProvesDone}
@@ -24,6 +24,7 @@ use Rattle.rtdvs_top.proofs.Responses.{responds-or-is-denied}
 use Rattle.rtdvs_top.proofs.StepAnswers.{undisturbed}
 use Rattle.rtdvs_top.proofs.AdmittedPlans.{admits-by-test}
 use Rattle.rtdvs_top.proofs.DeniedPlans.{status_of, given-once, within-few, given-both, passes-admission, Decides, decides, denied-plan}
+use Rattle.event_kernel.specs.Runs.{run_for}
 
 -- what holds of the plan of a run holds of the tasks and the machine that its files mean, and its demands are read
 run-means : (P : Plan → Type 0) (r : RunView) (files : Files) → (p : Plan) × (run_plan r files ≡ Ok p) × P p
@@ -70,11 +71,11 @@ module _ (r : RunView) (files : Files) (tasks : List Task) (machine : Table) (de
   -- a run that is done has met all that an admitted plan meets
   done-run : (old new : SinkView) → EndsAs old new (Some files) (answer_of_command (run r)) status.Done → PassesTest plan.scheduler plan
       → ProvesDone (Some files) (run r) status.Done
-      → (prepared_of r tasks files ≡ Ok (plan, demands)) × IsDoneRun r.version r.governor (run_with r plan demands) old new
+      → (prepared_of r tasks files ≡ Ok (plan, demands)) × IsDoneRun r.version r.governor (run_for plan demands r.ticks) old new
   done-run old new ends passes met =
       let admitted : admission plan ≡ Ok plan = passes-admission plan.scheduler plan passes in
       let text = within-text _ _ ends.0 (sym (answer-is ∙ ap after admitted) ∙ ends.1) in
-      let Ready : Plan × DemandsView → Type 0 = λ x. IsReadyRun r.governor (run_with r x.0 x.1) in (
+      let Ready : Plan × DemandsView → Type 0 = λ x. IsReadyRun r.governor (run_for x.0 x.1 r.ticks) in (
         prepared-is admitted,
         record {
           text = subst (Takes old new) text ends.2.bytes;
@@ -85,14 +86,14 @@ module _ (r : RunView) (files : Files) (tasks : List Task) (machine : Table) (de
   -- a run that releases no more jobs than the limit, and whose status is its answer's, is done, or its plan is denied
   pub runs-or-is-denied : released_jobs plan r.ticks ≤ MOST_JOBS → (old new : SinkView) (s : Status)
       → ProvesRun (with_files files (run r)) old new s → s ≡ status_of (answer_of_command (run r) files)
-      → RunsOrIsDenied r.version r.governor (run_with r plan demands) old new s
+      → RunsOrIsDenied r.version r.governor (run_for plan demands r.ticks) old new s
   runs-or-is-denied few old new s of is = go (decides plan)
     where
-      go : Decides plan plan.scheduler (admission plan) → RunsOrIsDenied r.version r.governor (run_with r plan demands) old new s
+      go : Decides plan plan.scheduler (admission plan) → RunsOrIsDenied r.version r.governor (run_for plan demands r.ticks) old new s
       go (inl ok) =
           let done : s ≡ status.Done = is ∙ ap status_of (answer-is ∙ (ap after ok.0 ∙ within-few _ _ few)) in
           let x = subst (ProvesRun (with_files files (run r)) old new) done of in
-          let Ran : Plan × DemandsView → Type 0 = λ y. IsDoneRun r.version r.governor (run_with r y.0 y.1) old new in
+          let Ran : Plan × DemandsView → Type 0 = λ y. IsDoneRun r.version r.governor (run_for y.0 y.1 r.ticks) old new in
           inl (done, own Ran x.0 (plan_of x.0 x.1 r.scheduler, x.2) x.3.tasks_are x.4 ok.0 x.5)
       go (inr denial) =
           inr (denial.0, is ∙ ap status_of (answer-is ∙ ap after denial.1), denied-plan plan denial.0 denial.1)

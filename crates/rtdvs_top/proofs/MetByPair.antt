@@ -3,6 +3,8 @@ use Rattle.std.proofs.Common.{◌≡◌, ◌≤◌, ◌∙◌, arith, ℕ, Bool,
 use Rattle.dvs_base.specs.Outside.{Files, ShelfView, SinkView}
 use Rattle.task_model.specs.declared.task.Task.{Task}
 use Rattle.probes.specs.Tallies.{ProbeView}
+use Rattle.probes.specs.Outputs.{Outputs, outputs_of}
+use Rattle.std.specs.Prelude.{Vec}
 use Rattle.words.specs.Commands.{CommandView, tasks_name, run}
 use Rattle.rtdvs_top.specs.Asked.{asked_with}
 use Rattle.rtdvs_top.specs.Promises.{LoadFailed, TellsProbes, answer_of_command}
@@ -66,14 +68,14 @@ refused-met files c status.Done refusal = absurd refusal
 refused-met files c status.Write refusal = absurd refusal
 refused-met files c s refusal = tt
 
-refused-told : (files : Option Files) (c : CommandView) (old new : SinkView) (before after : List ProbeView) (s : Status)
-    → IsRefusal s → TellsProbes (asked_with files c) old new before after s
-refused-told None (run r) old new before after status.Done refusal = absurd refusal
-refused-told None (run r) old new before after status.Write refusal = absurd refusal
-refused-told None c old new before after s refusal = tt
-refused-told (Some files) (run r) old new before after status.Done refusal = absurd refusal
-refused-told (Some files) (run r) old new before after status.Write refusal = absurd refusal
-refused-told (Some files) c old new before after s refusal = tt
+refused-told : (files : Option Files) (c : CommandView) (old new : Outputs) (s : Status) → IsRefusal s
+    → TellsProbes (asked_with files c) old new s
+refused-told None (run r) old new status.Done refusal = absurd refusal
+refused-told None (run r) old new status.Write refusal = absurd refusal
+refused-told None c old new s refusal = tt
+refused-told (Some files) (run r) old new status.Done refusal = absurd refusal
+refused-told (Some files) (run r) old new status.Write refusal = absurd refusal
+refused-told (Some files) c old new s refusal = tt
 
 -- what was refused before anything was put answers the command
 refused-answered : (files : Option Files) (old new : CallView) (c : CommandView) (tasks : Option (List Task)) (s : Status)
@@ -83,14 +85,14 @@ refused-answered : (files : Option Files) (old new : CallView) (c : CommandView)
 refused-answered files old new c tasks s refused failed loads counts =
     let refusal = refusal-of files (answer_of_command c) s refused.ended in
     record {
-      ended = refused-ends files old.out new.out (answer_of_command c) s refusal refused.ended;
+      ended = refused-ends files old.outputs.sink new.outputs.sink (answer_of_command c) s refusal refused.ended;
       met = refused-met files c s refusal;
       tested = refused.tested;
       named = refused.named;
       failed = failed;
       loads = loads;
       counts = counts;
-      told = refused-told files c old.out new.out old.probes new.probes s refusal;
+      told = refused-told files c old.outputs new.outputs s refusal;
       shown = refused.shown;
     }
 
@@ -128,32 +130,32 @@ module _ (c : CommandView) (old mid new : ShelfView) (tasks : Option (List Task)
   prepared-any p steps = (steps None tt (first None tt).read).prepared
 
   -- it is refused
-  pub prepare-answered : (out_old out_new : SinkView) (before after : List ProbeView) (s : Status) → Prepares (Err s)
-      → ForFiles old new (IsAnswered c (views_of old out_old before) (views_of new out_new after) s tasks)
-  prepare-answered out_old out_new before after s steps files known =
+  pub prepare-answered : (before after : Outputs) (s : Status) → Prepares (Err s)
+      → ForFiles old new (IsAnswered c (views_of old before) (views_of new after) s tasks)
+  prepare-answered before after s steps files known =
       let step = step-of (Err s) steps files known in
-      refused-answered files (views_of old out_old before) (views_of new out_new after) c tasks s step.refused
+      refused-answered files (views_of old before) (views_of new after) c tasks s step.refused
       (later-failed files c old mid new s made still step.failed) (all-loads files step.loads)
       (subst (λ (n : ℕ). CountsLoads n new.faults s) still step.counts)
 
   -- it was put
-  pub put-answered : {W V : Type 0} (out : W × W) (probes : V × V) (shows : W → SinkView) (counts : V → List ProbeView)
-      (p : Prepared) (s : Status) → Prepares (Ok p) → IsPutStep out probes shows counts p s
-      → ForFiles old new (IsAnswered c (views_of old (shows out.0) (counts probes.0)) (views_of new (shows out.1) (counts probes.1)) s tasks)
-  put-answered out probes shows counts p s steps put files known =
+  pub put-answered : {W P A : Type 0} (shows : W → SinkView) (seen : P → ProbeView) {before after : W × Vec P A}
+      (p : Prepared) (s : Status) → Prepares (Ok p) → IsPutStep shows seen before after p s
+      → ForFiles old new (IsAnswered c (views_of old (outputs_of shows seen before.0 before.1)) (views_of new (outputs_of shows seen after.0 after.1)) s tasks)
+  put-answered shows seen {before} {after} p s steps put files known =
       let step = step-of (Ok p) steps files known in
       let prepared : IsPrepared files c tasks p = step.prepared in
       let steady : new.faults ≡ old.faults = step.counts ∙ still in
       let ends = put.ends in
       record {
-        ended = put-ends files c (shows out.0) (shows out.1) (answer_of p) s prepared.answer put.ended;
+        ended = put-ends files c (shows before.0) (shows after.0) (answer_of p) s prepared.answer put.ended;
         met = put-cases (answer_of p) s (ProvesDone files c) ends prepared.met prepared.met tt (λ jobs. tt);
         tested = prepared.tested s ends;
         named = put-named files c tasks (answer_of p) s ends prepared.named;
         failed = put-cases (answer_of p) s (LoadFailed files old new (Ok c)) ends tt tt tt (λ jobs. tt);
         loads = all-loads files step.loads;
         counts = put-cases (answer_of p) s (CountsLoads old.faults new.faults) ends steady steady steady (λ jobs. steady);
-        told = prepared.told (shows out.0) (shows out.1) (counts probes.0) (counts probes.1) s put.told;
+        told = prepared.told (outputs_of shows seen before.0 before.1) (outputs_of shows seen after.0 after.1) s put.told;
         shown = put.shown;
       }
 

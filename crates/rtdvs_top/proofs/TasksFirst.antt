@@ -9,7 +9,7 @@ use Rattle.statuses.specs.declared.status.FileKind.{FileKind}
 use Rattle.statuses.specs.declared.status.FileKind.TheVariants as file
 use Rattle.statuses.specs.declared.status.Status.{Status}
 use Rattle.statuses.specs.declared.status.Status.TheVariants as status
-use Rattle.statuses.specs.Status.{IsOfFile, OfLoad}
+use Rattle.statuses.specs.Status.{IsOfFile, OfLoad, CountsLoads}
 use Rattle.statuses.specs.Steps.{EndsWith, Refuses}
 use Rattle.statuses.specs.StatusLines.{status_text}
 use Rattle.command_files.specs.Meanings.{tasks_at}
@@ -24,7 +24,8 @@ use Rattle.rtdvs_top.specs.Constrain.{constrain_after_tasks}
 use Rattle.rtdvs_top.specs.Poll.{poll_after_tasks}
 use Rattle.rtdvs_top.specs.Asked.{Asked, asked_with, with_files}
 use Rattle.rtdvs_top.specs.Promises.{answer_of_command, LoadFailed, ProvesTests}
-use Rattle.rtdvs_top.specs.Prepared.{AreTasksAt, HasTaskNames, IsTasksStep}
+use Rattle.rtdvs_top.specs.Prepared.{AreTasksAt, HasTaskNames, IsTasksStep, IsPrepareStep, IsRefused}
+use Rattle.rtdvs_top.specs.declared.prepared.Prepared.{Prepared}
 
 -- a command that names a file of tasks loads it first, and its answer goes on with the tasks
 record LoadsTasks (c : CommandView) (name : List ℕ) : Type 0 where
@@ -135,6 +136,14 @@ pub at-error : {T : Type 0} (P : Result T Status → Type 0) (r : Result T Statu
     → P r
 at-error P (Ok v) s is h = absurd is
 at-error {T} P (Err x) s is h = subst (λ (y : Status). P (Err y)) (sym is) h
+
+-- what was prepared after the tasks of a command ends in a refusal
+pub refused-step : {old new : ShelfView} {c : CommandView} {tasks : Option (List Task)} {files : Option Files} {s : Status} (r : Result Prepared Status)
+    → IsErrAnd r (λ x. x ≡ s) → IsRefused files c tasks s → LaterLoadFails files old new c s → MakesLoads (loads_after files c) old new
+    → CountsLoads old.faults new.faults s → IsPrepareStep old new c tasks r files
+refused-step {old} {new} {c} {tasks} {files} {s} r is refused failed loads counts =
+    at-error (λ (x : Result Prepared Status). IsPrepareStep old new c tasks x files) r s is
+    (record { prepared = tt; refused = refused; failed = failed; loads = loads; counts = counts })
 
 -- no load was made
 pub none-made : (shelf : ShelfView) → MakesLoads 0 shelf shelf

@@ -2,6 +2,7 @@ pub mod Asked
 pub mod Admit
 pub mod Generated
 pub mod ToldRuns
+pub mod PlannedRuns
 pub mod Run
 pub mod Poll
 pub mod Least

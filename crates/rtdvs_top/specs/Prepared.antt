@@ -1,11 +1,11 @@
 -- What a command prepares, how its put ends, and what is then known; only for proofs.
-use Rattle.std.specs.Prelude.{ℕ, List, Result, Option, ⊤, ◌≤◌, ◌≡◌, Ok, Some, None, Err, ◌<◌, length, Bool, false, IfOk, IfErr}
+use Rattle.std.specs.Prelude.{ℕ, List, Result, Option, ⊤, ◌≤◌, ◌≡◌, Ok, Some, None, Err, ◌<◌, length, Vec, Bool, false, IfOk, IfErr}
 use Rattle.dvs_base.specs.Outside.{ShelfView, SinkView, Files}
 use Rattle.dvs_base.specs.declared.kind.GovernorKind.{GovernorKind}
 use Rattle.dvs_base.specs.declared.kind.Version.{Version}
 use Rattle.task_model.specs.declared.task.Task.{Task}
 use Rattle.sched_model.specs.Plan.{Plan, count}
-use Rattle.event_kernel.specs.Runs.{Run}
+use Rattle.event_kernel.specs.Runs.{Run, run_for}
 use Rattle.dvs_base.specs.declared.limits.TheConstants.{MOST_TICKS}
 use Rattle.words.specs.Commands.{CommandView, asks_probes, tasks_name, run, admit, traced, poll, least}
 use Rattle.statuses.specs.declared.status.Status.{Status}
@@ -20,11 +20,11 @@ use Rattle.dvs_base.specs.PlanWords.{IsPair}
 use Rattle.poll_server.specs.ServerJobs.{ServerView, request_count}
 use Rattle.poll_server.specs.Outcomes.{ServedView}
 use Rattle.probes.specs.Tallies.{ProbeView}
+use Rattle.probes.specs.Outputs.{Outputs, outputs_of}
 use Rattle.rtdvs_top.specs.declared.prepared.Prepared.{Prepared}
 use Rattle.rtdvs_top.specs.declared.prepared.Prepared.TheVariants as prepared
 use Rattle.std.specs.List.{AllByRecursion}
 use Rattle.replay.specs.Replays.{NamesTask}
-use Rattle.rtdvs_top.specs.declared.prepared.ReadyRun.{ReadyRun}
 use Rattle.statuses.specs.Steps.{EndsWith, Gives, Refuses, CountsStep, IsTestStep}
 use Rattle.command_files.specs.Files.{names_by, loads_needed, MakesLoads}
 use Rattle.command_files.specs.GivenFiles.{Known}
@@ -35,7 +35,7 @@ use Rattle.rtdvs_top.specs.Asked.{asked_with}
 use Rattle.rtdvs_top.specs.ToldRuns.{IfAsked, TellsRun}
 use Rattle.rtdvs_top.specs.Run.{answer_of_plan}
 use Rattle.rtdvs_top.specs.Admit.{admitted_of}
-use Rattle.command_files.specs.PlannedRuns.{run_with, prepared_of, IsRunnable, IsReadyRun}
+use Rattle.rtdvs_top.specs.PlannedRuns.{prepared_of, IsRunnable, IsReadyRun}
 use Rattle.rtdvs_top.specs.Promises.{ProvesTests, TellsProbes, LoadFailed, answer_of_command}
 use Rattle.rtdvs_top.specs.Constrain.{FailsToKeep}
 use Rattle.rtdvs_top.specs.Generated.{workload_tasks, workload_ticks, workload_totals, workload_text}
@@ -52,15 +52,14 @@ use Rattle.freq_table.specs.Tables.{Table}
 abbrev pub answer_of_run : Version → GovernorKind → Run → Result (List ℕ) Status
 answer_of_run v g r = answer_of_plan v g r.demands r.ticks r.plan
 
--- what a call sees: the shelf, the sink of the answer, and the probes
+-- what a call sees: the shelf, and the sink of the answer with the probes
 pub record CallView : Type 0 where
   pub shelf : ShelfView
-  pub out : SinkView
-  pub probes : List ProbeView
+  pub outputs : Outputs
 
--- what a call sees of this shelf, this sink and these probes
-abbrev pub views_of : ShelfView → SinkView → List ProbeView → CallView
-views_of shelf out probes = record { shelf = shelf; out = out; probes = probes }
+-- what a call sees of this shelf and these outputs
+abbrev pub views_of : ShelfView → Outputs → CallView
+views_of shelf outputs = record { shelf = shelf; outputs = outputs }
 
 -- the answer's text was written, or a first part of it, or the answer is refused
 abbrev pub Ends : SinkView → SinkView → Result (List ℕ) Status → Status → Type 0
@@ -80,7 +79,7 @@ EndsAs old new files answer s = Refuses files answer s
 abbrev pub IsKnownDone : Option Files → CommandView → Type 0
 IsKnownDone files (run r) =
     (tasks : List Task) × Gives files (tasks_at r.tasks) tasks
-    × (p : Plan) × (d : DemandsView) × Gives files (prepared_of r tasks) (p, d) × IsReadyRun r.governor (run_with r p d)
+    × (p : Plan) × (d : DemandsView) × Gives files (prepared_of r tasks) (p, d) × IsReadyRun r.governor (run_for p d r.ticks)
 IsKnownDone files (admit a) =
     (tasks : List Task) × Gives files (tasks_at a.tasks) tasks
     × (p : Plan) × Gives files (admitted_of a tasks) p × IsAdmitted p
@@ -109,7 +108,7 @@ HasTaskNames (Some files) c tasks s = status_text (names_of tasks) s ≡ status_
 -- a command was answered with this status, and its tasks if they were read
 pub record IsAnswered (c : CommandView) (old new : CallView) (s : Status) (tasks : Option (List Task)) (files : Option Files) : Type 0 where
   -- the answer's text was written, or a first part of it, or the status is the answer's refusal
-  pub ended : EndsAs old.out new.out files (answer_of_command c) s
+  pub ended : EndsAs old.outputs.sink new.outputs.sink files (answer_of_command c) s
   -- what is known of a run, a replay, a `poll` run or a `least` that is done
   pub met : ProvesDone files c s
   -- what an exact test proves
@@ -123,7 +122,7 @@ pub record IsAnswered (c : CommandView) (old new : CallView) (s : Status) (tasks
   -- the shelf's count of failed loads shows in the status
   pub counts : CountsLoads old.shelf.faults new.shelf.faults s
   -- what the probes were told
-  pub told : TellsProbes (asked_with files c) old.out new.out old.probes new.probes s
+  pub told : TellsProbes (asked_with files c) old.outputs new.outputs s
   -- what the status shows by itself
   pub shown : IsShown s
 
@@ -171,29 +170,25 @@ pub record IsServed (governor : GovernorKind) (ticks : ℕ) (s : ServerView) (r 
   pub served : IfOk r (λ v. v ≡ polling_served governor s ticks)
   pub kept : IfOk r (λ v. HasServed s governor ticks)
 
--- the run that is ready to be written
-abbrev pub ready_run : ReadyRun → Run
-ready_run w = record { plan = w.plan; demands = w.demands; ticks = w.ticks }
-
 -- the answer of what was prepared
 abbrev pub answer_of : Prepared → Result (List ℕ) Status
-answer_of (prepared.Trace w) = answer_of_run w.version w.governor (ready_run w)
+answer_of (prepared.Trace w) = answer_of_run w.version w.governor (run_for w.plan w.demands w.ticks)
 answer_of (prepared.Migrated p t) = Ok (migrated_text p t)
 answer_of (prepared.Line text) = Ok text
 answer_of (prepared.Responses tasks ticks) = Ok (responses_text tasks.now ticks)
 answer_of (prepared.Polled s r) = Ok (polled_text s r)
 answer_of (prepared.Least a) = Ok (least_text a)
-answer_of (prepared.Made made totals) = Ok (workload_text made.seed made.tasks made.ticks)
+answer_of (prepared.Workload made totals) = Ok (workload_text made.seed made.tasks made.ticks)
 
 -- what a put asks of what was prepared
 abbrev pub IsPuttable : Prepared → Type 0
-IsPuttable (prepared.Trace w) = IsRunnable (ready_run w) × IsPair w.plan.scheduler w.governor
+IsPuttable (prepared.Trace w) = IsRunnable (run_for w.plan w.demands w.ticks) × IsPair w.plan.scheduler w.governor
 IsPuttable (prepared.Migrated p t) = IsMigratable p t
 IsPuttable (prepared.Line text) = 0 < length text
 IsPuttable (prepared.Responses tasks ticks) = length ticks ≡ length tasks.now
 IsPuttable (prepared.Polled s r) = length r.outcomes ≡ request_count s
 IsPuttable (prepared.Least a) = ⊤
-IsPuttable (prepared.Made made totals) = totals ≡ workload_totals made.seed made.tasks made.ticks
+IsPuttable (prepared.Workload made totals) = totals ≡ workload_totals made.seed made.tasks made.ticks
 
 -- whether the put tells probes the notes
 abbrev pub tells_probes : Prepared → Bool
@@ -201,25 +196,25 @@ tells_probes (prepared.Trace w) = w.probes
 tells_probes p = false
 
 -- the put of a run that asks for probes told them its notes
-abbrev pub PutTells : Prepared → SinkView → SinkView → List ProbeView → List ProbeView → Status → Type 0
-PutTells (prepared.Trace w) old new before after s =
-    IfAsked w.probes (TellsRun w.version w.governor (ready_run w) old new before after s)
-PutTells p old new before after s = ⊤
+abbrev pub PutTells : Prepared → Outputs → Outputs → Status → Type 0
+PutTells (prepared.Trace w) old new s =
+    IfAsked w.probes (TellsRun w.version w.governor (run_for w.plan w.demands w.ticks) old new s)
+PutTells p old new s = ⊤
 
--- What a put of what was prepared does to the sink and to the probes, each before and after it. They are seen through
--- `shows` and `counts`.
-pub record IsPutStep {W V : Type 0} (out : W × W) (probes : V × V) (shows : W → SinkView) (counts : V → List ProbeView) (p : Prepared)
-    (s : Status) : Type 0 where
+-- What a put of what was prepared does to the sink and to the probes, which are a pair before and after it. They are
+-- seen through `shows` and `seen`.
+pub record IsPutStep {W P A : Type 0} (shows : W → SinkView) (seen : P → ProbeView) (old new : W × Vec P A) (p : Prepared) (s : Status)
+    : Type 0 where
   -- the answer's text was written, or a first part of it, or the answer is refused
-  pub ended : Ends (shows out.0) (shows out.1) (answer_of p) s
+  pub ended : Ends (shows old.0) (shows new.0) (answer_of p) s
   -- no other status is possible
   pub ends : PutEnds (answer_of p) s
   -- if nothing was put the sink is as before
-  pub leaves : Leaves s out.0 out.1
+  pub leaves : Leaves s old.0 new.0
   -- probes that are not told are as before
-  pub kept : LeavesProbes (tells_probes p) s probes.0 probes.1
+  pub kept : LeavesProbes (tells_probes p) s old.1 new.1
   -- the others were told the notes
-  pub told : PutTells p (shows out.0) (shows out.1) (counts probes.0) (counts probes.1) s
+  pub told : PutTells p (outputs_of shows seen old.0 old.1) (outputs_of shows seen new.0 new.1) s
   -- what the status shows by itself
   pub shown : IsShown s
 
@@ -237,8 +232,7 @@ pub record IsPrepared (files : Option Files) (c : CommandView) (tasks : Option (
   pub named : HasTaskNames files c tasks status.Done
   pub met : IsKnownDone files c
   pub tested : (s : Status) → PutEnds (answer_of p) s → ProvesTests (asked_with files c) s
-  pub told : (old new : SinkView) (before after : List ProbeView) (s : Status) → PutTells p old new before after s
-      → TellsProbes (asked_with files c) old new before after s
+  pub told : (old new : Outputs) (s : Status) → PutTells p old new s → TellsProbes (asked_with files c) old new s
 
 -- these are the tasks of a named file, if a file is named; these files hold them
 abbrev pub AreTasksAt : Option Files → Option (List ℕ) → Option (List Task) → Type 0
@@ -290,7 +284,3 @@ pub record IsComparable (p : Plan) (t : TraceView) : Type 0 where
   pub low_ticks : t.plan.ticks ≤ MOST_TICKS
   pub tasks : AllByRecursion (NamesTask (count p)) t.notes
   pub ended : IsEnded t.notes
-
--- the run of a plan with these demands
-abbrev pub run_for : Plan → DemandsView → ℕ → Run
-run_for p d ticks = record { plan = p; demands = d; ticks = ticks }

@@ -2,6 +2,7 @@
 use Rattle.std.specs.Prelude.{◌≡◌, List, Option, Result}
 use Rattle.dvs_base.specs.Outside.{Files, ShelfView, SinkView, Rose}
 use Rattle.probes.specs.Tallies.{ProbeView}
+use Rattle.probes.specs.Outputs.{Outputs}
 use Rattle.words.specs.Commands.{CommandView}
 use Rattle.words.specs.declared.command.WordFault.{WordFault}
 use Rattle.statuses.specs.declared.status.Status.{Status}
@@ -21,6 +22,10 @@ pub record Outside : Type 0 where
 -- what a call sees through these views
 abbrev pub outside_of : ShelfView → SinkView → SinkView → List ProbeView → Outside
 outside_of shelf out notes probes = record { shelf = shelf; out = out; notes = notes; probes = probes }
+
+-- its sink of the answer, with the probes
+abbrev pub outputs : Outside → Outputs
+outputs seen = record { sink = seen.out; probes = seen.probes }
 
 -- What a call promises of a command, or of refused words, over these files; over none, what it promises over
 -- any files.
@@ -42,7 +47,7 @@ pub record Promised (command : Result CommandView WordFault) (old new : Outside)
   pub least : ProvesLeast (asked_of files command) old.out new.out s
   -- what is on `notes`, and what the probes were told
   pub notes : PutsNotes (asked_of files command) new.probes s old.notes new.notes
-  pub told : TellsProbes (asked_of files command) old.out new.out old.probes new.probes s
+  pub told : TellsProbes (asked_of files command) (outputs old) (outputs new) s
   -- which loads were made, and that a sink which is sure of the answer doesn't fail
   pub shelf : MakesLoads (loads_wanted files command) old.shelf new.shelf
   pub sure : IsSureOf (asked_of files command) old.out → new.out.faults ≡ old.out.faults

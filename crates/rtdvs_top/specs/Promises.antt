@@ -21,10 +21,11 @@ use Rattle.freq_table.specs.Tables.{Table, lowest_entry}
 use Rattle.sched_model.specs.Tests.{total_rate, level_work}
 use Rattle.sched_model.specs.Jobs.{released_jobs}
 use Rattle.rm_admit.specs.Denials.{IsFirstOverloaded}
-use Rattle.event_kernel.specs.Runs.{Run}
+use Rattle.event_kernel.specs.Runs.{Run, run_for}
 use Rattle.dvs_base.specs.declared.limits.TheConstants.{MOST_JOBS}
 use Rattle.energy_bound.specs.declared.least.Least.{Least}
 use Rattle.probes.specs.Tallies.{ProbeView}
+use Rattle.probes.specs.Outputs.{Outputs}
 use Rattle.poll_server.specs.ServerJobs.{ServerView}
 use Rattle.statuses.specs.declared.status.Denied.TheVariants as denied
 use Rattle.command_files.specs.Meanings.{tasks_at, machine_at, demands_at, server_at}
@@ -32,7 +33,7 @@ use Rattle.rtdvs_top.specs.Trace.{trace_at, trace_answer}
 use Rattle.rtdvs_top.specs.Poll.{requests_at, poll_answer, polling_of, HasServed}
 use Rattle.rtdvs_top.specs.Asked.{Asked, with_files, without_files, refused_words}
 use Rattle.rtdvs_top.specs.Run.{run_answer, HasMet, TellsFileRun, text_under}
-use Rattle.command_files.specs.PlannedRuns.{prepared_of, run_with}
+use Rattle.rtdvs_top.specs.PlannedRuns.{prepared_of}
 use Rattle.rtdvs_top.specs.Admit.{admit_answer}
 use Rattle.command_files.specs.Admissions.{admission}
 use Rattle.rtdvs_top.specs.Generated.{workload_answer}
@@ -182,7 +183,7 @@ abbrev pub ProvesRun : Asked → SinkView → SinkView → Status → Type 0
 ProvesRun (with_files files (run r)) old new status.Done =
     (tasks : List Task) × (machine : Table) × (demands : DemandsView) × MeansRun r files tasks machine demands
     × (prepared_of r tasks files ≡ Ok (plan_of tasks machine r.scheduler, demands))
-    × IsDoneRun r.version r.governor (run_with r (plan_of tasks machine r.scheduler) demands) old new
+    × IsDoneRun r.version r.governor (run_for (plan_of tasks machine r.scheduler) demands r.ticks) old new
 ProvesRun (with_files files (run r)) old new (status.NotAdmitted why) =
     (tasks : List Task) × (machine : Table) × (demands : DemandsView) × MeansRun r files tasks machine demands
     × IsDeniedBy (plan_of tasks machine r.scheduler) why
@@ -218,7 +219,7 @@ IsDoneOrDenied (with_files files (run r)) loads_rose old new s =
     (tasks : List Task) (machine : Table) (demands : DemandsView) → MeansRun r files tasks machine demands
     → released_jobs (plan_of tasks machine r.scheduler) r.ticks ≤ MOST_JOBS
     → (loads_rose → ⊥) → (Rose old.faults new.faults → ⊥) → s ≢ status.NoMemory
-    → RunsOrIsDenied r.version r.governor (run_with r (plan_of tasks machine r.scheduler) demands) old new s
+    → RunsOrIsDenied r.version r.governor (run_for (plan_of tasks machine r.scheduler) demands r.ticks) old new s
 IsDoneOrDenied (with_files files (response r)) loads_rose old new s =
     (tasks : List Task) (machine : Table) → MeansPlan r files tasks machine
     → (loads_rose → ⊥) → (Rose old.faults new.faults → ⊥) → s ≢ status.NoMemory
@@ -246,13 +247,9 @@ PutsNotes (without_files c) ps s old new =
 
 -- The probes that the words ask for were told the notes of a run that is done. Of a run whose write failed they were told
 -- the notes of the lines before that write.
-abbrev pub TellsProbes : Asked → SinkView → SinkView → List ProbeView → List ProbeView → Status → Type 0
-TellsProbes (with_files files (run r)) old new before after status.Done =
-    TellsFileRun (Some files) r old new before after status.Done
-TellsProbes (with_files files (run r)) old new before after status.Write =
-    TellsFileRun (Some files) r old new before after status.Write
-TellsProbes (without_files (run r)) old new before after status.Done =
-    TellsFileRun None r old new before after status.Done
-TellsProbes (without_files (run r)) old new before after status.Write =
-    TellsFileRun None r old new before after status.Write
-TellsProbes a old new before after s = ⊤
+abbrev pub TellsProbes : Asked → Outputs → Outputs → Status → Type 0
+TellsProbes (with_files files (run r)) old new status.Done = TellsFileRun (Some files) r old new status.Done
+TellsProbes (with_files files (run r)) old new status.Write = TellsFileRun (Some files) r old new status.Write
+TellsProbes (without_files (run r)) old new status.Done = TellsFileRun None r old new status.Done
+TellsProbes (without_files (run r)) old new status.Write = TellsFileRun None r old new status.Write
+TellsProbes a old new s = ⊤

@@ -1,7 +1,7 @@
 -- The answer of `run`, and what a run that is done has met.
 use Rattle.std.specs.Prelude.{◌≡◌, ℕ, List, nat_lt, Result, Ok, Err, if◌then◌else◌, Option}
 use Rattle.dvs_base.specs.Checks.{◌>>=◌}
-use Rattle.dvs_base.specs.Outside.{Files, SinkView}
+use Rattle.dvs_base.specs.Outside.{Files}
 use Rattle.dvs_base.specs.declared.kind.GovernorKind.{GovernorKind}
 use Rattle.dvs_base.specs.declared.kind.GovernorKind.TheVariants.{Fixed}
 use Rattle.dvs_base.specs.declared.kind.Version.{Version}
@@ -11,8 +11,8 @@ use Rattle.sched_model.specs.Demand.{IsAlwaysMet}
 use Rattle.sched_model.specs.Plan.{Plan}
 use Rattle.sched_model.specs.Jobs.{demand_of, released_jobs, JobDemands}
 use Rattle.trace_writer.specs.RunText.{run_text_in}
-use Rattle.event_kernel.specs.Runs.{Run, demands_of}
-use Rattle.probes.specs.Tallies.{ProbeView}
+use Rattle.event_kernel.specs.Runs.{Run, run_for, demands_of}
+use Rattle.probes.specs.Outputs.{Outputs}
 use Rattle.dvs_base.specs.declared.limits.TheConstants.{MOST_JOBS}
 use Rattle.words.specs.Commands.{RunView}
 use Rattle.statuses.specs.declared.status.Status.{Status}
@@ -27,7 +27,7 @@ use Rattle.trace_laws.specs.DoneLines.{TellsDeadlines}
 use Rattle.statuses.specs.Steps.{Gives}
 use Rattle.command_files.specs.Meanings.{tasks_at}
 use Rattle.rtdvs_top.specs.ToldRuns.{IfAsked, TellsRun}
-use Rattle.command_files.specs.PlannedRuns.{prepared_of, run_with}
+use Rattle.rtdvs_top.specs.PlannedRuns.{prepared_of}
 
 -- the text, if the run doesn't release too many jobs
 abbrev pub within_jobs : ℕ → List ℕ → Result (List ℕ) Status
@@ -87,8 +87,8 @@ pub record HasMet (v : Version) (kind : GovernorKind) (r : Run) : Type 0 where
 
 -- a run of its file's tasks told probes the notes of the plan and the demands that were prepared, if the words ask for
 -- probes
-abbrev pub TellsFileRun : Option Files → RunView → SinkView → SinkView → List ProbeView → List ProbeView → Status → Type 0
-TellsFileRun files r old new before after s =
+abbrev pub TellsFileRun : Option Files → RunView → Outputs → Outputs → Status → Type 0
+TellsFileRun files r old new s =
     (tasks : List Task) × Gives files (tasks_at r.tasks) tasks
     × IfAsked r.probes ((p : Plan) × (d : DemandsView) × Gives files (prepared_of r tasks) (p, d)
-    × TellsRun r.version r.governor (run_with r p d) old new before after s)
+    × TellsRun r.version r.governor (run_for p d r.ticks) old new s)

@@ -1,8 +1,9 @@
 // The answer to a command: its tasks are read, it prepares the rest, and that is put.
 ghost use Rattle.command_files.specs.GivenFiles.{ForFiles};
-ghost use Rattle.std.specs.Prelude.{◌≡◌, map};
+ghost use Rattle.std.specs.Prelude.{◌≡◌};
 ghost use Rattle.words.specs.Commands.{IsReadyCommand, asks_probes};
 ghost use Rattle.words.specs.Shown.{shown_command};
+ghost use Rattle.probes.specs.Outputs.{outputs_of};
 ghost use Rattle.statuses.specs.Status.{Leaves, LeavesProbes};
 ghost use Rattle.rtdvs_top.specs.Prepared.{IsAnswered, IsTasksStep, views_of, status_of_put};
 
@@ -51,8 +52,8 @@ pub(crate) fn answer_command<S: Shelf, W: Sink, P: Probe>(
 ) -> (Status, Option<TaskSet>)
     requires { IsReadyCommand (shown_command command.now) }
     ensures answered { ForFiles (S.shows shelf.old) (S.shows shelf.new) (IsAnswered (shown_command command.now)
-        (views_of (S.shows shelf.old) (W.shows out.old) (map P.seen probes.old.items))
-        (views_of (S.shows shelf.new) (W.shows out.new) (map P.seen probes.new.items)) result.0 result.1) }
+        (views_of (S.shows shelf.old) (outputs_of W.shows P.seen out.old probes.old))
+        (views_of (S.shows shelf.new) (outputs_of W.shows P.seen out.new probes.new)) result.0 result.1) }
     ensures leaves { Leaves result.0 out.old out.new }
     ensures kept { LeavesProbes (asks_probes (shown_command command.now)) result.0 probes.old probes.new }
 {

@@ -4,9 +4,9 @@ ghost use Rattle.sched_model.specs.States.{opening};
 ghost use Rattle.sched_model.specs.Totals.{totals_of};
 ghost use Rattle.sched_model.specs.Jobs.{released_jobs};
 ghost use Rattle.dvs_base.specs.declared.limits.TheConstants.{MOST_JOBS};
-ghost use Rattle.event_kernel.specs.Runs.{IsListOf, notes_of_run};
-ghost use Rattle.rtdvs_top.specs.Prepared.{run_for, IsSmall, IsPrepared};
-ghost use Rattle.command_files.specs.PlannedRuns.{IsRunnable};
+ghost use Rattle.event_kernel.specs.Runs.{IsListOf, notes_of_run, run_for};
+ghost use Rattle.rtdvs_top.specs.Prepared.{IsSmall, IsPrepared};
+ghost use Rattle.rtdvs_top.specs.PlannedRuns.{IsRunnable};
 ghost use Rattle.rtdvs_top.specs.Generated.{workload_plan, workload_demands, run_totals, edf_totals, workload_totals, head_text, totals_text, workload_text};
 ghost use Rattle.words.specs.Commands.{workload as workload_of};
 ghost use Rattle.dvs_base.specs.WritesText.{WritesText};
@@ -28,7 +28,7 @@ use trace_text::{governor_word, write_note};
 use workload::make;
 
 // The admitted plan of the generated tasks, and the demands of their jobs. It fails only if memory runs out.
-fn made_plan(alloc: Global, made: Workload) -> Result<(Admitted, Demands), NoMemory>
+fn workload_plan(alloc: Global, made: Workload) -> Result<(Admitted, Demands), NoMemory>
     requires { IsSmall made }
     ensures plan { IfOk result (λ x. x.0 ≡ workload_plan made.seed made.tasks) }
     ensures demands { IfOk result (λ x. x.1 ≡ workload_demands made.seed made.tasks) }
@@ -68,7 +68,7 @@ impl<'a> Listener for VoidWriter<'a> {
 }
 
 // Runs a kernel, puts the lines of its notes into a sink that keeps nothing, and returns the totals.
-fn drive_away<G: Governor>(kernel: Kernel<'_, G>, names: &[Name]) -> Totals
+fn written_totals<G: Governor>(kernel: Kernel<'_, G>, names: &[Name]) -> Totals
     ensures { result ≡ totals_of (notes_of_run G.demand kernel.entry) }
 {
     let mut writer = VoidWriter {
@@ -80,7 +80,7 @@ fn drive_away<G: Governor>(kernel: Kernel<'_, G>, names: &[Name]) -> Totals
     told.unwrap()
 }
 
-// The totals of a run of `ticks` ticks under a governor that takes the place of the opening of its plan.
+// The totals of a run of `ticks` ticks under a governor whose counters are right for the opening state of its plan.
 fn totals_from_opening<G: Governor>(
     alloc: Global,
     plan: &Admitted,
@@ -94,7 +94,7 @@ fn totals_from_opening<G: Governor>(
     ensures { IfOk result (λ t. t ≡ totals_of (notes_of_run G.demand (run_for plan.now demands.now ticks))) }
 {
     match Kernel::new(alloc, plan, demands, governor, ticks) {
-        Ok(kernel) => Ok(drive_away(kernel, plan.names())),
+        Ok(kernel) => Ok(written_totals(kernel, plan.names())),
         Err(KernelFault::TooManyJobs { .. }) => unreachable!(),
         Err(KernelFault::NoMemory) => Err(NoMemory),
     }
@@ -139,11 +139,11 @@ fn edf_totals(
 }
 
 /// The totals of the runs of a workload under each governor that serves EDF. It fails only if memory runs out.
-pub(crate) fn made_totals(alloc: Global, made: Workload) -> Result<EdfTotals, NoMemory>
+pub(crate) fn workload_totals(alloc: Global, made: Workload) -> Result<EdfTotals, NoMemory>
     requires { IsSmall made }
     ensures { IfOk result (λ t. t ≡ workload_totals made.seed made.tasks made.ticks) }
 {
-    let (plan, demands) = made_plan(alloc, made)?;
+    let (plan, demands) = workload_plan(alloc, made)?;
     edf_totals(alloc, &plan, &demands, made.ticks)
 }
 
@@ -191,7 +191,7 @@ fn totals_line(governor: GovernorKind, totals: Totals) -> Line
 }
 
 /// Puts the lines of a workload whose runs have these totals: the first line, and one for each governor.
-pub(crate) fn put_made<W: Sink>(
+pub(crate) fn put_workload<W: Sink>(
     made: Workload,
     totals: &EdfTotals,
     out: &mut W,
@@ -218,6 +218,6 @@ pub(crate) fn prepare_workload<'a>(alloc: Global, seed: u64) -> Result<Prepared<
         tasks: TASKS,
         ticks: TICKS,
     };
-    let totals = made_totals(alloc, made)?;
-    Ok(Prepared::Made(made, totals))
+    let totals = workload_totals(alloc, made)?;
+    Ok(Prepared::Workload(made, totals))
 }

@@ -11,6 +11,7 @@ mod at_pair;
 mod constrain;
 mod generated;
 mod least;
+mod planned;
 mod poll;
 mod prepare;
 mod prepared;

@@ -72,5 +72,5 @@ pub(crate) enum Prepared<'a> {
     Polled(Polling, Served),
     Least(Least),
     /// A generated workload, and the totals of its runs.
-    Made(Workload, EdfTotals),
+    Workload(Workload, EdfTotals),
 }

@@ -1,20 +1,19 @@
-// The run of an admitted plan, and what `run` prepares.
-ghost use Rattle.std.specs.Prelude.{◌≡◌, map, Some};
+// What `run` prepares, and the run of an admitted plan.
+ghost use Rattle.std.specs.Prelude.{◌≡◌, Some};
 ghost use Rattle.statuses.specs.Steps.{Gives};
 ghost use Rattle.command_files.specs.Meanings.{tasks_at};
-ghost use Rattle.dvs_base.specs.PlanWords.{IsPair};
 ghost use Rattle.words.specs.Commands.{IsReady, run as run_of};
 ghost use Rattle.words.specs.Shown.{shown_run};
-ghost use Rattle.rtdvs_top.specs.Prepared.{IsPrepareStep, ForFilesWith, IsPutStep, ready_run, status_of_put, status_of_writing};
-ghost use Rattle.command_files.specs.PlannedRuns.{IsRunnable};
+ghost use Rattle.rtdvs_top.specs.Prepared.{IsPrepareStep, ForFilesWith, IsPutStep, status_of_put, status_of_writing};
+ghost use Rattle.rtdvs_top.specs.PlannedRuns.{IsRunnable};
 ghost use Rattle.rtdvs_top.specs.declared.prepared.Prepared.TheVariants as prepared;
+ghost use Rattle.event_kernel.specs.Runs.{run_for};
 
 use crate::Status;
-use crate::at_pair::at_pair;
+use crate::planned::load_planned;
 use crate::prepared::{Prepared, ReadyRun};
-use command_files::load_planned;
-use dvs_base::{Shelf, Sink, Totals};
-use event_kernel::{Kernel, KernelFault, WriteFault};
+use dvs_base::{Shelf, Sink};
+use event_kernel::{Kernel, KernelFault};
 use governor::Publishing;
 use probes::Probe;
 use std::alloc::Global;
@@ -44,27 +43,28 @@ pub(crate) fn prepare_run<'a, S: Shelf>(
     }))
 }
 
-// How the put of a run ends.
-fn written(wrote: Result<Totals, WriteFault>) -> Result<(), Status>
+/// How a put ends: `Write` if it failed.
+pub(crate) fn ended<T: Drop, E: Drop>(wrote: Result<T, E>) -> Result<(), Status>
     ensures { status_of_put result ≡ status_of_writing wrote }
 {
     match wrote {
         Ok(_) => Ok(()),
-        Err(WriteFault) => Err(Status::Write),
+        Err(_) => Err(Status::Write),
     }
 }
 
-// Writes the trace of a run under governor `G`, and tells it to the probes if they are asked for.
-fn run_governed<G: Publishing, W: Sink, P: Probe>(
+/// Writes the trace of a run under governor `G`. The probes are told its notes if they are asked for, and otherwise left
+/// as they are.
+pub(crate) fn run_governed<G: Publishing, W: Sink, P: Probe>(
     alloc: Global,
     run: &ReadyRun,
     out: &mut W,
     probes: &mut Vec<P>,
 ) -> Result<(), Status>
-    requires run { IsRunnable (ready_run run.now) }
+    requires run { IsRunnable (run_for run.now.plan run.now.demands run.now.ticks) }
     requires serves { G.serves run.now.plan.scheduler }
-    ensures { run.now.governor ≡ G.the_kind → IsPutStep (out.old, out.new) (probes.old, probes.new) W.shows
-        (λ v. map P.seen v.items) (prepared.Trace run.now) (status_of_put result) }
+    ensures { run.now.governor ≡ G.the_kind → IsPutStep W.shows P.seen (out.old, probes.old) (out.new, probes.new)
+        (prepared.Trace run.now) (status_of_put result) }
 {
     let _worsts = run.demands.worsts();
     let _admitted = run.plan.scheduler();
@@ -75,33 +75,8 @@ fn run_governed<G: Publishing, W: Sink, P: Probe>(
         Err(KernelFault::NoMemory) => return Err(Status::NoMemory),
     };
     if run.probes {
-        return written(kernel.run(out, probes, run.version));
+        return ended(kernel.run(out, probes, run.version));
     }
     let mut none: Vec<P> = Vec::new(alloc);
-    written(kernel.run(out, &mut none, run.version))
-}
-
-/// Writes the trace of a run of an admitted plan, under the governor of its pair. The probes are told its notes if
-/// they are asked for, and otherwise left as they are.
-pub(crate) fn put_run<W: Sink, P: Probe>(
-    alloc: Global,
-    run: &ReadyRun,
-    out: &mut W,
-    probes: &mut Vec<P>,
-) -> Result<(), Status>
-    requires run { IsRunnable (ready_run run.now) }
-    requires pair { IsPair run.now.plan.scheduler run.now.governor }
-    ensures { IsPutStep (out.old, out.new) (probes.old, probes.new) W.shows (λ v. map P.seen v.items)
-        (prepared.Trace run.now) (status_of_put result) }
-{
-    at_pair!(
-        run.plan.scheduler(),
-        run.governor,
-        run_governed,
-        [W, P],
-        alloc,
-        run,
-        out,
-        probes
-    )
+    ended(kernel.run(out, &mut none, run.version))
 }

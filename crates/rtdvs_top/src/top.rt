@@ -15,10 +15,16 @@ use statuses::{note_end, note_status};
 use std::alloc::Global;
 use words::read_words;
 
-/// Does what the words ask for: writes the trace of a run, decides whether a task set is admitted, writes the totals of
-/// a generated workload's runs, decides whether a trace is that of the run that it describes, or writes it in version
-/// 2, writes the responses of a task set under RM, the lowest speed for deadlines below the periods under EDF, when a
-/// server serves requests, or the minimum energy for some units in some ticks with its certificate.
+/// Does what the words ask for:
+///
+/// - `run`: writes the trace of a run
+/// - `admit`: decides whether a task set is admitted
+/// - `replay`, `migrate`: decides whether a trace is that of the run that it describes; writes it in version 2
+/// - `workload`: writes the totals of a generated workload's runs
+/// - `response`: writes the responses of a task set under RM
+/// - `constrain`: writes the lowest speed for deadlines below the periods under EDF
+/// - `poll`: writes when a server serves requests
+/// - `least`: writes the minimum energy for some units in some ticks, with its certificate
 ///
 /// The answer goes to `out`, and the line of a refusal to `notes`. After a run with `--probes` that is done, the line of
 /// each probe that is left goes to `notes`. Two things are tested, not proved: each put has one line, and after the

@@ -1,8 +1,8 @@
 -- Two published demands that agree on every schedule give one schedule, and its notes.
 use Rattle.std.proofs.lemmas.Bool.Decides.{nat_tests}
-use Rattle.std.proofs.Common.{◌≡◌, ℕ, zero, suc, List, [], ◌∷◌, ◌++◌, length, sum_by, refl, if◌then◌else◌, ap, ap₂, ◌∙◌, sym, arith}
+use Rattle.std.proofs.Common.{◌≡◌, ℕ, zero, suc, List, [], ◌∷◌, ◌++◌, length, refl, if◌then◌else◌, ap, ap₂, ◌∙◌, sym, arith}
 use Rattle.dvs_base.specs.declared.note.Note.{Note}
-use Rattle.dvs_base.specs.declared.note.Note.TheVariants.{Speed, End}
+use Rattle.dvs_base.specs.declared.note.Note.TheVariants.{Speed}
 use Rattle.grid_fraction.specs.declared.Frac.{Frac}
 use Rattle.freq_table.specs.Tables.{lowest_entry}
 use Rattle.sched_model.specs.Plan.{Plan, point}
@@ -10,7 +10,7 @@ use Rattle.sched_model.specs.Jobs.{JobDemands}
 use Rattle.sched_model.specs.Ticks.{PublishedDemand, Tick}
 use Rattle.sched_model.specs.Decision.{is_decision}
 use Rattle.sched_model.specs.Schedule.{entry_in_force, IsScheduleBy, schedule_by}
-use Rattle.sched_model.specs.Notes.{Span, pieces_of, all_release_notes, pieces_notes, notes_before_end, notes_of, run_energy_told, idle_energy_told}
+use Rattle.sched_model.specs.Notes.{Span, pieces_of, all_release_notes, pieces_notes, notes_before_end, notes_of}
 use Rattle.sched_model.proofs.Spans.{notes-span, IsLastSpan, by-spans}
 use Rattle.sched_model.proofs.Schedules.{schedule_exists}
 
@@ -49,5 +49,4 @@ module _ (p : Plan) (dem : JobDemands) (a b : PublishedDemand) (agree : AgreeOnS
           ∙ sym (notes-span p dem b (x ∷ past) s.past s l.spans))
 
   pub same-notes : (ask : PublishedDemand) (ticks : List Tick) → IsScheduleBy p dem ask ticks → notes_of p dem a ticks ≡ notes_of p dem b ticks
-  same-notes ask ticks h =
-      ap (λ (notes : List Note). notes ++ End (length ticks) (sum_by run_energy_told notes) (sum_by idle_energy_told notes) ∷ []) (same-before-end ask ticks h)
+  same-notes ask ticks h = grind (arith, nat_tests, same-before-end)

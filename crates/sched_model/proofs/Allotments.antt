@@ -1,6 +1,6 @@
--- Units handed out in order: each task gets its allotment, and a set of tasks that has, with each task, those before it
--- gets the smaller of the room and what it needs.
-use Rattle.std.proofs.Common.{◌≡◌, ◌≢◌, ℕ, zero, suc, ◌+◌, ◌<◌, min, Bool, true, false, eqb, ◌||◌, ◌⊎◌, inl, inr, refl, arith, if◌then◌else◌, ap, ◌∙◌, sym, subst, true≢false, nat_le, ◌-◌, ap₂, ◌≤◌}
+-- Units handed out in order: each task gets its allotment. A set of tasks is closed under priority if it has, with each
+-- task, those before it; it gets the smaller of the room and what it needs.
+use Rattle.std.proofs.Common.{◌≡◌, ◌≢◌, ℕ, zero, suc, ◌+◌, ◌<◌, min, Bool, true, false, eqb, ◌||◌, ◌⊎◌, inl, inr, refl, arith, if◌then◌else◌, ap, ◌∙◌, sym, subst, true≢false, nat_le, ◌-◌, ◌≤◌}
 use Rattle.std.proofs.lemmas.Bool.{or_left, or_right, or_from}
 use Rattle.std.proofs.lemmas.Bool.Decides.{nat_tests}
 use Rattle.grid_fraction.specs.Numbers.{sum_where, sum_below}
@@ -67,7 +67,7 @@ last_of key test (suc m) = go (test m) refl (last_of key test m)
 pub sum_where-none : (n : ℕ) (test : ℕ → Bool) (f : ℕ → ℕ) → NonePasses test n → sum_where n test f ≡ 0
 sum_where-none n test f none = sum_below-zero n (λ k. if test k then f k else 0) (λ k lt. rw (none k lt) refl)
 
--- a set that has, with each task, those before it consists of its last task and those before that one
+-- a set that is closed under priority consists of its last task and those before that one
 pub sum_where-last : (n : ℕ) (key : ℕ → ℕ) (test : ℕ → Bool) (f : ℕ → ℕ) (i : ℕ)
     → ((j k : ℕ) → j < n → k < n → stands_before key j k ≡ true → test k ≡ true → test j ≡ true)
     → IsLastOf key test n i → sum_where n test f ≡ sum_up_to n key f i
@@ -91,7 +91,7 @@ sum_where-last n key test f i down r =
         not_before true q = absurd (true≢false (sym (down k i lt r.below q r.passes) ∙ g))
         not_before false q = q
 
--- a set that has, with each task, those before it gets the smaller of the room and what it needs
+-- a set that is closed under priority gets the smaller of the room and what it needs
 pub down-set-gets : (n : ℕ) (key : ℕ → ℕ) (test : ℕ → Bool) (room : ℕ) (need given : ℕ → ℕ)
     → ((j i : ℕ) → j < n → i < n → stands_before key j i ≡ true → test i ≡ true → test j ≡ true)
     → SharesOut n key room need given → sum_where n test given ≡ min room (sum_where n test need)
@@ -106,20 +106,17 @@ down-set-gets n key test room need given down h = go (last_of key test n)
 -- under EDF: the tasks due by d get the smaller of the room and what they need
 pub due_by_gets : (n : ℕ) (due : ℕ → ℕ) (d room : ℕ) (need given : ℕ → ℕ) → SharesOut n due room need given
     → sum_where n (λ k. nat_le (due k) d) given ≡ min room (sum_where n (λ k. nat_le (due k) d) need)
-due_by_gets n due d room need given h =
-    down-set-gets n due (λ k. nat_le (due k) d) room need given (λ j i lj li b t. grind (arith, nat_tests)) h
+due_by_gets n due d room need given h = grind (arith, nat_tests, down-set-gets n due)
 
 -- what the tasks before i get when `room` units are shared out by the order
 pub before_gets : (n : ℕ) (key : ℕ → ℕ) (room : ℕ) (need given : ℕ → ℕ) → SharesOut n key room need given
     → (i : ℕ) → sum_before n key given i ≡ min room (sum_before n key need i)
-before_gets n key room need given h i =
-    down-set-gets n key (λ k. stands_before key k i) room need given (λ j k lj lk b t. before-trans key j k i b t) h
+before_gets n key room need given h i = grind (arith, nat_tests, before-trans key, down-set-gets n key)
 
 -- if units are shared out by the order, each task gets its allotment
 pub allotment_of : (n : ℕ) (key : ℕ → ℕ) (room : ℕ) (need given : ℕ → ℕ) → SharesOut n key room need given
     → (i : ℕ) → i < n → given i ≡ allotment n key room need i
-allotment_of n key room need given h i lt =
-    omega (arith, h i lt, before_gets n key room need given h i)
+allotment_of n key room need given h i lt = grind (arith, nat_tests, before_gets)
 
 -- the allotments share out `room` units by the order
 shares_by_rank : (n : ℕ) (key : ℕ → ℕ) (room : ℕ) (need : ℕ → ℕ) (m i : ℕ) → i < n → sum_before n key (λ _. 1) i < m
@@ -158,8 +155,7 @@ shares-same n key room need a b e h i lt = grind (arith, nat_tests, sum_where-sa
 -- an allotment depends only on the needs of the tasks
 pub allotment-same : (n : ℕ) (key : ℕ → ℕ) (room : ℕ) (f g : ℕ → ℕ) → ((j : ℕ) → j < n → f j ≡ g j) → (k : ℕ) → k < n
     → allotment n key room f k ≡ allotment n key room g k
-allotment-same n key room f g e k lt =
-    ap₂ (λ a b. min room (a + b) - min room a) (sum_where-same n (λ j. stands_before key j k) f g e) (e k lt)
+allotment-same n key room f g e k lt = grind (arith, nat_tests, sum_where-same)
 
 -- if j comes before i, the need of the tasks up to j is at most the need of the tasks before i
 pub up_to-before : (n : ℕ) (key f : ℕ → ℕ) (j i : ℕ) → j < n → stands_before key j i ≡ true → sum_up_to n key f j ≤ sum_before n key f i
@@ -243,3 +239,16 @@ handed-step n key room need given given' rest i h pos o here there = record {
 pub handed-end : (n : ℕ) (key : ℕ → ℕ) (room : ℕ) (need given : ℕ → ℕ) (rest : ℕ) → IsHandedOut n key room need given rest
     → (rest ≡ 0) ⊎ ((k : ℕ) → k < n → need k ≤ given k) → (i : ℕ) → i < n → given i ≡ allotment n key room need i
 handed-end n key room need given rest h e i lt = grind (arith, nat_tests)
+
+-- if task j gets some units, each task before it gets all that it needs
+pub allotment-full : (n : ℕ) (key : ℕ → ℕ) (room : ℕ) (need : ℕ → ℕ) (k j : ℕ) → k < n → stands_before key k j ≡ true
+    → 0 < allotment n key room need j → allotment n key room need k ≡ need k
+allotment-full n key room need k j lt h pos = grind (arith, up_to-before)
+
+-- if task j gets less than it needs, each task after it gets no unit
+pub allotment-none : (n : ℕ) (key : ℕ → ℕ) (room : ℕ) (need : ℕ → ℕ) (j k : ℕ) → j < n → stands_before key j k ≡ true
+    → allotment n key room need j < need j → allotment n key room need k ≡ 0
+allotment-none n key room need j k lt h less = grind (arith, up_to-before)
+
+pub allotment-most : (n : ℕ) (key : ℕ → ℕ) (room : ℕ) (need : ℕ → ℕ) (k : ℕ) → allotment n key room need k ≤ need k
+allotment-most n key room need k = omega arith

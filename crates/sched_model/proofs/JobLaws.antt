@@ -43,8 +43,7 @@ due-suc p i k = omega (arith, add-mul k 1 (period p i), one-mul (period p i))
 
 pub release-due : (p : Plan) (i k : ℕ) → 1 ≤ k → release p i k + period p i ≡ due p i k
 release-due p i zero one = absurd (omega arith)
-release-due p i (suc k) one =
-    ap (λ m. release p i m + period p i) (sym (add-one k)) ∙ (ap (λ r. r + period p i) (release-suc p i k) ∙ (sym (due-suc p i k) ∙ ap (due p i) (add-one k)))
+release-due p i (suc k) one = grind (arith, nat_tests, add-one k, due-suc p i k, release-suc p i k)
 
 -- the latest job is the one that is released, unless it is job 0, and not yet due
 pub latest-unique : (p : Plan) (i k t : ℕ) → (0 < k → release p i k ≤ t) → t < due p i k → latest p i t ≡ k
@@ -160,5 +159,4 @@ latest_since-le p i t pos lt = grind (arith, nat_tests, latest_since-pos, releas
 
 -- the latest job was the latest at the last release too
 pub latest-marked : (p : Plan) (i t : ℕ) → 0 < period p i → i < count p → latest p i (last_release p t) ≡ latest p i t
-latest-marked p i t pos lt =
-    latest-unique p i (latest p i t) (last_release p t) (released-before p i t pos lt) (omega (arith, last_release-le p t, lt-due p i t pos))
+latest-marked p i t pos lt = grind (arith, nat_tests, last_release-le p t, latest-unique p i, lt-due p i t pos, released-before p i t pos lt)

@@ -16,8 +16,7 @@ if-times : (b : Bool) (h x : ℕ) → h * (if b then x else 0) ≡ (if b then h 
 if-times b h x = grind arith
 
 pub sum_where-mono : (n : ℕ) (test : ℕ → Bool) (f g : ℕ → ℕ) → ((k : ℕ) → k < n → test k ≡ true → f k ≤ g k) → sum_where n test f ≤ sum_where n test g
-sum_where-mono n test f g h =
-    sum_below-le n (λ k. if test k then f k else 0) (λ k. if test k then g k else 0) (λ k lt. if-mono (test k) (f k) (g k) (h k lt))
+sum_where-mono n test f g h = grind (arith, nat_tests, if-mono, sum_below-le)
 
 pub sum_where-plus : (n : ℕ) (test : ℕ → Bool) (f g : ℕ → ℕ) → sum_where n test (λ k. f k + g k) ≡ sum_where n test f + sum_where n test g
 sum_where-plus n test f g =
@@ -72,8 +71,7 @@ sum_up_to-where n key f i lt =
 -- a level gets the smaller of the room and what it needs
 pub level-gets : (n : ℕ) (key : ℕ → ℕ) (room : ℕ) (need given : ℕ → ℕ) → SharesOut n key room need given
     → (i : ℕ) → sum_where n (is_up_to key i) given ≡ min room (sum_where n (is_up_to key i) need)
-level-gets n key room need given h i =
-    down-set-gets n key (is_up_to key i) room need given (λ j k lj lk b t. up_to-trans key j k i b t) h
+level-gets n key room need given h i = grind (arith, nat_tests, down-set-gets n key, up_to-trans key)
 
 -- no task gets more than it needs
 pub share-most : (n : ℕ) (key : ℕ → ℕ) (room : ℕ) (need given : ℕ → ℕ) → SharesOut n key room need given

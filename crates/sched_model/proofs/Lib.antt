@@ -1,6 +1,5 @@
 pub mod Orders
 pub mod JobLaws
-pub mod Tables
 pub mod PieceLemmas
 pub mod AgreedDemands
 pub mod Allotments
@@ -16,3 +15,6 @@ pub mod Units
 pub mod Spans
 pub mod Walk
 pub mod NoteSums
+pub mod PutOffWork
+pub mod SpanPieces
+pub mod Lacks

@@ -57,10 +57,8 @@ module _ (p : Plan) (lim : IsWithinLimits p) where
   low_hyper = lim.tasks.hyper
 
   pub period_divides : (i : ℕ) → i < count p → hyper p / period p i * period p i ≡ hyper p
-  period_divides i h =
-      rw (period_in i h) at (mul-div-least_common_multiple (map (λ t. t.period) p.tasks) i 1 each_some (omega (arith, length-map p.tasks (λ t. t.period))))
+  period_divides i h = grind (arith, nat_tests, each_some, length-map, mul-div-least_common_multiple, period_in i h)
 
 -- units at these millivolts, at this many thousandths of a running unit, cost at most the highest price each
 pub energy-most : (units mv rate : ℕ) → mv ≤ MOST_MILLIVOLTS → rate ≤ 1000 → units * mv * mv * rate ≤ most_unit_energy * units
-energy-most units mv rate low cheap =
-    omega (arith, mul-le-mul_left units low, mul-le-mul_left (units * mv) low, mul-le-mul_left (units * mv * mv) cheap)
+energy-most units mv rate low cheap = grind (arith, nat_tests, mul-le-mul_left)

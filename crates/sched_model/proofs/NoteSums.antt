@@ -125,8 +125,7 @@ module _ (p : Plan) (dem : JobDemands) (s : Span) (i k : ℕ) where
   had_of us = exec p s.past i k + count_by (same_holder (Held i k)) us
 
   had-more : (us : List Holder) (n : ℕ) (h : Holder) → had_of (us ++ replicate n h) ≡ had_of us + (if same_holder (Held i k) h then n else 0)
-  had-more us n h =
-      omega (arith, count-append (same_holder (Held i k)) us (replicate n h), count-replicate (same_holder (Held i k)) n h)
+  had-more us n h = grind (arith, nat_tests, count-append, count-replicate)
 
   -- the notes of a segment have the completion if its units take the job to its demand
   segment-told : (front : List Holder) (u : ℕ) (h : Holder) → 0 < u → had_by p s (length front + u) i k ≡ had_of (front ++ replicate u h)
@@ -217,8 +216,7 @@ module _ (p : Plan) (dem : JobDemands) (ask : PublishedDemand) where
 
   -- if there is no decision, the notes have no release
   none-at : (f : Note → ℕ) (past : List Tick) → is_decision p dem past ≡ false → sum_by f (all_release_notes p dem (length past)) ≡ 0
-  none-at f past e =
-      release-sum p dem (length past) f ∙ sum_below-zero (count p) _ (λ i lt. let off = none-released p dem past e i lt in rw off (omega arith))
+  none-at f past e = grind (arith, nat_tests, none-released, release-sum, sum_below-zero)
 
   -- the segments of a span add to `f` the weights of its units, and what `done` rises by from its beginning to its end;
   -- `done` looks at the jobs that are the latest at a tick
@@ -308,11 +306,7 @@ module _ (p : Plan) (dem : JobDemands) (ask : PublishedDemand) where
   pieces-most f each done run idle end s q (r ∷ rs) = grind (arith, sum_by-append, pieces-most f each done run idle end s (q + r.units) rs)
 
   pub weights : (f : Note → ℕ) (weight : ℕ → Holder → ℕ) → Weighs f weight → Measures f weight (λ t ticks. 0)
-  weights f weight w = record {
-    segments = λ x past s h l.
-        omega (arith, pieces-sum f weight w s 0 (pieces_of s.units), ap (sum_by (weight s.entry)) (laid-pieces s.units));
-    still = λ y past ticks e. refl;
-  }
+  weights f weight w = grind (arith, nat_tests, laid-pieces, pieces-sum f weight w)
 
   -- a measure of only segments: it is 0 for releases and decisions
   pub record IsOfSegments (f : Note → ℕ) : Type 0 where

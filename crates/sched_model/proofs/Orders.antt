@@ -1,5 +1,5 @@
 -- The order of the tasks: it is strict and total; the list of the tasks in it, and sums over the tasks before one of them.
-use Rattle.std.proofs.Common.{◌≡◌, ◌≢◌, ℕ, ◌+◌, Bool, true, false, eqb, ◌||◌, refl, arith, if◌then◌else◌, eq-or-lt_of_le, le_of_suc-le-suc, zero, suc, ◌<◌, List, [], ◌∷◌, ◌++◌, length, get_or, ap, ap₂, ◌∙◌, subst, nat_eq, nat_lt}
+use Rattle.std.proofs.Common.{◌≡◌, ◌≢◌, ℕ, ◌+◌, Bool, true, false, eqb, ◌||◌, refl, arith, if◌then◌else◌, eq-or-lt_of_le, le_of_suc-le-suc, zero, suc, ◌<◌, List, [], ◌∷◌, ◌++◌, length, get_or, ap, ap₂, ◌∙◌, nat_eq, nat_lt}
 use Rattle.std.proofs.lemmas.Bool.Decides.{nat_tests}
 use Rattle.std.specs.Prelude.{◌&&◌}
 use Rattle.std.specs.List.{AllByRecursion}
@@ -111,8 +111,7 @@ ordered-split key f i [] post o = rw (before-self key i) (omega (arith, none_aft
 ordered-split key f i (j ∷ pre) post o = rw (first_ahead key j i pre post o.0) (omega (arith, ordered-split key f i pre post o.1))
 
 pub sum_before-prefix : (key f : ℕ → ℕ) (n i : ℕ) (pre post : List ℕ) → in_order key n ≡ pre ++ i ∷ post → sum_before n key f i ≡ sum_list f pre
-sum_before-prefix key f n i pre post e =
-    grind (arith, sum_list-in_order, ordered-split key f i pre post (subst (IsOrdered key) e (in_order-ordered key n)), in_order-ordered key n)
+sum_before-prefix key f n i pre post e = grind (arith, nat_tests, in_order-ordered key n, ordered-split key f i pre post, sum_list-in_order)
 
 length-insert : (key : ℕ → ℕ) (i : ℕ) (js : List ℕ) → length (insert_by key i js) ≡ suc (length js)
 length-insert key i [] = refl

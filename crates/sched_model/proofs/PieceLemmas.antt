@@ -64,8 +64,7 @@ total (r ∷ rs) = r.units + total rs
 
 total-laid : (rs : List Piece) → total rs ≡ length (laid rs)
 total-laid [] = refl
-total-laid (r ∷ rs) =
-    omega (arith, length-append (replicate r.units r.holder) (laid rs), length-replicate r.units r.holder, total-laid rs)
+total-laid (r ∷ rs) = grind (arith, nat_tests, length-append, length-replicate, total-laid rs)
 
 pub total-pieces : (us : List Holder) → total (pieces_of us) ≡ length us
 total-pieces us = total-laid (pieces_of us) ∙ ap length (laid-pieces us)

@@ -11,11 +11,11 @@ use Rattle.sched_model.specs.Decision.{is_decision}
 use Rattle.sched_model.specs.Ticks.{PublishedDemand, Tick, share, units_left, exec, at}
 use Rattle.sched_model.specs.Priority.{allotment, key_of, IsLegal}
 use Rattle.sched_model.specs.Schedule.{entry_in_force, IsNext, IsScheduleBy, next_tick, schedule_by}
-use Rattle.sched_model.proofs.Tables.{get-table}
+use Rattle.grid_fraction.proofs.Tables.{get-table}
 use Rattle.sched_model.proofs.Allotments.{allotment_of, allotment-shares, shares-same}
 use Rattle.sched_model.proofs.LevelSums.{share-most}
 use Rattle.sched_model.proofs.JobLaws.{latest-is}
-pub use Rattle.sched_model.proofs.Tables.{length-list_below}
+pub use Rattle.grid_fraction.proofs.Tables.{length-list_below, each-below}
 
 -- the tick that may follow is determined by the ticks before it
 pub next_unique : (p : Plan) (dem : JobDemands) (ask : PublishedDemand) (past : List Tick) (x : Tick)

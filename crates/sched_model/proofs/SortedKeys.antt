@@ -1,5 +1,5 @@
 -- Sorting pairs of a key and a number gives the numbers in the order of the key.
-use Rattle.std.proofs.Common.{◌≡◌, ◌≢◌, ℕ, zero, suc, ◌+◌, ◌≤◌, Bool, true, false, ◌||◌, ◌&&◌, List, [], ◌∷◌, get_or, nat_eq, nat_lt, if◌then◌else◌, refl, arith, ap, ap₂, ◌∙◌, sym, subst, add-one, true≢false}
+use Rattle.std.proofs.Common.{◌≡◌, ℕ, zero, suc, ◌+◌, ◌≤◌, true, false, ◌||◌, ◌&&◌, List, [], ◌∷◌, get_or, nat_eq, nat_lt, if◌then◌else◌, refl, arith, ap, ap₂, ◌∙◌, sym, subst, add-one, true≢false}
 use Rattle.std.specs.Prelude.{map, sum_by}
 use Rattle.std.specs.List.{All}
 use Rattle.std.specs.List.Sorted.{IsPermutation, IsSorted}
@@ -12,7 +12,7 @@ use Rattle.dvs_base.proofs.PairOrders.{pair_cmp, is_lt-pair_cmp}
 use Rattle.grid_fraction.specs.Numbers.{sum_below, list_below}
 use Rattle.sched_model.specs.Priority.{stands_before, in_order}
 use Rattle.sched_model.proofs.Orders.{before-not, before-total, sum_list, IsAhead, IsOrdered, in_order-ordered, sum_list-in_order, sum_list-snoc}
-use Rattle.sched_model.proofs.Tables.{length-list_below, get-table, map-table}
+use Rattle.grid_fraction.proofs.Tables.{length-list_below, get-table, map-table}
 
 abbrev one : ℕ → ℕ → ℕ
 one v j = if nat_eq j v then 1 else 0
@@ -37,20 +37,8 @@ none_of key i v (j ∷ js) a h = grind (arith, nat_tests, none_of key i v js a.1
 
 -- two rising lists with the same elements begin with the same number
 same_first : (key : ℕ → ℕ) (x y : ℕ) (xs ys : List ℕ) → NoneAhead key x xs → NoneAhead key y ys → ((v : ℕ) → times v (x ∷ xs) ≡ times v (y ∷ ys)) → x ≡ y
-same_first key x y xs ys a b h = go (nat_eq x y) refl
-  where
-    go : (c : Bool) → nat_eq x y ≡ c → x ≡ y
-    go true e = grind (arith, nat_tests)
-    go false e =
-        let other : nat_eq y x ≡ false = grind (arith, nat_tests) in
-        let self_x : nat_eq x x ≡ true = grind (arith, nat_tests) in
-        let self_y : nat_eq y y ≡ true = grind (arith, nat_tests) in
-        let ne : x ≢ y = grind (arith, nat_tests) in
-        let of_x : 1 + times x xs ≡ 0 + times x ys = rw (self_x, other) at (h x) in
-        let of_y : 0 + times y xs ≡ 1 + times y ys = rw (e, self_y) at (h y) in
-        let x_late : stands_before key x y ≡ false = none_of key y x ys b (omega arith) in
-        let y_late : stands_before key y x ≡ false = none_of key x y xs a (omega arith) in
-        absurd (true≢false (sym (before-total key x y ne x_late) ∙ y_late))
+same_first key x y xs ys a b h =
+    grind (arith, nat_tests, before-total key x y, none_of key x y xs a, none_of key y x ys b)
 
 rising_unique : (key : ℕ → ℕ) (xs ys : List ℕ) → IsRising key xs → IsRising key ys → ((v : ℕ) → times v xs ≡ times v ys) → xs ≡ ys
 rising_unique key [] [] a b h = refl

@@ -10,7 +10,7 @@ use Rattle.std.proofs.lemmas.Bool.{or_parts, false_from_ne_true}
 use Rattle.grid_fraction.proofs.Counts.{count-append}
 use Rattle.grid_fraction.proofs.Searches.{any_below-false}
 use Rattle.freq_table.specs.Tables.{lowest_entry}
-use Rattle.grid_fraction.proofs.Lists.{each-append}
+use Rattle.dvs_base.proofs.Lists.{each-append}
 use Rattle.sched_model.specs.Plan.{Plan, count, point, period}
 use Rattle.sched_model.specs.Jobs.{JobDemands, latest, releases_at, is_release}
 use Rattle.sched_model.specs.Ticks.{PublishedDemand, Tick, exec}
@@ -34,8 +34,7 @@ pub notes-span : (p : Plan) (dem : JobDemands) (ask : PublishedDemand) (ticks pa
     → spans_of p dem ticks ≡ s ∷ spans_of p dem past
     → notes_before_end p dem ask ticks ≡ notes_before_end p dem ask past ++ span_notes p dem ask s
 unfolding notes_before_end
-notes-span p dem ask ticks past s e =
-    ap (λ ss. flat_map (span_notes p dem ask) (reverse ss)) e ∙ flat_map-last (span_notes p dem ask) s (spans_of p dem past)
+notes-span p dem ask ticks past s e = grind (arith, nat_tests, flat_map-last)
 
 -- a span opens at a decision instant, and the ticks up to the next lengthen it
 pub span-opens : (p : Plan) (dem : JobDemands) (x : Tick) (past : List Tick) → is_decision p dem past ≡ true
@@ -165,7 +164,7 @@ module _ (p : Plan) (dem : JobDemands) (ask : PublishedDemand) where
       none (h ∷ us) all = omega (arith, sum_by-cons (λ u. cond (same_holder (Held i 0) u) 1 0) h us, one h all.0, none us all.1)
   had-each lim needless x past s l i (suc k) lt = l.had lim i (suc k) lt (omega arith)
 
-  -- what holds of no ticks, and of ticks if it holds of those before their last span, holds of each schedule
+  -- induction by spans: a fact of no ticks, which goes on from the ticks before a span to those with it, holds of each schedule
   pub by-spans : (P : List Tick → Type 0) → P []
       → ((x : Tick) (past : List Tick) (s : Span) → IsScheduleBy p dem ask (x ∷ past) → IsLastSpan x past s → P s.past → P (x ∷ past))
       → (ticks : List Tick) → IsScheduleBy p dem ask ticks → P ticks

@@ -10,9 +10,9 @@ use Rattle.sched_model.specs.declared.state.Row.{Row}
 use Rattle.sched_model.specs.Plan.{Plan, count, period, offset, worst}
 use Rattle.sched_model.specs.States.{StateView, no_row, row_at, opening, opening_row, IsStateOf, CanRelease, row_wleft, after_run, CanRun, row_of, state_of, released_row, prior_row, prior_base_at, prior_base, prior_state}
 use Rattle.sched_model.specs.Admission.{IsWithinLimits}
-use Rattle.sched_model.proofs.Tables.{length-list_below, same-table, get-table, map-table, table-same}
+use Rattle.grid_fraction.proofs.Tables.{length-list_below, same-table, get-table, map-table, table-same}
 use Rattle.sched_model.specs.Jobs.{JobDemands, release, due, latest, releases_at, is_release, last_release}
-use Rattle.sched_model.specs.Ticks.{Tick, exec, is_done, wleft, share, units_left}
+use Rattle.sched_model.specs.Ticks.{Tick, wleft, share, units_left}
 use Rattle.sched_model.proofs.JobLaws.{due-none, release-none, release-suc, due-suc, lt-due, latest-unique, latest-none, latest-stays, latest-next, release-le, exec-early, exec-legal, last_release-le}
 use Rattle.sched_model.proofs.Schedules.{at-now, at-before}
 
@@ -112,8 +112,7 @@ module _ (p : Plan) (dem : JobDemands) (periods : (i : ℕ) → 0 < period p i) 
   pub due_released : (past : List Tick) (i : ℕ) (b : Bool) → nat_eq (prior_row p dem past i).deadline (length past) ≡ b → releases_at p i (length past) ≡ b
   due_released past i true e = grind (arith, next_job, release_next past i)
   due_released [] i false e = grind (arith, latest-none, release-none p i)
-  due_released (x ∷ past) i false e =
-      grind (arith, same_job x past i e, lt-due p i (length past) (periods i), due-none p i, release-none p i, release-le)
+  due_released (x ∷ past) i false e = grind (arith, nat_tests, due-none, lt-due, release-le, release-none, same_job x past i e)
 
   -- after the releases a row that is due has its next job
   pub row-opened : (past : List Tick) (i : ℕ) → (prior_row p dem past i).deadline ≡ length past
@@ -124,8 +123,7 @@ module _ (p : Plan) (dem : JobDemands) (periods : (i : ℕ) → 0 < period p i) 
   pub row-kept : (past : List Tick) (i : ℕ) → dem i 0 ≡ 0 → nat_eq (prior_row p dem past i).deadline (length past) ≡ false
       → row_of p dem past i ≡ prior_row p dem past i
   row-kept [] i none e = grind (arith, latest-none, due-none p i)
-  row-kept (x ∷ past) i none e =
-      ap (λ k. row_by (due p i k) k (exec p (x ∷ past) i k) (is_done p dem (x ∷ past) i k) (worst p i)) (same_job x past i e)
+  row-kept (x ∷ past) i none e = grind (arith, nat_tests, same_job x past i e)
 
   -- at a release the mark is the present tick
   pub base_at-marked : (t : ℕ) → is_release p t ≡ true → last_release p t ≡ t

@@ -1,5 +1,5 @@
 -- The units of a tick: how many there are, who holds them, and what they add to what a job has had.
-use Rattle.std.proofs.Common.{◌≡◌, ◌≢◌, ℕ, suc, ◌+◌, ◌-◌, ◌*◌, ◌<◌, ◌≤◌, min, Bool, true, false, ◌&&◌, List, [], ◌∷◌, zero, length, replicate, refl, arith, if◌then◌else◌, ap, ◌∙◌, nat_eq, length-append}
+use Rattle.std.proofs.Common.{◌≡◌, ℕ, ◌+◌, ◌-◌, ◌*◌, ◌<◌, ◌≤◌, min, true, ◌&&◌, List, [], ◌∷◌, length, refl, arith, if◌then◌else◌, ap, ◌∙◌, nat_eq, length-append}
 use Rattle.std.specs.Prelude.{count_by, sum_by, cond}
 use Rattle.std.specs.List.{AllByRecursion}
 use Rattle.std.proofs.lemmas.List.{length-replicate}
@@ -13,14 +13,14 @@ use Rattle.sched_model.specs.declared.holder.Holder.TheVariants.{Nobody, Held}
 use Rattle.sched_model.specs.Plan.{Plan, count, point, period}
 use Rattle.sched_model.specs.Jobs.{JobDemands, latest}
 use Rattle.sched_model.specs.Ticks.{PublishedDemand, Tick, exec, share, units_left}
-use Rattle.sched_model.specs.Priority.{key_of, in_order}
+use Rattle.sched_model.specs.Priority.{key_of}
 use Rattle.sched_model.specs.Schedule.{IsNext}
 use Rattle.sched_model.specs.Notes.{same_holder, given_units, tick_units}
 use Rattle.sched_model.proofs.Orders.{sum_list, sum_list-in_order, AreBelow, in_order-below}
 use Rattle.sched_model.proofs.Allotments.{down-set-gets}
 use Rattle.sched_model.proofs.LevelSums.{sum_below-times}
 use Rattle.sched_model.proofs.JobLaws.{latest-is, release-le, lt-due}
-use Rattle.grid_fraction.proofs.Lists.{each-append, each-replicate}
+use Rattle.dvs_base.proofs.Lists.{each-append, each-replicate}
 
 -- what follows from a fact of each element is a fact of each element
 pub each-weaker : {A : Type 0} (P Q : A → Type 0) → ((x : A) → P x → Q x) → (xs : List A) → AllByRecursion P xs → AllByRecursion Q xs
@@ -31,12 +31,7 @@ each-weaker P Q h (x ∷ xs) all = (h x all.0, each-weaker P Q h xs all.1)
 each-given : (P : Holder → Type 0) (given job : ℕ → ℕ) (n : ℕ) (tasks : List ℕ) → AreBelow n tasks
     → ((i : ℕ) → i < n → 0 < given i → P (Held i (job i))) → AllByRecursion P (given_units given job tasks)
 each-given P given job n [] below h = tt
-each-given P given job n (i ∷ tasks) below h =
-    each-append P (replicate (given i) (Held i (job i))) (given_units given job tasks) (own (given i) refl) (each-given P given job n tasks below.1 h)
-  where
-    own : (m : ℕ) → given i ≡ m → AllByRecursion P (replicate m (Held i (job i)))
-    own zero e = tt
-    own (suc m) e = each-replicate P (suc m) (Held i (job i)) (h i below.0 (omega (arith, e)))
+each-given P given job n (i ∷ tasks) below h = grind (arith, nat_tests, each-append P, each-replicate P, each-given P given job n tasks)
 
 given-long : (given job : ℕ → ℕ) (tasks : List ℕ) → length (given_units given job tasks) ≡ sum_list given tasks
 given-long given job [] = refl
@@ -51,21 +46,7 @@ given-sum weight given job (i ∷ tasks) = grind (arith, sum_by-append, sum_by-r
 -- a sum over the tasks to which only job k of task i adds
 pub sum-own : (n i k : ℕ) (f job : ℕ → ℕ) → i < n
     → sum_below n (λ j. f j * cond (nat_eq i j && nat_eq k (job j)) 1 0) ≡ (if nat_eq k (job i) then f i else 0)
-sum-own n i k f job lt = sum_below-one n i own lt (λ j l ne. off j ne (nat_eq i j) refl) ∙ on (nat_eq k (job i)) refl
-  where
-    own : ℕ → ℕ
-    own j = f j * cond (nat_eq i j && nat_eq k (job j)) 1 0
-
-    off : (j : ℕ) → j ≢ i → (b : Bool) → nat_eq i j ≡ b → own j ≡ 0
-    off j ne true e = absurd (ne (grind (arith, nat_tests)))
-    off j ne false e = rw e (omega arith)
-
-    self : nat_eq i i ≡ true
-    self = grind (arith, nat_tests)
-
-    on : (b : Bool) → nat_eq k (job i) ≡ b → own i ≡ (if nat_eq k (job i) then f i else 0)
-    on true e = rw (self, e) (omega arith)
-    on false e = rw (self, e) (omega arith)
+sum-own n i k f job lt = grind (arith, nat_tests, sum_below-one n i)
 
 -- the tick x after `past`
 module _ (p : Plan) (past : List Tick) (x : Tick) where
@@ -82,9 +63,7 @@ module _ (p : Plan) (past : List Tick) (x : Tick) where
   -- the units of a tick are idle, or held by the latest jobs
   pub each-unit : (P : Holder → Type 0) → ((i : ℕ) → i < count p → 0 < share x i → P (Held i (latest p i (length past)))) → P Nobody
       → AllByRecursion P (tick_units p past x)
-  each-unit P own none =
-      each-append P (given_units (share x) job (in_order key (count p))) (replicate idle Nobody)
-      (each-given P (share x) job (count p) (in_order key (count p)) (in_order-below key (count p)) own) (each-replicate P idle Nobody none)
+  each-unit P own none = grind (arith, nat_tests, each-append P, each-given P, each-replicate P, in_order-below)
 
   pub units-sum : (weight : Holder → ℕ)
       → sum_by weight (tick_units p past x)

@@ -2,6 +2,7 @@
 use Rattle.std.specs.Prelude.{ℕ, zero, suc, ◌+◌, ◌*◌, List, unwrap_or, option_map, ◌<◌, ◌≤◌, ◌≡◌, ◌-◌, ◌/◌, nat_le, if◌then◌else◌, Bool, nat_eq, nat_lt, ◌&&◌}
 use Rattle.task_model.specs.DemandRows.{DemandRow, named_units}
 use Rattle.grid_fraction.specs.Numbers.{any_below, least_below, last_up_to, sum_below, ceil_div}
+use Rattle.freq_table.specs.Tables.{job_charge}
 use Rattle.sched_model.specs.Plan.{Plan, worst, count, period, offset}
 
 -- the units that a job really needs, from its task's number and its own
@@ -11,7 +12,7 @@ JobDemands = ℕ → ℕ → ℕ
 -- dem(i,k), the units of job k of task i: by the list, with the charge, or the worst case; 0 for job 0
 abbrev pub demand_of : Plan → List DemandRow → ℕ → ℕ → ℕ
 demand_of p rows i zero = 0
-demand_of p rows i (suc k) = unwrap_or (option_map (λ u. u + 2 * p.machine.charge) (named_units rows i (suc k))) (worst p i)
+demand_of p rows i (suc k) = unwrap_or (option_map (λ u. u + job_charge p.machine) (named_units rows i (suc k))) (worst p i)
 
 -- no job needs more than its worst case, and job 0 needs none
 pub record IsWithin (p : Plan) (dem : JobDemands) : Type 0 where
@@ -64,6 +65,10 @@ last_release p t = last_up_to t (is_release p)
 abbrev pub is_in_window : Plan → ℕ → ℕ → ℕ → Bool
 is_in_window p i k s = nat_le (release p i k) s && nat_lt s (due p i k)
 
+-- the number of jobs of task i released before tick t
+abbrev pub jobs_before : Plan → ℕ → ℕ → ℕ
+jobs_before p i t = ceil_div (t - offset p i) (period p i)
+
 -- the number of jobs released before tick `ticks`
 abbrev pub released_jobs : Plan → ℕ → ℕ
-released_jobs p ticks = sum_below (count p) (λ i. ceil_div (ticks - offset p i) (period p i))
+released_jobs p ticks = sum_below (count p) (λ i. jobs_before p i ticks)

@@ -4,7 +4,7 @@ use Rattle.dvs_base.specs.declared.kind.Scheduler.{Scheduler}
 use Rattle.task_model.specs.declared.task.Task.{Task}
 use Rattle.task_model.specs.Tasks.{task_at, hyper_of}
 use Rattle.freq_table.specs.declared.machine.Point.{Point}
-use Rattle.freq_table.specs.Tables.{Table, point_at, highest_speed}
+use Rattle.freq_table.specs.Tables.{Table, point_at, highest_speed, job_charge}
 
 -- tasks on a machine under a scheduler
 pub record Plan : Type 0 where
@@ -38,7 +38,7 @@ offset p i = (task p i).offset
 
 -- Ci, the declared worst case of task i with the charge for two switches of speed
 abbrev pub worst : Plan → ℕ → ℕ
-worst p i = (task p i).worst + 2 * p.machine.charge
+worst p i = (task p i).worst + job_charge p.machine
 
 -- the entry of the machine with number e
 abbrev pub point : Plan → ℕ → Point

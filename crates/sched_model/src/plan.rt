@@ -136,7 +136,7 @@ impl Admitted {
         requires { i < count self.now }
         ensures { result ≡ worst self.now i }
     {
-        self.tasks[i as usize].worst + 2 * self.machine.charge()
+        self.tasks[i as usize].worst + self.machine.job_charge()
     }
 
     /// The k-th task in RM order, counted from 0.

@@ -16,7 +16,7 @@ pub fn worst(tasks: &TaskSet, machine: &Machine, i: u32) -> u64
     ensures value { result ≡ worst (plan_of tasks.now machine.now Edf) i }
     ensures low { result ≤ 2 ^ 61 }
 {
-    tasks.task(i).worst + 2 * machine.charge()
+    tasks.task(i).worst + machine.job_charge()
 }
 
 /// The work of task `i` in one hyperperiod in work units, each job at its charged worst case. It takes no memory.

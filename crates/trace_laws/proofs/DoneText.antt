@@ -16,9 +16,9 @@ use Rattle.dvs_base.specs.declared.kind.Version.TheVariants.{One, Two}
 use Rattle.dvs_base.specs.declared.kind.GovernorKind.{GovernorKind}
 use Rattle.dvs_base.specs.declared.note.Note.{Note}
 use Rattle.sched_model.specs.Plan.{Plan, count, names, task, period, offset}
-use Rattle.sched_model.proofs.Tables.{each-below}
+use Rattle.grid_fraction.proofs.Tables.{each-below}
 use Rattle.trace_text.specs.TraceLines.{lines_of, line, done_fields, fields_of, note_text}
-use Rattle.grid_fraction.proofs.Lists.{each-append}
+use Rattle.dvs_base.proofs.Lists.{each-append}
 use Rattle.trace_text.proofs.Unspaced.{AreUnspaced, unspaced-name, some-name}
 use Rattle.trace_text.specs.TraceText.{head_lines, text_of_lines, shares_from, version_line, NotedLine, line_of_note, lines_of_note}
 use Rattle.trace_reader.proofs.WholeText.{each-for, each-share, each-noted}

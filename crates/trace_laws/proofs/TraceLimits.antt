@@ -45,7 +45,7 @@ use Rattle.dvs_base.specs.declared.note.Note.TheVariants.{Run, End}
 use Rattle.dvs_base.specs.Parts.{name_of}
 use Rattle.task_model.specs.declared.task.Task.{Task}
 use Rattle.sched_model.proofs.Schedules.{length-list_below, schedule_exists}
-use Rattle.grid_fraction.proofs.Lists.{each-append}
+use Rattle.dvs_base.proofs.Lists.{each-append}
 use Rattle.dvs_base.specs.NoteTasks.{energy_of_task}
 use Rattle.trace_text.specs.TraceText.{task_text, task_energy}
 use Rattle.sched_model.proofs.Units.{each-weaker}

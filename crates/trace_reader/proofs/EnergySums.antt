@@ -1,6 +1,6 @@
 -- The energies of the tasks, with one note more.
-use Rattle.std.proofs.Common.{◌≡◌, ◌≢◌, ℕ, ◌+◌, ◌<◌, ◌^◌, Bool, true, false, List, [], ◌∷◌, ◌++◌, length, get_or, set, Option, Some, None, refl, sym, ap, ◌∙◌, arith, if◌then◌else◌}
-use Rattle.std.specs.Prelude.{nat_lt, nat_eq}
+use Rattle.std.proofs.Common.{◌≡◌, ◌≢◌, ℕ, ◌+◌, ◌<◌, Bool, true, false, List, [], ◌∷◌, ◌++◌, length, get_or, set, Option, None, refl, sym, ap, ◌∙◌, arith, if◌then◌else◌}
+use Rattle.std.specs.Prelude.{nat_eq}
 use Rattle.std.proofs.lemmas.Bool.Decides.{nat_tests}
 use Rattle.std.proofs.lemmas.List.{get_or-set_same, get_or-set_other}
 use Rattle.std.proofs.lemmas.List.Sums.{sum_by-append}
@@ -13,11 +13,7 @@ use Rattle.trace_text.specs.TraceText.{task_energy}
 use Rattle.trace_reader.specs.Sums.{narrow, with_energy, HasSums}
 
 with-narrow : (s e : ℕ) → with_energy (narrow s) e ≡ narrow (s + e)
-with-narrow s e = by (nat_lt s (2 ^ 128)) refl
-  where
-    by : (b : Bool) → nat_lt s (2 ^ 128) ≡ b → with_energy (if b then Some s else None) e ≡ narrow (s + e)
-    by true below = refl
-    by false above = let far : nat_lt (s + e) (2 ^ 128) ≡ false = grind (arith, nat_tests) in rw far refl
+with-narrow s e = grind (arith, nat_tests)
 
 -- the energy of a task with one note more is the sum, with the note's energy if it is the task's run
 pub energy-more : (notes : List Note) (n : Note) (i : ℕ) → task_energy (notes ++ n ∷ []) i ≡ task_energy notes i + energy_of_task i n

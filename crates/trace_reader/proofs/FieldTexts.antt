@@ -1,6 +1,6 @@
 -- A field that is read is the text of its value, and the text of any value is read.
-use Rattle.std.proofs.Common.{◌≡◌, ◌≢◌, ℕ, ◌+◌, ◌^◌, ◌<◌, Bool, true, false, List, [], ◌∷◌, ◌++◌, length, get_or, Some, Result, Ok, Err, refl, sym, ap, ap₂, subst, ◌∙◌, append_assoc, arith, if◌then◌else◌}
-use Rattle.std.specs.Prelude.{nat_lt, position, decimal, codes}
+use Rattle.std.proofs.Common.{◌≡◌, ◌≢◌, ℕ, ◌+◌, ◌^◌, ◌<◌, Bool, true, false, List, [], ◌∷◌, ◌++◌, length, Some, Result, Ok, Err, refl, sym, ap, ap₂, subst, ◌∙◌, append_assoc, arith, if◌then◌else◌}
+use Rattle.std.specs.Prelude.{nat_lt, decimal, codes}
 use Rattle.std.specs.List.{AllPairs, join_with_byte, position_or_len}
 use Rattle.std.specs.Option.{ok_or}
 use Rattle.std.specs.Str.{bytes_eq}
@@ -66,9 +66,7 @@ slash = two-text 47 (λ d small e. omega (arith, e))
 
 pub position_in-text : (q : Pos) → IsPlace q → position_in (position_text q) ≡ Ok q
 unfolding position_in
-position_in-text q fits =
-    ap position_in (append_assoc (decimal q.tick) (codes ":") (decimal q.offset))
-    ∙ rw (colon q.tick q.offset, whole_in-text q.tick fits.0, whole_in-text q.offset fits.1) refl
+position_in-text q fits = grind (arith, nat_tests, append_assoc, colon, whole_in-text)
 
 pub position_in-found : (field : List ℕ) (q : Pos) → position_in field ≡ Ok q → (field ≡ position_text q) × IsPlace q
 unfolding position_in
@@ -84,9 +82,7 @@ position_in-found field q e =
 
 pub fraction_in-text : (num den : ℕ) → num < 2 ^ 128 → den < 2 ^ 128 → fraction_in (fraction_text num den) ≡ Ok (num, den)
 unfolding fraction_in
-fraction_in-text num den above below =
-    ap fraction_in (append_assoc (decimal num) (codes "/") (decimal den))
-    ∙ rw (slash num den, wide_in-text num above, wide_in-text den below) refl
+fraction_in-text num den above below = grind (arith, nat_tests, append_assoc, slash, wide_in-text)
 
 pub fraction_in-found : (field : List ℕ) (d : ℕ × ℕ) → fraction_in field ≡ Ok d → (field ≡ fraction_text d.0 d.1) × (d.0 < 2 ^ 128) × (d.1 < 2 ^ 128)
 unfolding fraction_in
@@ -105,16 +101,7 @@ abbrev pub AreApart : List (List ℕ) → Type 0
 AreApart names = AllPairs (λ a b. a ≢ b) names
 
 place : (names : List (List ℕ)) (i : ℕ) → AreApart names → i < length names → position_or_len (λ name. bytes_eq name (name_of names i)) names ≡ i
-place names i apart lt =
-    position_or_len_is (λ name. bytes_eq name (name_of names i)) names i [] (omega arith) earlier here
-  where
-    earlier : (k : ℕ) → k < i → bytes_eq (get_or names k []) (name_of names i) ≡ false
-    earlier k less =
-        false_from_ne_true (bytes_eq (get_or names k []) (name_of names i))
-        (λ e. apart k i [] less lt ((bytes_eq-Decides (get_or names k []) (name_of names i)).0 e))
-
-    here : i < length names → bytes_eq (get_or names i []) (name_of names i) ≡ true
-    here _ = (bytes_eq-Decides (name_of names i) (name_of names i)).1 refl
+place names i apart lt = grind (arith, nat_tests, bytes_eq-Decides, false_from_ne_true, position_or_len_is)
 
 pub task_in-text : (names : List (List ℕ)) (i : ℕ) → AreApart names → i < length names → task_in names (name_of names i) ≡ Ok i
 unfolding task_in
@@ -124,6 +111,4 @@ task_in-text names i apart lt =
 
 pub task_in-found : (names : List (List ℕ)) (field : List ℕ) (i : ℕ) → task_in names field ≡ Ok i → (field ≡ name_of names i) × (i < length names)
 unfolding task_in
-task_in-found names field i e =
-    let found = position-Some (λ name. bytes_eq name field) names i [] (ok_or-ok (position (λ name. bytes_eq name field) names) kind.Task i e) in
-    (sym ((bytes_eq-Decides (name_of names i) field).0 found.1), found.0)
+task_in-found names field i e = grind (arith, nat_tests, bytes_eq-Decides, ok_or-ok, position-Some)

@@ -1,7 +1,6 @@
 -- A text is cut at the first place of a byte.
-use Rattle.std.proofs.Common.{◌≡◌, ℕ, ◌+◌, ◌<◌, ◌≤◌, Bool, List, [], ◌∷◌, length, take, drop, Some, None, option_map, refl, arith}
+use Rattle.std.proofs.Common.{◌≡◌, ℕ, ◌+◌, Bool, List, [], ◌∷◌, length, take, drop, Some, None, option_map, refl, arith}
 use Rattle.std.specs.Prelude.{position, ◌==◌, count_by}
-use Rattle.std.specs.List.{position_or_len}
 use Rattle.std.proofs.lemmas.List.Splits.{slice_split_first, slice_split_none, length-slice_split}
 use Rattle.std.proofs.lemmas.List.Sums.{fails_before_first}
 use Rattle.std.proofs.lemmas.Bool.Decides.{nat_tests}
@@ -13,15 +12,10 @@ module _ (byte : ℕ) (text : List ℕ) where
   at_byte b = b == byte
 
   pub parts-none : position (λ b. b == byte) text ≡ None → parts byte text ≡ text ∷ []
-  parts-none e =
-      let far : length text ≤ position_or_len at_byte text = grind (arith, nat_tests) in
-      slice_split_none at_byte text (λ k d lt. fails_before_first at_byte text k d (omega arith))
+  parts-none e = grind (arith, nat_tests, fails_before_first, slice_split_none)
 
   pub parts-found : (i : ℕ) → position (λ b. b == byte) text ≡ Some i → parts byte text ≡ take i text ∷ parts byte (drop (i + 1) text)
-  parts-found i e =
-      let near : position_or_len at_byte text < length text = grind (arith, nat_tests) in
-      let here : position_or_len at_byte text ≡ i = grind (arith, nat_tests) in
-      rw (← here) (slice_split_first at_byte text 0 near)
+  parts-found i e = grind (arith, nat_tests, slice_split_first)
 
 -- a text has a first part
 pub record HasPart (found : List (List ℕ)) : Type 0 where

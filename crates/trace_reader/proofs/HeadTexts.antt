@@ -1,16 +1,15 @@
 -- The lines before the notes: a line that is read is its value's text, and that text is read.
-use Rattle.std.proofs.Common.{◌≡◌, ℕ, suc, ◌+◌, ◌^◌, ◌≤◌, Bool, true, false, ◌&&◌, List, [], ◌∷◌, ◌++◌, length, Option, Some, None, Result, Ok, Err, refl, sym, ap, ap₂, subst, ◌∙◌, append_assoc, arith, if◌then◌else◌}
-use Rattle.std.specs.Prelude.{nat_le, decimal, codes}
+use Rattle.std.proofs.Common.{◌≡◌, ℕ, suc, ◌+◌, ◌≤◌, Bool, true, false, ◌&&◌, List, [], ◌∷◌, ◌++◌, length, Option, Some, Result, Ok, Err, refl, sym, ap, subst, ◌∙◌, append_assoc, arith, if◌then◌else◌}
+use Rattle.std.specs.Prelude.{decimal, codes}
 use Rattle.std.specs.List.{AllByRecursion, join_with_byte}
 use Rattle.std.specs.Str.{bytes_eq}
 use Rattle.std.proofs.lemmas.Bool.{and_parts}
 use Rattle.std.proofs.lemmas.Bool.Decides.{nat_tests}
 use Rattle.std.proofs.lemmas.Option.{same_Some}
 use Rattle.std.proofs.lemmas.Slice.Eq.{bytes_eq-Decides}
-use Rattle.dvs_base.specs.Text.{number_below}
 use Rattle.trace_text.specs.TraceLines.{scheduler_word, governor_word, line, plan_fields, plan_text}
 use Rattle.trace_text.proofs.Unspaced.{AreUnspaced, unspaced-name}
-use Rattle.dvs_base.specs.PlanWords.{scheduler_of, governor_of, ticks_from, ticks_of, is_pair}
+use Rattle.dvs_base.specs.PlanWords.{scheduler_of, governor_of, ticks_of, is_pair}
 use Rattle.dvs_base.specs.Parts.{joined}
 use Rattle.trace_text.specs.TraceText.{version_line, task_lines}
 use Rattle.dvs_base.specs.declared.kind.Scheduler.{Scheduler}
@@ -30,7 +29,7 @@ use Rattle.trace_reader.specs.declared.trace.TraceKind.{TraceKind}
 use Rattle.trace_reader.specs.declared.trace.TraceKind.TheVariants as kind
 use Rattle.trace_reader.specs.Fields.{parts, four_of}
 use Rattle.trace_reader.specs.Heads.{line_at, version_in, plan_line_of, parts_after_tasks, version_task_lines}
-use Rattle.trace_reader.proofs.Lined.{spaced, line-spaced}
+use Rattle.trace_text.proofs.Lined.{spaced, line-spaced}
 use Rattle.trace_reader.proofs.UnspacedFields.{Lacks, lacks-unspaced, lacks-spaced, length-decimal, parts-joined}
 use Rattle.trace_reader.proofs.FieldTexts.{read-step, if-made}
 use Rattle.dvs_base.proofs.Checks.{step-ok, ok-is, ok_or-ok}
@@ -56,20 +55,14 @@ version_body Two = codes "trace 2"
 -- if a word is read as a value by its text, or else by what follows, it is the value's text if that is so of what follows
 word-else : {A R : Type 0} (given : A → R) → ((x y : A) → given x ≡ given y → x ≡ y) → (text : A → List ℕ) (word : List ℕ) (x y : A) (rest : R)
     → (rest ≡ given y → word ≡ text y) → (if bytes_eq word (text x) then given x else rest) ≡ given y → word ≡ text y
-word-else given same text word x y rest later e = by (bytes_eq word (text x)) refl e
-  where
-    by : (b : Bool) → bytes_eq word (text x) ≡ b → (if b then given x else rest) ≡ given y → word ≡ text y
-    by true is e = (bytes_eq-Decides word (text x)).0 is ∙ ap text (same x y e)
-    by false other e = later e
+word-else given same text word x y rest later e = grind (arith, nat_tests, bytes_eq-Decides)
 
 version-else : (text : List ℕ) (v w : Version) (rest : Result Version TraceKind) → (rest ≡ Ok w → text ≡ version_body w)
     → (if bytes_eq text (version_body v) then Ok v else rest) ≡ Ok w → text ≡ version_body w
 version-else text = word-else Ok (ok-is {F = TraceKind}) version_body text
 
 pub version-found : (newest v : Version) (text : List ℕ) → version_in newest text ≡ Ok v → (text ≡ version_body v) × IsUpTo newest v
-version-found One v text e =
-    let found = if-made (bytes_eq text (codes "trace 1")) One v kind.Version e in
-    (version-else text One v _ (λ e. absurd cc) e, subst (IsUpTo One) found.1 tt)
+version-found One v text e = grind (arith, nat_tests, if-made, version-else)
 version-found Two v text e = (version-else text One v _ (version-else text Two v _ (λ e. absurd cc)) e, tt)
 
 pub version-text : (newest v : Version) → IsUpTo newest v → version_in newest (version_body v) ≡ Ok v
@@ -95,18 +88,7 @@ governor-word word g =
     (option-else governor_word word Cycle g _ (option-else governor_word word Ahead g _ (λ e. absurd cc))))
 
 ticks-word : (word : List ℕ) (n : ℕ) → ticks_of word ≡ Some n → (word ≡ decimal n) × (1 ≤ n) × (n ≤ MOST_TICKS)
-ticks-word word n e = by (number_below (2 ^ 64) word) refl e
-  where
-    choice : (m : ℕ) (a b : Bool) → nat_le 1 m ≡ a → nat_le m MOST_TICKS ≡ b → (if a && b then Some m else None) ≡ Some n → (1 ≤ m) × (m ≤ MOST_TICKS) × (m ≡ n)
-    choice m true true p q f = (grind (arith, nat_tests), grind (arith, nat_tests), same_Some m n f)
-    choice m _ _ p q f = absurd cc
-
-    by : (o : Option ℕ) → number_below (2 ^ 64) word ≡ o → ticks_from o ≡ Some n → (word ≡ decimal n) × (1 ≤ n) × (n ≤ MOST_TICKS)
-    by None p f = absurd cc
-    by (Some m) p f =
-        let c = choice m (nat_le 1 m) (nat_le m MOST_TICKS) refl refl f in
-        let text = number_below-found (2 ^ 64) word m (omega arith) p in
-        (text.0 ∙ ap decimal c.2, omega (arith, c.0, c.2), omega (arith, c.1, c.2))
+ticks-word word n e = grind (arith, nat_tests, number_below-found, same_Some)
 
 -- the plan is one that a trace can have: one of the seven pairs, and a number of ticks within its limits
 pub record IsPlan (plan : PlanLine) : Type 0 where
@@ -142,10 +124,7 @@ governor-read Plain = refl
 governor-read _ = refl
 
 ticks-read : (n : ℕ) → 1 ≤ n → n ≤ MOST_TICKS → ticks_of (decimal n) ≡ Some n
-ticks-read n some low =
-    let above : nat_le 1 n ≡ true = grind (arith, nat_tests) in
-    let below : nat_le n MOST_TICKS ≡ true = grind (arith, nat_tests) in
-    ap ticks_from (number_below-decimal (2 ^ 64) n (omega arith) (omega arith)) ∙ rw (above, below) refl
+ticks-read n some low = grind (arith, nat_tests, number_below-decimal)
 
 plan-read : (plan : PlanLine) → IsPlan plan → plan_line_of (plan_fields plan.scheduler plan.governor plan.ticks) ≡ Ok plan
 unfolding plan_line_of
@@ -230,15 +209,7 @@ task-step : (n : ℕ) (task : List ℕ) (tasks ps : List (List ℕ)) (l : List �
     → (if same then parts_after_tasks (n + 1) tasks l.1 else Err (Refused n kind.TaskLine)) ≡ Ok p
     → (parts_after_tasks (n + 1) tasks l.1 ≡ Ok p → TasksRead (n + 1) tasks l.1 p) → TasksRead n (task ∷ tasks) ps p
 task-step n task tasks ps l p false read same e later = absurd cc
-task-step n task tasks ps l p true read same e later =
-    let line = line_at-found n ps l read in
-    let t = later e in
-    let here : l.0 ++ 10 ∷ [] ≡ task = (bytes_eq-Decides (l.0 ++ 10 ∷ []) task).0 same in
-    record {
-      text = ap (join_with_byte 10) line.all ∙ (join-line l.0 l.1 line.more ∙ (sym (append_assoc l.0 (10 ∷ []) (join_with_byte 10 l.1))
-          ∙ (ap₂ (λ a b. a ++ b) here t.text ∙ sym (append_assoc task (joined tasks) (join_with_byte 10 p.1)))));
-      next = omega (arith, t.next);
-    }
+task-step n task tasks ps l p true read same e later = grind (arith, nat_tests, append_assoc, bytes_eq-Decides, join-line, line_at-found)
 
 pub tasks-found : (n : ℕ) (tasks ps : List (List ℕ)) (p : ℕ × List (List ℕ)) → parts_after_tasks n tasks ps ≡ Ok p → TasksRead n tasks ps p
 unfolding parts_after_tasks

@@ -1,5 +1,7 @@
 -- A line that is read is the line of its item, and the line of any item is read.
-use Rattle.std.proofs.Common.{◌≡◌, ℕ, ◌^◌, ◌<◌, Bool, true, false, List, [], ◌∷◌, length, Some, Result, Ok, refl, ap, subst, ◌∙◌, if◌then◌else◌}
+use Rattle.std.proofs.lemmas.Bool.Decides.{nat_tests}
+use Rattle.std.proofs.Common.{arith}
+use Rattle.std.proofs.Common.{◌≡◌, ℕ, ◌^◌, ◌<◌, true, List, [], ◌∷◌, length, Some, Result, Ok, refl, ap, subst, ◌∙◌, if◌then◌else◌}
 use Rattle.std.specs.Prelude.{decimal, codes}
 use Rattle.std.specs.Option.{ok_or}
 use Rattle.std.specs.Str.{bytes_eq}
@@ -44,9 +46,7 @@ four-is (a ∷ b ∷ c ∷ d ∷ []) p e = subst (λ (q : List ℕ × List ℕ �
 four-is _ p e = absurd cc
 
 six-is : (ps : List (List ℕ)) (p : List ℕ × List ℕ × List ℕ × List ℕ × List ℕ × List ℕ) → six_of ps ≡ Some p → ps ≡ p.0 ∷ p.1 ∷ p.2 ∷ p.3 ∷ p.4 ∷ p.5 ∷ []
-six-is (a ∷ b ∷ c ∷ d ∷ f ∷ g ∷ []) p e =
-    subst (λ (q : List ℕ × List ℕ × List ℕ × List ℕ × List ℕ × List ℕ). a ∷ b ∷ c ∷ d ∷ f ∷ g ∷ [] ≡ q.0 ∷ q.1 ∷ q.2 ∷ q.3 ∷ q.4 ∷ q.5 ∷ [])
-    (same_Some (a, b, c, d, f, g) p e) refl
+six-is (a ∷ b ∷ c ∷ d ∷ f ∷ g ∷ []) p e = grind (arith, nat_tests, same_Some)
 six-is _ p e = absurd cc
 
 abbrev read_item : Item → Result Item TraceKind
@@ -144,11 +144,7 @@ module _ (v : Version) (names fields : List (List ℕ)) (word : List ℕ) (item 
   worded : (text : List ℕ) (here rest : Result Item TraceKind) → (if bytes_eq word text then here else rest) ≡ Ok item
       → (here ≡ Ok item → Found v names (text ∷ fields) item) → (rest ≡ Ok item → Found v names (word ∷ fields) item)
       → Found v names (word ∷ fields) item
-  worded text here rest e found later = by (bytes_eq word text) refl e
-    where
-      by : (b : Bool) → bytes_eq word text ≡ b → (if b then here else rest) ≡ Ok item → Found v names (word ∷ fields) item
-      by true same e = (ap (λ w. w ∷ fields) ((bytes_eq-Decides word text).0 same) ∙ (found e).0, (found e).1)
-      by false other e = later e
+  worded text here rest e found later = grind (arith, nat_tests, bytes_eq-Decides)
 
   word-found : item_of v names (word ∷ fields) ≡ Ok item → Found v names (word ∷ fields) item
   unfolding item_of
@@ -173,15 +169,7 @@ pub item_of-text : (v : Version) (names : List (List ℕ)) (item : Item) → Are
 unfolding item_of release_in speed_in run_in idle_in done_in end_in energy_in
 item_of-text v names (Told (Release t i k)) apart h = rw (whole_in-text t h.0, task_in-text names i apart h.1, whole_in-text k h.2) refl
 item_of-text v names (Told (Speed t f num den)) apart h = rw (whole_in-text t h.0, whole_in-text f h.1, fraction_in-text num den h.2 h.3) refl
-item_of-text v names (Told (Run from to i k units energy)) apart h =
-    rw (
-      position_in-text from h.0,
-      position_in-text to h.1,
-      task_in-text names i apart h.2,
-      whole_in-text k h.3,
-      whole_in-text units h.4,
-      wide_in-text energy h.5,
-    ) refl
+item_of-text v names (Told (Run from to i k units energy)) apart h = grind (arith, nat_tests, position_in-text, task_in-text, whole_in-text, wide_in-text)
 item_of-text v names (Told (Idle from to units energy)) apart h =
     rw (position_in-text from h.0, position_in-text to h.1, whole_in-text units h.2, wide_in-text energy h.3) refl
 item_of-text v names (Told (Done q i k used)) apart h =

@@ -1,7 +1,6 @@
 pub mod FirstCut
 pub mod ReaderSteps
 pub mod EnergySums
-pub mod Lined
 pub mod UnspacedFields
 pub mod FieldTexts
 pub mod ItemTexts

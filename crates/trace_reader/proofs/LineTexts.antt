@@ -22,7 +22,7 @@ use Rattle.trace_reader.specs.Fields.{parts}
 use Rattle.trace_reader.specs.Heads.{line_at}
 use Rattle.trace_reader.specs.Items.{item_of}
 use Rattle.trace_reader.proofs.FirstCut.{HasPart, some-part}
-use Rattle.trace_reader.proofs.Lined.{spaced, line-spaced}
+use Rattle.trace_text.proofs.Lined.{spaced, line-spaced}
 use Rattle.trace_reader.proofs.UnspacedFields.{Lacks, lacks-unspaced, lacks-spaced, parts-first, parts-joined}
 use Rattle.trace_reader.proofs.ItemTexts.{item_fields, IsItemOf, item_of-found}
 
@@ -45,10 +45,7 @@ line-found : (n : ℕ) (text next : List ℕ) (rest : List (List ℕ)) (p : List
     → nat_lt MOST_LINES n ≡ many → nat_lt LONGEST_LINE (length text) ≡ long
     → (if many then Err (Refused n kind.TooMany) else (if long then Err (Refused n kind.TooLong) else Ok (text, next ∷ rest))) ≡ Ok p
     → IsLineOf n (text ∷ next ∷ rest) p.0 p.1
-line-found n text next rest p false false a b e =
-    let here : ◌≡◌ {A = List ℕ × List (List ℕ)} (text, next ∷ rest) p = cc in
-    subst (λ (q : List ℕ × List (List ℕ)). IsLineOf n (text ∷ next ∷ rest) q.0 q.1) here
-    (record { all = refl; more = record { first = next; rest = rest; all = refl }; few = grind (arith, nat_tests); short = grind (arith, nat_tests) })
+line-found n text next rest p false false a b e = grind (arith, nat_tests)
 line-found n text next rest p _ _ a b e = absurd cc
 
 pub line_at-found : (n : ℕ) (ps : List (List ℕ)) (p : List ℕ × List (List ℕ)) → line_at n ps ≡ Ok p → IsLineOf n ps p.0 p.1
@@ -115,15 +112,7 @@ lengths-item v c names (Told (Release t i k)) named h = omega (arith, length-dec
 lengths-item v c names (Told (Speed t f num den)) named h =
     omega (arith, length-decimal_u64 t h.0, length-decimal_u64 f h.1, length-fraction_text num den h.2 h.3)
 lengths-item v c names (Told (Run from to i k units energy)) named h =
-    omega (
-      arith,
-      length-position_text from h.0.0 h.0.1,
-      length-position_text to h.1.0 h.1.1,
-      length-name_of names i named,
-      length-decimal_u64 k h.3,
-      length-decimal_u64 units h.4,
-      length-decimal_u128 energy h.5,
-    )
+    grind (arith, nat_tests, length-decimal_u128, length-decimal_u64, length-name_of, length-position_text)
 lengths-item v c names (Told (Idle from to units energy)) named h =
     omega (arith, length-position_text from h.0.0 h.0.1, length-position_text to h.1.0 h.1.1, length-decimal_u64 units h.2, length-decimal_u128 energy h.3)
 lengths-item v c names (Told (Done q i k used)) named h =
@@ -133,18 +122,12 @@ lengths-item v c names (Share i energy) named h = omega (arith, length-name_of n
 
 -- a line of unspaced fields ends the first part of a text
 pub cut-line : (fields : List (List ℕ)) (more : List ℕ) → AllByRecursion AreUnspaced fields → parts 10 (line fields ++ more) ≡ spaced fields ∷ parts 10 more
-cut-line fields more unspaced =
-    ap (λ t. parts 10 (t ++ more)) (line-spaced fields)
-    ∙ (ap (parts 10) (append_assoc (spaced fields) (10 ∷ []) more)
-    ∙ parts-first 10 (spaced fields) more (lacks-spaced fields (lacks-unspaced fields unspaced).1))
+cut-line fields more unspaced = grind (arith, nat_tests, append_assoc, lacks-spaced, lacks-unspaced, line-spaced, parts-first)
 
 -- a line of unspaced fields that is not too long is read
 pub read-line : (n : ℕ) (fields : List (List ℕ)) (more : List ℕ) → AllByRecursion AreUnspaced fields → n ≤ MOST_LINES → lengths fields ≤ LONGEST_LINE
     → line_at n (parts 10 (line fields ++ more)) ≡ Ok (spaced fields, parts 10 more)
-read-line n fields more unspaced few short =
-    ap (λ t. line_at n (parts 10 (t ++ more))) (line-spaced fields)
-    ∙ (ap (λ t. line_at n (parts 10 t)) (append_assoc (spaced fields) (10 ∷ []) more)
-    ∙ line_at-text n (spaced fields) more (lacks-spaced fields (lacks-unspaced fields unspaced).1) few (omega (arith, length-spaced fields, short)))
+read-line n fields more unspaced few short = grind (arith, nat_tests, append_assoc, lacks-spaced, lacks-unspaced, length-spaced, line-spaced, line_at-text)
 
 -- fields that are read as an item are the parts of their line
 pub parts-fields : (v : Version) (names fields : List (List ℕ)) (item : Item) → item_of v names fields ≡ Ok item → AllByRecursion AreUnspaced fields

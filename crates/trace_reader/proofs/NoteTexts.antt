@@ -1,5 +1,6 @@
 -- The notes that are read are those of their text, and the text of any notes is read.
-use Rattle.std.proofs.Common.{◌≡◌, ℕ, zero, suc, ◌+◌, ◌-◌, ◌^◌, ◌<◌, ◌≤◌, Bool, true, false, List, [], ◌∷◌, ◌++◌, length, drop, get_or, Result, Ok, Err, refl, sym, ap, ap₂, subst, inl, inr, ◌∙◌, append_assoc, arith, if◌then◌else◌}
+use Rattle.std.proofs.lemmas.Bool.Decides.{nat_tests}
+use Rattle.std.proofs.Common.{◌≡◌, ℕ, zero, suc, ◌+◌, ◌-◌, ◌^◌, ◌<◌, ◌≤◌, Bool, true, false, List, [], ◌∷◌, ◌++◌, length, drop, Result, Ok, Err, refl, sym, ap, ap₂, subst, ◌∙◌, append_assoc, arith, if◌then◌else◌}
 use Rattle.std.specs.Prelude.{nat_le, ◌==◌, flat_map}
 use Rattle.std.specs.List.{AllByRecursion, join_with_byte}
 use Rattle.std.proofs.lemmas.Bool.{cases_lt, eq-eqb, eqb-true, le-leb, leb-true}
@@ -11,7 +12,7 @@ use Rattle.trace_text.specs.TraceText.{has_task_lines, share_text, task_energy}
 use Rattle.dvs_base.specs.declared.note.Note.{Note}
 use Rattle.dvs_base.specs.declared.note.Note.TheVariants.{End}
 use Rattle.dvs_base.specs.declared.kind.Version.{Version}
-use Rattle.dvs_base.specs.declared.limits.TheConstants.{MOST_LINES, LONGEST_LINE}
+use Rattle.dvs_base.specs.declared.limits.TheConstants.{MOST_LINES}
 use Rattle.trace_reader.specs.declared.line.Item.{Item}
 use Rattle.trace_reader.specs.declared.line.Item.TheVariants.{Told, Share}
 use Rattle.trace_reader.specs.declared.trace.TraceFault.{TraceFault}
@@ -23,10 +24,9 @@ use Rattle.trace_reader.specs.Heads.{line_at, at_line}
 use Rattle.trace_reader.specs.Items.{item_of}
 use Rattle.trace_reader.specs.TraceFile.{SoFar, energy_line_count, is_in_order, is_right_share, next_item, with_item, ends, is_nothing, notes_from}
 use Rattle.trace_reader.specs.Traces.{IsNoteOf, is_end}
-use Rattle.trace_reader.proofs.FirstCut.{HasPart}
 use Rattle.trace_reader.proofs.FieldTexts.{AreApart, if-ok, if-made}
 use Rattle.dvs_base.proofs.Checks.{step-ok, ok-is}
-use Rattle.trace_reader.proofs.Lined.{spaced}
+use Rattle.trace_text.proofs.Lined.{spaced}
 use Rattle.trace_reader.proofs.ItemTexts.{item_fields, IsItemOf, item_of-text}
 use Rattle.trace_reader.proofs.LineTexts.{AreNames, IsLineOf, line_at-found, join-line, item_text, item-found, unspaced-item, cut-line, read-line, parts-fields, lengths-item}
 use Rattle.trace_reader.proofs.ShareTexts.{shares, rest_text, shares-told, shares-next, HaveNoEnd}
@@ -44,11 +44,7 @@ record IsNextItem (v : Version) (names : List (List ℕ)) (s : SoFar) (fields : 
 next_item-found : (v : Version) (names : List (List ℕ)) (s : SoFar) (fields : List (List ℕ)) (item : Item)
     → next_item v names s fields ≡ Ok item → IsNextItem v names s fields item
 unfolding next_item
-next_item-found v names s fields item e =
-    let a = step-ok _ _ item e in
-    let b = if-ok (is_in_order s.energies_read (energy_line_count v names) a.0) _ kind.Order item a.2 in
-    let c = if-made (is_right_share s.notes a.0) a.0 item kind.Share b.1 in
-    subst (λ (x : Item). IsNextItem v names s fields x) c.1 (record { read = a.1; order = b.0; right = c.0 })
+next_item-found v names s fields item e = grind (arith, nat_tests, if-made, if-ok, step-ok)
 
 -- the notes `all` that are read from line n on: those so far, `body` and the last, with their text and its limits
 pub record Reads (v : Version) (names : List (List ℕ)) (n : ℕ) (s : SoFar) (ps : List (List ℕ)) (all : List Note) : Type 0 where
@@ -147,13 +143,7 @@ share-facts v names notes energies_read e lt = rw e (refl, shares-next names not
 share-widths : (notes body : List Note) (energies_read j energy : ℕ) → body ≡ []
     → energy ≡ task_energy notes energies_read → energy < 2 ^ 128 → energies_read ≤ j
     → (energies_read + 1 ≤ j → task_energy (notes ++ body) j < 2 ^ 128) → task_energy (notes ++ []) j < 2 ^ 128
-share-widths notes body energies_read j energy none sum fits low later = elim (cases_lt energies_read j) [
-  | inl lt ↦ subst (λ bs. task_energy (notes ++ bs) j < 2 ^ 128) none (later (omega (arith, lt)))
-  | inr ge ↦
-      let here : energies_read ≡ j = omega (arith, ge, low) in
-      let same : energy ≡ task_energy (notes ++ []) j = sum ∙ ap₂ (λ ns i. task_energy ns i) (sym (append-nil notes)) here in
-      omega (arith, same, fits)
-]
+share-widths notes body energies_read j energy none sum fits low later = grind (arith, nat_tests, append-nil, cases_lt)
 
 -- reading the energy of a task
 read-share : (v : Version) (names : List (List ℕ)) (n : ℕ) (s : SoFar) (text : List ℕ) (rest : List (List ℕ)) (i energy : ℕ) (all : List Note)
@@ -203,23 +193,12 @@ item-step : (v : Version) (names : List (List ℕ)) (n : ℕ) (s : SoFar) (text 
     → ((t : SoFar) → notes_from v names (n + 1) t rest ≡ Ok all → Reads v names (n + 1) t rest all) → Reads v names n s (text ∷ rest) all
 item-step v names n s text rest (Share i energy) all read item e later = read-share v names n s text rest i energy all read item
     (λ _. later (record { notes = s.notes; energies_read = s.energies_read + 1 }) e)
-item-step v names n s text rest (Told note) all read item e later = by (is_end note) refl
-  where
-    by : (b : Bool) → is_end note ≡ b → Reads v names n s (text ∷ rest) all
-    by true end =
-        let last = if-made (is_nothing rest) (s.notes ++ note ∷ []) all (Refused (n + 1) kind.AfterEnd) (rw (ends-told note ∙ end) at e) in
-        read-last v names n s text rest note all end read item last.0 last.1
-    by false other = read-note v names n s text rest note all other read item
-        (later (record { notes = s.notes ++ note ∷ []; energies_read = s.energies_read }) (rw (ends-told note ∙ other) at e))
+item-step v names n s text rest (Told note) all read item e later = grind (arith, nat_tests, ends-told, if-made, read-last, read-note)
 
 -- a line that was read is the first part, with the parts after it
 line-pair : (n : ℕ) (text : List ℕ) (rest : List (List ℕ)) (p : List ℕ × List (List ℕ)) → line_at n (text ∷ rest) ≡ Ok p
     → IsLineOf n (text ∷ rest) text rest × (p.0 ≡ text)
-line-pair n text rest p e =
-    let read = line_at-found n (text ∷ rest) p e in
-    let first : p.0 ≡ text = ap (λ ps. get_or ps 0 []) (sym read.all) in
-    let others : p.1 ≡ rest = ap (λ ps. drop 1 ps) (sym read.all) in
-    (record { all = refl; more = subst HasPart others read.more; few = read.few; short = subst (λ t. length t ≤ LONGEST_LINE) first read.short }, first)
+line-pair n text rest p e = grind (arith, nat_tests, line_at-found)
 
 -- the notes that are read are those of their text
 pub notes_from-found : (v : Version) (names : List (List ℕ)) (n : ℕ) (s : SoFar) (ps : List (List ℕ)) (all : List Note)
@@ -275,12 +254,7 @@ module _ (v : Version) (names : List (List ℕ)) (named : AreNames names) (apart
       → ((i : ℕ) → s.energies_read ≤ i → i < energy_line_count v names → task_energy s.notes i < 2 ^ 128) → n + k ≤ MOST_LINES
       → notes_from v names n s (parts 10 ((joined (drop s.energies_read (shares v names s.notes)) ++ note_text names last) ++ more)) ≡ answer
       (n + k + 1) (s.notes ++ last ∷ []) more
-  shares-text zero n s last more left end fits widths few =
-      let energies_read : energy_line_count v names ≤ s.energies_read = omega arith in
-      let here : n + 1 ≡ n + 0 + 1 = omega arith in
-      ap (λ ls. notes_from v names n s (parts 10 ((joined ls ++ note_text names last) ++ more))) (shares-told v names s.notes s.energies_read energies_read)
-      ∙ (last-text n s last more end fits energies_read (omega arith)
-      ∙ ap (λ m. answer m (s.notes ++ last ∷ []) more) here)
+  shares-text zero n s last more left end fits widths few = grind (arith, nat_tests, last-text, shares-told)
   shares-text (suc k) n s last more left end fits widths few =
       let wide : s.energies_read < energy_line_count v names = omega arith in
       let two = wanted-some (has_task_lines v) s.energies_read (length names) wide in

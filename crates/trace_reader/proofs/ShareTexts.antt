@@ -1,12 +1,13 @@
 -- The lines of the tasks' energies, and the notes before the last one.
-use Rattle.std.proofs.Common.{◌≡◌, ℕ, zero, suc, ◌+◌, ◌<◌, ◌≤◌, true, false, List, [], ◌∷◌, ◌++◌, length, drop, refl, sym, ap, ap₂, ◌∙◌, append_assoc, arith}
+use Rattle.std.proofs.lemmas.Bool.Decides.{nat_tests}
+use Rattle.std.proofs.Common.{◌≡◌, ℕ, zero, suc, ◌+◌, ◌<◌, ◌≤◌, true, false, List, [], ◌∷◌, ◌++◌, length, drop, refl, ap, ap₂, ◌∙◌, append_assoc, arith}
 use Rattle.std.specs.Prelude.{flat_map}
 use Rattle.std.specs.List.{AllByRecursion}
 use Rattle.std.proofs.lemmas.Grind.{flat_map-append}
 use Rattle.std.proofs.lemmas.List.{append-nil, drop_all}
 use Rattle.dvs_base.specs.Parts.{joined, name_of}
 use Rattle.trace_text.specs.TraceLines.{note_text}
-use Rattle.trace_text.specs.TraceText.{NotedLine, line_of_note, for_tasks, lines_of_note, note_lines, text_of_lines, share_text, task_energy, shares_from}
+use Rattle.trace_text.specs.TraceText.{lines_of_note, note_lines, text_of_lines, share_text, task_energy, shares_from}
 use Rattle.trace_reader.specs.Heads.{version_task_lines}
 use Rattle.dvs_base.specs.declared.note.Note.{Note}
 use Rattle.dvs_base.specs.declared.note.Note.TheVariants.{End}
@@ -52,11 +53,7 @@ drop-from notes i (suc j) (name ∷ names) lt =
 pub shares-next : (names : List (List ℕ)) (notes : List Note) (energies_read : ℕ) → energies_read < length names
     → drop energies_read (shares_from notes 0 names)
     ≡ share_text (name_of names energies_read) (task_energy notes energies_read) ∷ drop (energies_read + 1) (shares_from notes 0 names)
-shares-next names notes energies_read lt =
-    let here : 0 + energies_read ≡ energies_read = omega arith in
-    let next : suc energies_read ≡ energies_read + 1 = omega arith in
-    drop-from notes 0 energies_read names lt
-    ∙ ap₂ (λ i k. share_text (name_of names energies_read) (task_energy notes i) ∷ drop k (shares_from notes 0 names)) here next
+shares-next names notes energies_read lt = grind (arith, nat_tests, drop-from)
 
 -- none of the notes ends the run
 abbrev pub HaveNoEnd : List Note → Type 0
@@ -67,17 +64,11 @@ told-body : (v : Version) (names : List (List ℕ)) (all body last : List Note) 
     → text_of_lines (flat_map (lines_of_note v names all) (body ++ last))
     ≡ flat_map (note_text names) body ++ text_of_lines (flat_map (lines_of_note v names all) last)
 told-body v names all [] last h = refl
-told-body v names all (n ∷ body) last h =
-    ap (λ ls. text_of_lines (ls ++ flat_map (lines_of_note v names all) (body ++ last))) (lines-by v names all n false h.0)
-    ∙ (ap (λ t. note_text names n ++ t) (told-body v names all body last h.1)
-    ∙ sym (append_assoc (note_text names n) (flat_map (note_text names) body) (text_of_lines (flat_map (lines_of_note v names all) last))))
+told-body v names all (n ∷ body) last h = grind (arith, nat_tests, append_assoc, lines-by, told-body v names all body last)
 
 told-last : (v : Version) (names : List (List ℕ)) (all : List Note) (last : Note) → is_end last ≡ true
     → text_of_lines (lines_of_note v names all last ++ []) ≡ joined (shares v names all) ++ note_text names last
-told-last v names all last e =
-    ap text_of_lines (append-nil (lines_of_note v names all last) ∙ lines-by v names all last true e)
-    ∙ (flat_map-append (λ (l : NotedLine). l.text) (for_tasks v (shares_from all 0 names)) (line_of_note names last ∷ [])
-    ∙ ap₂ (λ a b. a ++ b) (text-for v (shares_from all 0 names)) (append-nil (note_text names last)))
+told-last v names all last e = grind (arith, nat_tests, append-nil, flat_map-append, lines-by, text-for)
 
 -- the notes of a whole trace have the text of the notes from its beginning
 pub told-notes : (v : Version) (names : List (List ℕ)) (body : List Note) (last : Note) → HaveNoEnd body → is_end last ≡ true

@@ -8,11 +8,11 @@ use Rattle.dvs_base.specs.declared.limits.TheConstants.{LONGEST_LINE, LONGEST_TR
 use Rattle.dvs_base.specs.declared.note.Note.{Note}
 use Rattle.dvs_base.proofs.Decimals.{length-decimal_u128}
 use Rattle.trace_text.specs.TraceLines.{line, note_text, plan_fields, plan_text}
-use Rattle.grid_fraction.proofs.Lists.{each-append}
+use Rattle.dvs_base.proofs.Lists.{each-append}
 use Rattle.trace_reader.specs.declared.line.Item.TheVariants.{Told}
 use Rattle.trace_text.specs.TraceText.{NotedLine, for_tasks, note_lines, trace_lines, text_of_lines, version_line, share_text, task_energy}
 use Rattle.trace_reader.specs.Traces.{TraceView, IsNoteOf, IsTrace, text_of}
-use Rattle.trace_reader.proofs.Lined.{line-spaced}
+use Rattle.trace_text.proofs.Lined.{line-spaced}
 use Rattle.trace_reader.proofs.LineTexts.{AreNames, lengths, length-spaced, length-name_of, lengths-item}
 use Rattle.trace_reader.proofs.WholeText.{each-for, each-share, each-noted, length-lines}
 use Rattle.trace_reader.proofs.NoteTexts.{note-line}

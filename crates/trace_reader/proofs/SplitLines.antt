@@ -1,5 +1,7 @@
 -- The text of a trace is split into the lines that it was made of.
-use Rattle.std.proofs.Common.{◌≡◌, ℕ, List, [], ◌∷◌, ◌++◌, map, refl, sym, ap, ap₂, ◌∙◌, codes}
+use Rattle.std.proofs.lemmas.Bool.Decides.{nat_tests}
+use Rattle.std.proofs.Common.{arith}
+use Rattle.std.proofs.Common.{◌≡◌, ℕ, List, [], ◌∷◌, map, refl, codes}
 use Rattle.std.specs.Prelude.{decimal}
 use Rattle.std.specs.List.{AllByRecursion}
 use Rattle.dvs_base.specs.Parts.{name_of}
@@ -9,7 +11,7 @@ use Rattle.dvs_base.specs.declared.kind.Scheduler.{Scheduler}
 use Rattle.dvs_base.specs.declared.kind.GovernorKind.{GovernorKind}
 use Rattle.dvs_base.specs.declared.note.Note.{Note}
 use Rattle.trace_text.specs.TraceLines.{line, fields_of, note_text, plan_fields, lines_of}
-use Rattle.grid_fraction.proofs.Lists.{each-append}
+use Rattle.dvs_base.proofs.Lists.{each-append}
 use Rattle.trace_text.proofs.Unspaced.{AreUnspaced, unspaced-decimal, lines-line}
 use Rattle.trace_text.proofs.NoteLines.{unspaced-word, unspaced-scheduler, unspaced-governor, note-fields, unspaced-fields}
 use Rattle.trace_text.specs.TraceText.{NotedLine, for_tasks, note_lines, trace_lines, text_of_lines, version_line, share_text, task_text, task_energy}
@@ -22,9 +24,7 @@ IsLine l = (fields : List (List ℕ)) × (l ≡ line fields) × AllByRecursion A
 -- the lines of a text that is given by its lines, each of unspaced fields
 pub lines-text : (ls : List NotedLine) → AllByRecursion (λ l. IsLine l.text) ls → lines_of (text_of_lines ls) ≡ map (λ l. l.text) ls
 lines-text [] h = refl
-lines-text (l ∷ ls) h =
-    ap (λ m. lines_of (m ++ text_of_lines ls)) h.0.1
-    ∙ (lines-line h.0.0 (text_of_lines ls) h.0.2 ∙ ap₂ (λ m ms. m ∷ ms) (sym h.0.1) (lines-text ls h.1))
+lines-text (l ∷ ls) h = grind (arith, nat_tests, lines-line, lines-text ls)
 
 version-fields : (v : Version) → IsLine (version_line v)
 version-fields One = (codes "trace" ∷ codes "1" ∷ [], refl, (unspaced-word (codes "trace") refl, (unspaced-word (codes "1") refl, tt)))

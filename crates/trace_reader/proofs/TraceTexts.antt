@@ -1,4 +1,5 @@
 -- A text that is read is that of its trace, the text of any trace is read, and no text is the beginning of another.
+use Rattle.std.proofs.lemmas.Bool.Decides.{nat_tests}
 use Rattle.std.proofs.Common.{◌≡◌, ℕ, ◌+◌, ◌^◌, ◌<◌, ◌≤◌, Bool, true, false, List, [], ◌∷◌, ◌++◌, length, Result, Ok, Err, refl, sym, ap, ap₂, subst, ◌∙◌, append_assoc, length-append, arith, if◌then◌else◌}
 use Rattle.std.specs.Prelude.{IfOk}
 use Rattle.std.specs.List.{AllByRecursion, join_with_byte}
@@ -101,9 +102,7 @@ found-whole newest names tasks bytes v plan ps p notes up_to is_plan head tasks_
 
 -- the text from line n on is that line, its line feed and the text after it
 line-text : (n : ℕ) (ps : List (List ℕ)) (p : List ℕ × List (List ℕ)) → line_at n ps ≡ Ok p → join_with_byte 10 ps ≡ (p.0 ++ 10 ∷ []) ++ join_with_byte 10 p.1
-line-text n ps p e =
-    let line = line_at-found n ps p e in
-    ap (join_with_byte 10) line.all ∙ (join-line p.0 p.1 line.more ∙ sym (append_assoc p.0 (10 ∷ []) (join_with_byte 10 p.1)))
+line-text n ps p e = grind (arith, nat_tests, append_assoc, join-line, line_at-found)
 
 pub trace_file-found : (newest : Version) (names tasks : List (List ℕ)) (bytes : List ℕ) (t : TraceView)
     → trace_file newest names tasks bytes ≡ Ok t → IsFound newest names tasks bytes t

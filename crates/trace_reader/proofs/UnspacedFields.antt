@@ -9,7 +9,7 @@ use Rattle.std.proofs.lemmas.List.Elements.{All-from_recursion}
 use Rattle.std.proofs.lemmas.List.Splits.{slice_split_at, slice_split_none}
 use Rattle.trace_text.proofs.Unspaced.{AreUnspaced}
 use Rattle.trace_reader.specs.Fields.{parts}
-use Rattle.trace_reader.proofs.Lined.{spaced}
+use Rattle.trace_text.proofs.Lined.{spaced}
 
 -- the byte is not in the text
 abbrev pub Lacks : ℕ → List ℕ → Type 0

@@ -1,4 +1,5 @@
 -- The lines of a trace: what holds of each, how many they are, and their text.
+use Rattle.std.proofs.lemmas.Bool.Decides.{nat_tests}
 use Rattle.std.proofs.Common.{◌≡◌, ℕ, suc, ◌+◌, ◌<◌, Bool, true, false, List, [], ◌∷◌, ◌++◌, length, map, flat_map, refl, ap, subst, ◌∙◌, arith, length-append, if◌then◌else◌}
 use Rattle.std.specs.List.{AllByRecursion}
 use Rattle.std.proofs.lemmas.Grind.{flat_map-append}
@@ -9,11 +10,10 @@ use Rattle.dvs_base.specs.declared.kind.GovernorKind.{GovernorKind}
 use Rattle.dvs_base.specs.declared.kind.Version.{Version}
 use Rattle.dvs_base.specs.declared.kind.Version.TheVariants.{One, Two}
 use Rattle.dvs_base.specs.declared.note.Note.{Note}
-use Rattle.dvs_base.specs.declared.note.Note.TheVariants.{End}
 use Rattle.trace_text.specs.TraceLines.{note_text, plan_text}
 use Rattle.trace_text.specs.declared.write.PlanLine.{PlanLine}
-use Rattle.grid_fraction.proofs.Lists.{each-append}
-use Rattle.trace_text.specs.TraceText.{NotedLine, unnoted_line, line_of_note, has_task_lines, for_tasks, lines_of_note, note_lines, trace_lines, text_of_lines, whole_text, version_line, share_text, task_energy, shares_from}
+use Rattle.dvs_base.proofs.Lists.{each-append}
+use Rattle.trace_text.specs.TraceText.{unnoted_line, line_of_note, has_task_lines, for_tasks, lines_of_note, note_lines, trace_lines, text_of_lines, whole_text, version_line, share_text, task_energy, shares_from}
 use Rattle.trace_reader.specs.Heads.{version_task_lines}
 use Rattle.trace_reader.specs.TraceFile.{energy_line_count}
 use Rattle.trace_reader.specs.Traces.{is_end, IsEnded, lines_for_tasks}
@@ -21,11 +21,7 @@ use Rattle.trace_reader.specs.Traces.{is_end, IsEnded, lines_for_tasks}
 -- the lines of a note are its own, and before it those of the tasks' energies if it ends the run
 pub lines-by : (v : Version) (names : List (List ℕ)) (all : List Note) (n : Note) (b : Bool) → is_end n ≡ b
     → lines_of_note v names all n ≡ (if b then for_tasks v (shares_from all 0 names) else []) ++ line_of_note names n ∷ []
-lines-by v names all n b e = own n ∙ ap (λ (c : Bool). (if c then for_tasks v (shares_from all 0 names) else []) ++ line_of_note names n ∷ []) e
-  where
-    own : (m : Note) → lines_of_note v names all m ≡ (if is_end m then for_tasks v (shares_from all 0 names) else []) ++ line_of_note names m ∷ []
-    own (End t run idle) = refl
-    own _ = refl
+lines-by v names all n b e = grind (arith, nat_tests)
 
 -- what holds of texts for the tasks holds of each of their lines
 pub each-for : (P : List ℕ → Type 0) (v : Version) (texts : List (List ℕ)) → (has_task_lines v ≡ true → AllByRecursion P texts)
@@ -53,13 +49,7 @@ pub each-noted : (P : List ℕ → Type 0) (v : Version) (names : List (List ℕ
     → (has_task_lines v ≡ true → AllByRecursion P (shares_from all 0 names)) → AllByRecursion (λ n. P (note_text names n)) notes
     → AllByRecursion (λ l. P l.text) (flat_map (lines_of_note v names all) notes)
 each-noted P v names all [] shares own = tt
-each-noted P v names all (n ∷ notes) shares own =
-    each-append (λ l. P l.text) (lines_of_note v names all n) (flat_map (lines_of_note v names all) notes)
-    (rw (lines-by v names all n (is_end n) refl) (by (is_end n))) (each-noted P v names all notes shares own.1)
-  where
-    by : (b : Bool) → AllByRecursion (λ l. P l.text) ((if b then for_tasks v (shares_from all 0 names) else []) ++ line_of_note names n ∷ [])
-    by true = each-append (λ l. P l.text) (for_tasks v (shares_from all 0 names)) (line_of_note names n ∷ []) (each-for P v _ shares) (own.0, tt)
-    by false = (own.0, tt)
+each-noted P v names all (n ∷ notes) shares own = grind (arith, nat_tests, each-append, each-for, flat_map, lines-by, each-noted P v names all notes)
 
 -- the lines for the tasks are those of the texts that the version has
 for-has : (v : Version) (texts : List (List ℕ)) → for_tasks v texts ≡ map unnoted_line (version_task_lines v texts)
@@ -86,10 +76,7 @@ length-shares v names notes = length-has v (shares_from notes 0 names) ∙ ap (�
 length-noted : (v : Version) (names : List (List ℕ)) (all notes : List Note) → IsEnded notes
     → length (flat_map (lines_of_note v names all) notes) ≡ energy_line_count v names + length notes
 length-noted v names all [] ended = absurd ended
-length-noted v names all (n ∷ []) ended =
-    let shares : List (List ℕ) = shares_from all 0 names in
-    ap length (append-nil (lines_of_note v names all n) ∙ lines-by v names all n true ended)
-    ∙ (length-append (for_tasks v shares) (line_of_note names n ∷ []) ∙ ap (λ k. k + 1) (length-for v shares ∙ length-shares v names all))
+length-noted v names all (n ∷ []) ended = grind (arith, nat_tests, append-nil, length-append, length-for, length-shares, lines-by)
 length-noted v names all (n ∷ m ∷ notes) ended =
     ap (λ ls. length (ls ++ flat_map (lines_of_note v names all) (m ∷ notes))) (lines-by v names all n false ended.0)
     ∙ omega (arith, length-noted v names all (m ∷ notes) ended.1)
@@ -102,14 +89,7 @@ lines-wanted Two names tasks = refl
 -- how many lines a trace has
 pub length-lines : (v : Version) (s : Scheduler) (g : GovernorKind) (ticks : ℕ) (names tasks : List (List ℕ)) (notes : List Note) → IsEnded notes
     → length (trace_lines v s g ticks names tasks notes) ≡ 2 + lines_for_tasks v (length names) (length tasks) + length notes
-length-lines v s g ticks names tasks notes ended =
-    omega (
-      arith,
-      length-append (for_tasks v tasks) (note_lines v names notes),
-      length-for v tasks,
-      length-noted v names notes notes ended,
-      lines-wanted v names tasks,
-    )
+length-lines v s g ticks names tasks notes ended = grind (arith, nat_tests, length-append, length-for, length-noted, lines-wanted)
 
 -- the text of the lines for the tasks
 pub text-for : (v : Version) (texts : List (List ℕ)) → text_of_lines (for_tasks v texts) ≡ joined (version_task_lines v texts)
@@ -124,7 +104,4 @@ pub text-parts : (v : Version) (plan : PlanLine) (names tasks : List (List ℕ))
     → whole_text v plan.scheduler plan.governor plan.ticks names tasks notes
     ≡ version_line v
     ++ (plan_text plan.scheduler plan.governor plan.ticks ++ (joined (version_task_lines v tasks) ++ text_of_lines (note_lines v names notes)))
-text-parts v plan names tasks notes =
-    ap (λ t. version_line v ++ (plan_text plan.scheduler plan.governor plan.ticks ++ t))
-    (flat_map-append (λ (l : NotedLine). l.text) (for_tasks v tasks) (note_lines v names notes)
-    ∙ ap (λ t. t ++ text_of_lines (note_lines v names notes)) (text-for v tasks))
+text-parts v plan names tasks notes = grind (arith, nat_tests, flat_map-append, text-for)

@@ -1,2 +1,3 @@
 pub mod Unspaced
 pub mod NoteLines
+pub mod Lined

@@ -12,7 +12,7 @@ use Rattle.dvs_base.specs.declared.note.Note.TheVariants.{Release, Speed, Run, I
 use Rattle.dvs_base.specs.declared.note.Pos.{Pos}
 use Rattle.dvs_base.specs.Parts.{position_text, fraction_text, name_of}
 use Rattle.trace_text.specs.TraceLines.{scheduler_word, governor_word, line, done_fields, fields_of, note_text}
-use Rattle.grid_fraction.proofs.Lists.{each-append}
+use Rattle.dvs_base.proofs.Lists.{each-append}
 use Rattle.trace_text.proofs.Unspaced.{IsUnspaced, AreUnspaced, unspaced-decimal, field-same}
 
 -- whether a byte is neither a space nor a line feed

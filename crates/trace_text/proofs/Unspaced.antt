@@ -7,7 +7,7 @@ use Rattle.std.proofs.lemmas.Bool.Decides.{nat_tests}
 use Rattle.std.specs.Fmt.{digit_glyph, digits_onto, digits}
 use Rattle.dvs_base.specs.declared.limits.TheConstants.{NAME_BYTES}
 use Rattle.dvs_base.specs.Text.{is_name, is_name_byte}
-use Rattle.grid_fraction.proofs.Lists.{each-append}
+use Rattle.dvs_base.proofs.Lists.{each-append}
 use Rattle.trace_text.specs.TraceLines.{line, lines_of, with_byte}
 
 -- a byte that is neither a space nor a line feed

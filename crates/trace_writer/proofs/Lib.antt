@@ -1,4 +1,3 @@
 pub mod WrittenLines
 pub mod SumLines
-pub mod TracePuts
 pub mod MostLines

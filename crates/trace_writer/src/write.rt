@@ -1,14 +1,16 @@
 // The lines of a trace: its head, the energies of the tasks, and a note's.
 ghost use Rattle.std.specs.Prelude.{◌≡◌, ◌<◌, ◌≤◌, [], ◌∷◌, if◌then◌else◌, length};
 ghost use Rattle.dvs_base.specs.Parts.{name_of};
-ghost use Rattle.dvs_base.specs.WritesText.{WritesText};
 ghost use Rattle.sched_model.specs.Plan.{count, names, task, period, offset};
-ghost use Rattle.trace_text.specs.TraceLines.{note_text, plan_text};
-ghost use Rattle.trace_text.specs.TraceText.{version_line, task_text, share_text, unnoted_line, has_task_lines, for_tasks, head_lines};
+ghost use Rattle.trace_text.specs.TraceLines.{plan_text};
+ghost use Rattle.trace_text.specs.TraceText.{version_line, task_text, share_text, unnoted_line, line_of_note, has_task_lines, for_tasks, head_lines};
+ghost use Rattle.probes.specs.Outputs.{outputs_of};
+ghost use Rattle.trace_writer.specs.Lines.{WritesLines};
 ghost use Rattle.trace_writer.specs.RunText.{task_texts};
 ghost use Rattle.trace_writer.specs.UnnotedLines.{WritesUnnoted, sum_lines};
 
 use dvs_base::{Failed, GovernorKind, Line, Name, Note, Sink, Version, put_line};
+use probes::{Probe, tell_all};
 use sched_model::Admitted;
 use trace_text::{
     PlanLine, TaskLine, has_task_lines, write_head, write_note, write_share, write_task,
@@ -124,17 +126,22 @@ pub fn put_sums<W: Sink>(head: Head<'_>, energies: &[u128], out: &mut W) -> Resu
     Ok(())
 }
 
-/// Puts the line of a note, which is written into `line`. `Failed` comes only if the sink failed at it.
+/// Puts the line of a note, which is written into `line`, and then tells the probes the note. `Failed` comes only if the
+/// sink failed at the line; then no probe is told.
 #[inline]
-pub fn put_note<W: Sink>(
+pub fn tell_note<W: Sink, P: Probe>(
     note: &Note,
     names: &[Name],
     line: &mut Line,
     out: &mut W,
+    probes: &mut Vec<P>,
 ) -> Result<(), Failed>
-    ensures { WritesText (W.shows out.old) (W.shows out.new) (note_text names.now note.now) result }
+    ensures { WritesLines (outputs_of W.shows P.seen out.old probes.old) (outputs_of W.shows P.seen out.new probes.new)
+        (line_of_note names.now note.now ∷ []) result }
 {
     line.clear();
     write_note(line, note, names);
-    put_line(line, out)
+    put_line(line, out)?;
+    tell_all(probes, note);
+    Ok(())
 }

@@ -6,7 +6,7 @@ use Rattle.words.specs.declared.table.Verb.{Verb}
 use Rattle.words.specs.declared.table.Key.{Key}
 use Rattle.words.specs.declared.command.WordFault.{WordFault}
 use Rattle.words.specs.declared.command.WordFault.TheVariants as fault
-use Rattle.words.specs.Table.{GivenView, nothing_given, takes_value, has, with_value, options_of, option_named, word_of, verb_of}
+use Rattle.words.specs.Table.{GivenView, nothing_given, takes_value, has, with_value, option_named, word_of, verb_of}
 use Rattle.words.specs.Commands.{CommandView, command_from}
 
 -- the values so far, and the option whose value is the next word
@@ -34,7 +34,7 @@ with_option g place word (Some k) =
 -- the reading after one word: the value that an option waits for, otherwise an option
 abbrev pub word_at : Verb → ReadingView → Option Key → ℕ → List ℕ → Result ReadingView WordFault
 word_at v r (Some k) place word = with_given place word (with_value r.given k word)
-word_at v r None place word = with_option r.given place word (option_named (options_of v) word)
+word_at v r None place word = with_option r.given place word (option_named v word)
 
 -- the command after the last word, which is at this place; an option that still waits has no value
 abbrev pub command_at_end : Verb → GivenView → Option Key → ℕ → Result CommandView WordFault

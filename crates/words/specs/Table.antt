@@ -1,5 +1,5 @@
 -- The table of the commands: their words, which options each takes, and the rule of each option's value.
-use Rattle.std.specs.Prelude.{ℕ, List, [], ◌∷◌, Option, Some, None, if◌then◌else◌, codes, Bool, true, false, ◌==◌, length, is_some, option_map}
+use Rattle.std.specs.Prelude.{ℕ, List, [], ◌∷◌, Option, Some, None, if◌then◌else◌, codes, Bool, true, false, ◌==◌, ◌&&◌, length, is_some, option_map}
 use Rattle.std.specs.Str.{bytes_eq}
 use Rattle.words.specs.declared.command.Opt.{Opt}
 use Rattle.words.specs.declared.command.Opt.TheVariants as opt
@@ -38,23 +38,26 @@ commands =
 abbrev pub verb_of : List ℕ → Option Verb
 verb_of word = value_named commands word
 
--- the options that a command takes: the required ones in their order, then the others
-abbrev pub options_of : Verb → List Key
+-- the command is `run`, which has two options more
+abbrev pub is_run : Verb → Bool
+is_run verb.Run = true
+is_run _ = false
+
+-- the options of a command that a refusal can name: the required ones in their order, then the others
+abbrev pub options_of : Verb → List Opt
 options_of verb.Run =
-    key.Tasks ∷ key.Machine ∷ key.Scheduler ∷ key.Governor ∷ key.Ticks
-    ∷ key.Demands
-    ∷ key.Probes
-    ∷ key.Format
+    opt.Tasks ∷ opt.Machine ∷ opt.Scheduler ∷ opt.Governor ∷ opt.Ticks
+    ∷ opt.Demands
     ∷ []
-options_of verb.Admit = key.Tasks ∷ key.Machine ∷ key.Scheduler ∷ []
-options_of verb.Workload = key.Seed ∷ []
-options_of verb.Replay = key.Tasks ∷ key.Machine ∷ key.Trace ∷ []
-options_of verb.Migrate = key.Tasks ∷ key.Machine ∷ key.Trace ∷ []
-options_of verb.Response = key.Tasks ∷ key.Machine ∷ []
-options_of verb.Constrain = key.Tasks ∷ key.Machine ∷ key.Deadlines ∷ []
+options_of verb.Admit = opt.Tasks ∷ opt.Machine ∷ opt.Scheduler ∷ []
+options_of verb.Workload = opt.Seed ∷ []
+options_of verb.Replay = opt.Tasks ∷ opt.Machine ∷ opt.Trace ∷ []
+options_of verb.Migrate = opt.Tasks ∷ opt.Machine ∷ opt.Trace ∷ []
+options_of verb.Response = opt.Tasks ∷ opt.Machine ∷ []
+options_of verb.Constrain = opt.Tasks ∷ opt.Machine ∷ opt.Deadlines ∷ []
 options_of verb.Poll =
-    key.Tasks ∷ key.Machine ∷ key.Requests ∷ key.Server ∷ key.Scheduler ∷ key.Governor ∷ key.Ticks ∷ []
-options_of verb.Least = key.Machine ∷ key.Units ∷ key.Ticks ∷ []
+    opt.Tasks ∷ opt.Machine ∷ opt.Requests ∷ opt.Server ∷ opt.Scheduler ∷ opt.Governor ∷ opt.Ticks ∷ []
+options_of verb.Least = opt.Machine ∷ opt.Units ∷ opt.Ticks ∷ []
 
 -- the word of an option that a command can require, or that takes a value of its own
 abbrev pub option_word : Opt → List ℕ
@@ -73,18 +76,7 @@ option_word opt.Units = codes "--units"
 
 -- the word of an option
 abbrev pub word_of : Key → List ℕ
-word_of key.Tasks = option_word opt.Tasks
-word_of key.Machine = option_word opt.Machine
-word_of key.Demands = option_word opt.Demands
-word_of key.Scheduler = option_word opt.Scheduler
-word_of key.Governor = option_word opt.Governor
-word_of key.Ticks = option_word opt.Ticks
-word_of key.Trace = option_word opt.Trace
-word_of key.Seed = option_word opt.Seed
-word_of key.Deadlines = option_word opt.Deadlines
-word_of key.Requests = option_word opt.Requests
-word_of key.Server = option_word opt.Server
-word_of key.Units = option_word opt.Units
+word_of (key.Named option) = option_word option
 word_of key.Probes = codes "--probes"
 word_of key.Format = codes "--format"
 
@@ -94,9 +86,16 @@ takes_value key.Probes = false
 takes_value _ = true
 
 -- the first of these options that the word names
-abbrev pub option_named : List Key → List ℕ → Option Key
-option_named [] word = None
-option_named (k ∷ keys) word = if bytes_eq word (word_of k) then Some k else option_named keys word
+abbrev pub first_named : List Opt → List ℕ → Option Opt
+first_named [] word = None
+first_named (o ∷ options) word = if bytes_eq word (option_word o) then Some o else first_named options word
+
+-- the option of the command that the word names
+abbrev pub option_named : Verb → List ℕ → Option Key
+option_named v word =
+    if is_run v && bytes_eq word (codes "--probes") then Some key.Probes
+    else (if is_run v && bytes_eq word (codes "--format") then Some key.Format
+    else option_map key.Named (first_named (options_of v) word))
 
 -- the name of a file or of a task: a word that is not empty
 abbrev pub some_text : List ℕ → Option (List ℕ)
@@ -150,34 +149,34 @@ nothing_given = record {
 
 -- whether an option was given
 abbrev pub has : GivenView → Key → Bool
-has g key.Tasks = is_some g.tasks
-has g key.Machine = is_some g.machine
-has g key.Demands = is_some g.demands
-has g key.Scheduler = is_some g.scheduler
-has g key.Governor = is_some g.governor
-has g key.Ticks = is_some g.ticks
-has g key.Trace = is_some g.trace
-has g key.Seed = is_some g.seed
-has g key.Deadlines = is_some g.deadlines
-has g key.Requests = is_some g.requests
-has g key.Server = is_some g.server
-has g key.Units = is_some g.units
+has g (key.Named opt.Tasks) = is_some g.tasks
+has g (key.Named opt.Machine) = is_some g.machine
+has g (key.Named opt.Demands) = is_some g.demands
+has g (key.Named opt.Scheduler) = is_some g.scheduler
+has g (key.Named opt.Governor) = is_some g.governor
+has g (key.Named opt.Ticks) = is_some g.ticks
+has g (key.Named opt.Trace) = is_some g.trace
+has g (key.Named opt.Seed) = is_some g.seed
+has g (key.Named opt.Deadlines) = is_some g.deadlines
+has g (key.Named opt.Requests) = is_some g.requests
+has g (key.Named opt.Server) = is_some g.server
+has g (key.Named opt.Units) = is_some g.units
 has g key.Probes = is_some g.probes
 has g key.Format = is_some g.format
 
 -- the given values, with the one that the word gives this option; none if the word is outside the option's rule
 abbrev pub with_value : GivenView → Key → List ℕ → Option GivenView
-with_value g key.Tasks word = option_map (λ v. record g { tasks = Some v }) (some_text word)
-with_value g key.Machine word = option_map (λ v. record g { machine = Some v }) (some_text word)
-with_value g key.Demands word = option_map (λ v. record g { demands = Some v }) (some_text word)
-with_value g key.Scheduler word = option_map (λ v. record g { scheduler = Some v }) (scheduler_of word)
-with_value g key.Governor word = option_map (λ v. record g { governor = Some v }) (governor_of word)
-with_value g key.Ticks word = option_map (λ v. record g { ticks = Some v }) (ticks_of word)
-with_value g key.Trace word = option_map (λ v. record g { trace = Some v }) (some_text word)
-with_value g key.Seed word = option_map (λ v. record g { seed = Some v }) (number_of word)
-with_value g key.Deadlines word = option_map (λ v. record g { deadlines = Some v }) (some_text word)
-with_value g key.Requests word = option_map (λ v. record g { requests = Some v }) (some_text word)
-with_value g key.Server word = option_map (λ v. record g { server = Some v }) (some_text word)
-with_value g key.Units word = option_map (λ v. record g { units = Some v }) (number_of word)
+with_value g (key.Named opt.Tasks) word = option_map (λ v. record g { tasks = Some v }) (some_text word)
+with_value g (key.Named opt.Machine) word = option_map (λ v. record g { machine = Some v }) (some_text word)
+with_value g (key.Named opt.Demands) word = option_map (λ v. record g { demands = Some v }) (some_text word)
+with_value g (key.Named opt.Scheduler) word = option_map (λ v. record g { scheduler = Some v }) (scheduler_of word)
+with_value g (key.Named opt.Governor) word = option_map (λ v. record g { governor = Some v }) (governor_of word)
+with_value g (key.Named opt.Ticks) word = option_map (λ v. record g { ticks = Some v }) (ticks_of word)
+with_value g (key.Named opt.Trace) word = option_map (λ v. record g { trace = Some v }) (some_text word)
+with_value g (key.Named opt.Seed) word = option_map (λ v. record g { seed = Some v }) (number_of word)
+with_value g (key.Named opt.Deadlines) word = option_map (λ v. record g { deadlines = Some v }) (some_text word)
+with_value g (key.Named opt.Requests) word = option_map (λ v. record g { requests = Some v }) (some_text word)
+with_value g (key.Named opt.Server) word = option_map (λ v. record g { server = Some v }) (some_text word)
+with_value g (key.Named opt.Units) word = option_map (λ v. record g { units = Some v }) (number_of word)
 with_value g key.Probes word = Some (record g { probes = Some true })
 with_value g key.Format word = option_map (λ v. record g { format = Some v }) (version_of word)

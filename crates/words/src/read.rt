@@ -7,7 +7,7 @@ ghost use Rattle.words.specs.Shown.{shown_command, shown_given, shown_reading, r
 use crate::build::built;
 use crate::command::{Command, WordFault};
 use crate::given::Given;
-use crate::table::{Key, Verb, option_named, options_of, takes_value, verb_of, word_of};
+use crate::table::{Key, Verb, option_named, takes_value, verb_of, word_of};
 use crate::value::with_value;
 use dvs_base::Short;
 
@@ -73,7 +73,7 @@ fn word_at<'a>(
             reading.given,
             place,
             word,
-            option_named(options_of(verb), word.as_bytes()),
+            option_named(verb, word.as_bytes()),
         ),
     }
 }

@@ -1,6 +1,6 @@
 // The table of the commands: their words, and which options each takes.
 ghost use Rattle.std.specs.Prelude.{◌≡◌, ◌≤◌, length};
-ghost use Rattle.words.specs.Table.{verb_of, options_of, option_word, word_of, option_named, takes_value};
+ghost use Rattle.words.specs.Table.{verb_of, options_of, option_word, word_of, first_named, option_named, takes_value};
 
 use crate::command::Opt;
 
@@ -18,21 +18,10 @@ pub enum Verb {
     Least,
 }
 
-/// An option.
+/// An option: one that a refusal can name, or one of the two others.
 #[derive(Clone, Copy, Debug, PartialEq, Eq)]
 pub enum Key {
-    Tasks,
-    Machine,
-    Demands,
-    Scheduler,
-    Governor,
-    Ticks,
-    Trace,
-    Seed,
-    Deadlines,
-    Requests,
-    Server,
-    Units,
+    Named(Opt),
     Probes,
     Format,
 }
@@ -55,36 +44,34 @@ pub fn verb_of(word: &str) -> Option<Verb>
     }
 }
 
-/// The options that a command takes: the required ones in their order, then the others.
-pub fn options_of(verb: Verb) -> &'static [Key]
+/// The options of a command that a refusal can name: the required ones in their order, then the others.
+pub fn options_of(verb: Verb) -> &'static [Opt]
     ensures { result.now ≡ options_of verb }
 {
     match verb {
         Verb::Run => &[
-            Key::Tasks,
-            Key::Machine,
-            Key::Scheduler,
-            Key::Governor,
-            Key::Ticks,
-            Key::Demands,
-            Key::Probes,
-            Key::Format,
+            Opt::Tasks,
+            Opt::Machine,
+            Opt::Scheduler,
+            Opt::Governor,
+            Opt::Ticks,
+            Opt::Demands,
         ],
-        Verb::Admit => &[Key::Tasks, Key::Machine, Key::Scheduler],
-        Verb::Replay | Verb::Migrate => &[Key::Tasks, Key::Machine, Key::Trace],
-        Verb::Workload => &[Key::Seed],
-        Verb::Response => &[Key::Tasks, Key::Machine],
-        Verb::Constrain => &[Key::Tasks, Key::Machine, Key::Deadlines],
+        Verb::Admit => &[Opt::Tasks, Opt::Machine, Opt::Scheduler],
+        Verb::Replay | Verb::Migrate => &[Opt::Tasks, Opt::Machine, Opt::Trace],
+        Verb::Workload => &[Opt::Seed],
+        Verb::Response => &[Opt::Tasks, Opt::Machine],
+        Verb::Constrain => &[Opt::Tasks, Opt::Machine, Opt::Deadlines],
         Verb::Poll => &[
-            Key::Tasks,
-            Key::Machine,
-            Key::Requests,
-            Key::Server,
-            Key::Scheduler,
-            Key::Governor,
-            Key::Ticks,
+            Opt::Tasks,
+            Opt::Machine,
+            Opt::Requests,
+            Opt::Server,
+            Opt::Scheduler,
+            Opt::Governor,
+            Opt::Ticks,
         ],
-        Verb::Least => &[Key::Machine, Key::Units, Key::Ticks],
+        Verb::Least => &[Opt::Machine, Opt::Units, Opt::Ticks],
     }
 }
 
@@ -114,18 +101,7 @@ pub fn word_of(key: Key) -> &'static [u8]
     ensures { result.now ≡ word_of key }
 {
     match key {
-        Key::Tasks => option_word(Opt::Tasks),
-        Key::Machine => option_word(Opt::Machine),
-        Key::Demands => option_word(Opt::Demands),
-        Key::Scheduler => option_word(Opt::Scheduler),
-        Key::Governor => option_word(Opt::Governor),
-        Key::Ticks => option_word(Opt::Ticks),
-        Key::Trace => option_word(Opt::Trace),
-        Key::Seed => option_word(Opt::Seed),
-        Key::Deadlines => option_word(Opt::Deadlines),
-        Key::Requests => option_word(Opt::Requests),
-        Key::Server => option_word(Opt::Server),
-        Key::Units => option_word(Opt::Units),
+        Key::Named(option) => option_word(option),
         Key::Probes => b"--probes",
         Key::Format => b"--format",
     }
@@ -138,14 +114,27 @@ pub fn takes_value(key: Key) -> bool
     !matches!(key, Key::Probes)
 }
 
-/// The first of these options that the word names.
-pub fn option_named(keys: &[Key], word: &[u8]) -> Option<Key>
-    ensures { result ≡ option_named keys.now word.now }
+// The first of these options that the word names.
+fn first_named(options: &[Opt], word: &[u8]) -> Option<Opt>
+    ensures { result ≡ first_named options.now word.now }
 {
-    for key in keys {
-        if word == word_of(*key) {
-            return Some(*key);
+    for option in options {
+        if word == option_word(*option) {
+            return Some(*option);
         }
     }
     None
+}
+
+/// The option of the command that the word names.
+pub fn option_named(verb: Verb, word: &[u8]) -> Option<Key>
+    ensures { result ≡ option_named verb word.now }
+{
+    if verb == Verb::Run && word == word_of(Key::Probes) {
+        return Some(Key::Probes);
+    }
+    if verb == Verb::Run && word == word_of(Key::Format) {
+        return Some(Key::Format);
+    }
+    first_named(options_of(verb), word).map(Key::Named)
 }

@@ -4,6 +4,7 @@ ghost use Rattle.dvs_base.specs.PlanWords.{ticks_of};
 ghost use Rattle.words.specs.Table.{some_text, version_of, has, with_value};
 ghost use Rattle.words.specs.Shown.{shown_given};
 
+use crate::command::Opt;
 use crate::given::Given;
 use crate::table::Key;
 use crate::ticks::Ticks;
@@ -38,18 +39,18 @@ impl<'a> Given<'a> {
         ensures { result ≡ has (shown_given self.now) key }
     {
         match key {
-            Key::Tasks => self.tasks.is_some(),
-            Key::Machine => self.machine.is_some(),
-            Key::Demands => self.demands.is_some(),
-            Key::Scheduler => self.scheduler.is_some(),
-            Key::Governor => self.governor.is_some(),
-            Key::Ticks => self.ticks.is_some(),
-            Key::Trace => self.trace.is_some(),
-            Key::Seed => self.seed.is_some(),
-            Key::Deadlines => self.deadlines.is_some(),
-            Key::Requests => self.requests.is_some(),
-            Key::Server => self.server.is_some(),
-            Key::Units => self.units.is_some(),
+            Key::Named(Opt::Tasks) => self.tasks.is_some(),
+            Key::Named(Opt::Machine) => self.machine.is_some(),
+            Key::Named(Opt::Demands) => self.demands.is_some(),
+            Key::Named(Opt::Scheduler) => self.scheduler.is_some(),
+            Key::Named(Opt::Governor) => self.governor.is_some(),
+            Key::Named(Opt::Ticks) => self.ticks.is_some(),
+            Key::Named(Opt::Trace) => self.trace.is_some(),
+            Key::Named(Opt::Seed) => self.seed.is_some(),
+            Key::Named(Opt::Deadlines) => self.deadlines.is_some(),
+            Key::Named(Opt::Requests) => self.requests.is_some(),
+            Key::Named(Opt::Server) => self.server.is_some(),
+            Key::Named(Opt::Units) => self.units.is_some(),
             Key::Probes => self.probes.is_some(),
             Key::Format => self.format.is_some(),
         }
@@ -61,18 +62,18 @@ pub fn with_value<'a>(mut given: Given<'a>, key: Key, word: &'a str) -> Option<G
     ensures { option_map shown_given result ≡ with_value (shown_given given.entry) key word.now }
 {
     match key {
-        Key::Tasks => given.tasks = Some(some_text(word)?),
-        Key::Machine => given.machine = Some(some_text(word)?),
-        Key::Demands => given.demands = Some(some_text(word)?),
-        Key::Scheduler => given.scheduler = Some(scheduler_of(word.as_bytes())?),
-        Key::Governor => given.governor = Some(governor_of(word.as_bytes())?),
-        Key::Ticks => given.ticks = Some(ticks_of(word)?),
-        Key::Trace => given.trace = Some(some_text(word)?),
-        Key::Seed => given.seed = Some(whole(word.as_bytes())?),
-        Key::Deadlines => given.deadlines = Some(some_text(word)?),
-        Key::Requests => given.requests = Some(some_text(word)?),
-        Key::Server => given.server = Some(some_text(word)?),
-        Key::Units => given.units = Some(whole(word.as_bytes())?),
+        Key::Named(Opt::Tasks) => given.tasks = Some(some_text(word)?),
+        Key::Named(Opt::Machine) => given.machine = Some(some_text(word)?),
+        Key::Named(Opt::Demands) => given.demands = Some(some_text(word)?),
+        Key::Named(Opt::Scheduler) => given.scheduler = Some(scheduler_of(word.as_bytes())?),
+        Key::Named(Opt::Governor) => given.governor = Some(governor_of(word.as_bytes())?),
+        Key::Named(Opt::Ticks) => given.ticks = Some(ticks_of(word)?),
+        Key::Named(Opt::Trace) => given.trace = Some(some_text(word)?),
+        Key::Named(Opt::Seed) => given.seed = Some(whole(word.as_bytes())?),
+        Key::Named(Opt::Deadlines) => given.deadlines = Some(some_text(word)?),
+        Key::Named(Opt::Requests) => given.requests = Some(some_text(word)?),
+        Key::Named(Opt::Server) => given.server = Some(some_text(word)?),
+        Key::Named(Opt::Units) => given.units = Some(whole(word.as_bytes())?),
         Key::Probes => given.probes = Some(true),
         Key::Format => given.format = Some(version_of(word)?),
     }

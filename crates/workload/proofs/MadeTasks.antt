@@ -17,7 +17,7 @@ use Rattle.grid_fraction.proofs.Sums.{list_below-more}
 use Rattle.task_model.specs.declared.task.Task.{Task}
 use Rattle.task_model.specs.DemandRows.{DemandRow, named_units}
 use Rattle.demand_list.specs.Demands.{precedes, with_row}
-use Rattle.sched_model.proofs.Tables.{each-below, length-list_below, get-table, map-table}
+use Rattle.grid_fraction.proofs.Tables.{each-below, length-list_below, get-table, map-table}
 use Rattle.dvs_base.specs.declared.kind.Scheduler.{Scheduler}
 use Rattle.dvs_base.specs.declared.kind.Scheduler.TheVariants.{Edf}
 use Rattle.grid_fraction.specs.Fraction.{divides_all, least_common_multiple}

@@ -26,29 +26,19 @@ if TYPE_CHECKING:
     from rtdvs.studies import Sweep, compare, evaluate, sensitivity, uunifast
     from rtdvs.trace import Job, Trace, task_statistics
 
-# Each is imported when it is first asked for, so that a command imports no more than it needs.
-_HOMES = {
-    "engine": "Call Engine admit_call find_engine response_call run_call",
-    "errors":
-        "BadValue DeadlineMissed Denied EngineError FileRefused NoEngine OverWorst Refused RtdvsError "
-        "TimedOut TooManyJobs TraceFault WrongTrace",
-    "hints": "second_line",
-    "model": "PAIRS Deadlines Demands Governor Machine Point Request Requests Scheduler Task TaskSet",
-    "plot": "plot_trace save_trace",
-    "rules": "Walk check explain simulate",
-    "studies": "Sweep compare evaluate sensitivity uunifast",
-    "trace": "Job Trace task_statistics",
-}
+# Each is imported when it is first asked for, so that a command imports no more than it needs: the first of these
+# packages that has the name, and those before it.
+_HOMES = ("errors", "model", "trace", "engine", "rules", "hints", "studies", "plot")
 _PACKAGES = {*_HOMES, "board", "export", "web"}
-_HOME_OF = {name: home for home, names in _HOMES.items() for name in names.split()}
 
 
 def __getattr__(name: str) -> Any:
     """A public name of a package below, or that package itself."""
-    if name in _HOME_OF:
-        return getattr(import_module(f"rtdvs.{_HOME_OF[name]}"), name)
     if name in _PACKAGES:
         return import_module(f"rtdvs.{name}")
+    if name in __all__:
+        homes = (import_module(f"rtdvs.{home}") for home in _HOMES)
+        return next(getattr(home, name) for home in homes if hasattr(home, name))
     raise AttributeError(f"module 'rtdvs' has no attribute {name!r}")
 
 

@@ -3,7 +3,7 @@
 from collections.abc import Iterable, Mapping, Sequence
 from fractions import Fraction
 from html import escape
-from typing import TYPE_CHECKING, Any
+from typing import TYPE_CHECKING, Any, ClassVar, TypeAlias
 
 from rtdvs._numbers import decimal
 
@@ -11,6 +11,7 @@ if TYPE_CHECKING:
     import pandas
 
 Cell = str | int | Fraction | None
+Frame: TypeAlias = "pandas.DataFrame"
 MOST_ROWS = 100
 
 
@@ -26,9 +27,11 @@ class Shown:
 
     __slots__ = ()
 
+    _kinds: ClassVar[Mapping[str, str]] = {}
+
     def _columns(self) -> Mapping[str, str]:
         """The names of the columns, each with the kind that pandas has of it."""
-        raise NotImplementedError
+        return self._kinds
 
     def _rows(self) -> Iterable[Sequence[Cell]]:
         raise NotImplementedError
@@ -37,7 +40,7 @@ class Shown:
         """What is said above the table."""
         return ""
 
-    def frame(self) -> "pandas.DataFrame":
+    def frame(self) -> Frame:
         """The table as a pandas frame; ImportError without pandas.
 
         Shares and times are floats. Energies are Python's integers, so their sums are exact.
@@ -48,7 +51,7 @@ class Shown:
         return html_of(self._columns(), self._rows(), self._caption())
 
 
-def frame_of(columns: Mapping[str, str], rows: Iterable[Sequence[Cell]]) -> "pandas.DataFrame":
+def frame_of(columns: Mapping[str, str], rows: Iterable[Sequence[Cell]]) -> Frame:
     """A pandas frame of columns, each with its kind; ImportError without pandas.
 
     >>> frame_of({"share": "float64"}, [(Fraction(1, 4),), (None,)])["share"].tolist()

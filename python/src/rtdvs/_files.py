@@ -2,7 +2,7 @@
 
 import os
 import secrets
-from collections.abc import Iterable
+from collections.abc import Iterable, Iterator
 from contextlib import suppress
 from pathlib import Path
 
@@ -17,16 +17,24 @@ def write_whole(path: Path, content: str | bytes | Iterable[str]) -> None:
     Traceback (most recent call last):
     FileNotFoundError: [Errno 2] No such file or directory: '/absent/cc.svg'
     """
-    data = [content] if isinstance(content, str | bytes) else content
-    parts = (part.encode("utf-8") if isinstance(part, str) else part for part in data)
     try:
         if path.exists() and not path.is_file():
             with path.open("wb") as file:
-                file.writelines(parts)
+                file.writelines(encoded(content))
         else:
-            _replace(path.resolve(), parts)
+            _replace(path.resolve(), encoded(content))
     except OSError as error:
         raise OSError(error.errno, error.strerror, str(path)) from None
+
+
+def encoded(content: str | bytes | Iterable[str]) -> Iterator[bytes]:
+    """The bytes of a content, text after text.
+
+    >>> [*encoded(["a", "µ"])], [*encoded(b"a")]
+    ([b'a', b'\\xc2\\xb5'], [b'a'])
+    """
+    parts = [content] if isinstance(content, str | bytes) else content
+    return (part.encode("utf-8") if isinstance(part, str) else part for part in parts)
 
 
 def _replace(path: Path, parts: Iterable[bytes]) -> None:

@@ -70,12 +70,14 @@ def plain(number: Fraction) -> str:
     return str(number) if places is None else decimal(number, places)
 
 
-def rounded(number: Fraction, digits: int = 6) -> str:
-    """A number with that many digits, rounded once.
+def rounded(number: Fraction | None, digits: int = 6) -> str:
+    """A number with that many digits, rounded once; `-` for None.
 
     >>> rounded(Fraction(2, 3), 4), rounded(Fraction(1234567, 1), 3)
     ('0.6667', '1.23E+6')
     """
+    if number is None:
+        return "-"
     context = Context(prec=digits)
     text = context.divide(Decimal(number.numerator), Decimal(number.denominator)).normalize(context)
     return f"{text:f}" if -10 < text.adjusted() < min(15, digits) else str(text)

@@ -3,6 +3,7 @@
 from __future__ import annotations
 
 import importlib
+from dataclasses import replace
 from pathlib import Path
 from types import ModuleType
 
@@ -50,27 +51,44 @@ def write(path: Path, text: str) -> None:
     path.write_text(text)
 
 
+def passes(form: ModuleType, count: str, monkeypatch: pytest.MonkeyPatch) -> bool:
+    """Whether the script ends with 0 where it has this count, with no place allowed and nothing to look at asked for."""
+    monkeypatch.setattr(form, "COUNTS", {count: replace(form.COUNTS[count], most=0, floor=0)})
+    monkeypatch.setattr("sys.argv", ["form.py"])
+    return bool(form.main() == 0)
+
+
 @pytest.mark.parametrize(("count", "path", "text"), BREACHES)
-def test_a_breach_is_seen(form: ModuleType, count: str, path: str, text: str) -> None:
-    """A file that breaks the rule is counted, once."""
+def test_a_breach_is_seen(form: ModuleType, count: str, path: str, text: str, monkeypatch: pytest.MonkeyPatch) -> None:
+    """A file that breaks the rule is counted, once, and the script fails."""
+    before = passes(form, count, monkeypatch)
     write(Path("crates") / path, text)
     assert len(form.COUNTS[count].of().rows) == 1
+    assert before and not passes(form, count, monkeypatch)
 
 
 @pytest.mark.parametrize(("count", "crates", "files"), CRATES)
-def test_a_breach_of_crates_is_seen(form: ModuleType, count: str, crates: str, files: dict[str, str]) -> None:
-    """A list of crates that breaks the rule is counted."""
+def test_a_breach_of_crates_is_seen(form: ModuleType, count: str, crates: str, files: dict[str, str],
+                                    monkeypatch: pytest.MonkeyPatch) -> None:
+    """A list of crates that breaks the rule is counted, and the script fails."""
     Path("crates.txt").write_text(crates)
     for path, text in files.items():
         write(Path("crates") / path, text)
     assert form.COUNTS[count].of().rows
+    assert not passes(form, count, monkeypatch)
 
 
-def test_files_that_name_each_other_are_seen(form: ModuleType) -> None:
+def test_each_count_has_a_breach(form: ModuleType) -> None:
+    """In the tables above, or in a test of its own below."""
+    assert {*(str(each.values[0]) for each in [*BREACHES, *CRATES]), "mutual", "published"} == {*form.COUNTS}
+
+
+def test_files_that_name_each_other_are_seen(form: ModuleType, monkeypatch: pytest.MonkeyPatch) -> None:
     """Two files of a crate that use one another are one place."""
     write(Path("crates/low/src/a.rt"), "use crate::b::B;\n")
     write(Path("crates/low/src/b.rt"), "use crate::a::A;\n")
     assert form.mutual().rows == ["low: a.rt ~ b.rt"]
+    assert not passes(form, "mutual", monkeypatch)
 
 
 @pytest.mark.parametrize(
@@ -81,10 +99,11 @@ def test_files_that_name_each_other_are_seen(form: ModuleType) -> None:
         pytest.param("struct A {\n    pub b: u8,\n}\n", 1, id="no longer public"),
     ],
 )
-def test_a_published_name_stays(form: ModuleType, source: str, gone: int) -> None:
+def test_a_published_name_stays(form: ModuleType, source: str, gone: int, monkeypatch: pytest.MonkeyPatch) -> None:
     """A field, a signature or a name that is published and no longer in the sources is counted."""
     write(Path("crates/low/src/lib.rt"), source)
     assert len(form.published().rows) == gone
+    assert passes(form, "published", monkeypatch) == (gone == 0)
 
 
 def test_a_count_that_sees_too_little_fails(form: ModuleType, capsys: pytest.CaptureFixture[str], monkeypatch: pytest.MonkeyPatch) -> None:

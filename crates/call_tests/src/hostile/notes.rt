@@ -123,7 +123,7 @@ const MISSES: &[u8] =
 
 const SLOW: &[u8] = b"point = [{speed = 1, millivolts = 1000}]";
 
-// Each note of a command beyond a run that denies its plan fails.
+// Each command but `run` that denies what it is given, while each note fails.
 fn each_denial_fails(rt: &impl AllocGlobal) -> Result<(), Fail> {
     let too_many = LEAST.asked("least --machine M --units 65 --ticks 16");
     let cases = [

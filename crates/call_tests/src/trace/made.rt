@@ -40,7 +40,7 @@ point = [
 
 // The task file of a generated workload of three tasks, and a demand file for its first jobs.
 #[derive(Drop)]
-struct MadeFiles {
+struct WorkloadFiles {
     tasks: String,
     demands: String,
 }
@@ -74,17 +74,17 @@ fn demand_rows(alloc: Global, tasks: &TaskSet, seed: u64) -> Result<String, Fail
     Ok(rows)
 }
 
-fn made_files(alloc: Global, seed: u64) -> Result<MadeFiles, Fail> {
+fn made_files(alloc: Global, seed: u64) -> Result<WorkloadFiles, Fail> {
     let (tasks, _, _) = make(alloc, seed, 3)?;
     let rows = demand_rows(alloc, &tasks, seed)?;
     let text = tasks.write(alloc)?;
-    Ok(MadeFiles {
+    Ok(WorkloadFiles {
         tasks: text,
         demands: rows,
     })
 }
 
-impl MadeFiles {
+impl WorkloadFiles {
     // The call with these words, and with the demands or a trace as its third file.
     fn asked<'a>(&'a self, third: &'a [u8], words: &'a str) -> Call<'a> {
         Call {
@@ -134,7 +134,7 @@ struct Texts {
     line: String,
 }
 
-fn texts_of(alloc: Global, made: &MadeFiles, pair: &str) -> Result<Texts, Fail> {
+fn texts_of(alloc: Global, made: &WorkloadFiles, pair: &str) -> Result<Texts, Fail> {
     let one = made.trace(alloc, pair, 1)?;
     let two = made.trace(alloc, pair, 2)?;
     let line = replayed_line(alloc, one.as_str())?;
@@ -144,7 +144,7 @@ fn texts_of(alloc: Global, made: &MadeFiles, pair: &str) -> Result<Texts, Fail> 
 // The trace is replayed with the line, and migrated to version 2.
 fn is_replayed_and_migrated(
     rt: &impl AllocGlobal,
-    made: &MadeFiles,
+    made: &WorkloadFiles,
     trace: &str,
     texts: &Texts,
 ) -> Result<(), Fail> {
@@ -155,7 +155,7 @@ fn is_replayed_and_migrated(
 }
 
 // The traces of the run under this pair, in both versions, are replayed and migrated.
-fn both_are_replayed(rt: &impl AllocGlobal, made: &MadeFiles, pair: &str) -> Result<(), Fail> {
+fn both_are_replayed(rt: &impl AllocGlobal, made: &WorkloadFiles, pair: &str) -> Result<(), Fail> {
     let texts = texts_of(rt.alloc(), made, pair)?;
     is_replayed_and_migrated(rt, made, texts.one.as_str(), &texts)?;
     is_replayed_and_migrated(rt, made, texts.two.as_str(), &texts)
@@ -200,7 +200,7 @@ fn is_refused(alloc: Global, call: Call<'_>) -> Result<(), Fail> {
 // With one byte of the trace changed, four times, it is neither replayed nor migrated.
 fn changes_are_refused(
     alloc: Global,
-    made: &MadeFiles,
+    made: &WorkloadFiles,
     trace: &str,
     draws: &mut Draws,
 ) -> Result<(), Fail> {
@@ -215,7 +215,7 @@ fn changes_are_refused(
 // The trace of the run under this pair, in this version, is refused with a changed byte.
 fn version_is_refused(
     alloc: Global,
-    made: &MadeFiles,
+    made: &WorkloadFiles,
     pair: &str,
     version: u8,
     draws: &mut Draws,

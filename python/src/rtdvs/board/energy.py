@@ -23,9 +23,9 @@ class Spent:
         """The mean power."""
         return self.joules * 10**6 / self.milliseconds
 
-    def hours(self, battery: Fraction) -> Fraction | None:
-        """How long a battery, in milliwatt hours, lasts; None if no energy is used."""
-        return battery / self.milliwatts if self.joules else None
+    def hours(self, battery: Fraction | None) -> Fraction | None:
+        """How long a battery, in milliwatt hours, lasts; None without one, or if no energy is used."""
+        return battery / self.milliwatts if battery is not None and self.joules else None
 
 
 def nanojoules(board: Board) -> tuple[Fraction, ...]:

@@ -6,11 +6,10 @@ from fractions import Fraction
 from math import ceil, floor
 
 from rtdvs._numbers import aligned, plain, rounded
-from rtdvs.board.description import Board
-from rtdvs.board.energy import Spent, nanojoules
+from rtdvs.board import description, energy
 from rtdvs.board.scale import Design, usual_demands
 from rtdvs.board.units import Units
-from rtdvs.errors import BadValue, Denied
+from rtdvs.errors import Denied
 from rtdvs.model import PAIRS, Demands
 from rtdvs.rules import simulate
 
@@ -46,7 +45,7 @@ class Asked:
     switches: Fraction = Fraction(0)
 
     @classmethod
-    def by(cls, board: Board) -> "Asked":
+    def by(cls, board: description.Board) -> "Asked":
         """Before rounding."""
         speed = board.rising[-1].megahertz * 1000
         switches = 2 * board.switch / 1000 * speed
@@ -107,37 +106,37 @@ class Asked:
         return longer if longer <= load.period else None
 
 
-def run_ticks(made: Design) -> int:
-    """The ticks of a run that says what a pair costs: a hyperperiod, or some 2000 jobs if that is less.
+def run_ticks(made: Design, milliseconds: Fraction | None = None) -> int:
+    """The ticks of a run that says what a pair costs: without a time a hyperperiod, or some 2000 jobs if that is less.
 
     Each task has a job, if that takes at most 99,000 jobs.
 
     >>> from rtdvs.board.scale import Scale, design
     >>> text = 'task = [{name = "a", period_ms = 5, worst_cycles = 1}]\\npoint = [{mhz = 1, volts = 1}]'
-    >>> run_ticks(design(Board.parse(text), Scale(Fraction(1), Fraction(1))))
+    >>> run_ticks(design(description.Board.parse(text), Scale(Fraction(1), Fraction(1))))
     5
     """
+    if milliseconds is not None:
+        return made.ticks_of(milliseconds)
     jobs = sum(Fraction(1, task.period) for task in made.tasks)
     longest = max(task.period for task in made.tasks)
     return max(1, min(made.tasks.hyperperiod, max(longest, FEW_JOBS // jobs), MOST_JOBS // jobs))
 
 
-def report(board: Board, made: Design, ticks: int) -> Iterator[str]:
+def report(board: description.Board, made: Design, ticks: int) -> Iterator[str]:
     """The report's tables; the runs of pairs have these ticks. Raises BadValue."""
     asked = Asked.by(board), Asked.by_files(made)
     yield aligned([("at the highest speed", "exact", "rounded"), *_admission(asked), *_responses(asked), *_most(asked)])
     if line := unserved(board, made):
         yield f"{line}\n"
         return
-    try:
-        nanojoules(board)
-    except BadValue as fault:
-        yield f"no power: {str(fault).removeprefix('board: ')}\n"
+    if reason := Units(board, made).no_power():
+        yield f"no power: {reason}\n"
         return
     yield aligned([*_cost_rows(board, made.milliseconds(ticks), pair_costs(board, made, ticks))])
 
 
-def unserved(board: Board, made: Design) -> str:
+def unserved(board: description.Board, made: Design) -> str:
     """A line if even the highest speed is too slow, for the board or for its files; empty if it isn't."""
     for asked, what in ((Asked.by(board), "board"), (Asked.by_files(made), "board in this tick and unit")):
         if asked.utilisation > 1:
@@ -176,10 +175,10 @@ class PairCost:
 
     scheduler: str
     governor: str
-    spent: Mapping[str, Spent]
+    spent: Mapping[str, energy.Spent]
 
 
-def pair_costs(board: Board, made: Design, ticks: int) -> tuple[PairCost, ...]:
+def pair_costs(board: description.Board, made: Design, ticks: int) -> tuple[PairCost, ...]:
     """What each pair costs in a run of these ticks; with `usual` only if the board says what jobs usually take.
 
     Raises BadValue if no power was measured.
@@ -198,7 +197,7 @@ def pair_costs(board: Board, made: Design, ticks: int) -> tuple[PairCost, ...]:
     return tuple(found)
 
 
-def _cost_rows(board: Board, time: Fraction, costs: Sequence[PairCost]) -> Iterator[tuple[str, ...]]:
+def _cost_rows(board: description.Board, time: Fraction, costs: Sequence[PairCost]) -> Iterator[tuple[str, ...]]:
     cases = dict.fromkeys(case for cost in costs for case in cost.spent)
     hours = () if board.battery is None else ("hours",)
     yield f"{plain(time)} ms", *(word for case in cases for word in (f"{case} mW", *hours))
@@ -207,6 +206,5 @@ def _cost_rows(board: Board, time: Fraction, costs: Sequence[PairCost]) -> Itera
         for run in cost.spent.values():
             row.append(rounded(run.milliwatts))
             if board.battery is not None:
-                lasts = run.hours(board.battery)
-                row.append("-" if lasts is None else rounded(lasts))
+                row.append(rounded(run.hours(board.battery)))
         yield tuple(row) if cost.spent else (*row, "denied")

@@ -173,7 +173,8 @@ def design(board: Board, scale: Scale) -> Design:
     task a: worst case 1001 cycles taken as 1010 cycles
     point 1 MHz: volts 0.9995 V taken as 1 V
     """
-    tasks = TaskSet.of(_task_in(task, scale) for task in board.tasks)
+    tasks = TaskSet.of((task.name, task.period // scale.tick, math.ceil(task.worst / scale.unit),
+                        task.offset // scale.tick) for task in board.tasks)
     machine, changed = machine_of(board, scale)
     roundings = _changed(_task_roundings(board.tasks, tasks, scale)) + changed
     return Design(tasks, machine, scale, roundings)
@@ -249,11 +250,6 @@ def _common_part(numbers: Iterable[Fraction]) -> Fraction:
     given = list(numbers)
     below = math.lcm(*(number.denominator for number in given))
     return Fraction(math.gcd(*(int(number * below) for number in given)), below)
-
-
-def _task_in(task: BoardTask, scale: Scale) -> tuple[str, int, int, int]:
-    """The values of a task of the program."""
-    return (task.name, task.period // scale.tick, math.ceil(task.worst / scale.unit), task.offset // scale.tick)
 
 
 def _task_roundings(tasks: Iterable[BoardTask], made: TaskSet, scale: Scale) -> Iterator[Rounding]:

@@ -1,14 +1,13 @@
 """A board's units for its files and their traces: milliseconds, megahertz, cycles and joules. The one place for it."""
 
+from collections import defaultdict
 from collections.abc import Iterator, Mapping
 from dataclasses import dataclass
 from fractions import Fraction
 from functools import cached_property
 
 from rtdvs._numbers import plain, rounded
-from rtdvs.board.description import Board, board_fault
-from rtdvs.board.energy import Spent, nanojoules
-from rtdvs.board.scale import Design
+from rtdvs.board import description, energy, scale
 from rtdvs.errors import BadValue, TraceFault
 from rtdvs.trace import Ran, Run, Trace, ran_at, task_statistics
 
@@ -18,7 +17,7 @@ class Units:
     """The units of a board whose files are made.
 
     >>> from rtdvs.board.scale import Scale, design
-    >>> board = Board.parse('''
+    >>> board = description.Board.parse('''
     ... task = [{name = "a", period_ms = 2, worst_cycles = 4000}]
     ... point = [{mhz = 4, volts = 1, milliwatts = 8}]''')
     >>> units = Units(board, design(board, Scale(Fraction(1, 2), Fraction(1000))))
@@ -26,8 +25,8 @@ class Units:
     (Fraction(3, 2), Fraction(1, 1), Fraction(4000, 1))
     """
 
-    board: Board
-    made: Design
+    board: description.Board
+    made: scale.Design
 
     def milliseconds(self, ticks: Fraction | int) -> Fraction:
         """The milliseconds of some ticks."""
@@ -44,7 +43,7 @@ class Units:
     @cached_property
     def _costs(self) -> Mapping[int, Fraction]:
         """The nanojoules of a running cycle at each speed."""
-        points = zip(self.made.machine.points, nanojoules(self.board), strict=True)
+        points = zip(self.made.machine.points, energy.nanojoules(self.board), strict=True)
         return {point.speed: cost for point, cost in points}
 
     def joules(self, ran: Mapping[int, Ran]) -> Fraction:
@@ -56,16 +55,16 @@ class Units:
                     for speed, each in ran.items()), Fraction(0))
         return self.cycles(cost) / 10**9
 
-    def spent_at(self, ran: Mapping[int, Ran]) -> Spent:
+    def spent_at(self, ran: Mapping[int, Ran]) -> energy.Spent:
         """What these units take at their speeds, and how long; raises BadValue as `joules` does."""
         ticks = sum((Fraction(each.units + each.idle, speed) for speed, each in ran.items()), Fraction(0))
-        return Spent(self.joules(ran), self.milliseconds(ticks))
+        return energy.Spent(self.joules(ran), self.milliseconds(ticks))
 
-    def spent(self, trace: Trace) -> Spent:
+    def spent(self, trace: Trace) -> energy.Spent:
         """What a run of the board's files takes; the trace isn't checked. Raises BadValue as `joules` does.
 
         >>> from rtdvs.board.scale import Scale, design
-        >>> board = Board.parse('''
+        >>> board = description.Board.parse('''
         ... task = [{name = "a", period_ms = 2, worst_cycles = 4000}]
         ... point = [{mhz = 4, volts = 1, milliwatts = 8}]''')
         >>> run = "speed 0 4 4/1\\nrun 0:0 1:0 a 1 4 4000000\\nend 1 4000000 0\\n"
@@ -77,12 +76,11 @@ class Units:
 
     def job_joules(self, trace: Trace) -> dict[tuple[str, int], Fraction]:
         """The joules of each job that runs, by its task and number; raises BadValue as `joules` does."""
-        nanojoules = dict[tuple[str, int], Fraction]()
+        costs = defaultdict[tuple[str, int], Fraction](Fraction)
         for note, speed in trace.at_speeds():
             if isinstance(note, Run):
-                job = note.task, note.job
-                nanojoules[job] = nanojoules.get(job, Fraction(0)) + note.units * self._costs[speed]
-        return {job: self.cycles(cost) / 10**9 for job, cost in nanojoules.items()}
+                costs[note.task, note.job] += note.units * self._costs[speed]
+        return {job: self.cycles(cost) / 10**9 for job, cost in costs.items()}
 
     def lines(self, trace: Trace) -> Iterator[str]:
         """What a run takes, in lines: joules, milliwatts, and the hours of a battery; raises BadValue as `joules`."""
@@ -104,17 +102,17 @@ class Units:
             found = [getattr(each, name) for name in times]
             own = ran_at((note, speed) for note, speed in trace.at_speeds()
                          if isinstance(note, Run) and note.task == each.task)
-            cost = None if self.no_power() else Spent(self.joules(own), self.milliseconds(trace.ticks))
+            cost = None if self.no_power() else energy.Spent(self.joules(own), self.milliseconds(trace.ticks))
             power = ("-", "-") if cost is None else (rounded(cost.joules), rounded(cost.milliwatts))
             rows.append((each.task, str(each.jobs), str(each.complete), str(each.missed),
-                         *("-" if time is None else rounded(self.milliseconds(time)) for time in found),
+                         *(rounded(None if time is None else self.milliseconds(time)) for time in found),
                          str(each.preemptions), *power))
         return rows
 
     def no_power(self) -> str:
         """Why there are no joules; empty if there are."""
         try:
-            nanojoules(self.board)
+            energy.nanojoules(self.board)
         except BadValue as fault:
             return str(fault).removeprefix("board: ")
         return ""
@@ -124,5 +122,5 @@ class Units:
         try:
             trace.belongs_to(self.made.tasks, self.made.machine)
         except TraceFault as fault:
-            raise board_fault(f"the trace isn't of this board where {self.made.scale.text()}: {fault}; "
+            raise description.board_fault(f"the trace isn't of this board where {self.made.scale.text()}: {fault}; "
                               "--folder names the files that were run") from None

@@ -9,17 +9,14 @@ from fractions import Fraction
 from pathlib import Path
 from typing import TYPE_CHECKING, Any
 
-from rtdvs._numbers import plain
-from rtdvs.cli.options import (
-    exact_fraction, input_path, open_input, read_demands, read_machine, read_tasks, read_text, whole_number,
-)
-from rtdvs.errors import BadValue
+from rtdvs import _numbers, errors
+from rtdvs.cli import options
 from rtdvs.model import Demands, Machine, TaskSet
 from rtdvs.trace import Trace
 
 # A command without a board needs none of it, so functions import what they call of it.
 if TYPE_CHECKING:
-    from rtdvs.board import Board, Design, OperatingTable, Units
+    from rtdvs.board import Board, Design, OperatingTable, Units as Units
 
 REPLACED = {"tasks", "machine", "ticks"}
 
@@ -60,13 +57,13 @@ def add_board(parser: argparse.ArgumentParser) -> None:
     PosixPath('drone.toml')
     """
     group = parser.add_argument_group("board", "in place of the files of a set; prints ms, MHz, mW, J and hours")
-    group.add_argument("--board", action=_InPlaceOfFiles, type=input_path, metavar="FILE",
+    group.add_argument("--board", action=_InPlaceOfFiles, type=options.input_path, metavar="FILE",
                        help="the description of a board, as for design")
     group.add_argument("--folder", type=Path, help="takes the files that design made there, and their scale")
     add_scale(group)
     add_tree(parser)
     if any(action.dest == "ticks" for action in parser._actions):
-        group.add_argument("--ms", type=exact_fraction, metavar="MS",
+        group.add_argument("--ms", type=options.exact_fraction, metavar="MS",
                            help="the length of the run; without it a hyperperiod, or some 2000 jobs")
 
 
@@ -82,15 +79,16 @@ def measure(least: int) -> Callable[[str], Fraction]:
     def number(word: str) -> Fraction:
         if re.fullmatch(r"[0-9]{1,99}\.[0-9]{1,99}", word) and Fraction(word) > 0:
             return Fraction(word)
-        return Fraction(whole_number(least)(word))
+        return Fraction(options.whole_number(least)(word))
 
     return number
 
 
 def add_scale(group: "argparse._ActionsContainer") -> None:
     """Adds `--tick-ms` and `--unit-cycles`."""
-    group.add_argument("--tick-ms", type=exact_fraction, metavar="MS", help="the tick, in place of a chosen one")
-    group.add_argument("--unit-cycles", type=exact_fraction, metavar="CYCLES", help="the work unit, likewise")
+    for name, metavar, about in (("--tick-ms", "MS", "the tick, in place of a chosen one"),
+                                 ("--unit-cycles", "CYCLES", "the work unit, likewise")):
+        group.add_argument(name, type=options.exact_fraction, metavar=metavar, help=about)
 
 
 def add_tree(parser: argparse.ArgumentParser) -> None:
@@ -102,12 +100,13 @@ def add_tree(parser: argparse.ArgumentParser) -> None:
     (16, 2)
     """
     group = parser.add_argument_group("device tree", "the points of the board")
-    group.add_argument("--device-tree", type=input_path, metavar="FILE", help="a device tree: its source or its blob")
+    group.add_argument("--device-tree", type=options.input_path, metavar="FILE",
+                       help="a device tree: its source or its blob")
     group.add_argument("--table", default="", help="a table's label or path; needed if there are several")
     group.add_argument("--supported-hw", type=_hardware, default=(), metavar="N[,N..]",
                        help="the hardware's version, level by level, for opp-supported-hw")
     group.add_argument("--suffix", default="", help="takes opp-microvolt-SUFFIX")
-    group.add_argument("--supply", type=whole_number(1), default=1, metavar="N", help="which supply; 1 by default")
+    options.add_number(group, "--supply", "which supply; 1 by default", default=1)
     group.add_argument("--turbo", action="store_true", help="takes points of turbo-mode too, which need boost")
 
 
@@ -123,7 +122,7 @@ def table_of(args: argparse.Namespace) -> "OperatingTable":
     from rtdvs.board import Choice, OperatingTable, operating_points
     if args.device_tree is None:
         return OperatingTable("", ())
-    with open_input(args.device_tree) as file:
+    with options.open_input(args.device_tree) as file:
         choice = Choice(args.table, args.supported_hw, args.suffix, args.supply, args.turbo)
         table = operating_points(file.read(), choice)
     if table.left_out:
@@ -153,7 +152,7 @@ def read_made(args: argparse.Namespace, board: "Board") -> "Design":
     made = read_design(args.folder, board)
     for given, taken in ((args.tick_ms, made.scale.tick), (args.unit_cycles, made.scale.unit)):
         if given not in (None, taken):
-            raise board_fault(f"in the files of {args.folder} {made.scale.text()}, not {plain(given)}")
+            raise board_fault(f"in the files of {args.folder} {made.scale.text()}, not {_numbers.plain(given)}")
     return made
 
 
@@ -166,18 +165,18 @@ def read_given(args: argparse.Namespace) -> Given:
     """
     if args.board is None:
         if args.device_tree is not None or args.folder is not None:
-            raise BadValue(f"--{'folder' if args.device_tree is None else 'device-tree'} needs --board")
-        tasks = None if args.tasks is None else read_tasks(args)
-        machine = read_machine(args) if getattr(args, "machine", None) is not None else None
-        return Given(tasks, machine, read_demands(args, tasks) if tasks and hasattr(args, "demands") else None)
+            raise errors.BadValue(f"--{'folder' if args.device_tree is None else 'device-tree'} needs --board")
+        tasks = None if args.tasks is None else options.read_tasks(args)
+        machine = options.read_machine(args) if getattr(args, "machine", None) is not None else None
+        return Given(tasks, machine, options.read_demands(args, tasks) if tasks and hasattr(args, "demands") else None)
     if args.tasks is not None or getattr(args, "machine", None) is not None:
-        raise BadValue("give either --board or --tasks and --machine")
+        raise errors.BadValue("give either --board or --tasks and --machine")
     from rtdvs.board import Board, Units, choose_scale, design
     check_above_0(args, "tick_ms", "unit_cycles", "ms")
-    board = Board.parse(read_text(args.board, "board"), table_of(args).points)
+    board = Board.parse(options.read_text(args.board, "board"), table_of(args).points)
     made = (design(board, choose_scale(board, args.tick_ms, args.unit_cycles)) if args.folder is None
             else read_made(args, board))
-    demands = read_demands(args, made.tasks) if hasattr(args, "demands") else None
+    demands = options.read_demands(args, made.tasks) if hasattr(args, "demands") else None
     return Given(made.tasks, made.machine, demands, Units(board, made))
 
 
@@ -185,10 +184,9 @@ def ticks_of(args: argparse.Namespace, given: Given) -> int:
     """The length of a run in ticks, by `--ticks` or by `--ms`; raises BadValue."""
     if given.units is None:
         if args.ms is not None:
-            raise BadValue("--ms needs --board")
+            raise errors.BadValue("--ms needs --board")
         return int(args.ticks)
     if args.ticks is not None and args.ms is not None:
-        raise BadValue("give either --ticks or --ms")
+        raise errors.BadValue("give either --ticks or --ms")
     from rtdvs.board import run_ticks
-    made = given.units.made
-    return int(args.ticks) if args.ticks is not None else run_ticks(made) if args.ms is None else made.ticks_of(args.ms)
+    return int(args.ticks) if args.ticks is not None else run_ticks(given.units.made, args.ms)

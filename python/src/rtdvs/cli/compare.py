@@ -19,23 +19,16 @@ share of the joules, which are exact for measured points.
 import argparse
 from collections.abc import Sequence
 from fractions import Fraction
-from typing import TYPE_CHECKING
 
 from rtdvs._numbers import aligned, decimal, plain, rounded
-from rtdvs.cli.boards import add_board, read_given, ticks_of
-from rtdvs.cli.options import (
-    Commands, Input, add_engine_options, add_files, add_jobs, add_parser, add_ticks, add_unchecked, check_first,
-    engine_of, executor_of, input_path, progress, read_text, whole_number,
-)
+from rtdvs.cli import boards, options
+from rtdvs.cli.options import engine_of
 from rtdvs.errors import BadValue, TraceFault
-from rtdvs.studies import PAIRS, Case, Row, compare, finer_energies, finer_table, table
+from rtdvs.studies import PAIRS, Case, Row, cells, compare, finer_energies, finer_table, table
 from rtdvs.trace import Trace
 
-if TYPE_CHECKING:
-    from rtdvs.board import Units
 
-
-def add_command(commands: Commands) -> None:
+def add_command(commands: options.Commands) -> None:
     """Adds the command `compare`.
 
     >>> commands = argparse.ArgumentParser().add_subparsers()
@@ -43,37 +36,37 @@ def add_command(commands: Commands) -> None:
     >>> list(commands.choices)
     ['compare']
     """
-    parser = add_parser(commands, "compare", _handle, "energies and times under each scheduler and governor",
+    parser = options.add_parser(commands, "compare", _handle, "energies and times under each scheduler and governor",
                         "compare --tasks tasks.toml --machine machine.toml --ticks 16 --finer 2 10\n"
                         "compare --board board.toml --ms 100")
-    add_files(parser, ["tasks", "machine"], ["demands"])
-    add_ticks(parser)
-    parser.add_argument("--trace", type=input_path, nargs="+", default=[], metavar="FILE",
+    options.add_files(parser, ["tasks", "machine"], ["demands"])
+    options.add_ticks(parser)
+    parser.add_argument("--trace", type=options.input_path, nargs="+", default=[], metavar="FILE",
                         help="traces of these files and ticks, of any governor, each as a row more")
-    add_unchecked(parser)
-    parser.add_argument("--finer", type=whole_number(1), nargs="+", default=[], metavar="N",
-                        help="the energies in ticks N times finer too, as shares of those in the ticks given")
-    add_engine_options(parser)
-    add_jobs(parser)
-    add_board(parser)
+    options.add_unchecked(parser)
+    finer = "the energies in ticks N times finer too, as shares of those in the ticks given"
+    options.add_number(parser, "--finer", finer, nargs="+", default=[])
+    options.add_engine_options(parser)
+    options.add_jobs(parser)
+    boards.add_board(parser)
 
 
 def _handle(args: argparse.Namespace) -> int:
-    engine, given = engine_of(args), read_given(args)
+    engine, given = engine_of(args), boards.read_given(args)
     assert given.tasks and given.machine
-    case = Case(given.tasks, given.machine, ticks_of(args, given), given.demands)
+    case = Case(given.tasks, given.machine, boards.ticks_of(args, given), given.demands)
     traces = [read_trace(source, case, args) for source in args.trace]
-    with executor_of(args) as executor:
+    with options.executor_of(args) as executor:
         rows = compare(engine, case.tasks, case.machine, case.ticks, case.demands, traces, executor)
         print(table(rows) if given.units is None else board_table(rows, case.ticks, given.units), end="")
         finer = {times: finer_energies(engine, case, times, executor)
-                 for times in progress(args.finer, len(args.finer), "finer ticks")}
+                 for times in options.progress(args.finer, len(args.finer), "finer ticks")}
     if finer:
         print("\n" + finer_table(rows[:len(PAIRS)], finer), end="")
     return 0
 
 
-def board_table(rows: Sequence[Row], ticks: int, units: "Units") -> str:
+def board_table(rows: Sequence[Row], ticks: int, units: "boards.Units") -> str:
     """The rows in a board's units, below the length of the run; raises BadValue if no power was measured.
 
     >>> from rtdvs.board import Board, Scale, Units, design
@@ -93,27 +86,20 @@ def board_table(rows: Sequence[Row], ticks: int, units: "Units") -> str:
                "idle", "least_laxity_ms", "jitter_ms",
                *(f"at_{plain(units.megahertz(speed))}_MHz" for speed in speeds)]
     lines = [heading]
+    base = costs[0].joules if costs[0] else Fraction(0)
     for row, cost in zip(rows, costs, strict=True):
-        line, found = [row.scheduler, row.governor], row.result
-        if found is None or cost is None:
-            lines.append([*line, row.refusal])
-            continue
-        base = costs[0].joules if costs[0] else Fraction(0)
-        line += [rounded(cost.joules), rounded(cost.milliwatts)]
-        line += [] if battery is None else [_rounded(cost.hours(battery))]
-        shares = (cost.joules / base if base else None, found.above_bound, found.switches, found.idle)
-        line += [str(each) if isinstance(each, int) else decimal(each, 4) for each in shares]
-        line += [_rounded(None if each is None else units.milliseconds(each))
-                 for each in (found.least_laxity, found.jitter)]
-        lines.append([*line, *(decimal(found.residency.get(speed, Fraction(0)), 4) for speed in speeds)])
+        scheduler, governor, *own = cells(row, speeds)
+        if row.result and cost:
+            lasts = [] if battery is None else [rounded(cost.hours(battery))]
+            share = decimal(cost.joules / base if base else None, 4)
+            times = [rounded(None if each is None else units.milliseconds(each))
+                     for each in (row.result.least_laxity, row.result.jitter)]
+            own = [rounded(cost.joules), rounded(cost.milliwatts), *lasts, share, *own[2:5], *times, *own[7:]]
+        lines.append([scheduler, governor, *own])
     return aligned(lines, left=2)
 
 
-def _rounded(number: Fraction | None) -> str:
-    return "-" if number is None else rounded(number)
-
-
-def read_trace(source: Input, case: Case, args: argparse.Namespace) -> Trace:
+def read_trace(source: options.Input, case: Case, args: argparse.Namespace) -> Trace:
     """The trace of a file, which is checked without `--unchecked`.
 
     Raises a BadValue with the file's name if it is refused, and OSError.
@@ -124,10 +110,10 @@ def read_trace(source: Input, case: Case, args: argparse.Namespace) -> Trace:
     rtdvs.errors.BadValue: -: line 1: neither trace 1 nor trace 2
     """
     try:
-        trace = Trace.parse(read_text(source, "trace"))
+        trace = Trace.parse(options.read_text(source, "trace"))
         trace.belongs_to(case.tasks, case.machine)
         trace.jobs()
-        check_first(args, trace, case.tasks, case.machine)
+        options.check_first(args, trace, case.tasks, case.machine)
     except TraceFault as fault:
         raise BadValue(f"{'-' if isinstance(source, bytes) else source}: {fault}") from fault
     return trace

@@ -9,9 +9,7 @@ The trace is checked first, by --machine and, in version 1, by --tasks. It is re
 
 import argparse
 
-from rtdvs.cli.options import (
-    Commands, add_files, add_output, add_parser, add_unchecked, note_charge, trace_file, whole_number, write_output,
-)
+from rtdvs.cli import options
 from rtdvs.errors import BadValue
 from rtdvs.export import event_lines, wave_lines
 from rtdvs.trace import TABLES, csv_lines
@@ -19,7 +17,7 @@ from rtdvs.trace import TABLES, csv_lines
 WRITERS = {"chrome": event_lines, "vcd": wave_lines}
 
 
-def add_command(commands: Commands) -> None:
+def add_command(commands: options.Commands) -> None:
     """Adds the command `convert`.
 
     >>> commands = argparse.ArgumentParser().add_subparsers()
@@ -27,26 +25,26 @@ def add_command(commands: Commands) -> None:
     >>> commands.choices["convert"].parse_args(["--to", "vcd", "--trace", "a.trace"]).trace
     PosixPath('a.trace')
     """
-    parser = add_parser(commands, "convert", _handle, "a trace as CSV, trace events or waves",
+    parser = options.add_parser(commands, "convert", _handle, "a trace as CSV, trace events or waves",
                         "convert --to csv --table jobs --trace paper.trace --machine machine.toml --output jobs.csv\n"
                         "convert --to vcd --trace paper.trace --machine machine.toml --output paper.vcd")
     parser.add_argument("--to", choices=("csv", *WRITERS), required=True,
                         help="a table, trace events in JSON (Perfetto), or a value change dump (GTKWave)")
     parser.add_argument("--table", choices=tuple(TABLES), help="the table for csv; segments by default")
-    parser.add_argument("--charge", type=whole_number(0), metavar="UNITS",
-                        help="the machine's charge, which each declared worst case in jobs then has twice")
-    add_files(parser, ("trace",), ("tasks", "machine"))
-    add_unchecked(parser)
-    add_output(parser)
+    charge = "the machine's charge, which each declared worst case in jobs then has twice"
+    options.add_number(parser, "--charge", charge, (0, None), metavar="UNITS")
+    options.add_files(parser, ("trace",), ("tasks", "machine"))
+    options.add_unchecked(parser)
+    options.add_output(parser)
 
 
 def _handle(args: argparse.Namespace) -> int:
     if args.to in WRITERS and (args.table or args.charge is not None):
         raise BadValue(f"--table and --charge are for csv only, and not for {args.to}")
-    trace, charge = trace_file(args)
+    trace, charge = options.trace_file(args)
     table = args.table or "segments"
     if args.table == "jobs":
-        note_charge(trace, charge)
+        options.note_charge(trace, charge)
     lines = WRITERS[args.to](trace) if args.to in WRITERS else csv_lines(trace, table, charge)
-    write_output(args, lines)
+    options.write_output(args, lines)
     return 0

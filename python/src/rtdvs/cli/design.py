@@ -29,23 +29,18 @@ from collections.abc import Iterator
 from fractions import Fraction
 from pathlib import Path
 
-from rtdvs._numbers import plain, rounded
+from rtdvs import _numbers, errors
 from rtdvs.board import (
     Board, Design, OperatingTable, Scale, Spent, Units, board_fault, choose_scale, design, machine_of, machine_text,
     points_of, report, run_ticks, settle, unserved, usual_demands, write_design,
 )
-from rtdvs.cli.boards import add_scale, add_tree, check_above_0, read_made, table_of
-from rtdvs.cli.options import (
-    Commands, add_engine_options, add_output, add_pair, add_parser, add_unchecked, check_first, engine_of,
-    exact_fraction, input_path, read_text, write_output,
-)
-from rtdvs.cli.plot import drawn
-from rtdvs.errors import TraceFault
+from rtdvs.cli import boards, options, plot
+from rtdvs.cli.options import engine_of
 from rtdvs.plot import save_report
 from rtdvs.trace import Trace
 
 
-def add_command(commands: Commands) -> None:
+def add_command(commands: options.Commands) -> None:
     """Adds the command `design`.
 
     >>> commands = argparse.ArgumentParser().add_subparsers()
@@ -53,59 +48,58 @@ def add_command(commands: Commands) -> None:
     >>> list(commands.choices)
     ['design']
     """
-    parser = add_parser(commands, "design", _handle,
+    parser = options.add_parser(commands, "design", _handle,
                         "files in ticks and work units from milliseconds, cycles and volts",
                         "design --board board.toml --folder drone\n"
                         "design --board board.toml --folder drone --trace drone.trace\n"
                         "design --device-tree examples/board.dts --table little --output machine.toml")
-    parser.add_argument("--board", type=input_path, metavar="FILE", help="the description of a board")
+    parser.add_argument("--board", type=options.input_path, metavar="FILE", help="the description of a board")
     parser.add_argument("--folder", type=Path,
                         help="writes tasks.toml and machine.toml there; with --trace they are there")
-    add_scale(parser)
-    parser.add_argument("--trace", type=input_path, metavar="FILE",
+    boards.add_scale(parser)
+    parser.add_argument("--trace", type=options.input_path, metavar="FILE",
                         help="prints joules, mean power and battery hours of a run of the files in --folder")
-    add_unchecked(parser)
+    options.add_unchecked(parser)
     parser.add_argument("--report", action="store_true",
                         help="prints admission, responses, and power and hours of each pair")
     parser.add_argument("--picture", type=Path, metavar="FILE",
                         help="draws the responses and the power of each pair: .svg, .pdf or .png")
     parser.add_argument("--background", default="none", metavar="COLOUR", help="of the picture; none by default")
-    parser.add_argument("--ms", type=exact_fraction, metavar="MS",
+    parser.add_argument("--ms", type=options.exact_fraction, metavar="MS",
                         help="the time of the runs of --report, and of demands.csv")
-    add_tree(parser)
+    boards.add_tree(parser)
     _add_settle_options(parser)
-    add_output(parser)
+    options.add_output(parser)
 
 
 def _add_settle_options(parser: argparse.ArgumentParser) -> None:
     group = parser.add_argument_group("the tick", "halves the tick until the energy of a run moves by at most 1 %")
-    group.add_argument("--settle-ms", type=exact_fraction, metavar="MS", help="the time of each run")
-    add_pair(parser, "edf", "cc")
-    add_engine_options(parser)
+    group.add_argument("--settle-ms", type=options.exact_fraction, metavar="MS", help="the time of each run")
+    options.add_pair(parser, "edf", "cc")
+    options.add_engine_options(parser)
 
 
 def _handle(args: argparse.Namespace) -> int:
-    check_above_0(args, "tick_ms", "unit_cycles", "settle_ms", "ms")
+    boards.check_above_0(args, "tick_ms", "unit_cycles", "settle_ms", "ms")
     if args.board is None and args.device_tree is None:
         raise board_fault("give --board or --device-tree")
-    table = table_of(args)
+    table = boards.table_of(args)
     if args.board is None:
         scale = Scale(args.tick_ms or Fraction(1), args.unit_cycles or Fraction(1000))
         machine, _ = machine_of(Board((), points_of(table.points)), scale)
-        write_output(args, machine_text(machine, f"{table.name}: {scale.text()}", table.note()))
+        options.write_output(args, machine_text(machine, f"{table.name}: {scale.text()}", table.note()))
         return 0
-    board = Board.parse(read_text(args.board, "board"), table.points)
+    board = Board.parse(options.read_text(args.board, "board"), table.points)
     lines = _energy_lines(board, args) if args.trace is not None else _design_lines(board, table, args)
-    if args.picture is not None and (status := drawn(args, lambda args: _draw(board, args))):
+    if args.picture is not None and (status := plot.drawn(args, lambda args: _draw(board, args))):
         return status
-    write_output(args, "".join(f"{line}\n" for line in lines))
+    options.write_output(args, "".join(f"{line}\n" for line in lines))
     return 0
 
 
 def _draw(board: Board, args: argparse.Namespace) -> None:
     made = design(board, choose_scale(board, args.tick_ms, args.unit_cycles))
-    ticks = run_ticks(made) if args.ms is None else made.ticks_of(args.ms)
-    save_report(board, made, ticks, args.picture, args.background)
+    save_report(board, made, run_ticks(made, args.ms), args.picture, args.background)
 
 
 def _design_lines(board: Board, table: OperatingTable, args: argparse.Namespace) -> Iterator[str]:
@@ -113,11 +107,11 @@ def _design_lines(board: Board, table: OperatingTable, args: argparse.Namespace)
     made = design(board, scale)
     if args.settle_ms is not None:
         for made, joules in settle(board, scale, lambda made: _run(board, made, args).joules):
-            time = plain(made.milliseconds(made.ticks_of(args.settle_ms)))
-            yield f"tick {plain(made.scale.tick)} ms: {rounded(joules)} joules in {time} ms"
+            time = _numbers.plain(made.milliseconds(made.ticks_of(args.settle_ms)))
+            yield f"tick {_numbers.plain(made.scale.tick)} ms: {_numbers.rounded(joules)} joules in {time} ms"
     yield made.scale.text()
     yield from (rounding.text() for rounding in made.roundings)
-    ticks = run_ticks(made) if args.ms is None else made.ticks_of(args.ms)
+    ticks = run_ticks(made, args.ms)
     if args.report:
         yield from "\n".join(report(board, made, ticks)).splitlines()
     elif line := unserved(board, made):
@@ -126,7 +120,7 @@ def _design_lines(board: Board, table: OperatingTable, args: argparse.Namespace)
         demands = usual_demands(board, made, ticks) if any(task.usual is not None for task in board.tasks) else None
         write_design(args.folder, made, table.note(), demands)
         if demands is not None:
-            yield f"demands.csv is for {ticks} ticks, {plain(made.milliseconds(ticks))} ms"
+            yield f"demands.csv is for {ticks} ticks, {_numbers.plain(made.milliseconds(ticks))} ms"
 
 
 def _run(board: Board, made: Design, args: argparse.Namespace) -> Spent:
@@ -140,10 +134,10 @@ def _run(board: Board, made: Design, args: argparse.Namespace) -> Spent:
 def _energy_lines(board: Board, args: argparse.Namespace) -> Iterator[str]:
     if args.folder is None:
         raise board_fault("--trace needs --folder, with the files that were run")
-    made = read_made(args, board)
-    trace = Trace.parse(read_text(args.trace, "trace"))
+    made = boards.read_made(args, board)
+    trace = Trace.parse(options.read_text(args.trace, "trace"))
     try:
-        check_first(args, trace, made.tasks, made.machine)
-    except TraceFault as fault:
+        options.check_first(args, trace, made.tasks, made.machine)
+    except errors.TraceFault as fault:
         raise board_fault(f"the trace is of no run of the files in {args.folder}: {fault}") from None
     yield from Units(board, made).lines(trace)

@@ -15,12 +15,9 @@ import argparse
 import sys
 from pathlib import Path
 
-from rtdvs._files import write_whole
-from rtdvs.cli.options import (
-    SCHEDULERS, Commands, add_engine_options, add_jobs, add_parser, engine_of, exact_fraction, processes_of,
-    progress, whole_number,
-)
-from rtdvs.errors import BadValue
+from rtdvs import _files, errors
+from rtdvs.cli import options
+from rtdvs.cli.options import processes_of
 from rtdvs.model import MOST_TASKS, Machine
 from rtdvs.studies import (
     DRAWS, PUBLISHED_COUNTS, PUBLISHED_TICKS, TENTHS, Own, OwnGovernor, OwnTraces, Sweep, broken, evaluate,
@@ -28,7 +25,7 @@ from rtdvs.studies import (
 )
 
 
-def add_command(commands: Commands) -> None:
+def add_command(commands: options.Commands) -> None:
     """Adds the command `evaluate`.
 
     >>> commands = argparse.ArgumentParser().add_subparsers()
@@ -36,26 +33,26 @@ def add_command(commands: Commands) -> None:
     >>> list(commands.choices)
     ['evaluate']
     """
-    parser = add_parser(commands, "evaluate", _handle, "energy over utilisation, of random sets",
+    parser = options.add_parser(commands, "evaluate", _handle, "energy over utilisation, of random sets",
                         "evaluate --folder sweep --jobs 4 --counts 5 --utilisations 0.1 0.2\n"
                         "evaluate --folder mine --counts 6 12 --machine board.toml --governor mine.py:careful")
     parser.add_argument("--folder", type=Path, required=True, help="where results and tables are kept")
-    parser.add_argument("--sets", type=whole_number(1, 999), default=100, metavar="N",
-                        help="for each number of tasks and each utilisation; 100 unless given")
+    options.add_number(parser, "--sets", "for each number of tasks and each utilisation; 100 unless given", (1, 999),
+                       default=100)
     parser.add_argument("--draws", choices=list(DRAWS), default="published", help="published unless given")
-    parser.add_argument("--counts", type=whole_number(1, MOST_TASKS), nargs="+", default=PUBLISHED_COUNTS,
-                        metavar="N",
-                        help="the numbers of tasks; 5, 8, 10 and 15 unless given")
+    options.add_number(parser, "--counts", "the numbers of tasks; 5, 8, 10 and 15 unless given", (1, MOST_TASKS),
+                       nargs="+", default=PUBLISHED_COUNTS)
     parser.add_argument("--utilisations", type=tenth, nargs="+", default=TENTHS, metavar="U",
                         help="tenths from 0.1 to 1; all unless given")
     parser.add_argument("--machine", type=Path, nargs="+", default=[], metavar="FILE", help="machine files of your own")
-    parser.add_argument("--scheduler", choices=SCHEDULERS, default="edf", help="that of the next two; edf unless given")
+    parser.add_argument("--scheduler", choices=options.SCHEDULERS, default="edf",
+                        help="that of the next two; edf unless given")
     parser.add_argument("--governor", nargs="+", default=[], metavar="FILE.py:NAME",
                         help="functions of files of Python, as for rtdvs.simulate")
     parser.add_argument("--traces", type=Path, nargs="+", default=[], metavar="FOLDER",
                         help="traces by other simulators")
-    add_engine_options(parser)
-    add_jobs(parser)
+    options.add_engine_options(parser)
+    options.add_jobs(parser)
 
 
 def tenth(word: str) -> int:
@@ -64,7 +61,7 @@ def tenth(word: str) -> int:
     >>> tenth("0.7"), tenth("1")
     (7, 10)
     """
-    tenths = exact_fraction(word) * 10
+    tenths = options.exact_fraction(word) * 10
     if tenths not in TENTHS:
         raise argparse.ArgumentTypeError(f"a utilisation is 0.1, 0.2 .. or 1, not {word}")
     return int(tenths)
@@ -80,7 +77,7 @@ def own_of(args: argparse.Namespace) -> Own:
     """
     machines = {path.stem: Machine.read(path) for path in args.machine}
     if len(machines) < len(args.machine):
-        raise BadValue("two machine files of one name")
+        raise errors.BadValue("two machine files of one name")
     governors = tuple(map(OwnGovernor.parse, args.governor))
     for governor in governors:
         governor.chooser()
@@ -90,18 +87,19 @@ def own_of(args: argparse.Namespace) -> Own:
 def _handle(args: argparse.Namespace) -> int:
     sweep = Sweep(args.draws, args.sets, counts=args.counts, tenths=args.utilisations, own=own_of(args))
     if missing := sweep.missing():
-        more = f", and {len(missing) - 1} more; the task file of each is there" if missing[1:] else "; its task file is there"
-        raise BadValue(f"{missing[0]} is missing{more}: runs of {PUBLISHED_TICKS} ticks under {args.scheduler}")
+        others = f", and {len(missing) - 1} more; the task file of each" if missing[1:] else "; its task file"
+        runs = f"runs of {PUBLISHED_TICKS} ticks under {args.scheduler}"
+        raise errors.BadValue(f"{missing[0]} is missing{others} is there: {runs}")
     total = len(set(args.counts)) * len(set(args.utilisations)) * args.sets
     for line in broken(args.folder, sweep):
         print(f"{line}; it is made again if the sweep has it", file=sys.stderr)
     with processes_of(args) as executor:
-        for _ in progress(evaluate(engine_of(args), args.folder, sweep, executor), total, "sets"):
+        for _ in options.progress(evaluate(options.engine_of(args), args.folder, sweep, executor), total, "sets"):
             pass
     records = read_records(args.folder, finished(args.folder, sweep), sweep)
     found = shares(records)
     for figure, panels in sweep.figures().items():
-        write_whole(args.folder / f"{figure}.tsv", figure_table(panels, found, sweep.curves()))
+        _files.write_whole(args.folder / f"{figure}.tsv", figure_table(panels, found, sweep.curves()))
     wrong = [*broken(args.folder, sweep), *faults(records, sweep)]
     print(*wrong, summary(records, wrong), sep="\n")
     return 2 if wrong else 0

@@ -24,9 +24,8 @@ import sys
 from collections.abc import Iterable, Iterator
 from pathlib import Path
 
-from rtdvs._files import write_whole
+from rtdvs import _files, errors
 from rtdvs.cli.options import Commands, add_files, add_parser, open_input, read_files, read_text
-from rtdvs.errors import BadValue, WrongTrace
 from rtdvs.rules import Walk, explain, last_line
 from rtdvs.trace import Trace, lines_of
 
@@ -35,16 +34,16 @@ def _handle(args: argparse.Namespace) -> int:
     if args.grade is not None:
         return _graded(args)
     if args.csv is not None:
-        raise BadValue("--csv needs --grade")
+        raise errors.BadValue("--csv needs --grade")
     if args.trace is None:
-        raise BadValue("give --trace or --grade")
+        raise errors.BadValue("give --trace or --grade")
     tasks, machine, demands = read_files(args)
     latest: list[str] = []
     with open_input(args.trace) as file:
         lines = _kept(lines_of(io.TextIOWrapper(file, "latin-1", newline="\n")), latest)
         try:
             summary = explain(Walk(tasks, machine, lines, demands, args.any), None if args.quiet else print)
-        except WrongTrace as fault:
+        except errors.WrongTrace as fault:
             from rtdvs.studies import expected  # here, so that a right trace needs no study
 
             sys.stdout.flush()
@@ -64,22 +63,22 @@ def _kept(lines: Iterable[str], latest: list[str]) -> Iterator[str]:
 
 def _graded(args: argparse.Namespace) -> int:
     if args.any or args.quiet:
-        raise BadValue("--grade takes neither --any nor --quiet")
+        raise errors.BadValue("--grade takes neither --any nor --quiet")
     from rtdvs.studies import Asked, grades, handed_in
 
     tasks, machine, demands = read_files(args)
     solution = None if args.trace is None else Trace.parse(read_text(args.trace, "trace"))
     try:
         asked = Asked.by(tasks, machine, demands, solution)
-    except WrongTrace as fault:
-        raise BadValue(f"--trace isn't a right trace: {fault}") from None
+    except errors.WrongTrace as fault:
+        raise errors.BadValue(f"--trace isn't a right trace: {fault}") from None
     _, others = handed_in(args.grade)
     if others:
         print("note: these have no name that ends with .trace:", *(path.name for path in others), file=sys.stderr)
     found = grades(asked, args.grade)
     print(found.text(), end="")
     if args.csv is not None:
-        write_whole(args.csv, found.csv())
+        _files.write_whole(args.csv, found.csv())
     return 0 if all(each.is_right for each in found) else 1
 
 

@@ -15,13 +15,12 @@ from functools import partial
 from pathlib import Path
 from threading import Thread
 from time import monotonic
-from typing import BinaryIO, TypeAlias, TypeVar
+from typing import Any, BinaryIO, TypeAlias, TypeVar
 
-from rtdvs._files import write_whole
-from rtdvs._numbers import whole
+from rtdvs import _files, _numbers
 from rtdvs.engine import Engine, TryEngine, find_engine, stop_calls
 from rtdvs.errors import BadValue, Denied, TraceFault, WordFault
-from rtdvs.model import MOST_TICKS, Demands, Machine, TaskSet, load
+from rtdvs.model import MOST_TICKS, Demands, Governor, Machine, Scheduler, TaskSet, load
 from rtdvs.trace import Done, Noted, Trace, TraceFile, lines_of, split_governor
 
 Commands: TypeAlias = "argparse._SubParsersAction[argparse.ArgumentParser]"
@@ -38,7 +37,7 @@ FILES = {
     "trace": "the trace, in version 1 or 2",
 }
 BAR = 30
-SCHEDULERS, KINDS = ("edf", "rm"), ("none", "static", "cc", "la")
+SCHEDULERS, KINDS = tuple(map(str, Scheduler)), tuple(map(str, Governor))
 
 
 # Options
@@ -60,6 +59,19 @@ def add_parser(commands: Commands, name: str, handler: Callable[[argparse.Namesp
     return parser
 
 
+def add_number(parser: argparse._ActionsContainer, name: str, about: str | None = None,
+               within: tuple[int, int | None] = (1, None), **more: Any) -> None:
+    """Adds an option for a whole number within bounds; `more` is for `add_argument`.
+
+    >>> parser = argparse.ArgumentParser()
+    >>> add_number(parser, "--count", "how many", (1, 9), nargs="+")
+    >>> parser.parse_args(["--count", "2", "7"]).count
+    [2, 7]
+    """
+    settings: dict[str, Any] = {"metavar": "N", **more}
+    parser.add_argument(name, type=whole_number(*within), help=about, **settings)
+
+
 def add_ticks(parser: argparse.ArgumentParser) -> None:
     """Adds `--ticks`, the length of a run.
 
@@ -68,8 +80,7 @@ def add_ticks(parser: argparse.ArgumentParser) -> None:
     >>> parser.parse_args(["--ticks", "16"]).ticks
     16
     """
-    parser.add_argument("--ticks", type=whole_number(1, MOST_TICKS), required=True, metavar="N",
-                        help="the length of the run")
+    add_number(parser, "--ticks", "the length of the run", (1, MOST_TICKS), required=True)
 
 
 def add_pair(parser: argparse.ArgumentParser, scheduler: str | None = None, governor: str | None = None) -> None:
@@ -130,8 +141,7 @@ def add_jobs(parser: argparse.ArgumentParser) -> None:
     >>> parser.parse_args(["--jobs", "4"])
     Namespace(jobs=4)
     """
-    parser.add_argument("--jobs", type=whole_number(1, 1024), default=1, metavar="N",
-                        help="calls of the program at a time (default: 1)")
+    add_number(parser, "--jobs", "calls of the program at a time (default: 1)", (1, 1024), default=1)
 
 
 def add_unchecked(parser: argparse.ArgumentParser) -> None:
@@ -157,7 +167,7 @@ def whole_number(least: int = 0, most: int | None = None) -> Callable[[str], int
     """
     def number(word: str) -> int:
         try:
-            return whole(word, least, most)
+            return _numbers.whole(word, least, most)
         except WordFault as fault:
             raise argparse.ArgumentTypeError(str(fault)) from None
 
@@ -381,11 +391,10 @@ def write_output(args: argparse.Namespace, text: str | bytes | Iterable[str]) ->
     >>> write_output(argparse.Namespace(output=Path("/dev/null")), "trace 2\\n")
     """
     if args.output is not None:
-        write_whole(args.output, text)
+        _files.write_whole(args.output, text)
         return
     sys.stdout.flush()
-    parts = [text] if isinstance(text, str | bytes) else text
-    sys.stdout.buffer.writelines(part.encode("utf-8") if isinstance(part, str) else part for part in parts)
+    sys.stdout.buffer.writelines(_files.encoded(text))
 
 
 # Calls
@@ -403,8 +412,7 @@ def engine_of(args: argparse.Namespace) -> Engine:
     return engine
 
 
-@contextmanager
-def executor_of(args: argparse.Namespace) -> Iterator[Executor]:
+def executor_of(args: argparse.Namespace) -> AbstractContextManager[Executor]:
     """Makes `--jobs` calls at a time, for `engine.answers(calls, executor)` in a `with` block.
 
     If the block isn't left at its end, the programs that run are ended, and no call is waited for.
@@ -414,35 +422,36 @@ def executor_of(args: argparse.Namespace) -> Iterator[Executor]:
     [1, 2]
     """
     from concurrent.futures import ThreadPoolExecutor
-    executor = ThreadPoolExecutor(args.jobs)
-    try:
-        yield executor
-    except BaseException:
-        executor.shutdown(wait=False, cancel_futures=True)
-        stop_calls()
-        raise
-    executor.shutdown()
+    return _ended(ThreadPoolExecutor(args.jobs), stop_calls)
 
 
-@contextmanager
-def processes_of(args: argparse.Namespace) -> Iterator[Executor]:
+def processes_of(args: argparse.Namespace) -> AbstractContextManager[Executor]:
     """As executor_of, with `--jobs` processes, which end with this one.
 
     >>> with processes_of(argparse.Namespace(jobs=1)) as executor:
     ...     [*executor.map(abs, [1, -2])]
     [1, 2]
     """
-    import multiprocessing  # here, since only `evaluate` needs it
-    from concurrent.futures import ProcessPoolExecutor
-    executor = ProcessPoolExecutor(args.jobs, initializer=_follow_the_first)
+    from concurrent.futures import ProcessPoolExecutor  # here, since only `evaluate` needs it
+    return _ended(ProcessPoolExecutor(args.jobs, initializer=_follow_the_first), _kill_processes)
+
+
+@contextmanager
+def _ended(executor: Executor, stop: Callable[[], None]) -> Iterator[Executor]:
+    """The executor, whose calls are stopped and not waited for if the block isn't left at its end."""
     try:
         yield executor
     except BaseException:
-        for process in multiprocessing.active_children():
-            process.kill()
         executor.shutdown(wait=False, cancel_futures=True)
+        stop()
         raise
     executor.shutdown()
+
+
+def _kill_processes() -> None:
+    from multiprocessing import active_children
+    for process in active_children():
+        process.kill()
 
 
 def _follow_the_first() -> None:

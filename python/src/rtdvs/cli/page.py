@@ -21,11 +21,8 @@ import argparse
 import sys
 from pathlib import Path
 
-from rtdvs.cli.boards import add_board, read_given
-from rtdvs.cli.options import (
-    Commands, Input, add_engine_options, add_files, add_output, add_parser, engine_of, input_path, read_text,
-    whole_number, write_output,
-)
+from rtdvs.cli import boards, options
+from rtdvs.cli.options import engine_of
 from rtdvs.errors import BadValue, WrongTrace
 from rtdvs.trace import Trace
 from rtdvs.web import MOST_TEXT, Lesson, Shown, in_one_file, lesson_data, page_data
@@ -33,7 +30,7 @@ from rtdvs.web import MOST_TEXT, Lesson, Shown, in_one_file, lesson_data, page_d
 
 def _handle(args: argparse.Namespace) -> int:
     try:
-        write_output(args, in_one_file(_traces_data(args) if args.lesson is None else _lesson_data(args)))
+        options.write_output(args, in_one_file(_traces_data(args) if args.lesson is None else _lesson_data(args)))
     except WrongTrace as fault:
         print(fault, file=sys.stderr)
         return 1
@@ -41,16 +38,16 @@ def _handle(args: argparse.Namespace) -> int:
 
 
 def _traces_data(args: argparse.Namespace) -> dict[str, object]:
-    traces: list[Input] = args.trace
+    traces: list[options.Input] = args.trace
     if not 1 <= len(traces) <= 2:
         raise BadValue(f"{len(traces)} traces, at most 2" if traces else "a trace or two, or --lesson")
     for kind in ("tasks", "machine"):
         if args.board is None and getattr(args, kind) is None:
             raise BadValue(f"a page of traces needs --{kind}")
-    given = read_given(args)
+    given = boards.read_given(args)
     assert given.tasks and given.machine
     labels = ("A", "B") if len(traces) == 2 else ("",)
-    texts = {label: read_text(source, "trace") for label, source in zip(labels, traces, strict=True)}
+    texts = {label: options.read_text(source, "trace") for label, source in zip(labels, traces, strict=True)}
     for text in texts.values():
         given.check(Trace.parse(text))
     return page_data(texts, Shown(given.tasks, given.machine, given.demands, args.most, units=given.units))
@@ -65,18 +62,18 @@ def _lesson_data(args: argparse.Namespace) -> dict[str, object]:
     return lesson_data(Lesson.read(args.lesson), engine_of(args))
 
 
-def add_command(commands: Commands) -> None:
+def add_command(commands: options.Commands) -> None:
     """Adds the command `page`."""
-    parser = add_parser(commands, "page", _handle, "write traces or a lesson as a page for a browser",
+    parser = options.add_parser(commands, "page", _handle, "write traces or a lesson as a page for a browser",
                         "page run.trace --tasks tasks.toml --machine machine.toml > page.html\n"
                         "page run.trace --board board.toml --folder made -o page.html\n"
                         "page --lesson examples/lesson/lesson.toml -o lesson.html")
-    parser.add_argument("trace", type=input_path, nargs="*", metavar="TRACE",
+    parser.add_argument("trace", type=options.input_path, nargs="*", metavar="TRACE",
                         help="the trace, or two of one task set; - is standard input")
-    add_files(parser, (), ("tasks", "machine", "demands"))
+    options.add_files(parser, (), ("tasks", "machine", "demands"))
     parser.add_argument("--lesson", type=Path, metavar="FILE", help="a lesson, in place of traces and their files")
-    parser.add_argument("--most", type=whole_number(0, 256), default=MOST_TEXT, metavar="MIB",
-                        help=f"the most mebibytes of explanations of a trace (default: {MOST_TEXT})")
-    add_output(parser)
-    add_engine_options(parser)
-    add_board(parser)
+    options.add_number(parser, "--most", f"the most mebibytes of explanations of a trace (default: {MOST_TEXT})",
+                       (0, 256), default=MOST_TEXT, metavar="MIB")
+    options.add_output(parser)
+    options.add_engine_options(parser)
+    boards.add_board(parser)

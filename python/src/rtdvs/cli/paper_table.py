@@ -6,13 +6,11 @@ speeds. The last row is the paper's own.
 
 import argparse
 
-from rtdvs.cli.options import (
-    Commands, add_engine_options, add_jobs, add_parser, engine_of, executor_of, progress, whole_number,
-)
+from rtdvs.cli import options
 from rtdvs.studies import FINER, paper_lines, paper_shares
 
 
-def add_command(commands: Commands) -> None:
+def add_command(commands: options.Commands) -> None:
     """Adds the command `paper-table`.
 
     >>> commands = argparse.ArgumentParser().add_subparsers()
@@ -20,19 +18,19 @@ def add_command(commands: Commands) -> None:
     >>> list(commands.choices)
     ['paper-table']
     """
-    parser = add_parser(commands, "paper-table", _handle,
+    parser = options.add_parser(commands, "paper-table", _handle,
                         "the energies of the example of Pillai and Shin, in finer ticks too",
                         "paper-table --finer 3 30")
-    parser.add_argument("--finer", type=whole_number(1), nargs="+", default=FINER, metavar="K",
-                        help="a row for each; 1, 3, 10 and 100 unless given")
-    add_engine_options(parser)
-    add_jobs(parser)
+    options.add_number(parser, "--finer", "a row for each; 1, 3, 10 and 100 unless given", nargs="+", default=FINER,
+                       metavar="K")
+    options.add_engine_options(parser)
+    options.add_jobs(parser)
 
 
 def _handle(args: argparse.Namespace) -> int:
-    engine = engine_of(args)
-    with executor_of(args) as executor:
+    engine = options.engine_of(args)
+    with options.executor_of(args) as executor:
         rows = [(times, paper_shares(engine, times, executor))
-                for times in progress(args.finer, len(args.finer), "rows")]
+                for times in options.progress(args.finer, len(args.finer), "rows")]
     print("\n".join(paper_lines(rows)))
     return 0

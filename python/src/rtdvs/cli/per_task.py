@@ -19,15 +19,14 @@ are those of all tasks and of idle time.
 import argparse
 
 from rtdvs._numbers import aligned
-from rtdvs.cli.boards import Given, add_board, read_given
-from rtdvs.cli.options import Commands, add_files, add_parser, add_unchecked, check_first, read_text, trace_file
+from rtdvs.cli import boards, options
 from rtdvs.trace import COLUMNS, Trace, task_statistics
 
 
 def _handle(args: argparse.Namespace) -> int:
-    given = read_given(args)
+    given = boards.read_given(args)
     if given.units is None:
-        trace, _ = trace_file(args)
+        trace, _ = options.trace_file(args)
         assert given.tasks
         print(aligned([COLUMNS, *(each.row() for each in task_statistics(trace, given.tasks))]), end="")
     else:
@@ -35,16 +34,16 @@ def _handle(args: argparse.Namespace) -> int:
     return 0
 
 
-def _print_of_board(args: argparse.Namespace, given: Given) -> None:
-    trace, units = Trace.parse(read_text(args.trace, "trace")), given.units
+def _print_of_board(args: argparse.Namespace, given: boards.Given) -> None:
+    trace, units = Trace.parse(options.read_text(args.trace, "trace")), given.units
     assert units
     given.check(trace)
-    check_first(args, trace, given.tasks, given.machine)
+    options.check_first(args, trace, given.tasks, given.machine)
     print(aligned(units.table(trace)), end="")
     print("\n".join(["", *units.lines(trace)] if not units.no_power() else ["", f"no power: {units.no_power()}"]))
 
 
-def add_command(commands: Commands) -> None:
+def add_command(commands: options.Commands) -> None:
     """Adds the command `statistics`.
 
     >>> commands = argparse.ArgumentParser().add_subparsers()
@@ -52,9 +51,9 @@ def add_command(commands: Commands) -> None:
     >>> list(commands.choices)
     ['statistics']
     """
-    parser = add_parser(commands, "statistics", _handle, "print times, preemptions and energy of each task",
+    parser = options.add_parser(commands, "statistics", _handle, "print times, preemptions and energy of each task",
                         "statistics --tasks tasks.toml --machine machine.toml --trace run.trace\n"
                         "statistics --board board.toml --folder made --trace run.trace")
-    add_files(parser, ("tasks", "trace"), ("machine",))
-    add_unchecked(parser)
-    add_board(parser)
+    options.add_files(parser, ("tasks", "trace"), ("machine",))
+    options.add_unchecked(parser)
+    boards.add_board(parser)

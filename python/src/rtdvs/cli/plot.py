@@ -10,24 +10,18 @@ from collections.abc import Callable
 from fractions import Fraction
 from math import ceil, floor
 from pathlib import Path
-from typing import TYPE_CHECKING
 
 from rtdvs._numbers import plain
-from rtdvs.cli.boards import add_board, measure, read_given, ticks_of
-from rtdvs.cli.options import (
-    Commands, add_engine_options, add_files, add_parser, add_ticks, add_unchecked, check_first, engine_of, input_path,
-    note_charge, read_text, read_trace, whole_number,
-)
+from rtdvs.board import Units
+from rtdvs.cli import boards, options
+from rtdvs.cli.options import engine_of
 from rtdvs.errors import BadValue
 from rtdvs.plot import View, parse_means, save_compare, save_means, save_trace
 from rtdvs.studies import compare
 from rtdvs.trace import Trace
 
-if TYPE_CHECKING:
-    from rtdvs.board import Units
 
-
-def add_command(commands: Commands) -> None:
+def add_command(commands: options.Commands) -> None:
     """Adds the command `plot`.
 
     >>> commands = argparse.ArgumentParser().add_subparsers()
@@ -35,32 +29,32 @@ def add_command(commands: Commands) -> None:
     >>> list(commands.choices)
     ['plot']
     """
-    parser = add_parser(commands, "plot", _handle, "pictures of traces, of comparisons and of the evaluation",
+    parser = options.add_parser(commands, "plot", _handle, "pictures of traces, of comparisons and of the evaluation",
                         "plot trace --trace paper.trace --machine machine.toml --top 4 --output paper.svg\n"
                         "plot compare --tasks tasks.toml --machine machine.toml --ticks 99 --output a.pdf\n"
                         "plot evaluation --table examples/evaluation/tasks.tsv --output tasks.svg")
     kinds = parser.add_subparsers(metavar="PICTURE", required=True)
     trace = kinds.add_parser("trace", help="a trace, task by task, with the speed and the demand")
-    add_files(trace, ("trace",), ("tasks", "machine"))
+    options.add_files(trace, ("trace",), ("tasks", "machine"))
     for option, least, text in (("--from", 0, "the first tick; with --board in ms"),
                                 ("--to", 1, "the last tick; with --board in ms"),
                                 ("--top", 1, "the speed of full height, the fastest by default; with --board in MHz")):
-        trace.add_argument(option, type=measure(least), metavar="N", help=text)
+        trace.add_argument(option, type=boards.measure(least), metavar="N", help=text)
     for option, least, text in (("--charge", 0, "the machine's charge, which a trace doesn't name"),
                                 ("--width", 1, "pixels; 1000 by default")):
-        trace.add_argument(option, type=whole_number(least), metavar="N", help=text)
-    add_unchecked(trace)
-    add_board(trace)
+        options.add_number(trace, option, text, (least, None))
+    options.add_unchecked(trace)
+    boards.add_board(trace)
     _add_file(trace, _run_trace)
     pairs = kinds.add_parser("compare", help="the energy of each pair, and its time at each speed")
-    add_files(pairs, ("tasks", "machine"), ("demands",))
-    add_ticks(pairs)
-    add_engine_options(pairs)
-    add_board(pairs)
+    options.add_files(pairs, ("tasks", "machine"), ("demands",))
+    options.add_ticks(pairs)
+    options.add_engine_options(pairs)
+    boards.add_board(pairs)
     _add_file(pairs, _run_compare)
     means = kinds.add_parser("evaluation", help="a table of the evaluation")
-    means.add_argument("--table", type=input_path, required=True, metavar="FILE", help="the table")
-    means.add_argument("--columns", type=whole_number(1), default=3, metavar="N", help="panels in a row; 3 by default")
+    means.add_argument("--table", type=options.input_path, required=True, metavar="FILE", help="the table")
+    options.add_number(means, "--columns", "panels in a row; 3 by default", default=3)
     _add_file(means, _run_means)
 
 
@@ -95,21 +89,21 @@ def drawn(args: argparse.Namespace, draw: Callable[[argparse.Namespace], None]) 
 
 def _run_trace(args: argparse.Namespace) -> None:
     if args.board is None:
-        (trace, charge), units = read_trace(args), read_given(args).units
+        (trace, charge), units = options.read_trace(args), boards.read_given(args).units
     else:
         if args.charge is not None:
             raise BadValue("--charge has no place beside --board, which has it")
-        given, trace = read_given(args), Trace.parse(read_text(args.trace, "trace"))
+        given, trace = boards.read_given(args), Trace.parse(options.read_text(args.trace, "trace"))
         given.check(trace)
-        check_first(args, trace, given.tasks, given.machine)
+        options.check_first(args, trace, given.tasks, given.machine)
         assert given.machine
         units, charge = given.units, given.machine.charge
     view = View(*_window(args, units), charge, units)
-    note_charge(trace, view.charge)
+    options.note_charge(trace, view.charge)
     save_trace(trace, args.output, view, args.width or 1000, args.background)
 
 
-def _window(args: argparse.Namespace, units: "Units | None") -> tuple[int, int | None, int | None]:
+def _window(args: argparse.Namespace, units: Units | None) -> tuple[int, int | None, int | None]:
     """The first tick, the last one and the speed of full height; with a board by ms and MHz. Raises BadValue.
 
     A time within a tick takes all of it.
@@ -126,11 +120,11 @@ def _window(args: argparse.Namespace, units: "Units | None") -> tuple[int, int |
 
 
 def _run_compare(args: argparse.Namespace) -> None:
-    engine, given = engine_of(args), read_given(args)
+    engine, given = engine_of(args), boards.read_given(args)
     assert given.tasks and given.machine
-    rows = compare(engine, given.tasks, given.machine, ticks_of(args, given), given.demands)
+    rows = compare(engine, given.tasks, given.machine, boards.ticks_of(args, given), given.demands)
     save_compare(rows, args.output, args.background, given.units)
 
 
 def _run_means(args: argparse.Namespace) -> None:
-    save_means(parse_means(read_text(args.table, "table")), args.output, args.columns, args.background)
+    save_means(parse_means(options.read_text(args.table, "table")), args.output, args.columns, args.background)

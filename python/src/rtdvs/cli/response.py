@@ -9,17 +9,13 @@ With --tasks and --machine it is the program's `response`, which answers in tick
 """
 
 import argparse
-from typing import TYPE_CHECKING
 
 from rtdvs._numbers import aligned, rounded
-from rtdvs.cli.boards import add_board, read_given
-from rtdvs.cli.options import Commands, add_engine_options, add_files, add_parser, engine_of
-
-if TYPE_CHECKING:
-    from rtdvs.board import Units
+from rtdvs.cli import boards, options
+from rtdvs.cli.options import engine_of
 
 
-def add_command(commands: Commands) -> None:
+def add_command(commands: options.Commands) -> None:
     """Adds the command `response`, which is the package's only with `--board`.
 
     >>> commands = argparse.ArgumentParser().add_subparsers()
@@ -27,22 +23,22 @@ def add_command(commands: Commands) -> None:
     >>> list(commands.choices)
     ['response']
     """
-    parser = add_parser(commands, "response", _handle, "print a board's response times under RM, in ms",
+    parser = options.add_parser(commands, "response", _handle, "print a board's response times under RM, in ms",
                         "response --board board.toml --folder made")
-    add_files(parser, (), ("tasks", "machine"))
-    add_engine_options(parser)
-    add_board(parser)
+    options.add_files(parser, (), ("tasks", "machine"))
+    options.add_engine_options(parser)
+    boards.add_board(parser)
 
 
 def _handle(args: argparse.Namespace) -> int:
-    given = read_given(args)
+    given = boards.read_given(args)
     assert given.units
     made = given.units.made
     print(response_table(engine_of(args).respond(made.tasks, made.machine), given.units), end="")
     return 0
 
 
-def response_table(responses: dict[str, int], units: "Units") -> str:
+def response_table(responses: dict[str, int], units: "boards.Units") -> str:
     """The responses, which are in ticks, in a board's milliseconds.
 
     >>> from fractions import Fraction

@@ -14,20 +14,14 @@ With --board the limits are in cycles, milliseconds and MHz.
 
 import argparse
 from fractions import Fraction
-from typing import TYPE_CHECKING
 
 from rtdvs._numbers import aligned, plain, rounded
-from rtdvs.cli.boards import add_board, read_given
-from rtdvs.cli.options import (
-    Commands, add_engine_options, add_files, add_jobs, add_parser, engine_of, executor_of, progress,
-)
+from rtdvs.cli import boards, options
+from rtdvs.cli.options import engine_of
 from rtdvs.studies import TESTS, Limits, Question, limits_of, limits_table
 
-if TYPE_CHECKING:
-    from rtdvs.board import Units
 
-
-def add_command(commands: Commands) -> None:
+def add_command(commands: options.Commands) -> None:
     """Adds the command `sensitivity`.
 
     >>> commands = argparse.ArgumentParser().add_subparsers()
@@ -35,30 +29,30 @@ def add_command(commands: Commands) -> None:
     >>> list(commands.choices)
     ['sensitivity']
     """
-    parser = add_parser(commands, "sensitivity", _handle, "how far a set is from the limit of a test",
+    parser = options.add_parser(commands, "sensitivity", _handle, "how far a set is from the limit of a test",
                         "sensitivity --tasks tasks.toml --machine machine.toml --test response")
-    add_files(parser, ["tasks", "machine"])
+    options.add_files(parser, ["tasks", "machine"])
     parser.add_argument("--test", choices=TESTS, default=TESTS[0],
                         help="edf or rm: the test of admit; response: the exact one under RM (default: edf)")
-    add_engine_options(parser)
-    add_jobs(parser)
-    add_board(parser)
+    options.add_engine_options(parser)
+    options.add_jobs(parser)
+    boards.add_board(parser)
 
 
 def _handle(args: argparse.Namespace) -> int:
-    engine, given = engine_of(args), read_given(args)
+    engine, given = engine_of(args), boards.read_given(args)
     assert given.tasks and given.machine
     question = Question(engine, given.tasks, given.machine, args.test)
-    with executor_of(args) as executor:
+    with options.executor_of(args) as executor:
         found = limits_of(question, executor)
-        thousandths, speed, *worsts = progress(found, len(question.tasks) + 2, "limits")
+        thousandths, speed, *worsts = options.progress(found, len(question.tasks) + 2, "limits")
     limits = Limits(thousandths, tuple(worsts), speed)
     text = limits_table(question, limits) if given.units is None else board_limits(question, limits, given.units)
     print(text, end="")
     return 0
 
 
-def board_limits(question: Question, limits: Limits, units: "Units") -> str:
+def board_limits(question: Question, limits: Limits, units: "boards.Units") -> str:
     """The limits in a board's units; `-` for None.
 
     >>> from rtdvs.board import Board, Scale, Units, design
@@ -87,4 +81,4 @@ def board_limits(question: Question, limits: Limits, units: "Units") -> str:
 
 
 def _text(number: Fraction | None) -> str:
-    return "-" if number is None else plain(number) if number.denominator == 1 else rounded(number)
+    return plain(number) if number is not None and number.denominator == 1 else rounded(number)

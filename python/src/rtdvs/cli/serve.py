@@ -12,7 +12,7 @@ standard error, a line for each. Ctrl and C end it.
 import argparse
 from dataclasses import replace
 
-from rtdvs.cli.options import Commands, add_engine_options, add_parser, engine_of, whole_number
+from rtdvs.cli.options import Commands, add_engine_options, add_number, add_parser, engine_of
 from rtdvs.engine import TryEngine
 from rtdvs.web import LONGEST_CALL, LONGEST_TRY, PORT, PageServer
 
@@ -32,6 +32,5 @@ def add_command(commands: Commands) -> None:
     """Adds the command `serve`."""
     parser = add_parser(commands, "serve", _handle, "serve a page with an editor for a browser on this machine",
                         "serve --port 8080")
-    parser.add_argument("--port", type=whole_number(0, 65535), default=PORT, metavar="N",
-                        help=f"the port of 127.0.0.1; 0 is a free one (default: {PORT})")
+    add_number(parser, "--port", f"the port of 127.0.0.1; 0 is a free one (default: {PORT})", (0, 65535), default=PORT)
     add_engine_options(parser)

@@ -6,6 +6,7 @@ Times are in ticks. Energies are in work units times square millivolts, times 10
 from dataclasses import dataclass
 
 from rtdvs.errors import NAME, NUMBER, Crashed, TraceFault, groups
+from rtdvs.model import Governor
 from rtdvs.trace import Trace
 
 
@@ -245,6 +246,6 @@ def parse_workload(text: str) -> tuple[GovernorTotals, ...]:
     """
     head, *lines = text.splitlines(keepends=True) or [text]
     _answer_groups(f"workload {NUMBER} {NUMBER} {NUMBER}\n", head)
-    pattern = " ".join(["(none|static|cc|la)", *[NUMBER] * 5]) + "\n"
+    pattern = " ".join([f"({'|'.join(Governor)})", *[NUMBER] * 5]) + "\n"
     rows = (_answer_groups(pattern, line) for line in lines)
     return tuple(GovernorTotals(governor, *map(int, numbers)) for governor, *numbers in rows)

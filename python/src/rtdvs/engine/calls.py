@@ -6,10 +6,7 @@ from itertools import chain
 from pathlib import Path
 from typing import Any, Generic, TypeVar
 
-from rtdvs.engine.answers import (
-    Admitted, Constrained, GovernorTotals, Least, Polled, Replayed, RunTotals, parse_admitted, parse_constrained,
-    parse_least, parse_polled, parse_replayed, parse_responses, parse_totals, parse_trace, parse_workload,
-)
+from rtdvs.engine import answers
 from rtdvs.errors import BadValue, Crashed, error_of
 from rtdvs.model import LONGEST_LINE, Deadlines, Demands, Machine, Requests, TaskSet
 from rtdvs.trace import Trace
@@ -112,27 +109,27 @@ def run_call(tasks: TaskSource, machine: MachineSource, scheduler: str, governor
     ('--ticks', '16')
     """
     options = {"scheduler": scheduler, "governor": governor, "ticks": ticks, "format": version}
-    return _call("run", parse_trace, options, tasks=tasks, machine=machine, demands=demands)
+    return _call("run", answers.parse_trace, options, tasks=tasks, machine=machine, demands=demands)
 
 
 def totals_call(tasks: TaskSource, machine: MachineSource, scheduler: str, governor: str, ticks: int,
-                demands: DemandSource | None = None) -> Call[RunTotals]:
+                demands: DemandSource | None = None) -> Call[answers.RunTotals]:
     """The call of `run` for that many ticks, of whose trace only some last lines are kept.
 
     >>> totals_call(Path("/t.toml"), Path("/m.toml"), "edf", "cc", ticks=16).last_bytes
     1024
     """
     run = run_call(tasks, machine, scheduler, governor, ticks, demands)
-    return Call(run.command, run.options, run.files, parse_totals, LAST_BYTES)
+    return Call(run.command, run.options, run.files, answers.parse_totals, LAST_BYTES)
 
 
-def admit_call(tasks: TaskSource, machine: MachineSource, scheduler: str) -> Call[Admitted]:
+def admit_call(tasks: TaskSource, machine: MachineSource, scheduler: str) -> Call[answers.Admitted]:
     """The call of `admit`.
 
     >>> admit_call(Path("/t.toml"), Path("/m.toml"), "edf").options
     (('--scheduler', 'edf'),)
     """
-    return _call("admit", parse_admitted, {"scheduler": scheduler}, tasks=tasks, machine=machine)
+    return _call("admit", answers.parse_admitted, {"scheduler": scheduler}, tasks=tasks, machine=machine)
 
 
 def response_call(tasks: TaskSource, machine: MachineSource) -> Call[dict[str, int]]:
@@ -141,36 +138,36 @@ def response_call(tasks: TaskSource, machine: MachineSource) -> Call[dict[str, i
     >>> response_call(Path("/t.toml"), Path("/m.toml")).files
     (('--tasks', PosixPath('/t.toml')), ('--machine', PosixPath('/m.toml')))
     """
-    return _call("response", parse_responses, {}, tasks=tasks, machine=machine)
+    return _call("response", answers.parse_responses, {}, tasks=tasks, machine=machine)
 
 
-def constrain_call(tasks: TaskSource, machine: MachineSource, deadlines: DeadlineSource) -> Call[Constrained]:
+def constrain_call(tasks: TaskSource, machine: MachineSource, deadlines: DeadlineSource) -> Call[answers.Constrained]:
     """The call of `constrain`.
 
     >>> constrain_call(Path("/t.toml"), Path("/m.toml"), Deadlines({"a": 3})).files[2]
     ('--deadlines', 'task,deadline\\na,3\\n')
     """
-    return _call("constrain", parse_constrained, {}, tasks=tasks, machine=machine, deadlines=deadlines)
+    return _call("constrain", answers.parse_constrained, {}, tasks=tasks, machine=machine, deadlines=deadlines)
 
 
 def poll_call(tasks: TaskSource, machine: MachineSource, requests: RequestSource, server: str, scheduler: str,
-              governor: str, ticks: int) -> Call[Polled]:
+              governor: str, ticks: int) -> Call[answers.Polled]:
     """The call of `poll` for that many ticks.
 
     >>> poll_call(Path("/t"), Path("/m"), Path("/r"), "s", "edf", "none", ticks=15).options[0]
     ('--server', 's')
     """
     options = {"server": server, "scheduler": scheduler, "governor": governor, "ticks": ticks}
-    return _call("poll", parse_polled, options, tasks=tasks, machine=machine, requests=requests)
+    return _call("poll", answers.parse_polled, options, tasks=tasks, machine=machine, requests=requests)
 
 
-def replay_call(tasks: TaskSource, machine: MachineSource, trace: TraceSource) -> Call[Replayed]:
+def replay_call(tasks: TaskSource, machine: MachineSource, trace: TraceSource) -> Call[answers.Replayed]:
     """The call of `replay`.
 
     >>> replay_call(Path("/t.toml"), Path("/m.toml"), b"trace 2\\n").files[2]
     ('--trace', b'trace 2\\n')
     """
-    return _call("replay", parse_replayed, {}, tasks=tasks, machine=machine, trace=trace)
+    return _call("replay", answers.parse_replayed, {}, tasks=tasks, machine=machine, trace=trace)
 
 
 def migrate_call(tasks: TaskSource, machine: MachineSource, trace: TraceSource) -> Call[Trace]:
@@ -179,22 +176,22 @@ def migrate_call(tasks: TaskSource, machine: MachineSource, trace: TraceSource) 
     >>> migrate_call(Path("/t.toml"), Path("/m.toml"), b"trace 1\\n").command
     'migrate'
     """
-    return _call("migrate", parse_trace, {}, tasks=tasks, machine=machine, trace=trace)
+    return _call("migrate", answers.parse_trace, {}, tasks=tasks, machine=machine, trace=trace)
 
 
-def least_call(machine: MachineSource, units: int, ticks: int) -> Call[Least]:
+def least_call(machine: MachineSource, units: int, ticks: int) -> Call[answers.Least]:
     """The call of `least` for work units in ticks.
 
     >>> least_call(Path("/m.toml"), units=28, ticks=16).options
     (('--units', '28'), ('--ticks', '16'))
     """
-    return _call("least", parse_least, {"units": units, "ticks": ticks}, machine=machine)
+    return _call("least", answers.parse_least, {"units": units, "ticks": ticks}, machine=machine)
 
 
-def workload_call(seed: int) -> Call[tuple[GovernorTotals, ...]]:
+def workload_call(seed: int) -> Call[tuple[answers.GovernorTotals, ...]]:
     """The call of `workload`.
 
     >>> workload_call(1)
     Call(command='workload', options=(('--seed', '1'),), files=())
     """
-    return _call("workload", parse_workload, {"seed": seed})
+    return _call("workload", answers.parse_workload, {"seed": seed})

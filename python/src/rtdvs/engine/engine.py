@@ -4,7 +4,7 @@ import os
 import re
 import shutil
 import sys
-from collections.abc import Iterable, Iterator, Sequence
+from collections.abc import Callable, Iterable, Iterator, Sequence
 from concurrent.futures import Executor
 from dataclasses import dataclass, replace
 from itertools import chain, tee
@@ -139,8 +139,7 @@ class Engine:
         >>> find_engine().poll(tasks, machine, requests, "s", "edf", "none", ticks=8).services
         (Service(request=1, arrival=1, units=2, job=2, position='6:0'),)
         """
-        call = poll_call(tasks, machine, requests, server, scheduler, governor, ticks)
-        return self.value(call)
+        return self.value(poll_call(tasks, machine, requests, server, scheduler, governor, ticks))
 
     def replay(self, tasks: TaskSource, machine: MachineSource, trace: TraceSource) -> Replayed:
         """The totals of a trace that is that of its run; raises Differs and others.
@@ -219,9 +218,7 @@ class LibraryEngine(Engine):
         Traceback (most recent call last):
         rtdvs.errors.NoEngine: /absent.so: cannot open shared object file: ...
         """
-        found = None
-        if self.timeout is None and isinstance(tasks, TaskSet) and isinstance(machine, Machine):
-            found = by_numbers.admitted(library.opened(self.program), tasks, machine, scheduler)
+        found = self._by_numbers(by_numbers.admitted, (tasks, machine), scheduler)
         return super().admit(tasks, machine, scheduler) if found is None else found
 
     def respond(self, tasks: TaskSource, machine: MachineSource) -> dict[str, int]:
@@ -231,9 +228,7 @@ class LibraryEngine(Engine):
         Traceback (most recent call last):
         rtdvs.errors.NoEngine: /absent.so: cannot open shared object file: ...
         """
-        found = None
-        if self.timeout is None and isinstance(tasks, TaskSet) and isinstance(machine, Machine):
-            found = by_numbers.responses(library.opened(self.program), tasks, machine)
+        found = self._by_numbers(by_numbers.responses, (tasks, machine))
         return super().respond(tasks, machine) if found is None else found
 
     def constrain(self, tasks: TaskSource, machine: MachineSource, deadlines: DeadlineSource) -> Constrained:
@@ -256,10 +251,14 @@ class LibraryEngine(Engine):
         Traceback (most recent call last):
         rtdvs.errors.NoEngine: /absent.so: cannot open shared object file: ...
         """
-        found = None
-        if self.timeout is None and isinstance(machine, Machine):
-            found = by_numbers.least(library.opened(self.program), machine, units, ticks)
+        found = self._by_numbers(by_numbers.least, (machine,), units, ticks)
         return super().least(machine, units, ticks) if found is None else found
+
+    def _by_numbers(self, ask: Callable[..., T | None], files: Sequence[object], *more: object) -> T | None:
+        """The answer to values without a text of them; None if one is a path or a content, or if a text is needed."""
+        *sets, machine = files
+        are_values = isinstance(machine, Machine) and all(isinstance(tasks, TaskSet) for tasks in sets)
+        return ask(library.opened(self.program), *files, *more) if are_values and self.timeout is None else None
 
 
 def _process_answer(program: Sequence[str], call: Call[object], timeout: float | None) -> Answer:

@@ -13,10 +13,9 @@ from functools import cache
 from pathlib import Path
 from typing import Any, TypeAlias
 
-from rtdvs._version import __version__
+from rtdvs import _version, errors
 from rtdvs.engine import by_numbers
 from rtdvs.engine.calls import Answer, Word, constrain_call
-from rtdvs.errors import Crashed, NoEngine
 from rtdvs.model import LONGEST_FILE, LONGEST_TRACE, Deadlines, Machine, Point, Task, TaskSet
 
 FILES = {"--tasks": 0, "--machine": 1, "--demands": 2, "--trace": 2, "--deadlines": 2, "--requests": 2}
@@ -64,24 +63,24 @@ build the library again (docs/LIBRARY.md), or name another one or the program by
         library = ctypes.CDLL(str(path))
     except OSError as error:
         why = str(error).removeprefix(f"{path}: ")
-        raise NoEngine(f"{path}: {why}: {WHAT_TO_DO}") from None
+        raise errors.NoEngine(f"{path}: {why}: {WHAT_TO_DO}") from None
     texts: list[Any] = 6 * [ctypes.c_char_p, ctypes.c_size_t]
     with_texts = dict.fromkeys(("rtdvs_call", "rtdvs_end"), [*texts, ctypes.POINTER(Lengths)])
     for name, arguments in {**with_texts, **by_numbers.CALLS}.items():
         try:
             call = getattr(library, name)
         except AttributeError:
-            raise NoEngine(f"{path}: it has no {name}: {WHAT_TO_DO}") from None
+            raise errors.NoEngine(f"{path}: it has no {name}: {WHAT_TO_DO}") from None
         call.argtypes, call.restype = arguments, ctypes.c_uint8
     if not _has_version(path.resolve().name) or _answer(library, KNOWN) != KNOWN_ANSWER:
-        raise NoEngine(f"{path}: it is of another version: {WHAT_TO_DO}")
+        raise errors.NoEngine(f"{path}: it is of another version: {WHAT_TO_DO}")
     return library
 
 
 def _has_version(name: str) -> bool:
     """Whether a library's name has no other version than the package's: 1.1 is that of `.so`, `.so.1` and `.so.1.1`."""
     numbers = re.findall("[0-9]+", name.partition(".so")[2])
-    return numbers == __version__.split(".")[:len(numbers)]
+    return numbers == _version.__version__.split(".")[:len(numbers)]
 
 
 def answer(path: Path, words: Sequence[Word], last_bytes: int | None = None) -> Answer:
@@ -116,7 +115,7 @@ def _answer(library: ctypes.CDLL, words: Sequence[Word], last_bytes: int | None 
                 ROOMS.append(out)
             return found
         out, notes = _with_room(out, length), _with_room(notes, lengths.notes)
-    raise Crashed("a second call of the library has a longer answer than the first")
+    raise errors.Crashed("a second call of the library has a longer answer than the first")
 
 
 def _taken_room() -> Room:

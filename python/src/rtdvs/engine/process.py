@@ -293,8 +293,7 @@ def _end(guard: Guard) -> None:
 
 def _forget() -> None:
     """A forked process has no part in the calls of the one that it is from."""
-    for guard in [*RUNNING, *IDLE]:
-        guard.line.close()
+    stop_calls()
     RUNNING.clear()
     IDLE.clear()
 

@@ -2,19 +2,21 @@
 
 import json
 import re
+from bisect import bisect_right
 from collections.abc import Callable, Iterable, Sequence
 from dataclasses import dataclass
 from difflib import get_close_matches
 from fractions import Fraction
 from pathlib import Path
-from typing import Any
+from typing import Any, TypeVar
 
 from rtdvs._numbers import decimal, trimmed
 from rtdvs.errors import ENTRIES
 from rtdvs.hints.given import Given
-from rtdvs.hints.toml_faults import Place, toml_fault
-from rtdvs.hints.words import COMMANDS, FILES, VALUES, Usage
-from rtdvs.model import GREATEST, MOST_JOBS, RANGES
+from rtdvs.hints import toml_faults, words
+from rtdvs.model import GREATEST, MOST_JOBS, RANGES, Machine, TaskSet
+
+T = TypeVar("T")
 
 HEADERS = {"demands": ("task", "job", "units"), "deadlines": ("task", "deadline"), "requests": ("arrival", "units")}
 KEYS = {"tasks": ("name", "period", "worst", "offset"), "machine": ("speed", "millivolts")}
@@ -29,7 +31,7 @@ LONGEST_TEXT = 60  # of what is quoted
 
 @dataclass(frozen=True, slots=True)
 class Found:
-    """A line of the program that was read, its parts, and what else is known."""
+    """A line of the program that was read, its parts, and what else is known. LookupError is raised for what isn't."""
 
     line: str
     parts: dict[str, str]
@@ -51,15 +53,27 @@ class Found:
         """A part of the line that is a number."""
         return int(self.parts[name])
 
-    def word(self, place: int) -> str | None:
-        """The word of the call at that place, from 1."""
-        words = self.given.words
-        return str(words[place - 1]) if 1 <= place <= len(words) and isinstance(words[place - 1], str | Path) else None
+    def tasks(self) -> TaskSet:
+        """The task set of the call."""
+        return known(self.given.tasks())
 
-    def entry(self) -> Any:
-        """The task or point that the line names, as the file has it."""
-        entries, place = self.given.entries(self.kind), int(self.parts.get("place", 0))
-        return entries[place - 1] if 1 <= place <= len(entries) else None
+    def machine(self) -> Machine:
+        """The machine of the call."""
+        return known(self.given.machine())
+
+    def path(self) -> Path:
+        """The path of the file of the line."""
+        return known(self.given.path(self.kind))
+
+    def word(self, place: int) -> str:
+        """The word of the call at that place, from 1."""
+        word = at(self.given.words, place)
+        return str(known(None if isinstance(word, bytes) else word))
+
+    def entry(self, back: int = 0) -> dict[str, Any]:
+        """The task or point that the line names, or one further back, as the file has it."""
+        entry = at(self.given.entries(self.kind), self.number("place") - back)
+        return known(entry if isinstance(entry, dict) else None)
 
     def record(self, back: int = 0) -> tuple[int, list[str]] | None:
         """The record of the row that the line names, or one further back, with the number of its line."""
@@ -73,14 +87,36 @@ class Found:
         return record[1][column] if record and column < len(record[1]) else None
 
 
-def listed(names: Iterable[str]) -> str | None:
-    """Names in backticks, the last after `and`; None for none.
+def known(value: T | None) -> T:
+    """The value, if there is one; raises LookupError, and a sentence that needs it is left out.
+
+    >>> known("t1")
+    't1'
+    """
+    if value is None:
+        raise LookupError
+    return value
+
+
+def at(values: Sequence[T], place: int) -> T:
+    """The value at a place, from 1; raises LookupError.
+
+    >>> at("abc", 3)
+    'c'
+    """
+    if place < 1:
+        raise LookupError(place)
+    return values[place - 1]
+
+
+def listed(names: Iterable[str]) -> str:
+    """Names in backticks, the last after `and`; raises LookupError for none.
 
     >>> listed(["a", "b", "c"])
     '`a`, `b` and `c`'
     """
     shown = [f"`{name}`" for name in names]
-    return " and ".join([*([", ".join(shown[:-1])] if shown[1:] else []), *shown[-1:]]) or None
+    return known(" and ".join([", ".join(shown[:-1]), shown[-1]] if shown[1:] else shown) or None)
 
 
 def shortened(text: str) -> str:
@@ -99,43 +135,28 @@ def above(value: Fraction, bound: int) -> str:
     return trimmed(next((text for text in shown if Fraction(text) > bound), str(value)))
 
 
-def near(word: str, known: Sequence[str]) -> str | None:
-    """The known name that a word is near to, or another name of it."""
+def near(word: str, names: Sequence[str], likeness: float = 0.6) -> str:
+    """The name that a word is near to, or another name of it; raises LookupError for none."""
     plain = word.lower().replace("?", "_")
-    other = OF_TASK.get(plain)
-    return other if other in known else next(iter(get_close_matches(plain, known, 1, 0.6)), None)
+    other = OF_TASK.get(plain, "")
+    return other if other in names else get_close_matches(plain, names, 1, likeness)[0]
 
 
 # The words of a call
 
-def _usage(found: Found) -> Usage | None:
-    return COMMANDS.get(found.word(1) or "")
+def _usage(found: Found) -> words.Usage:
+    return words.COMMANDS[found.word(1)]
 
 
-def _options(found: Found) -> str | None:
-    usage = _usage(found)
-    return listed(usage.options) if usage else None
-
-
-def _required(found: Found) -> str | None:
-    usage = _usage(found)
-    return listed(usage.required) if usage else None
-
-
-def _before(found: Found) -> str | None:
+def _before(found: Found) -> str:
     """The option whose value is refused."""
-    return found.word(found.number("place") - 1) if "place" in found.parts else None
-
-
-def _given(found: Found) -> str | None:
-    word = found.word(found.number("place"))
-    return None if word is None else shortened(word)
+    return found.word(found.number("place") - 1)
 
 
 def _rule(found: Found) -> str | None:
     if found.line.startswith("words: "):
         option = found.parts.get("option") or (found.parts["word"] if "no value" in found.line else _before(found))
-        return VALUES.get(option or "")
+        return words.VALUES[option]
     return rule_of(found.key)
 
 
@@ -154,41 +175,31 @@ def rule_of(key: str) -> str | None:
 
 def _split(found: Found) -> str | None:
     """An option and its value that were written as one word."""
-    option, equals, value = (found.word(found.number("place")) or "").partition("=")
+    option, equals, value = found.word(found.number("place")).partition("=")
     return f"{option} {value}" if equals and option.startswith("--") else None
 
 
 def _near(found: Found) -> str | None:
     word = found.parts.get("word") or found.parts.get("key") or ""
     if found.line.startswith("load: "):
-        path = found.given.path(found.kind)
-        return _neighbour(path) if path else None
+        return _neighbour(found.path())
     if found.line.startswith("words: 1: "):
-        return near(word, [*COMMANDS])
+        return near(word, [*words.COMMANDS])
     if found.line.startswith("words: "):
-        usage = _usage(found)
-        return near(word, usage.options) if usage and _split(found) is None else None
+        return None if _split(found) else near(word, _usage(found).options)
     if "unknown task" in found.line:
-        tasks = found.given.tasks()
-        return near((found.cell() or word).strip(), tasks.names) if tasks else None
+        return near((found.cell() or word).strip(), found.tasks().names)
     return near(word, KEYS[found.kind] if "place" in found.parts else TOPS[found.kind])
 
 
 # Files
 
 def _cause(found: Found) -> str | None:
-    path = found.given.path(found.kind)
     try:
-        if path:
-            path.open("rb").close()
+        found.path().open("rb").close()
     except OSError as error:
         return error.strerror
     return None
-
-
-def _path(found: Found) -> str | None:
-    path = found.given.path(found.kind)
-    return None if path is None else _from_here(path)
 
 
 def _from_here(path: Path) -> str:
@@ -202,114 +213,52 @@ def _neighbour(path: Path) -> str | None:
         names = [each.name for each in path.parent.iterdir() if each.is_file()]
     except OSError:
         return None
-    other = next(iter(get_close_matches(path.name, names, 1, 0.7)), None)
-    return None if other in (None, path.name) else _from_here(path.with_name(other or ""))
+    other = get_close_matches(path.name, names, 1, 0.7)[0]
+    return None if other == path.name else _from_here(path.with_name(other))
 
 
-def _fault(found: Found) -> Place | None:
-    content = found.given.content(found.kind)
-    return None if content is None else toml_fault(content)
+def _fault(found: Found) -> toml_faults.Place:
+    return known(toml_faults.toml_fault(known(found.given.content(found.kind))))
 
 
 def _text(found: Found) -> str | None:
-    fault = _fault(found) if found.kind in KEYS else None
-    number = fault.line if fault else int(found.parts.get("n", 0))
-    lines = found.given.lines(found.kind)
-    return shortened(lines[number - 1]) if 1 <= number <= len(lines) and lines[number - 1].strip() else None
+    text = at(found.given.lines(found.kind), _fault(found).line if found.kind in KEYS else found.number("n"))
+    return shortened(text) if text.strip() else None
 
 
 def _elsewhere(found: Found) -> str | None:
     """Where a key that is at a wrong place belongs."""
     key, kind, inside = found.parts["key"], found.kind, "place" in found.parts
     other = next(name for name in KEYS if name != kind)
-    if not inside and key in KEYS[kind]:
-        return f"`{key}` belongs below a `[[{ENTRIES[kind]}]]`"
-    if inside and key in TOPS[kind]:
-        return f"`{key}` belongs above the first `[[{ENTRIES[kind]}]]`"
-    if not inside and key in TOPS[other]:
-        return f"It is a {'machine' if other == 'machine' else 'task'} file"
-    if inside and key == "deadline":
-        return "Deadlines are in a file of their own, for `constrain`"
-    if inside and key == "priority":
-        return "EDF and RM have no other priorities than deadlines and periods"
-    return None
+    said = {
+        f"`{key}` belongs below a `[[{ENTRIES[kind]}]]`": not inside and key in KEYS[kind],
+        f"`{key}` belongs above the first `[[{ENTRIES[kind]}]]`": inside and key in TOPS[kind],
+        f"It is a {ENTRIES[other].replace('point', 'machine')} file": not inside and key in TOPS[other],
+        "Deadlines are in a file of their own, for `constrain`": inside and key == "deadline",
+        "EDF and RM have no other priorities than deadlines and periods": inside and key == "priority",
+    }
+    return next((text for text, holds in said.items() if holds), None)
 
 
-def _value(found: Found) -> str | None:
+def _value(found: Found) -> str:
     """The value of the key that the line names, as the file has it."""
-    entry = found.entry() if "place" in found.parts else found.given.table(found.kind)
-    value = entry.get(found.key) if isinstance(entry, dict) else None
-    return None if value is None else f"`{shortened(json.dumps(value, default=str, ensure_ascii=False))}`"
+    table = found.entry() if "place" in found.parts else found.given.table(found.kind)
+    return f"`{shortened(json.dumps(table[found.key], default=str, ensure_ascii=False))}`"
 
 
-def _present(found: Found) -> str | None:
-    entry = found.entry()
-    return listed(entry) if isinstance(entry, dict) else None
-
-
-def _point(found: Found, back: int = 0) -> dict[str, object]:
-    place, points = found.number("place") - back, found.given.entries("machine")
-    point = points[place - 1] if 1 <= place <= len(points) else None
-    return point if isinstance(point, dict) else {}
-
-
-def _former(found: Found) -> str | None:
-    point = _point(found, 1)
-    return f"{point.get('speed')} with {point.get('millivolts')} mV" if point else None
-
-
-def _twice(found: Found) -> str | None:
-    entries = found.given.entries("tasks")
-    place = found.number("second")
-    return str(entries[place - 1].get("name")) if place <= len(entries) else None
-
-
-def _periods(found: Found) -> str | None:
-    periods = [str(entry.get("period")) for entry in found.given.entries("tasks")]
-    return listed(dict.fromkeys(periods))
-
-
-def _joined(record: tuple[int, list[str]] | None) -> str | None:
-    return shortened(",".join(record[1])) if record else None
-
-
-def _first(found: Found) -> str | None:
-    lines = [line for line in found.given.lines(found.kind) if line.strip()]
-    return shortened(lines[0]) if lines else None
-
-
-def _cell(found: Found) -> str | None:
-    cell = found.cell()
-    return None if cell is None else cell.replace("\n", " ")[:LONGEST_TEXT]
-
-
-def _earlier(found: Found) -> str | None:
+def _earlier(found: Found) -> str:
     """The line of the earlier row of the same task and job."""
-    row, records = found.number("row"), found.given.records(found.kind)
-    names = len(HEADERS[found.kind]) - 1
-    same = [line for line, record in records[1:row] if row < len(records) and record[:names] == records[row][1][:names]]
-    return str(same[0]) if same else None
-
-
-def _names(found: Found) -> str | None:
-    tasks = found.given.tasks()
-    return listed(tasks.names) if tasks else None
-
-
-def _period(found: Found) -> str | None:
-    tasks, record = found.given.tasks(), found.record()
-    name = record[1][0] if record and record[1] else ""
-    return str(tasks[name].period) if tasks and name in tasks.names else None
+    names, (_, record) = len(HEADERS[found.kind]) - 1, known(found.record())
+    rows = found.given.records(found.kind)[1:found.number("row")]
+    return [str(line) for line, other in rows if other[:names] == record[:names]][0]
 
 
 # Runs
 
-def _asked(found: Found) -> str | None:
+def _asked(found: Found) -> str:
     """The work units of a tick that the tasks ask for."""
-    machine = found.given.machine()
-    if machine is None:
-        return None
-    return above(Fraction(found.number("num") * machine.top_speed, found.number("cap")), machine.top_speed)
+    top = found.machine().top_speed
+    return above(Fraction(found.number("num") * top, found.number("cap")), top)
 
 
 def _ratio(found: Found) -> str | None:
@@ -317,24 +266,17 @@ def _ratio(found: Found) -> str | None:
     return above(Fraction(found.number("num"), capacity), 1) if capacity else None
 
 
-def _top(found: Found) -> str | None:
-    machine = found.given.machine()
-    return None if machine is None else str(machine.top_speed)
-
-
 def _most(found: Found) -> str | None:
     """The most ticks whose jobs are few enough; None if a run isn't what has too many."""
-    tasks = found.given.tasks()
-    if tasks is None or found.word(1) == "constrain":
+    tasks = found.tasks()
+    if "constrain" in found.given.words[:1]:
         return None
 
-    times = [(task.period, task.offset) for task in tasks]
-    few, many = 0, MOST_JOBS * max(times)[0] + max(offset for _, offset in times) + 1
-    while many - few > 1:
-        middle = (few + many) // 2
-        jobs = sum(max(-(-(middle - offset) // period), 0) for period, offset in times)
-        few, many = (middle, many) if jobs <= MOST_JOBS else (few, middle)
-    return str(few)
+    def jobs(ticks: int) -> int:
+        return sum(max(-(-(ticks - task.offset) // task.period), 0) for task in tasks)
+
+    too_many = MOST_JOBS * max(task.period for task in tasks) + max(task.offset for task in tasks) + 1
+    return str(bisect_right(range(1, too_many), MOST_JOBS, key=jobs))
 
 
 FACTS: dict[str, Callable[[Found], str | None]] = {
@@ -342,41 +284,41 @@ FACTS: dict[str, Callable[[Found], str | None]] = {
     "asked": _asked,
     "before": _before,
     "cause": _cause,
-    "cell": _cell,
-    "column": lambda found: str(fault.column) if (fault := _fault(found)) else None,
+    "cell": lambda found: known(found.cell()).replace("\n", " ")[:LONGEST_TEXT],
+    "column": lambda found: str(_fault(found).column),
     "command": lambda found: found.word(1),
-    "commands": lambda found: listed(COMMANDS),
+    "commands": lambda found: listed(words.COMMANDS),
     "earlier": _earlier,
     "elsewhere": _elsewhere,
     "entries": lambda found: "a table `[[task]]` for each task" if found.kind == "tasks" else
     "a table `[[point]]` for each point, and `idle` and `charge` above the first",
     "entry": lambda found: ENTRIES[found.kind],
+    "fault": lambda found: _fault(found).fault,
     "field": lambda found: found.key or None,
-    "fault": lambda found: fault.fault if (fault := _fault(found)) else None,
-    "first": _first,
-    "folder": lambda found: str(Path.cwd()) if found.given.path(found.kind) else None,
-    "former": _former,
-    "given": _given,
+    "first": lambda found: shortened([line for line in found.given.lines(found.kind) if line.strip()][0]),
+    "folder": lambda found: str(Path.cwd()) if found.path() else None,
+    "former": lambda found: "{speed} with {millivolts} mV".format_map(found.entry(1)),
+    "given": lambda found: shortened(found.word(found.number("place"))),
     "header": lambda found: ",".join(HEADERS[found.kind]),
-    "line": lambda found: str(fault.line) if (fault := _fault(found)) else None,
-    "millivolts": lambda found: str(_point(found)["millivolts"]) if "millivolts" in _point(found) else None,
+    "line": lambda found: str(_fault(found).line),
+    "millivolts": lambda found: str(found.entry()["millivolts"]),
     "most": _most,
-    "names": _names,
+    "names": lambda found: listed(found.tasks().names),
     "near": _near,
-    "options": _options,
-    "path": _path,
-    "period": _period,
-    "periods": _periods,
-    "present": _present,
+    "options": lambda found: listed(_usage(found).options),
+    "path": lambda found: _from_here(found.path()),
+    "period": lambda found: str(found.tasks()[known(found.record())[1][0]].period),
+    "periods": lambda found: listed(dict.fromkeys(str(entry["period"]) for entry in found.given.entries("tasks"))),
+    "present": lambda found: listed(found.entry()),
     "ratio": _ratio,
-    "record": lambda found: _joined(found.record()),
-    "required": _required,
+    "record": lambda found: shortened(",".join(known(found.record())[1])),
+    "required": lambda found: listed(_usage(found).required),
     "rule": _rule,
-    "speed": lambda found: str(_point(found)["speed"]) if "speed" in _point(found) else None,
+    "speed": lambda found: str(found.entry()["speed"]),
     "split": _split,
     "text": _text,
-    "top": _top,
-    "twice": _twice,
+    "top": lambda found: str(found.machine().top_speed),
+    "twice": lambda found: str(at(found.given.entries("tasks"), found.number("second"))["name"]),
     "value": _value,
 }
 """Each name in a second line that isn't a part of the program's line."""

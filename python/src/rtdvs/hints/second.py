@@ -4,11 +4,10 @@ import re
 from collections.abc import Iterator, Mapping, Sequence
 
 from rtdvs.errors import BadValue, FileRefused
-from rtdvs.hints.facts import FACTS, Found
+from rtdvs.hints import facts, table
 from rtdvs.hints.given import Given, Source, Word
-from rtdvs.hints.table import SECTIONS, Row
 
-ROWS = tuple(row for rows in SECTIONS.values() for row in rows)
+ROWS = tuple(row for rows in table.SECTIONS.values() for row in rows)
 OF_VALUES = {"task": "tasks: task 0", "point": "machine: point 0", "request": "requests: row 0"}
 """The beginning of a line for a task, a point or a request that is in no file."""
 
@@ -33,7 +32,7 @@ def second_line(refusal: Exception | str, words: Sequence[Word] = (), files: Map
     for row in ROWS:
         parts = row.match(line)
         if parts is not None:
-            found = Found(line, parts, given)
+            found = facts.Found(line, parts, given)
             return _placed(found, " ".join(_sentences(row, found)) or row.otherwise)
     return ""
 
@@ -48,7 +47,7 @@ def _line(refusal: Exception | str) -> str:
     return line
 
 
-def _sentences(row: Row, found: Found) -> Iterator[str]:
+def _sentences(row: table.Row, found: facts.Found) -> Iterator[str]:
     """The sentences whose names are known."""
     for sentence in row.second:
         try:
@@ -58,21 +57,21 @@ def _sentences(row: Row, found: Found) -> Iterator[str]:
         yield known[0].upper() + known[1:]
 
 
-def _known(name: str, found: Found) -> str:
+def _known(name: str, found: facts.Found) -> str:
     """A part of the line, or what is looked up; LookupError if it isn't known."""
-    text = found.parts.get(name) if name in found.parts else FACTS[name](found)
+    text = found.parts.get(name) if name in found.parts else facts.FACTS[name](found)
     if text is None:
         raise LookupError(name)
     return text
 
 
-def _placed(found: Found, text: str) -> str:
+def _placed(found: facts.Found, text: str) -> str:
     """The text after the number of its line, if a file was given by its path and has that line."""
     number = _number(found) if found.kind in ("tasks", "machine", "demands", "deadlines", "requests") else None
     return text if number is None or found.given.path(found.kind) is None else f"Line {number}: {text}"
 
 
-def _number(found: Found) -> int | None:
+def _number(found: facts.Found) -> int | None:
     if found.line.startswith("load: ") or found.line.endswith("not TOML"):
         return None
     if "row" in found.parts:

@@ -8,15 +8,13 @@ from functools import partial
 from typing import Any
 
 from rtdvs.errors import FileRefused
-from rtdvs.model._checks import Fault
-from rtdvs.model._file import file_bytes
-from rtdvs.model.limits import LONGEST_FILE
+from rtdvs.model import _checks, _file, limits
 
 _SPELLED = re.compile(r"0|[1-9][0-9]{0,19}")
-csv.field_size_limit(max(LONGEST_FILE, csv.field_size_limit()))
+csv.field_size_limit(max(limits.LONGEST_FILE, csv.field_size_limit()))
 
 
-Row = tuple[Fault, Sequence[Any]]
+Row = tuple[_checks.Fault, Sequence[Any]]
 """The values of a row, and what makes the refusal of a reason there."""
 
 
@@ -31,7 +29,7 @@ def rows(kind: str, header: Sequence[str], records: Iterable[Sequence[object]]) 
 
 def read_rows(text: str | bytes, kind: str, header: Sequence[str], most: int | None = None) -> Iterator[Row]:
     """The rows after the header that aren't empty; what is spelled as a number is one, but no task."""
-    lines = io.StringIO(file_bytes(text, kind).decode("utf-8", "surrogateescape"), newline="")
+    lines = io.StringIO(_file.file_bytes(text, kind).decode("utf-8", "surrogateescape"), newline="")
     first, *records = [record for record in csv.reader(lines) if record] or [[]]
     if first != list(header):
         raise FileRefused(kind, "wrong header")

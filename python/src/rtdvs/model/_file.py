@@ -3,13 +3,11 @@
 from abc import ABC, abstractmethod
 from pathlib import Path
 
-from rtdvs._display import Shown
-from rtdvs._files import write_whole
-from rtdvs.errors import FileRefused
+from rtdvs import _display, _files, errors
 from rtdvs.model.limits import LONGEST_FILE
 
 
-class File(Shown, ABC):
+class File(_display.Shown, ABC):
     """What all files share."""
 
     __slots__ = ()
@@ -24,7 +22,7 @@ class File(Shown, ABC):
         >>> from rtdvs.model import Machine
         >>> Machine.of([(2, 3000)]).write(Path("/dev/null"))
         """
-        write_whole(path, self.text())
+        _files.write_whole(path, self.text())
 
 
 def load(path: Path) -> bytes:
@@ -41,5 +39,5 @@ def file_bytes(text: str | bytes, kind: str) -> bytes:
     """The bytes of a file without a byte order mark."""
     content = text.encode("utf-8", "surrogatepass") if isinstance(text, str) else text
     if len(content) > LONGEST_FILE:
-        raise FileRefused(kind, "too long")
+        raise errors.FileRefused(kind, "too long")
     return content.removeprefix(b"\xef\xbb\xbf")

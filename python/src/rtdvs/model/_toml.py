@@ -5,13 +5,12 @@ from dataclasses import asdict
 from typing import Any
 
 from rtdvs.errors import FileRefused
-from rtdvs.model._checks import Table
-from rtdvs.model._file import file_bytes
+from rtdvs.model import _checks, _file
 
 
-def document(text: str | bytes, kind: str, *known: str) -> Table:
+def document(text: str | bytes, kind: str, *known: str) -> _checks.Table:
     """The outermost table, which has only known keys."""
-    content = file_bytes(text, kind)
+    content = _file.file_bytes(text, kind)
     try:
         table = tomllib.loads(content.decode("utf-8"))
     except (ValueError, RecursionError):
@@ -21,7 +20,7 @@ def document(text: str | bytes, kind: str, *known: str) -> Table:
         values += value.values() if isinstance(value, dict) else value if isinstance(value, list) else ()
     if any(type(value) is int and not -2**63 <= value < 2**63 for value in values):
         raise FileRefused(kind, "not TOML")
-    top = Table(kind, table)
+    top = _checks.Table(kind, table)
     top.refuse_others(*known)
     return top
 

@@ -6,20 +6,15 @@ from functools import partial
 from pathlib import Path
 from typing import Any, Self
 
-from rtdvs._display import Cell
-from rtdvs.errors import FileRefused, OverWorst
-from rtdvs.model._checks import Fault, checked_count, checked_task, entries, made
-from rtdvs.model._csv_text import Row, read_rows, rows, table_text
-from rtdvs.model._file import File, load
-from rtdvs.model._frozen import Frozen
-from rtdvs.model.limits import LONGEST_TIME, MOST_REQUESTS, MOST_WORK
+from rtdvs import _display, errors
+from rtdvs.model import _checks, _csv_text, _file, _frozen, limits
 from rtdvs.model.tasks import TaskSet
 
 DEMANDS, DEADLINES, REQUESTS = ("task", "job", "units"), ("task", "deadline"), ("arrival", "units")
 
 
 @dataclass(frozen=True, slots=True)
-class Demands(File):
+class Demands(_file.File):
     """The work units, without the charge, of named jobs: (task, job) to units. Jobs count from 1.
 
     Raises FileRefused for what no demand file can have; `belong_to` compares with the tasks.
@@ -31,12 +26,14 @@ class Demands(File):
     rtdvs.errors.FileRefused: demands: row 1: job 0
     """
 
+    _kinds = {"task": "object", "job": "int64", "units": "int64"}
+
     units: Mapping[tuple[str, int], int]
 
     def __post_init__(self) -> None:
         if not isinstance(self.units, Mapping):
-            raise FileRefused("demands", "wrong kind of units")
-        object.__setattr__(self, "units", Frozen(_units(rows("demands", DEMANDS, self._records()))))
+            raise errors.FileRefused("demands", "wrong kind of units")
+        object.__setattr__(self, "units", _frozen.Frozen(_units(_csv_text.rows("demands", DEMANDS, self._records()))))
 
     def _records(self) -> Iterator[tuple[object, ...]]:
         return ((*job, units) if isinstance(job, tuple) else (job, units) for job, units in self.units.items())
@@ -49,7 +46,7 @@ class Demands(File):
         Traceback (most recent call last):
         rtdvs.errors.OverWorst: over worst: a 1 3 2
         """
-        _units(rows("demands", DEMANDS, self._records()), tasks)
+        _units(_csv_text.rows("demands", DEMANDS, self._records()), tasks)
 
     @classmethod
     def parse(cls, text: str | bytes, tasks: TaskSet) -> Self:
@@ -63,7 +60,7 @@ class Demands(File):
         >>> Demands.parse(text, TaskSet([Task("a", 4, 2)])).units
         {('a', 1): 2, ('a', 7): 0}
         """
-        return cls(_units(read_rows(text, "demands", DEMANDS), tasks))
+        return cls(_units(_csv_text.read_rows(text, "demands", DEMANDS), tasks))
 
     @classmethod
     def read(cls, path: Path, tasks: TaskSet) -> Self:
@@ -74,7 +71,7 @@ class Demands(File):
         Traceback (most recent call last):
         IsADirectoryError: [Errno 21] Is a directory: '/'
         """
-        return cls.parse(load(path), tasks)
+        return cls.parse(_file.load(path), tasks)
 
     def text(self) -> str:
         """The demand file.
@@ -82,34 +79,31 @@ class Demands(File):
         >>> Demands({("a", 1): 2}).text()
         'task,job,units\\na,1,2\\n'
         """
-        return table_text([DEMANDS, *((task, job, units) for (task, job), units in self.units.items())])
+        return _csv_text.table_text([DEMANDS, *((task, job, units) for (task, job), units in self.units.items())])
 
-    def _columns(self) -> Mapping[str, str]:
-        return {"task": "object", "job": "int64", "units": "int64"}
-
-    def _rows(self) -> Iterable[Sequence[Cell]]:
+    def _rows(self) -> Iterable[Sequence[_display.Cell]]:
         return ((*job, units) for job, units in self.units.items())
 
 
-def _units(found: Iterable[Row], tasks: TaskSet | None = None) -> dict[tuple[str, int], int]:
+def _units(found: Iterable[_csv_text.Row], tasks: TaskSet | None = None) -> dict[tuple[str, int], int]:
     """The units of each row's job; without tasks any name is one, with any worst case."""
     worsts = {task.name: task.worst for task in tasks} if tasks else None
     demands: dict[tuple[str, int], int] = {}
     for fault, (name, number, work) in found:
-        task, job = checked_task(name, worsts, fault), checked_count("job", number, fault)
+        task, job = _checks.checked_task(name, worsts, fault), _checks.checked_count("job", number, fault)
         if job == 0:
             raise fault("job 0")
-        units = checked_count("units", work, fault)
+        units = _checks.checked_count("units", work, fault)
         if (task, job) in demands:
             raise fault(f"task {task} job {job} stands twice")
         if worsts and units > worsts[task]:
-            raise OverWorst(task, job, units, worsts[task])
+            raise errors.OverWorst(task, job, units, worsts[task])
         demands[task, job] = units
     return demands
 
 
 @dataclass(frozen=True, slots=True)
-class Deadlines(File):
+class Deadlines(_file.File):
     """Relative deadlines in ticks from the release, for the tasks whose deadline isn't their period.
 
     Raises FileRefused for what no deadline file can have; `belong_to` compares with the tasks.
@@ -118,12 +112,15 @@ class Deadlines(File):
     {'a': 3}
     """
 
+    _kinds = {"task": "object", "deadline": "int64"}
+
     ticks: Mapping[str, int]
 
     def __post_init__(self) -> None:
         if not isinstance(self.ticks, Mapping):
-            raise FileRefused("deadlines", "wrong kind of ticks")
-        object.__setattr__(self, "ticks", Frozen(_ticks(rows("deadlines", DEADLINES, [*self.ticks.items()]))))
+            raise errors.FileRefused("deadlines", "wrong kind of ticks")
+        found = _ticks(_csv_text.rows("deadlines", DEADLINES, [*self.ticks.items()]))
+        object.__setattr__(self, "ticks", _frozen.Frozen(found))
 
     def belong_to(self, tasks: TaskSet) -> None:
         """Raises FileRefused, as the program does, if the deadlines aren't of these tasks.
@@ -133,7 +130,7 @@ class Deadlines(File):
         Traceback (most recent call last):
         rtdvs.errors.FileRefused: deadlines: row 1: deadline out of range
         """
-        _ticks(rows("deadlines", DEADLINES, [*self.ticks.items()]), tasks)
+        _ticks(_csv_text.rows("deadlines", DEADLINES, [*self.ticks.items()]), tasks)
 
     @classmethod
     def parse(cls, text: str | bytes, tasks: TaskSet) -> Self:
@@ -143,7 +140,7 @@ class Deadlines(File):
         >>> Deadlines.parse("task,deadline\\na,3\\n", TaskSet([Task("a", 4, 2)]))
         Deadlines(ticks={'a': 3})
         """
-        return cls(_ticks(read_rows(text, "deadlines", DEADLINES), tasks))
+        return cls(_ticks(_csv_text.read_rows(text, "deadlines", DEADLINES), tasks))
 
     @classmethod
     def read(cls, path: Path, tasks: TaskSet) -> Self:
@@ -154,7 +151,7 @@ class Deadlines(File):
         Traceback (most recent call last):
         IsADirectoryError: [Errno 21] Is a directory: '/'
         """
-        return cls.parse(load(path), tasks)
+        return cls.parse(_file.load(path), tasks)
 
     def text(self) -> str:
         """The deadline file.
@@ -162,22 +159,19 @@ class Deadlines(File):
         >>> Deadlines({"a": 3}).text()
         'task,deadline\\na,3\\n'
         """
-        return table_text([DEADLINES, *self.ticks.items()])
+        return _csv_text.table_text([DEADLINES, *self.ticks.items()])
 
-    def _columns(self) -> Mapping[str, str]:
-        return {"task": "object", "deadline": "int64"}
-
-    def _rows(self) -> Iterable[Sequence[Cell]]:
+    def _rows(self) -> Iterable[Sequence[_display.Cell]]:
         return self.ticks.items()
 
 
-def _ticks(found: Iterable[Row], tasks: TaskSet | None = None) -> dict[str, int]:
+def _ticks(found: Iterable[_csv_text.Row], tasks: TaskSet | None = None) -> dict[str, int]:
     """The deadline of each row's task; without tasks any name is one, with the longest period."""
     periods = {task.name: task.period for task in tasks} if tasks else None
     deadlines: dict[str, int] = {}
     for fault, (name, ticks) in found:
-        task, deadline = checked_task(name, periods, fault), checked_count("deadline", ticks, fault)
-        if not 1 <= deadline <= (periods[task] if periods else LONGEST_TIME):
+        task, deadline = _checks.checked_task(name, periods, fault), _checks.checked_count("deadline", ticks, fault)
+        if not 1 <= deadline <= (periods[task] if periods else limits.LONGEST_TIME):
             raise fault("deadline out of range")
         if task in deadlines:
             raise fault(f"task {task} stands twice")
@@ -200,15 +194,15 @@ class Request:
     units: int
 
     def __post_init__(self) -> None:
-        fault = partial(FileRefused, "request")
-        object.__setattr__(self, "arrival", checked_count("arrival", self.arrival, fault))
-        object.__setattr__(self, "units", checked_count("units", self.units, fault))
-        if not 1 <= self.units <= MOST_WORK:
+        fault = partial(errors.FileRefused, "request")
+        object.__setattr__(self, "arrival", _checks.checked_count("arrival", self.arrival, fault))
+        object.__setattr__(self, "units", _checks.checked_count("units", self.units, fault))
+        if not 1 <= self.units <= limits.MOST_WORK:
             raise fault("units out of range")
 
 
 @dataclass(frozen=True, slots=True, init=False)
-class Requests(File):
+class Requests(_file.File):
     """The requests of a request file, no arrival before the one above it; raises FileRefused.
 
     Iteration gives the requests.
@@ -220,10 +214,12 @@ class Requests(File):
     rtdvs.errors.FileRefused: requests: row 2: too early
     """
 
+    _kinds = {"arrival": "int64", "units": "int64"}
+
     requests: tuple[Request, ...]
 
     def __init__(self, requests: Iterable[Request]) -> None:
-        found = entries("requests", requests, Request, MOST_REQUESTS, least=0)
+        found = _checks.entries("requests", requests, Request, limits.MOST_REQUESTS, least=0)
         object.__setattr__(self, "requests", tuple(_in_order(found)))
 
     def __iter__(self) -> Iterator[Request]:
@@ -241,7 +237,7 @@ class Requests(File):
         >>> Requests.of([(0, 3), (1, 6)]).requests[1]
         Request(arrival=1, units=6)
         """
-        return cls(_in_order(made("requests", rows, Request, MOST_REQUESTS, least=0)))
+        return cls(_in_order(_checks.made("requests", rows, Request, limits.MOST_REQUESTS, least=0)))
 
     @classmethod
     def parse(cls, text: str | bytes) -> Self:
@@ -251,7 +247,8 @@ class Requests(File):
         Traceback (most recent call last):
         rtdvs.errors.FileRefused: requests: row 1: bad units
         """
-        return cls(_in_order(_request(*row) for row in read_rows(text, "requests", REQUESTS, MOST_REQUESTS)))
+        rows = _csv_text.read_rows(text, "requests", REQUESTS, limits.MOST_REQUESTS)
+        return cls(_in_order(_request(*row) for row in rows))
 
     @classmethod
     def read(cls, path: Path) -> Self:
@@ -261,7 +258,7 @@ class Requests(File):
         Traceback (most recent call last):
         IsADirectoryError: [Errno 21] Is a directory: '/'
         """
-        return cls.parse(load(path))
+        return cls.parse(_file.load(path))
 
     def text(self) -> str:
         """The request file.
@@ -269,19 +266,16 @@ class Requests(File):
         >>> Requests([Request(0, 3)]).text()
         'arrival,units\\n0,3\\n'
         """
-        return table_text([REQUESTS, *((each.arrival, each.units) for each in self.requests)])
+        return _csv_text.table_text([REQUESTS, *((each.arrival, each.units) for each in self.requests)])
 
-    def _columns(self) -> Mapping[str, str]:
-        return {"arrival": "int64", "units": "int64"}
-
-    def _rows(self) -> Iterable[Sequence[Cell]]:
+    def _rows(self) -> Iterable[Sequence[_display.Cell]]:
         return (astuple(request) for request in self.requests)
 
 
-def _request(fault: Fault, record: Sequence[Any]) -> Request:
+def _request(fault: _checks.Fault, record: Sequence[Any]) -> Request:
     try:
         return Request(*record)
-    except FileRefused as refused:
+    except errors.FileRefused as refused:
         raise fault(refused.reason) from None
 
 
@@ -290,6 +284,6 @@ def _in_order(requests: Iterable[Request]) -> Iterator[Request]:
     before = 0
     for place, request in enumerate(requests, 1):
         if request.arrival < before:
-            raise FileRefused("requests", "too early", place)
+            raise errors.FileRefused("requests", "too early", place)
         before = request.arrival
         yield request

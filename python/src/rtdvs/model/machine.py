@@ -6,12 +6,8 @@ from functools import partial
 from pathlib import Path
 from typing import Self
 
-from rtdvs._display import Cell
-from rtdvs.errors import FileRefused
-from rtdvs.model._checks import check_fields, checked_number, entries, made
-from rtdvs.model._file import File, load
-from rtdvs.model._toml import document, entry_text
-from rtdvs.model.limits import MOST_POINTS
+from rtdvs import _display, errors
+from rtdvs.model import _checks, _file, _toml, limits
 
 
 @dataclass(frozen=True, slots=True)
@@ -29,11 +25,11 @@ class Point:
     millivolts: int
 
     def __post_init__(self) -> None:
-        check_fields(self, "point")
+        _checks.check_fields(self, "point")
 
 
 @dataclass(frozen=True, slots=True, init=False)
-class Machine(File):
+class Machine(_file.File):
     """The points, the slowest first; idle in thousandths, charge in work units for a switch.
 
     Iteration gives the points. Raises FileRefused for what a machine file can't have.
@@ -48,15 +44,18 @@ class Machine(File):
     rtdvs.errors.FileRefused: machine: point 2: not rising
     """
 
+    _kinds = {"speed": "int64", "millivolts": "int64"}
+
     points: tuple[Point, ...]
     idle: int
     charge: int
 
     def __init__(self, points: Iterable[Point], idle: int = 0, charge: int = 0) -> None:
-        fault = partial(FileRefused, "machine")
-        object.__setattr__(self, "idle", checked_number("idle", idle, fault))
-        object.__setattr__(self, "charge", checked_number("charge", charge, fault))
-        object.__setattr__(self, "points", tuple(_rising(entries("machine", points, Point, MOST_POINTS))))
+        fault = partial(errors.FileRefused, "machine")
+        object.__setattr__(self, "idle", _checks.checked_number("idle", idle, fault))
+        object.__setattr__(self, "charge", _checks.checked_number("charge", charge, fault))
+        found = _checks.entries("machine", points, Point, limits.MOST_POINTS)
+        object.__setattr__(self, "points", tuple(_rising(found)))
 
     def __iter__(self) -> Iterator[Point]:
         return iter(self.points)
@@ -83,7 +82,7 @@ class Machine(File):
         >>> Machine.of([(2, 3000), (3, 4000)]).top_speed
         3
         """
-        return cls(_rising(made("machine", rows, Point, MOST_POINTS)), idle, charge)
+        return cls(_rising(_checks.made("machine", rows, Point, limits.MOST_POINTS)), idle, charge)
 
     @classmethod
     def parse(cls, text: str | bytes) -> Self:
@@ -92,8 +91,8 @@ class Machine(File):
         >>> Machine.parse("idle = 100\\n[[point]]\\nspeed = 2\\nmillivolts = 3000")
         Machine(points=(Point(speed=2, millivolts=3000),), idle=100, charge=0)
         """
-        top = document(text, "machine", "idle", "charge", "point")
-        points = _rising(entry.read(Point) for entry in top.array(MOST_POINTS))
+        top = _toml.document(text, "machine", "idle", "charge", "point")
+        points = _rising(entry.read(Point) for entry in top.array(limits.MOST_POINTS))
         return cls(points, top.values.get("idle", 0), top.values.get("charge", 0))
 
     @classmethod
@@ -104,7 +103,7 @@ class Machine(File):
         Traceback (most recent call last):
         FileNotFoundError: [Errno 2] No such file or directory: 'absent/machine.toml'
         """
-        return cls.parse(load(path))
+        return cls.parse(_file.load(path))
 
     def text(self) -> str:
         """The machine file.
@@ -113,12 +112,9 @@ class Machine(File):
         'idle = 0\\ncharge = 1\\n\\n[[point]]\\nspeed = 2\\nmillivolts = 3000\\n'
         """
         settings = f"idle = {self.idle}\ncharge = {self.charge}\n"
-        return "\n".join([settings, *(entry_text("point", point) for point in self.points)])
+        return "\n".join([settings, *(_toml.entry_text("point", point) for point in self.points)])
 
-    def _columns(self) -> Mapping[str, str]:
-        return {"speed": "int64", "millivolts": "int64"}
-
-    def _rows(self) -> Iterable[Sequence[Cell]]:
+    def _rows(self) -> Iterable[Sequence[_display.Cell]]:
         return (astuple(point) for point in self.points)
 
     def _caption(self) -> str:
@@ -130,5 +126,5 @@ def _rising(points: Iterable[Point]) -> Iterator[Point]:
     last = None
     for place, point in enumerate(points, 1):
         if last and (point.speed <= last.speed or point.millivolts < last.millivolts):
-            raise FileRefused("machine", "not rising", place)
+            raise errors.FileRefused("machine", "not rising", place)
         yield (last := point)

@@ -7,12 +7,8 @@ from math import lcm
 from pathlib import Path
 from typing import Self, SupportsIndex, overload
 
-from rtdvs._display import Cell
-from rtdvs.errors import FileRefused
-from rtdvs.model._checks import check_fields, entries, made
-from rtdvs.model._file import File, load
-from rtdvs.model._toml import document, entry_text
-from rtdvs.model.limits import LONGEST_HYPERPERIOD, MOST_TASKS
+from rtdvs import _display, errors
+from rtdvs.model import _checks, _file, _toml, limits
 
 
 @dataclass(frozen=True, slots=True)
@@ -34,11 +30,11 @@ class Task:
     offset: int = 0
 
     def __post_init__(self) -> None:
-        check_fields(self, "task")
+        _checks.check_fields(self, "task")
 
 
 @dataclass(frozen=True, slots=True, init=False)
-class TaskSet(File, Sequence[Task]):
+class TaskSet(_file.File, Sequence[Task]):
     """The tasks of a task file, in its order: a sequence, in which a name is as good as a place.
 
     A slice is a task set too. Raises FileRefused for what a task file can't have.
@@ -51,12 +47,14 @@ class TaskSet(File, Sequence[Task]):
     rtdvs.errors.FileRefused: tasks: tasks 1 and 2 have one name
     """
 
+    _kinds = {"name": "object", "period": "int64", "worst": "int64", "offset": "int64"}
+
     tasks: tuple[Task, ...]
 
     def __init__(self, tasks: Iterable[Task]) -> None:
-        object.__setattr__(self, "tasks", tuple(_different(entries("tasks", tasks, Task, MOST_TASKS))))
-        if self.hyperperiod > LONGEST_HYPERPERIOD:
-            raise FileRefused("tasks", f"periods have no common multiple up to {LONGEST_HYPERPERIOD}")
+        object.__setattr__(self, "tasks", tuple(_different(_checks.entries("tasks", tasks, Task, limits.MOST_TASKS))))
+        if self.hyperperiod > limits.LONGEST_HYPERPERIOD:
+            raise errors.FileRefused("tasks", f"periods have no common multiple up to {limits.LONGEST_HYPERPERIOD}")
 
     def __len__(self) -> int:
         return len(self.tasks)
@@ -128,7 +126,7 @@ class TaskSet(File, Sequence[Task]):
         Traceback (most recent call last):
         rtdvs.errors.FileRefused: tasks: task 2: wrong kind of period
         """
-        return cls(_different(made("tasks", rows, Task, MOST_TASKS)))
+        return cls(_different(_checks.made("tasks", rows, Task, limits.MOST_TASKS)))
 
     @classmethod
     def parse(cls, text: str | bytes) -> Self:
@@ -141,7 +139,7 @@ class TaskSet(File, Sequence[Task]):
         >>> TaskSet.parse(text) == TaskSet.parse(text.decode())
         True
         """
-        found = document(text, "tasks", "task").array(MOST_TASKS)
+        found = _toml.document(text, "tasks", "task").array(limits.MOST_TASKS)
         return cls(_different(entry.read(Task) for entry in found))
 
     @classmethod
@@ -152,7 +150,7 @@ class TaskSet(File, Sequence[Task]):
         Traceback (most recent call last):
         rtdvs.errors.FileRefused: tasks: too long
         """
-        return cls.parse(load(path))
+        return cls.parse(_file.load(path))
 
     def text(self) -> str:
         """The task file.
@@ -164,12 +162,9 @@ class TaskSet(File, Sequence[Task]):
         worst = 2
         offset = 1
         """
-        return "\n".join(entry_text("task", task) for task in self.tasks)
+        return "\n".join(_toml.entry_text("task", task) for task in self.tasks)
 
-    def _columns(self) -> Mapping[str, str]:
-        return {"name": "object", "period": "int64", "worst": "int64", "offset": "int64"}
-
-    def _rows(self) -> Iterable[Sequence[Cell]]:
+    def _rows(self) -> Iterable[Sequence[_display.Cell]]:
         return (astuple(task) for task in self)
 
 
@@ -179,7 +174,7 @@ def _different(tasks: Iterable[Task]) -> Iterator[Task]:
     for place, task in enumerate(tasks, 1):
         first = places.setdefault(task.name, place)
         if first != place:
-            raise FileRefused("tasks", f"tasks {first} and {place} have one name")
+            raise errors.FileRefused("tasks", f"tasks {first} and {place} have one name")
         yield task
 
 

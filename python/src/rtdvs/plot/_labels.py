@@ -6,7 +6,7 @@ from fractions import Fraction
 from math import ceil
 
 from rtdvs._numbers import plain, readable, rounded, short
-from rtdvs.board import Units
+from rtdvs.board import Spent, Units
 from rtdvs.model import Task
 from rtdvs.plot._thinning import round_step
 from rtdvs.trace import Trace, split_governor
@@ -87,10 +87,20 @@ class BoardLabels(Labels):
     def energy(self, trace: Trace) -> list[str]:
         if reason := self.units.no_power():
             return ["energy of the run:", f"{reason}"]
-        run, battery = self.units.spent(trace), self.units.board.battery
+        run = self.units.spent(trace)
         parts = ["energy of the run:", f"{rounded(run.joules)} J,", f"{rounded(run.milliwatts)} mW on average"]
-        hours = None if battery is None else run.hours(battery)
+        hours = run.hours(self.units.board.battery)
         return parts if hours is None else [*parts[:2], f"{parts[2]},", f"{rounded(hours)} hours of the battery"]
+
+
+def power(run: Spent, battery: Fraction | None) -> str:
+    """The mean milliwatts of a run, and the hours that a battery of milliwatt hours lasts.
+
+    >>> power(Spent(Fraction(6), Fraction(2000)), Fraction(9000)), power(Spent(Fraction(6), Fraction(2000)), None)
+    ('3000 mW, 3 h', '3000 mW')
+    """
+    hours = run.hours(battery)
+    return f"{rounded(run.milliwatts, 4)} mW" + ("" if hours is None else f", {rounded(hours, 3)} h")
 
 
 def labels_of(units: Units | None) -> Labels:

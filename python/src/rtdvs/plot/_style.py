@@ -3,15 +3,16 @@
 from collections.abc import Sequence
 from io import BytesIO
 from pathlib import Path
-from typing import TYPE_CHECKING, Any, Literal, Union
+from typing import TYPE_CHECKING, Any, Literal, TypeAlias, Union
 
-from rtdvs._files import write_whole
-from rtdvs.errors import BadValue
+from rtdvs import _files, errors
 
 if TYPE_CHECKING:
-    from matplotlib.axes import Axes
-    from matplotlib.figure import Figure
+    import matplotlib.axes
+    import matplotlib.figure
 
+Axes: TypeAlias = "matplotlib.axes.Axes"
+Figure: TypeAlias = "matplotlib.figure.Figure"
 PIXEL = 1 / 96          # inches
 POINT = 0.75            # points in a pixel, for texts and lines
 SMALL, TEXT, TITLE = 10 * POINT, 12 * POINT, 15 * POINT
@@ -38,18 +39,18 @@ def settings() -> Any:
     return matplotlib.rc_context({**kept, **own})
 
 
-def new_figure(width: float, height: float) -> "Figure":
+def new_figure(width: float, height: float) -> Figure:
     """An empty figure; both lengths are in pixels.
 
     >>> new_figure(192, 96).get_size_inches().tolist()
     [2.0, 1.0]
     """
-    from matplotlib.figure import Figure
+    from matplotlib import figure
 
-    return Figure(figsize=(width * PIXEL, height * PIXEL), dpi=96)
+    return figure.Figure(figsize=(width * PIXEL, height * PIXEL), dpi=96)
 
 
-def save(figure: "Figure", path: Path, background: str) -> None:
+def save(figure: Figure, path: Path, background: str) -> None:
     """Writes a figure as SVG, PDF or PNG, by the file's name; raises BadValue for another one, and OSError.
 
     >>> save(new_figure(96, 96), Path("a.gif"), "none")
@@ -58,11 +59,11 @@ def save(figure: "Figure", path: Path, background: str) -> None:
     """
     kind = path.suffix.lower().lstrip(".")
     if kind not in UNDATED:
-        raise BadValue(f"a picture is a file .svg, .pdf or .png, and not {path.name}")
-    write_whole(path, drawn(figure, kind, background))
+        raise errors.BadValue(f"a picture is a file .svg, .pdf or .png, and not {path.name}")
+    _files.write_whole(path, drawn(figure, kind, background))
 
 
-def drawn(figure: "Figure", kind: str, background: str) -> bytes:
+def drawn(figure: Figure, kind: str, background: str) -> bytes:
     """A figure as svg, pdf or png.
 
     >>> drawn(new_figure(96, 96), "pdf", "none")[:5]
@@ -73,7 +74,7 @@ def drawn(figure: "Figure", kind: str, background: str) -> bytes:
     return file.getvalue()
 
 
-def bare(axes: "Axes", grid: Literal["x", "y"]) -> None:
+def bare(axes: Axes, grid: Literal["x", "y"]) -> None:
     """Leaves nothing of the axes' frame but faint lines at the ticks of x or of y.
 
     >>> axes = new_figure(96, 96).add_subplot()
@@ -89,7 +90,7 @@ def bare(axes: "Axes", grid: Literal["x", "y"]) -> None:
         spine.set_visible(False)
 
 
-def pixels(axes: "Axes") -> float:
+def pixels(axes: Axes) -> float:
     """The width of axes in pixels.
 
     >>> from matplotlib.figure import Figure
@@ -99,7 +100,7 @@ def pixels(axes: "Axes") -> float:
     return float(axes.get_position().width * axes.figure.figure.get_figwidth() / PIXEL)
 
 
-def words(axes: "Axes", x: float, y: float, text: str, **style: Any) -> None:
+def words(axes: Axes, x: float, y: float, text: str, **style: Any) -> None:
     """A text at a place of the axes, small unless the style says otherwise.
 
     >>> axes = new_figure(96, 96).add_subplot()
@@ -110,7 +111,7 @@ def words(axes: "Axes", x: float, y: float, text: str, **style: Any) -> None:
     axes.text(x, y, text, **{"fontsize": SMALL, "color": INK, **style})
 
 
-def beside(axes: "Axes", place: tuple[float, float], offset: tuple[float, float], text: str, **style: Any) -> None:
+def beside(axes: Axes, place: tuple[float, float], offset: tuple[float, float], text: str, **style: Any) -> None:
     """A text outside of the axes, some pixels from a place.
 
     >>> axes = new_figure(96, 96).add_subplot()
@@ -145,7 +146,7 @@ def patch(label: str, colour: str, alpha: float = 1) -> Any:
     return Patch(facecolor=colour, alpha=alpha, label=label)
 
 
-def legend(of: Union["Axes", "Figure"], handles: Sequence[Any], columns: int, **style: Any) -> None:
+def legend(of: Union[Axes, Figure], handles: Sequence[Any], columns: int, **style: Any) -> None:
     """Adds a legend without a frame to axes or to a figure.
 
     >>> axes = new_figure(96, 96).add_subplot()
@@ -154,3 +155,23 @@ def legend(of: Union["Axes", "Figure"], handles: Sequence[Any], columns: int, **
     ['idle']
     """
     of.legend(handles=handles, ncol=columns, frameon=False, fontsize=SMALL, labelcolor=INK, **style)
+
+
+def legend_above(axes: Axes, handles: Sequence[Any]) -> None:
+    """A legend in one row above axes, at their right end."""
+    legend(axes, handles, max(1, len(handles)), loc="lower right", bbox_to_anchor=(1, 1), handlelength=1,
+           columnspacing=1, borderpad=0)
+
+
+def rows_below(axes: Axes, title: str, names: Sequence[str]) -> None:
+    """A row for each name, one below the other, and a title above them."""
+    bare(axes, "x")
+    axes.set_title(title, loc="left", fontsize=SMALL, color=INK)
+    axes.set_ylim(len(names) - 0.5, -0.5)
+    axes.set_yticks(range(len(names)), names, fontsize=TEXT)
+
+
+def shares(axes: Axes) -> None:
+    """Shares from 0 to 1 along the bottom."""
+    axes.set_xlim(0, 1)
+    axes.set_xticks([0, 0.25, 0.5, 0.75, 1], ["0.00", "0.25", "0.50", "0.75", "1.00"], fontsize=SMALL)

@@ -2,21 +2,18 @@
 
 from collections.abc import Sequence
 from pathlib import Path
-from typing import TYPE_CHECKING
 
 from rtdvs._numbers import plain, rounded
 from rtdvs.board import Asked, Board, Design, PairCost, Units, pair_costs
-from rtdvs.plot._style import INK, SMALL, TEXT, bare, legend, new_figure, patch, save, settings, words
-
-if TYPE_CHECKING:
-    from matplotlib.axes import Axes
+from rtdvs.plot._labels import power
+from rtdvs.plot._style import SMALL, Axes, legend_above, new_figure, patch, rows_below, save, settings, shares, words
 
 RESPONSE, POWER = "#0072b2", {"worst": "#d55e00", "usual": "#e6a23c"}
 ROW, WIDE = 30, 700
 NO_POWER = "no power: "
 
 
-def plot_responses(asked: Asked, axes: "Axes") -> None:
+def plot_responses(asked: Asked, axes: Axes) -> None:
     """Draws each task's longest response under RM at the highest speed, as a share of its period.
 
     >>> from fractions import Fraction
@@ -27,11 +24,8 @@ def plot_responses(asked: Asked, axes: "Axes") -> None:
     >>> [text.get_text() for text in axes.texts]
     ['2 of 4 ms', 'late: 6 ms']
     """
-    bare(axes, "x")
-    axes.set_title("longest response under RM, as a share of the period", loc="left", fontsize=SMALL, color=INK)
-    axes.set(xlim=(0, 1), ylim=(len(asked.loads) - 0.5, -0.5))
-    axes.set_xticks([0, 0.25, 0.5, 0.75, 1], ["0.00", "0.25", "0.50", "0.75", "1.00"], fontsize=SMALL)
-    axes.set_yticks(range(len(asked.loads)), [load.name for load in asked.loads], fontsize=TEXT)
+    rows_below(axes, "longest response under RM, as a share of the period", [load.name for load in asked.loads])
+    shares(axes)
     for place, load in enumerate(asked.loads):
         time = asked.response(place)
         if time is None:
@@ -42,7 +36,7 @@ def plot_responses(asked: Asked, axes: "Axes") -> None:
         words(axes, share + 0.013, place, f"{rounded(time, 4)} of {rounded(load.period, 4)} ms", va="center")
 
 
-def plot_power(costs: Sequence[PairCost], board: Board, axes: "Axes") -> None:
+def plot_power(costs: Sequence[PairCost], board: Board, axes: Axes) -> None:
     """Draws each pair's mean milliwatts, beside them the battery's hours; a pair that is denied has that word.
 
     >>> axes = new_figure(96, 96).add_subplot()
@@ -50,12 +44,10 @@ def plot_power(costs: Sequence[PairCost], board: Board, axes: "Axes") -> None:
     >>> axes.texts[0].get_text()
     'denied'
     """
-    bare(axes, "x")
-    axes.set_title("mean milliwatts", loc="left", fontsize=SMALL, color=INK)
+    rows_below(axes, "mean milliwatts", [f"{cost.scheduler.upper()} {cost.governor}" for cost in costs])
     most = max((float(run.milliwatts) for cost in costs for run in cost.spent.values()), default=0) or 1
-    axes.set(xlim=(0, most), ylim=(len(costs) - 0.5, -0.5))
-    axes.tick_params(labelsize=SMALL)
-    axes.set_yticks(range(len(costs)), [f"{cost.scheduler.upper()} {cost.governor}" for cost in costs], fontsize=TEXT)
+    axes.set_xlim(0, most)
+    axes.tick_params(axis="x", labelsize=SMALL)
     cases = [*dict.fromkeys(case for cost in costs for case in cost.spent)]
     for place, cost in enumerate(costs):
         if not cost.spent:
@@ -65,13 +57,9 @@ def plot_power(costs: Sequence[PairCost], board: Board, axes: "Axes") -> None:
             middle = place - 1 / 3 + high * (at + 0.5)
             axes.barh(middle, float(run.milliwatts), height=high, color=POWER[case], alpha=0.75,
                       gid=f"{case}-{cost.scheduler}-{cost.governor}")
-            hours = None if board.battery is None else run.hours(board.battery)
-            lasts = "" if hours is None else f", {rounded(hours, 3)} h"
-            text = f"{rounded(run.milliwatts, 4)} mW{lasts}"
-            words(axes, float(run.milliwatts) + most / 80, middle, text, va="center")
+            words(axes, float(run.milliwatts) + most / 80, middle, power(run, board.battery), va="center")
     if len(cases) > 1:
-        legend(axes, [patch(f"{case} demands", POWER[case], 0.75) for case in cases], len(cases), loc="lower right",
-               bbox_to_anchor=(1, 1), handlelength=1, columnspacing=1, borderpad=0)
+        legend_above(axes, [patch(f"{case} demands", POWER[case], 0.75) for case in cases])
 
 
 def save_report(board: Board, made: Design, ticks: int, path: Path, background: str = "none") -> None:

@@ -3,20 +3,17 @@
 from collections.abc import Mapping, Sequence
 from fractions import Fraction
 from pathlib import Path
-from typing import TYPE_CHECKING
 
-from rtdvs._numbers import decimal, plain, rounded
+from rtdvs._numbers import decimal, plain
 from rtdvs.board import Units
-from rtdvs.plot._style import INK, POINT, SMALL, TEXT, bare, legend, new_figure, patch, save, settings, words
+from rtdvs.plot._labels import power
+from rtdvs.plot._style import POINT, Axes, legend_above, new_figure, patch, rows_below, save, settings, shares, words
 from rtdvs.studies import Row
-
-if TYPE_CHECKING:
-    from matplotlib.axes import Axes
 
 ENERGY, BOUND, TIME = "#d55e00", "#009e73", "#0072b2"
 
 
-def plot_compare(rows: Sequence[Row], energy: "Axes", time: "Axes", units: Units | None = None) -> None:
+def plot_compare(rows: Sequence[Row], energy: Axes, time: Axes, units: Units | None = None) -> None:
     """Draws a comparison into two axes: energies as shares of EDF with `none`, and the time at each speed.
 
     A mark is at the bound for the row's units. A pair that is denied has its line in place of a bar. In a board's units
@@ -29,11 +26,9 @@ def plot_compare(rows: Sequence[Row], energy: "Axes", time: "Axes", units: Units
     """
     for axes, title in ((energy, "energy, as a share of EDF none; the mark is the bound"),
                         (time, "time at speed" if units is None else "time at MHz")):
-        bare(axes, "x")
-        axes.set_title(title, loc="left", fontsize=SMALL, color=INK)
-        axes.set(xlim=(0, 1), ylim=(len(rows) - 0.5, -0.5), yticks=[])
-        axes.set_xticks([0, 0.25, 0.5, 0.75, 1], ["0.00", "0.25", "0.50", "0.75", "1.00"], fontsize=SMALL)
-    energy.set_yticks(range(len(rows)), [f"{row.scheduler.upper()} {row.governor}" for row in rows], fontsize=TEXT)
+        rows_below(axes, title, [f"{row.scheduler.upper()} {row.governor}" for row in rows])
+        shares(axes)
+    time.set_yticks([])
     speeds = sorted({speed for row in rows if row.result for speed in row.result.residency})
     shades = {speed: 0.7 if len(speeds) == 1 else 0.3 + 0.6 * place / (len(speeds) - 1)
               for place, speed in enumerate(speeds)}
@@ -41,8 +36,7 @@ def plot_compare(rows: Sequence[Row], energy: "Axes", time: "Axes", units: Units
         _draw_energy(energy, place, row, units)
         _draw_times(time, place, row, shades)
     names = {speed: str(speed) if units is None else plain(units.megahertz(speed)) for speed in shades}
-    legend(time, [patch(names[speed], TIME, shade) for speed, shade in shades.items()], max(1, len(shades)),
-           loc="lower right", bbox_to_anchor=(1, 1), handlelength=1, columnspacing=1, borderpad=0)
+    legend_above(time, [patch(names[speed], TIME, shade) for speed, shade in shades.items()])
 
 
 def save_compare(rows: Sequence[Row], path: Path, background: str = "none", units: Units | None = None) -> None:
@@ -68,12 +62,10 @@ def _label(row: Row, units: Units | None) -> str:
     assert row.result is not None and row.result.share is not None
     if units is None or units.no_power():
         return decimal(row.result.share, 3)
-    run, battery = units.spent_at(row.result.ran), units.board.battery
-    hours = None if battery is None else run.hours(battery)
-    return f"{rounded(run.milliwatts, 4)} mW" + ("" if hours is None else f", {rounded(hours, 3)} h")
+    return power(units.spent_at(row.result.ran), units.board.battery)
 
 
-def _draw_energy(axes: "Axes", place: int, row: Row, units: Units | None) -> None:
+def _draw_energy(axes: Axes, place: int, row: Row, units: Units | None) -> None:
     if row.result is None or row.result.share is None:
         words(axes, 0.02, place, row.refusal or "no share", va="center")
         return
@@ -85,7 +77,7 @@ def _draw_energy(axes: "Axes", place: int, row: Row, units: Units | None) -> Non
                     linewidth=3 * POINT, zorder=3, gid=f"bound-{pair}")
 
 
-def _draw_times(axes: "Axes", place: int, row: Row, shades: Mapping[int, float]) -> None:
+def _draw_times(axes: Axes, place: int, row: Row, shades: Mapping[int, float]) -> None:
     begin = Fraction(0)
     for speed, shade in shades.items():
         time = row.result.residency.get(speed, Fraction(0)) if row.result else Fraction(0)

@@ -6,15 +6,12 @@ from collections.abc import Iterable, Mapping, Sequence
 from dataclasses import dataclass
 from fractions import Fraction
 from pathlib import Path
-from typing import TYPE_CHECKING, Any
+from typing import Any
 
 from rtdvs._numbers import decimal
 from rtdvs.errors import BadValue
+from rtdvs.plot import _style, comparison
 from rtdvs.plot._style import INK, POINT, SMALL, TEXT, bare, beside, legend, new_figure, pixels, save, settings, sign
-from rtdvs.plot.comparison import BOUND, ENERGY, TIME
-
-if TYPE_CHECKING:
-    from matplotlib.axes import Axes
 
 
 @dataclass(frozen=True, slots=True)
@@ -60,11 +57,11 @@ HEADING = " ".join(HEADING_PARTS)
 Look = tuple[str, str, bool, int]
 CURVES: dict[str, Look] = {
     "bound": (INK, "", True, 0),
-    "edf static": (TIME, "o", False, -2),
-    "rm static": (TIME, "o", True, 4),
-    "edf cc": (ENERGY, "s", False, 0),
-    "rm cc": (ENERGY, "s", True, 6),
-    "edf la": (BOUND, "D", False, 2),
+    "edf static": (comparison.TIME, "o", False, -2),
+    "rm static": (comparison.TIME, "o", True, 4),
+    "edf cc": (comparison.ENERGY, "s", False, 0),
+    "rm cc": (comparison.ENERGY, "s", True, 6),
+    "edf la": (comparison.BOUND, "D", False, 2),
 }
 WHOLE = ("edf none", "rm none")  # the line at 1
 MORE = (("#c04aa8", "^"), ("#a08a00", "v"), ("#2a9fb5", "P"), ("#9c7350", "X"), ("#6f7fd8", "*"))
@@ -81,7 +78,7 @@ def looks(means: Iterable[Mean]) -> dict[str, Look]:
     return CURVES | own
 
 
-def plot_means(means: Sequence[Mean], axes: "Axes", curves: Mapping[str, Look] | None = None) -> None:
+def plot_means(means: Sequence[Mean], axes: _style.Axes, curves: Mapping[str, Look] | None = None) -> None:
     """Draws a panel of the evaluation: mean energies over utilisation, the middle 80 % as bars, the sets
     that RM admits.
 
@@ -112,7 +109,7 @@ def plot_means(means: Sequence[Mean], axes: "Axes", curves: Mapping[str, Look] |
                                         and 10 * mean.sets >= sets.get(mean.utilisation, 0)])
 
 
-def _draw_curve(axes: "Axes", curve: str, look: Look, means: Sequence[Mean]) -> None:
+def _draw_curve(axes: _style.Axes, curve: str, look: Look, means: Sequence[Mean]) -> None:
     colour, _, _, shift = look
     width = pixels(axes) / 1.03
     places = [float(mean.utilisation) + shift / width for mean in means]
@@ -121,10 +118,10 @@ def _draw_curve(axes: "Axes", curve: str, look: Look, means: Sequence[Mean]) -> 
     middles, lows, highs = zip(*bars) if bars else ([], [], [])
     axes.vlines(middles, lows, highs, color=colour, alpha=0.75, linewidth=1.2 * POINT, clip_on=False)
     axes.plot(places, [float(mean.energies[0]) for mean in means], color=colour, clip_on=False,
-              gid=curve.replace(" ", "-"), **_style(curve, look))
+              gid=curve.replace(" ", "-"), **_curve_style(curve, look))
 
 
-def _style(curve: str, look: Look) -> dict[str, Any]:
+def _curve_style(curve: str, look: Look) -> dict[str, Any]:
     colour, marker, is_dashed, _ = look
     dashes = (0, (1, 1.5)) if curve == "bound" else (0, (3, 2)) if is_dashed else "-"
     return {"linestyle": dashes, "linewidth": (2 if curve == "bound" else 1.6) * POINT, "marker": marker,
@@ -147,7 +144,7 @@ def save_means(means: Sequence[Mean], path: Path, columns: int = 3, background: 
         wide, rows = 44 + columns * 314, -(-len(panels) // columns)
         curves = looks(means)
         signs = [sign("none", INK, linewidth=1.5 * POINT)]
-        signs += [sign(curve.replace("edf", "EDF").replace("rm", "RM"), look[0], **_style(curve, look))
+        signs += [sign(curve.replace("edf", "EDF").replace("rm", "RM"), look[0], **_curve_style(curve, look))
                   for curve, look in curves.items()]
         heading, above, below, signs_in_row = _around(columns, wide, [each.get_label() for each in signs])
         high = above + rows * 290 + below

@@ -9,23 +9,15 @@ from collections.abc import Iterable, Iterator, Sequence
 from dataclasses import dataclass, field, replace
 from fractions import Fraction
 from functools import cached_property, partial
-from itertools import chain
+from itertools import chain, count
 from pathlib import Path
-from typing import TYPE_CHECKING, Any
+from typing import Any
 
 from rtdvs.board import Units
 from rtdvs.errors import BadValue
-from rtdvs.plot._labels import Labels, labels_of, late_parts, title_parts
-from rtdvs.plot._style import (
-    INK, PIXEL, POINT, SMALL, TEXT, TITLE, bare, beside, drawn, legend, new_figure, patch, pixels, save, settings, sign,
-    words,
-)
-from rtdvs.plot._thinning import Bar, Completion, bars, by_task, completions, join_narrow, steps, thin
+from rtdvs.plot import _labels, _style, _thinning
+from rtdvs.plot._style import INK, POINT, SMALL, TEXT, save, words
 from rtdvs.trace import Decision, Job, Miss, Trace, late_jobs
-
-if TYPE_CHECKING:
-    from matplotlib.axes import Axes
-    from matplotlib.figure import Figure
 
 # Lengths are in pixels, 96 to the inch.
 ROW = 58            # a task's row
@@ -95,7 +87,7 @@ def settled(trace: Trace, view: View) -> View:
     """
     fastest = max((decision.speed for decision in trace.decisions), default=0)
     last = trace.ticks if view.last is None else view.last
-    top, labels = fastest if view.top is None else view.top, labels_of(view.units)
+    top, labels = fastest if view.top is None else view.top, _labels.labels_of(view.units)
     for is_wrong, reason in (
             (not fastest, "trace: no decision, so nothing can be drawn"),
             (last > trace.ticks, f"--to has to be at most {labels.time(trace.ticks)}, the {labels.time_unit} of the run"),
@@ -114,7 +106,7 @@ class _Frame:
     """A trace in its axes: y in pixels above the speed row's floor, x in ticks, `scale` pixels each."""
 
     trace: Trace
-    axes: "Axes"
+    axes: _style.Axes
     view: View
     first: int
     last: int
@@ -124,7 +116,7 @@ class _Frame:
     def thinned(self, places: Iterable[float]) -> list[float]:
         """The places in view, without those that are too near; the legend says if there are any."""
         shown = list(filter(self.is_shown, places))
-        kept = thin(shown, self.near / self.scale)
+        kept = _thinning.thin(shown, self.near / self.scale)
         if len(kept) < len(shown):
             self.left_out.add(self.near_marks)
         return kept
@@ -133,10 +125,8 @@ class _Frame:
     def near(self) -> int:
         """The pixels between two marks of a kind in a row, at least NEAR, for at most MOST_MARKS in the picture."""
         rows = [list(filter(self.is_shown, places)) for places in self._places()]
-        near = NEAR
-        while sum(map(len, rows)) > MOST_MARKS and sum(len(thin(row, near / self.scale)) for row in rows) > MOST_MARKS:
-            near += NEAR
-        return near
+        return next(near for near in count(NEAR, NEAR)
+                    if sum(len(_thinning.thin(row, near / self.scale)) for row in rows) <= MOST_MARKS)
 
     def _places(self) -> Iterator[Iterable[float]]:
         """The ticks of the marks of each kind in each row."""
@@ -146,10 +136,9 @@ class _Frame:
         for complete in self.complete.values():
             yield (done.at for done in complete)
 
-    @property
-    def coarse(self) -> int:
-        """How many times farther than usual things are from each other that are drawn apart."""
-        return self.near // NEAR
+    def coarse(self, pixels: float) -> float:
+        """Pixels, as many times more as marks that are drawn apart are farther from each other than usual."""
+        return pixels * (self.near // NEAR)
 
     @property
     def near_marks(self) -> str:
@@ -157,27 +146,23 @@ class _Frame:
 
     @property
     def joined(self) -> str:
-        return f"runs below {NARROW * self.coarse} pixels joined, as high as the highest"
+        return f"runs below {self.coarse(NARROW)} pixels joined, as high as the highest"
 
     @cached_property
     def jobs(self) -> dict[str, list[Job]]:
-        return by_task(self.names, self.trace.jobs())
+        return _thinning.by_task(self.names, self.trace.jobs())
 
     @cached_property
-    def complete(self) -> dict[str, list[Completion]]:
-        return completions(self.trace, self.jobs)
-
-    @cached_property
-    def decisions(self) -> tuple[Decision, ...]:
-        return self.trace.decisions
+    def complete(self) -> dict[str, list[_thinning.Completion]]:
+        return _thinning.completions(self.trace, self.jobs)
 
     @cached_property
     def names(self) -> tuple[str, ...]:
         return self.trace.names
 
     @cached_property
-    def labels(self) -> Labels:
-        return labels_of(self.view.units)
+    def labels(self) -> _labels.Labels:
+        return _labels.labels_of(self.view.units)
 
     @cached_property
     def misses(self) -> tuple[Miss, ...]:
@@ -186,7 +171,7 @@ class _Frame:
     @cached_property
     def width(self) -> float:
         """The pixels of all ticks in view."""
-        return pixels(self.axes)
+        return _style.pixels(self.axes)
 
     @cached_property
     def scale(self) -> float:
@@ -201,7 +186,7 @@ class _Frame:
     @cached_property
     def speed_row(self) -> float:
         """The height of the speed row, with the demands' lines."""
-        peak = max(decision.num / decision.den for decision in self.decisions)
+        peak = max(each.num / each.den for each, _ in self.trace.spans)
         return self.speed_height(max(self.top, peak))
 
     def floor(self, row: int) -> float:
@@ -216,7 +201,7 @@ class _Frame:
     def is_shown(self, tick: float) -> bool:
         return self.first <= tick <= self.last
 
-    def overlaps(self, bar: Bar) -> bool:
+    def overlaps(self, bar: _thinning.Bar) -> bool:
         return bar.begin < self.last and bar.end > self.first
 
     def room(self, begin: float, end: float) -> float:
@@ -230,7 +215,7 @@ def _frame(trace: Trace, axes: Any, view: View) -> _Frame:
     return _Frame(trace, axes, view, view.first, view.last, view.top)
 
 
-def plot_trace(trace: Trace, axes: "Axes", view: View = View()) -> None:
+def plot_trace(trace: Trace, axes: _style.Axes, view: View = View()) -> None:
     """Draws a trace into axes, which should be `trace_height` pixels high. Raises BadValue if the view
     doesn't fit.
 
@@ -245,7 +230,7 @@ def plot_trace(trace: Trace, axes: "Axes", view: View = View()) -> None:
     >>> axes.get_title(loc="left").splitlines()[0]
     'edf, mine: 2 ticks'
     """
-    frame, runs = _frame(trace, axes, view), bars(trace)
+    frame, runs = _frame(trace, axes, view), _thinning.bars(trace)
     idle = list(filter(frame.overlaps, runs.get("", [])))
     for draw in (_draw_axes, _draw_head, _draw_rows):
         draw(frame)
@@ -277,7 +262,7 @@ def save_trace(trace: Trace, path: Path, view: View = View(), width: int = 1000,
     Traceback (most recent call last):
     rtdvs.errors.BadValue: --width has to be at least 347
     """
-    with settings():
+    with _style.settings():
         save(_figure(trace, view, width), path, background)
 
 
@@ -288,12 +273,12 @@ def svg_text(trace: Trace, view: View = View(), width: int = 1000, background: s
     >>> svg_text(Trace.parse(SAMPLE)).count("</svg>")
     1
     """
-    with settings():
-        text = drawn(_figure(trace, view, width), "svg", background).decode()
+    with _style.settings():
+        text = _style.drawn(_figure(trace, view, width), "svg", background).decode()
     return text[text.index("<svg"):]
 
 
-def _figure(trace: Trace, view: View, width: int) -> "Figure":
+def _figure(trace: Trace, view: View, width: int) -> _style.Figure:
     names = trace.names
     facts = [_facts(trace, name, view) for name in names]
     left = max([100, *(18 + NAME_LETTER * len(name) for name in names), *(18 + LETTER * len(fact) for fact in facts)])
@@ -302,20 +287,20 @@ def _figure(trace: Trace, view: View, width: int) -> "Figure":
     high = trace_height(trace, view) + TICKS
     above = 12 + 18 * len(_title_lines(trace, view, width - left - 20)) + LINE * len(
         _head_lines(trace, view, width - left - 20))
-    figure = new_figure(width, above + high + 26)
+    figure = _style.new_figure(width, above + high + 26)
     axes = figure.add_axes((left / width, 0, 1 - (left + 20) / width, 1))
     plot_trace(trace, axes, view)
     signs: Any = axes.get_legend()
     below = 26 + 15 * -(-len(signs.get_texts()) // int(signs._ncols))
     tall = above + high + below
-    figure.set_size_inches(width * PIXEL, tall * PIXEL)
+    figure.set_size_inches(width * _style.PIXEL, tall * _style.PIXEL)
     axes.set_position((left / width, below / tall, 1 - (left + 20) / width, high / tall))
     return figure
 
 
 def _draw_axes(frame: _Frame) -> None:
     axes, first, last = frame.axes, frame.first, frame.last
-    bare(axes, "x")
+    _style.bare(axes, "x")
     axes.set(xlim=(first, last), ylim=(-TICKS, frame.floor(0) + ROW), yticks=[])
     marks = [*frame.labels.marks(first, last, frame.width)]
     axes.set_xticks([*map(float, marks)], [*map(frame.labels.time, marks)], fontsize=SMALL)
@@ -325,19 +310,19 @@ def _draw_axes(frame: _Frame) -> None:
 def _draw_head(frame: _Frame) -> None:
     """The title, what is said of missed deadlines, and the energies."""
     axes, lines = frame.axes, _head_lines(frame.trace, frame.view, frame.width)
-    axes.set_title("\n".join(_title_lines(frame.trace, frame.view, frame.width)), loc="left", fontsize=TITLE,
+    axes.set_title("\n".join(_title_lines(frame.trace, frame.view, frame.width)), loc="left", fontsize=_style.TITLE,
                    color=INK, pad=(8 + LINE * len(lines)) * POINT)
-    beside(axes, (0, 1), (0, 5), "\n".join(lines), xycoords="axes fraction", va="bottom", fontsize=TEXT)
+    _style.beside(axes, (0, 1), (0, 5), "\n".join(lines), xycoords="axes fraction", va="bottom", fontsize=TEXT)
 
 
 def _title_lines(trace: Trace, view: View, width: float) -> list[str]:
-    last = trace.ticks if view.last is None else view.last
-    return _wrapped(title_parts(trace, labels_of(view.units).span(view.first, last, trace.ticks)), width / 9)
+    last, labels = trace.ticks if view.last is None else view.last, _labels.labels_of(view.units)
+    return _wrapped(_labels.title_parts(trace, labels.span(view.first, last, trace.ticks)), width / 9)
 
 
 def _head_lines(trace: Trace, view: View, width: float) -> list[str]:
-    late = late_parts(trace)
-    return [*(_wrapped(late, width / 6.9) if late else []), *_wrapped(labels_of(view.units).energy(trace), width / 6.9)]
+    parts = _labels.late_parts(trace), _labels.labels_of(view.units).energy(trace)
+    return [line for each in parts for line in _wrapped(each, width / 6.9)]
 
 
 def _wrapped(parts: Sequence[str], letters: float) -> list[str]:
@@ -353,12 +338,12 @@ def _wrapped(parts: Sequence[str], letters: float) -> list[str]:
 
 def _facts(trace: Trace, name: str, view: View) -> str:
     task = next((task for task in trace.tasks if task.name == name), None)
-    return "" if task is None else labels_of(view.units).facts(task, view.charge)
+    return "" if task is None else _labels.labels_of(view.units).facts(task, view.charge)
 
 
 def _beside(frame: _Frame, y: float, text: str, margin: float = 8, **style: Any) -> None:
     """A text on the left of the axes."""
-    beside(frame.axes, (0, y), (-margin, 0), text, xycoords=("axes fraction", "data"), ha="right", **style)
+    _style.beside(frame.axes, (0, y), (-margin, 0), text, xycoords=("axes fraction", "data"), ha="right", **style)
 
 
 def _draw_rows(frame: _Frame) -> None:
@@ -392,20 +377,21 @@ def _draw_arrows(frame: _Frame, row: int, arrow: _Arrow, ticks: Sequence[int]) -
 
 def _draw_misses(frame: _Frame, row: int, ticks: Sequence[int]) -> None:
     """Draws a cross at each deadline that a task's jobs miss, at the height of a deadline's arrow."""
-    kept = thin(filter(frame.is_shown, ticks), NEAR / frame.scale)
+    kept = _thinning.thin(filter(frame.is_shown, ticks), NEAR / frame.scale)
     if kept:
         frame.axes.plot(kept, [frame.floor(row) + DUE] * len(kept), linestyle="none", marker="X", color=MISS,
                         markersize=10 * POINT, markeredgecolor="white", markeredgewidth=0.8 * POINT, zorder=2.8,
                         clip_on=False, gid=f"miss-{frame.names[row]}")
 
 
-def _draw_bars(frame: _Frame, shown: Iterable[Bar], floor: float, unit: float, name: str, **style: Any) -> None:
+def _draw_bars(frame: _Frame, shown: Iterable[_thinning.Bar], floor: float, unit: float, name: str,
+               **style: Any) -> None:
     """Draws bars on a floor, so high for each unit of speed; narrow ones over the arrows, others below."""
     from matplotlib.collections import PolyCollection
 
-    cut = [Bar(max(bar.begin, frame.first), min(bar.end, frame.last), bar.speed) for bar in shown]
+    cut = [_thinning.Bar(max(bar.begin, frame.first), min(bar.end, frame.last), bar.speed) for bar in shown]
     corners: dict[bool, list[list[tuple[float, float]]]] = {False: [], True: []}
-    for bar in join_narrow(cut, NARROW * frame.coarse / frame.scale, GAP * frame.coarse / frame.scale):
+    for bar in _thinning.join_narrow(cut, frame.coarse(NARROW) / frame.scale, frame.coarse(GAP) / frame.scale):
         is_narrow = (bar.end - bar.begin) * frame.scale < NARROW
         begin, end = bar.begin, max(bar.end, bar.begin + LEAST / frame.scale)
         high = floor + unit * bar.speed
@@ -419,14 +405,14 @@ def _draw_bars(frame: _Frame, shown: Iterable[Bar], floor: float, unit: float, n
             frame.axes.add_collection(made, autolim=False)
 
 
-def _draw_completions(frame: _Frame, row: int, kept: Sequence[Completion]) -> None:
+def _draw_completions(frame: _Frame, row: int, kept: Sequence[_thinning.Completion]) -> None:
     heights = [frame.floor(row) + frame.bar_height(done.speed) for done in kept]
     frame.axes.plot([done.at for done in kept], heights, linestyle="none", marker="o",
                     markersize=5.2 * POINT, color="white", markeredgecolor=RIM, markeredgewidth=1.2 * POINT,
                     zorder=2.6, clip_on=False, gid=f"done-{frame.names[row]}")
 
 
-def _label_completion(frame: _Frame, floor: float, done: Completion, text: str) -> None:
+def _label_completion(frame: _Frame, floor: float, done: _thinning.Completion, text: str) -> None:
     """The units, between release and deadline: above the bars before the completion, or after it, or not."""
     room = LETTER * len(text) + 10
     if frame.room(done.release, done.at) >= room:
@@ -440,7 +426,7 @@ def _draw_scale(frame: _Frame) -> None:
     line = partial(frame.axes.hlines, xmin=frame.first, xmax=frame.last, color=INK)
     line(0, linewidth=POINT)
     heights: list[float] = []
-    for speed in dict.fromkeys([0, frame.top, *(decision.speed for decision in frame.decisions)]):
+    for speed in dict.fromkeys([0, frame.top, *(each.speed for each in frame.trace.decisions)]):
         height = frame.speed_height(speed)
         if all(abs(height - other) >= 11 for other in heights):
             heights.append(height)
@@ -459,8 +445,8 @@ def _draw_speeds(frame: _Frame) -> None:
     demands = [(begin, end, frame.speed_height(each.num / each.den)) for begin, end, each in frame.spans]
     draw = partial(frame.axes.plot, clip_on=False, zorder=2.5)
     near = GAP / frame.scale
-    draw(*zip(*steps(speeds, near)), gid="speed", color=INK, linewidth=1.8 * POINT)
-    draw(*zip(*steps(demands, near)), gid="demand", color=DEMAND, linewidth=1.6 * POINT, linestyle=DOTS)
+    draw(*zip(*_thinning.steps(speeds, near)), gid="speed", color=INK, linewidth=1.8 * POINT)
+    draw(*zip(*_thinning.steps(demands, near)), gid="demand", color=DEMAND, linewidth=1.6 * POINT, linestyle=DOTS)
 
 
 def _draw_decisions(frame: _Frame) -> None:
@@ -489,26 +475,26 @@ def _draw_legend(frame: _Frame, has_idle: bool) -> None:
     what = ("used/worst case" if frame.trace.tasks else "used") + frame.labels.work_unit
     handles = [
         _sign("release", INK, TIP_ABOVE), _sign("deadline", DEADLINE, TIP_BELOW),
-        patch(f"run (full height: {frame.labels.speed(frame.top)})", COLOURS[0]),
+        _style.patch(f"run (full height: {frame.labels.speed(frame.top)})", COLOURS[0]),
         _sign(f"done: {what}" + (", with the charge" if frame.view.charge else ""), "white", "o",
               markeredgecolor=RIM),
         _sign("speed", INK, "", linestyle="-"), _sign("demand (dot: decision)", DEMAND, "o", linestyle=DOTS)]
     if frame.misses:
         handles.append(_sign("missed deadline", MISS, "X", fillstyle="full", markersize=9 * POINT, markeredgewidth=0))
     if has_idle:
-        handles.append(patch("idle", INK, 0.3))
+        handles.append(_style.patch("idle", INK, 0.3))
     above = Fraction(CAP) * frame.top
     if any(each.num * above.denominator > above.numerator * each.den for _, _, each in frame.spans):
         handles.append(_sign("demand above the picture", DEMAND, "^"))
     handles += [_sign(said, "none", "") for said in (frame.near_marks, frame.joined) if said in frame.left_out]
     longest = max(len(handle.get_label()) for handle in handles)
     high = frame.floor(0) + ROW + TICKS
-    legend(frame.axes, handles, max(1, int(frame.width / (longest * 5.5 + 38))), loc="upper left",
+    _style.legend(frame.axes, handles, max(1, int(frame.width / (longest * 5.5 + 38))), loc="upper left",
            bbox_to_anchor=(0, -20 / high), borderaxespad=0, handlelength=1.5, columnspacing=1.5,
            handletextpad=0.5, borderpad=0)
 
 
 def _sign(label: str, colour: str, marker: object, **style: Any) -> Any:
     filled = "full" if marker == "o" else "none"
-    return sign(label, colour, **{"linestyle": "none", "marker": marker, "markersize": 5 * POINT,
+    return _style.sign(label, colour, **{"linestyle": "none", "marker": marker, "markersize": 5 * POINT,
                                   "fillstyle": filled, **style})

@@ -5,10 +5,8 @@ from dataclasses import dataclass
 
 from rtdvs.errors import DeadlineMissed, TraceFault, Wrong, WrongTrace
 from rtdvs.model import MOST_LINES, Demands, Machine, Scheduler, TaskSet
-from rtdvs.rules.governors import GOVERNORS
+from rtdvs.rules import governors, reasons, state
 from rtdvs.rules.plan import Plan, Priority
-from rtdvs.rules.reasons import Reasons
-from rtdvs.rules.state import State
 from rtdvs.rules.step import DECISION, DONE, END, RUN, Fields, Step
 from rtdvs.trace import Decision, Head, Line, Reader, Release, split_governor, task_text
 
@@ -21,7 +19,7 @@ class Checker:
 
     >>> from rtdvs.rules.governors import full
     >>> from rtdvs.rules.plan import EXAMPLE
-    >>> checker = Checker(Step(State.begin(EXAMPLE), 4, full, None), version=1)
+    >>> checker = Checker(Step(state.State.begin(EXAMPLE), 4, full, None), version=1)
     >>> checker.passes("release 0 a 1\\n"), checker.passes("release 0 b 2\\n")
     (True, False)
     >>> checker.judge(Release(0, "b", 2))
@@ -30,7 +28,7 @@ class Checker:
     """
 
     def __init__(self, step: Step, version: int) -> None:
-        self.step, self.reasons = step, Reasons(step, version)
+        self.step, self.reasons = step, reasons.Reasons(step, version)
         if version == 1:
             step.closing.clear()
         self.is_free, self.learns = step.rule is None, step.needs is None
@@ -131,10 +129,10 @@ class Walk:
             raise Wrong(f"no scheduler {head.scheduler}")
         plan = Plan(self.tasks, self.machine, self.scheduler or head.scheduler)
         if not self.any_governor and self.scheduler is None:
-            if pair not in GOVERNORS:
+            if pair not in governors.GOVERNORS:
                 raise Wrong(f"no scheduler and governor {' '.join(pair)}")
-            rule = GOVERNORS[pair]
+            rule = governors.GOVERNORS[pair]
             if missed is None:
                 plan.admit()
         needs = None if self.demands is None else plan.needs(self.demands)
-        return Checker(Step(State.begin(plan, missed), head.ticks, rule, needs), head.version)
+        return Checker(Step(state.State.begin(plan, missed), head.ticks, rule, needs), head.version)

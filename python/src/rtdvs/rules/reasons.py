@@ -5,7 +5,7 @@ from typing import Any
 
 from rtdvs.model import Point, Task
 from rtdvs.rules.state import Latest, State
-from rtdvs.rules.step import DECISION, Fields, Step
+from rtdvs.rules.step import DECISION, Step
 from rtdvs.rules.terms import TERMS, speeds
 from rtdvs.trace import (
     NO_FRACTION, Decision, Done, End, Idle, Line, Missed, Release, Run, TaskEnergy, closing_fault, wrong_energy,

@@ -6,18 +6,16 @@ from dataclasses import dataclass, field, replace
 from fractions import Fraction
 from typing import TypeVar
 
-from rtdvs._display import Cell, Shown
-from rtdvs._numbers import aligned, decimal
+from rtdvs import _display, _numbers
 from rtdvs.engine import (
     Answer, Call, Engine, Least, RunTotals, least_call, parse_least, parse_totals, run_call, totals_call,
 )
 from rtdvs.errors import Denied, TraceFault
-from rtdvs.model import Demands, Machine, TaskSet
+from rtdvs.model import PAIRS as ALL_PAIRS, Demands, Machine, TaskSet
 from rtdvs.trace import Ran, Run, Trace, task_statistics
 
 T = TypeVar("T")
-PAIRS = (("edf", "none"), ("edf", "static"), ("edf", "cc"), ("edf", "la"),
-         ("rm", "none"), ("rm", "static"), ("rm", "cc"))
+PAIRS = tuple((str(scheduler), str(governor)) for scheduler, governor in ALL_PAIRS)
 
 HEADING = ("scheduler", "governor", "energy", "of_none", "above_bound", "switches", "idle", "least_laxity", "jitter")
 
@@ -68,7 +66,7 @@ KINDS = {"scheduler": "object", "governor": "object", "energy": "object", "of_no
          "jitter": "float64"}
 
 
-class Comparison(tuple[Row, ...], Shown):
+class Comparison(tuple[Row, ...], _display.Shown):
     """The rows of a comparison, as a tuple that a notebook shows as a table.
 
     >>> Comparison([Row("rm", "cc", None, "denied rm y 7 6")]).frame()[["governor", "refusal"]].values.tolist()
@@ -84,14 +82,17 @@ class Comparison(tuple[Row, ...], Shown):
     def _columns(self) -> Mapping[str, str]:
         return KINDS | {f"at_{speed}": "float64" for speed in self.speeds()} | {"refusal": "object"}
 
-    def _rows(self) -> Iterator[tuple[Cell, ...]]:
+    def _rows(self) -> Iterator[tuple[_display.Cell, ...]]:
         for row in self:
-            values: list[Cell] = [None] * (len(self._columns()) - 3)
-            if found := row.result:
-                values = [found.energy, found.share, found.above_bound, found.switches, found.idle,
-                          found.least_laxity, found.jitter,
-                          *(found.residency.get(speed, Fraction(0)) for speed in self.speeds())]
-            yield row.scheduler, row.governor, *values, row.refusal
+            missing = [None] * (len(self._columns()) - 3)
+            yield row.scheduler, row.governor, *(_values(row.result, self.speeds()) or missing), row.refusal
+
+
+def _values(found: Result | None, speeds: Iterable[int]) -> list[int | Fraction | None]:
+    """The values of a row, as HEADING has them, and the times at the speeds; none without a result."""
+    return [] if found is None else [
+        found.energy, found.share, found.above_bound, found.switches, found.idle, found.least_laxity, found.jitter,
+        *(found.residency.get(speed, Fraction(0)) for speed in speeds)]
 
 
 @dataclass(frozen=True, slots=True)
@@ -200,8 +201,8 @@ def result(trace: Trace, tasks: TaskSet, least: Least, base: int) -> Result:
     (Fraction(2, 3), Fraction(1, 2), 1)
     """
     of_tasks = task_statistics(trace, tasks)
-    laxities = [each.least_laxity for each in of_tasks if each.least_laxity is not None]
-    jitters = [each.jitter for each in of_tasks if each.jitter is not None]
+    laxities = (each.least_laxity for each in of_tasks if each.least_laxity is not None)
+    jitters = (each.jitter for each in of_tasks if each.jitter is not None)
     bound = Fraction(least.energy, least.rounds)
     return Result(
         energy=trace.energy,
@@ -265,7 +266,7 @@ def table(rows: Sequence[Row]) -> str:
     """
     speeds = sorted({speed for row in rows if row.result for speed in row.result.residency})
     heading = (*HEADING, *(f"at_{speed}" for speed in speeds))
-    return aligned([heading, *(cells(row, speeds) for row in rows)], left=2)
+    return _numbers.aligned([heading, *(cells(row, speeds) for row in rows)], left=2)
 
 
 def cells(row: Row, speeds: Sequence[int]) -> tuple[str, ...]:
@@ -274,14 +275,9 @@ def cells(row: Row, speeds: Sequence[int]) -> tuple[str, ...]:
     >>> cells(Row("rm", "cc", None, "denied rm y 7 6"), [2, 3])
     ('rm', 'cc', 'denied rm y 7 6')
     """
-    result = row.result
-    if result is None:
-        return row.scheduler, row.governor, row.refusal
-    residency = (result.residency.get(speed, Fraction(0)) for speed in speeds)
-    values = (result.energy, result.share, result.above_bound, result.switches, result.idle,
-              result.least_laxity, result.jitter, *residency)
-    texts = (str(value) if isinstance(value, int) else decimal(value, 4) for value in values)
-    return row.scheduler, row.governor, *texts
+    values = _values(row.result, speeds)
+    texts = [str(value) if isinstance(value, int) else _numbers.decimal(value, 4) for value in values]
+    return row.scheduler, row.governor, *(texts or [row.refusal])
 
 
 def finer_table(rows: Sequence[Row], finer: Mapping[int, Sequence[Fraction | None]]) -> str:
@@ -293,5 +289,5 @@ def finer_table(rows: Sequence[Row], finer: Mapping[int, Sequence[Fraction | Non
     heading = ("scheduler", "governor", *(f"finer_{times}" for times in finer))
     shares = [[energy / row.result.energy if energy is not None and row.result and row.result.energy else None
                for row, energy in zip(rows, energies)] for energies in finer.values()]
-    return aligned([heading, *((row.scheduler, row.governor, *(decimal(share, 4) for share in column))
+    return _numbers.aligned([heading, *((row.scheduler, row.governor, *(_numbers.decimal(share, 4) for share in column))
                                for row, *column in zip(rows, *shares))], left=2)

@@ -14,16 +14,15 @@ from rtdvs._numbers import decimal
 from rtdvs.engine import Engine, RunTotals, parse_totals
 from rtdvs.errors import BadValue, Crashed, Denied
 from rtdvs.model import Demands, Machine, Point, TaskSet
-from rtdvs.studies.comparison import PAIRS, Case, runs, totals
+from rtdvs.studies import comparison, random_sets
 from rtdvs.studies.own import Own, scaled_to
 from rtdvs.studies.published import (
     PUBLISHED_COUNTS, PUBLISHED_SEED, PUBLISHED_TOP, SetName, published_sets, uunifast_sets,
 )
-from rtdvs.studies.random_sets import PUBLISHED_TICKS, taken, taken_uniform
 from rtdvs.trace import Done, Idle, Release, Run, Trace
 
 DRAWS = {"published": published_sets, "uunifast": uunifast_sets}
-CURVES = (*(f"{scheduler} {governor}" for scheduler, governor in PAIRS), "bound")
+CURVES = (*(f"{scheduler} {governor}" for scheduler, governor in comparison.PAIRS), "bound")
 TENTHS = range(1, 11)
 NOT_WHOLE = "not the whole result of a set"
 
@@ -118,11 +117,11 @@ class Sweep:
         """
         return (*CURVES, *self.own.curves())
 
-    def case(self, name: SetName, tasks: TaskSet, kind: str, take: str) -> Case:
+    def case(self, name: SetName, tasks: TaskSet, kind: str, take: str) -> comparison.Case:
         """The run of a set on a machine, in which jobs take a share of their worst cases."""
         machine = self.machine(kind)
         fitted = scaled_to(tasks, machine.top_speed, PUBLISHED_TOP) if kind in self.own.machines else tasks
-        return Case(fitted, machine, PUBLISHED_TICKS, demands_of(name, fitted, take, self.seed))
+        return comparison.Case(fitted, machine, random_sets.PUBLISHED_TICKS, demands_of(name, fitted, take, self.seed))
 
     def missing(self) -> list[Path]:
         """The own traces that aren't there; the task file of each is written beside it; raises OSError."""
@@ -187,8 +186,8 @@ def demands_of(name: SetName, tasks: TaskSet, take: str, seed: int) -> Demands |
     if take == "1":
         return None
     if take == "uniform":
-        return taken_uniform(tasks, name.seed(seed), PUBLISHED_TICKS)
-    return taken(tasks, Fraction(take), PUBLISHED_TICKS)
+        return random_sets.taken_uniform(tasks, name.seed(seed), random_sets.PUBLISHED_TICKS)
+    return random_sets.taken(tasks, Fraction(take), random_sets.PUBLISHED_TICKS)
 
 
 def panels_of(name: SetName, sweep: Sweep = PUBLISHED_SWEEP) -> tuple[tuple[str, str], ...]:
@@ -242,11 +241,12 @@ def measure(engine: Engine, sweep: Sweep, named: tuple[SetName, TaskSet]) -> lis
             for curve, energy in _all_energies(engine, sweep, name, sweep.case(name, tasks, kind, take), kind)]
 
 
-def _all_energies(engine: Engine, sweep: Sweep, name: SetName, case: Case,
+def _all_energies(engine: Engine, sweep: Sweep, name: SetName, case: comparison.Case,
                   kind: str) -> Iterator[tuple[str, Fraction | None]]:
     """The energies of the pairs, and those of the user's own curves, unless their scheduler denies the set."""
     denied = set[str]()
-    found = _recounted(case.machine, runs(engine, case, PAIRS)) if name.number == 1 else totals(engine, case, PAIRS)
+    found = (_recounted(case.machine, comparison.runs(engine, case, comparison.PAIRS)) if name.number == 1
+             else comparison.totals(engine, case, comparison.PAIRS))
     for curve, energy in _energies(engine, case, found):
         if energy is None:
             denied.add(curve.split(" ")[0])
@@ -267,17 +267,17 @@ def _recounted(machine: Machine, texts: Iterable[str | Denied]) -> Iterator[RunT
             yield parse_totals(text)
 
 
-def _energies(engine: Engine, case: Case,
+def _energies(engine: Engine, case: comparison.Case,
               found: Iterable[RunTotals | Denied]) -> Iterator[tuple[str, Fraction | None]]:
     """The energy of each curve: the seven pairs, by their totals, and the bound for their units, which all share."""
-    for (scheduler, governor), each in zip(PAIRS, found):
+    for (scheduler, governor), each in zip(comparison.PAIRS, found):
         if isinstance(each, Denied):
             if scheduler == "edf" and not case.machine.charge:
                 raise each
-            yield from ((("bound", None),) if (scheduler, governor) == PAIRS[0] else ())
+            yield from ((("bound", None),) if (scheduler, governor) == comparison.PAIRS[0] else ())
             yield f"{scheduler} {governor}", None
             continue
-        if (scheduler, governor) == PAIRS[0]:
+        if (scheduler, governor) == comparison.PAIRS[0]:
             least = engine.least(case.machine, units_at_top(case.machine, each), case.ticks)
             yield "bound", Fraction(least.energy, least.rounds)
         yield f"{scheduler} {governor}", Fraction(each.energy)

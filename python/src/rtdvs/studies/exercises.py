@@ -7,9 +7,8 @@ from itertools import combinations
 from math import lcm
 from pathlib import Path
 
-from rtdvs._files import write_whole
+from rtdvs import _files, errors
 from rtdvs.engine import Engine
-from rtdvs.errors import Denied
 from rtdvs.model import Demands, Machine, Point, Task, TaskSet, jobs_of
 from rtdvs.rules import Walk, explain, last_line
 from rtdvs.studies.random_sets import MOST_SEED, drawn, numbered, require, unrelated_states
@@ -61,9 +60,9 @@ class Exercise:
         self.tasks.write(folder / "tasks.toml")
         BOARD.write(folder / "machine.toml")
         self.demands.write(folder / "demands.csv")
-        write_whole(folder / "question.md", self.question())
-        write_whole(folder / "solution.trace", self.trace)
-        write_whole(folder / "explanation.txt", self.explanation)
+        _files.write_whole(folder / "question.md", self.question())
+        _files.write_whole(folder / "solution.trace", self.trace)
+        _files.write_whole(folder / "explanation.txt", self.explanation)
 
 
 def small_sets(stream: Iterator[int]) -> Iterator[tuple[TaskSet, Demands]]:
@@ -97,7 +96,7 @@ def exercise(engine: Engine, seed: int, scheduler: str = "edf", governor: str = 
     for tasks, demands in small_sets(unrelated_states(seed)):
         try:
             trace = engine.run(tasks, BOARD, scheduler, governor, tasks.hyperperiod, demands, version=1).text()
-        except Denied:
+        except errors.Denied:
             continue
         lines: list[str] = []
         summary = explain(Walk(tasks, BOARD, trace.splitlines(keepends=True), demands), lines.append)

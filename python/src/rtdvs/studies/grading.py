@@ -6,13 +6,12 @@ tasks, the machine, the demands and the plan line; the checker gives the reason 
 
 import re
 from bisect import bisect_left
-from collections.abc import Iterator, Mapping, Sequence
+from collections.abc import Iterator, Sequence
 from dataclasses import dataclass
 from fractions import Fraction
 from pathlib import Path
 
-from rtdvs._display import Cell, Shown
-from rtdvs._numbers import aligned, decimal
+from rtdvs import _display, _numbers
 from rtdvs.errors import BadValue, RtdvsError, TraceFault
 from rtdvs.model import Demands, Machine, TaskSet, jobs_of
 from rtdvs.rules import Plan, check, simulate
@@ -180,7 +179,7 @@ COLUMNS = {"file": "object", "lines": "int64", "of_lines": "int64", "share": "fl
            "mended": "object"}
 
 
-class Grades(tuple[Grade, ...], Shown):
+class Grades(tuple[Grade, ...], _display.Shown):
     """The grades of some traces, as a tuple that a notebook shows as a table.
 
     >>> print(Grades([Grade("a.trace", 31, 44, 9, 12, 12, "no task t4")]).csv(), end="")
@@ -189,11 +188,9 @@ class Grades(tuple[Grade, ...], Shown):
     """
 
     __slots__ = ()
+    _kinds = COLUMNS
 
-    def _columns(self) -> Mapping[str, str]:
-        return COLUMNS
-
-    def _rows(self) -> Iterator[tuple[Cell, ...]]:
+    def _rows(self) -> Iterator[tuple[_display.Cell, ...]]:
         for each in self:
             chosen = Fraction(each.decisions, each.of_decisions or 1)
             yield (each.name, each.lines, each.of_lines, each.share, each.decisions, each.of_decisions, chosen,
@@ -209,16 +206,16 @@ class Grades(tuple[Grade, ...], Shown):
         rows = [("file", "lines", "right", "decisions", "right")]
         rows += [(each.name, *_of(each.lines, each.of_lines), *_of(each.decisions, each.of_decisions)) for each in self]
         ends = ["first fault", *(_end(each) for each in self)]
-        return "".join(f"{row}  {end}\n" for row, end in zip(aligned(rows).splitlines(), ends, strict=True))
+        return "".join(f"{row}  {end}\n" for row, end in zip(_numbers.aligned(rows).splitlines(), ends, strict=True))
 
 
-def _field(cell: Cell) -> str:
-    text = "" if cell is None else decimal(cell, 4) if isinstance(cell, Fraction) else str(cell)
+def _field(cell: _display.Cell) -> str:
+    text = "" if cell is None else _numbers.decimal(cell, 4) if isinstance(cell, Fraction) else str(cell)
     return '"{}"'.format(text.replace('"', '""')) if re.search('[",\n]', text) else text
 
 
 def _of(right: int, wanted: int) -> tuple[str, str]:
-    return f"{right}/{wanted}", f"{decimal(Fraction(100 * right, wanted or 1), 1)} %"
+    return f"{right}/{wanted}", f"{_numbers.decimal(Fraction(100 * right, wanted or 1), 1)} %"
 
 
 def _end(grade: Grade) -> str:
@@ -252,7 +249,6 @@ def _decisions(lines: Sequence[str]) -> int:
 
 def _first_fault(asked: Asked, demands: Demands | None, lines: Sequence[str]) -> tuple[int | None, str]:
     """The first wrong line and its reason, with the form if it is misspelled."""
-    number, reason = None, ""
     wanted = asked.plan and f"plan {asked.plan.scheduler} {asked.plan.governor} {asked.plan.ticks}"
     try:
         Reader(lines)
@@ -260,12 +256,11 @@ def _first_fault(asked: Asked, demands: Demands | None, lines: Sequence[str]) ->
             return 2, f"wanted {wanted}"
         check(asked.tasks, asked.machine, lines, demands)
     except TraceFault as fault:
-        number, reason = fault.line, fault.reason
-        if number <= len(lines) and (form := expected(number, lines[number - 1])):
-            reason = f"{reason}: {form}"
+        form = expected(fault.line, lines[fault.line - 1]) if fault.line <= len(lines) else ""
+        return fault.line, f"{fault.reason}: {form}" if form else fault.reason
     except RtdvsError as refused:
-        number, reason = 2, str(refused)
-    return number, reason
+        return 2, str(refused)
+    return None, ""
 
 
 def _right_lines(asked: Asked, demands: Demands | None, head: Head | None) -> list[str]:

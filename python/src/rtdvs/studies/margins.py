@@ -137,17 +137,11 @@ class Guess:
 
     def __init__(self, question: Question, levels: Sequence[Sequence[Demand]], of: Callable[[Demand], int | None],
                  within: Callable[[int, int], int] = max, across: Callable[[int, int], int] = min) -> None:
-        self.periods = [task.period for task in question.tasks]
-        self.ranks = {question.tasks[place].name: rank for rank, place in enumerate(self._order())}
         self.of, self.within, self.across = of, within, across
-        self.best = [self._of_level(level) for level in levels]
-
-    def _order(self) -> list[int]:
-        return sorted(range(len(self.periods)), key=lambda place: self.periods[place])
-
-    def _of_level(self, level: Iterable[Demand]) -> int | None:
-        """The number that one of the demands allows; None if each allows any number."""
-        return _joined(self.within, map(self.of, level))
+        self.periods = [task.period for task in question.tasks]
+        self.order = sorted(range(len(self.periods)), key=self.periods.__getitem__)
+        self.ranks = {question.tasks[place].name: rank for rank, place in enumerate(self.order)}
+        self.best = [_joined(within, map(of, level)) for level in levels]  # None if each demand allows any number
 
     def number(self) -> int:
         """The last number that all levels allow."""
@@ -155,10 +149,9 @@ class Guess:
 
     def learn(self, responses: Mapping[str, int]) -> None:
         """Takes the demands up to the responses of a set that was admitted."""
-        order = self._order()
         for task, time in responses.items():
             rank = self.ranks[task]
-            found = self.of(Demand.by(time, self.periods, order[:rank + 1]))
+            found = self.of(Demand.by(time, self.periods, self.order[:rank + 1]))
             self.best[rank] = _joined(self.within, (self.best[rank], found))
 
 

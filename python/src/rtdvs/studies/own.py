@@ -10,7 +10,7 @@ from typing import Any
 from zlib import crc32
 
 from rtdvs.errors import NAME, BadValue, DeadlineMissed, TraceFault
-from rtdvs.model import Demands, Machine, TaskSet
+from rtdvs.model import Governor, Machine, TaskSet
 from rtdvs.rules import Chooser, View, check, simulate
 from rtdvs.studies.comparison import Case
 from rtdvs.trace import Trace
@@ -139,7 +139,7 @@ class Own:
 
     def __post_init__(self) -> None:
         names = self._names()
-        if twice := {name for name in names if names.count(name) > 1 or name in ("none", "static", "cc", "la")}:
+        if twice := {name for name in names if names.count(name) > 1 or name in [*Governor]}:
             raise BadValue(f"two curves of one name: {min(twice)}")
 
     def curves(self) -> tuple[str, ...]:

@@ -6,9 +6,7 @@ from fractions import Fraction
 from math import floor
 
 from rtdvs.model import TaskSet
-from rtdvs.studies.random_sets import (
-    MODULUS, PUBLISHED_TICKS, LogUniform, divisors, drawn, nearest, numbered, states, unrelated_states, uunifast,
-)
+from rtdvs.studies import random_sets
 
 PUBLISHED_SEED = 2001
 PUBLISHED_COUNTS = (5, 8, 10, 15)
@@ -58,11 +56,11 @@ def set_names(most: int, counts: Iterable[int] = PUBLISHED_COUNTS) -> Iterator[S
 def published_time(stream: Iterator[int]) -> Fraction:
     """Milliseconds: 1 to 10, 10 to 100 or 100 to 1000, each equally likely, and uniform within.
 
-    >>> published_time(states(1)) < 10
+    >>> published_time(random_sets.states(1)) < 10
     True
     """
-    low: int = 10 ** drawn(stream, 3)
-    return low + Fraction(next(stream), MODULUS) * 9 * low
+    low: int = 10 ** random_sets.drawn(stream, 3)
+    return low + Fraction(next(stream), random_sets.MODULUS) * 9 * low
 
 
 def published_set(count: int, tenths: int, stream: Iterator[int]) -> TaskSet:
@@ -71,15 +69,15 @@ def published_set(count: int, tenths: int, stream: Iterator[int]) -> TaskSet:
     A period is a time, then the nearest divisor of 720720 ticks. Worst cases are in proportion to weights
     that are drawn as the periods are, and rounded down to whole units.
 
-    >>> [(task.period, task.worst) for task in published_set(1, 5, states(2001))]
+    >>> [(task.period, task.worst) for task in published_set(1, 5, random_sets.states(2001))]
     [(936, 46800000)]
     """
-    choices = divisors(PUBLISHED_TICKS, PUBLISHED_MILLISECOND, 1000 * PUBLISHED_MILLISECOND)
-    pairs = [(nearest(choices, published_time(stream) * PUBLISHED_MILLISECOND), published_time(stream))
+    choices = random_sets.divisors(random_sets.PUBLISHED_TICKS, PUBLISHED_MILLISECOND, 1000 * PUBLISHED_MILLISECOND)
+    pairs = [(random_sets.nearest(choices, published_time(stream) * PUBLISHED_MILLISECOND), published_time(stream))
              for _ in range(count)]
     rate = sum(weight / period for period, weight in pairs)
     worsts = [floor(Fraction(tenths * PUBLISHED_TOP, 10) * weight / rate) for _, weight in pairs]
-    return numbered([period for period, _ in pairs], worsts)
+    return random_sets.numbered([period for period, _ in pairs], worsts)
 
 
 def published_sets(most: int, seed: int = PUBLISHED_SEED,
@@ -92,11 +90,11 @@ def published_sets(most: int, seed: int = PUBLISHED_SEED,
     >>> next(published_sets(100))[1].named("t1").period
     936
     """
-    stream = states(seed)
+    stream = random_sets.states(seed)
     if not {*PUBLISHED_COUNTS}.isdisjoint(counts):
         yield from ((name, published_set(name.count, name.tenths, stream)) for name in set_names(most))
     for name in set_names(most, sorted({*counts} - {*PUBLISHED_COUNTS})):
-        yield name, published_set(name.count, name.tenths, unrelated_states(OWN_SEEDS + name.seed(seed)))
+        yield name, published_set(name.count, name.tenths, random_sets.unrelated_states(OWN_SEEDS + name.seed(seed)))
 
 
 def uunifast_sets(most: int, seed: int = PUBLISHED_SEED,
@@ -106,6 +104,6 @@ def uunifast_sets(most: int, seed: int = PUBLISHED_SEED,
     >>> next(uunifast_sets(1))[1].named("t1").period
     30030
     """
-    periods = LogUniform(PUBLISHED_MILLISECOND, 1000 * PUBLISHED_MILLISECOND, PUBLISHED_TICKS)
-    return ((name, uunifast(name.count, Fraction(name.tenths, 10), OWN_SEEDS + name.seed(seed), periods,
+    periods = random_sets.LogUniform(PUBLISHED_MILLISECOND, 1000 * PUBLISHED_MILLISECOND, random_sets.PUBLISHED_TICKS)
+    return ((name, random_sets.uunifast(name.count, Fraction(name.tenths, 10), OWN_SEEDS + name.seed(seed), periods,
                             PUBLISHED_TOP)) for name in set_names(most, sorted({*counts})))

@@ -9,7 +9,7 @@ from rtdvs.trace._belongs import wrong_energy, wrong_sums
 from rtdvs.trace._noted import Noted
 from rtdvs.trace.file import TraceFile
 from rtdvs.trace.jobs import Job, Ran, ran_at
-from rtdvs.trace.misses import Miss, Missed, late_jobs, split_governor
+from rtdvs.trace.misses import Miss, Missed, is_late, late_jobs, split_governor
 from rtdvs.trace.notes import Decision, Done, End, Head, Idle, Line, Note, Position, Release, Run, TaskEnergy, task_text
 from rtdvs.trace.reader import NO_FRACTION, Reader, closing_fault, lines_of, parse_lines
 from rtdvs.trace.per_task import COLUMNS, Statistics, TaskStatistics, task_statistics
@@ -19,7 +19,7 @@ from rtdvs.trace.whole import SAMPLE, Trace
 __all__ = [
     "COLUMNS", "Decision", "Done", "End", "Head", "Idle", "Job", "Line", "Miss", "Missed", "NO_FRACTION", "Note",
     "Noted", "Position", "REALS", "Ran", "Reader", "Release", "Run", "SAMPLE", "Statistics", "TABLES", "TaskEnergy",
-    "TaskStatistics", "Trace", "TraceFile", "closing_fault", "csv_lines", "csv_text", "frame", "late_jobs",
-    "lines_of", "parse_lines", "ran_at", "rows", "split_governor", "task_statistics", "task_text", "ticks",
+    "TaskStatistics", "Trace", "TraceFile", "closing_fault", "csv_lines", "csv_text", "frame", "is_late",
+    "late_jobs", "lines_of", "parse_lines", "ran_at", "rows", "split_governor", "task_statistics", "task_text", "ticks",
     "wrong_energy", "wrong_sums",
 ]

@@ -5,8 +5,7 @@ from itertools import takewhile
 
 from rtdvs.errors import TraceFault
 from rtdvs.model import Machine, Task, TaskSet
-from rtdvs.trace._belongs import OnMachine, not_of_tasks
-from rtdvs.trace.jobs import Job, Placed, Ran, ended, in_order, periods_of, ran_at
+from rtdvs.trace import _belongs, jobs
 from rtdvs.trace.misses import Miss, Missed, late_jobs, split_governor
 from rtdvs.trace.notes import Decision, Done, Note, Release, Run
 
@@ -50,16 +49,16 @@ class Noted:
                 speed = note.speed
             yield note, speed
 
-    def ran(self) -> dict[int, Ran]:
+    def ran(self) -> dict[int, jobs.Ran]:
         """The units at each speed that was chosen: of runs, and idle ones.
 
         >>> from rtdvs.trace import SAMPLE, Trace
         >>> Trace.parse(SAMPLE).ran()
         {3: Ran(units=3, idle=0), 2: Ran(units=1, idle=1)}
         """
-        return ran_at(self.at_speeds())
+        return jobs.ran_at(self.at_speeds())
 
-    def numbered(self) -> Iterator[Placed]:
+    def numbered(self) -> Iterator[jobs.Placed]:
         """Each note with the number of its line, and with the speed in force, as in `at_speeds`.
 
         >>> from rtdvs.trace import SAMPLE, Trace
@@ -88,29 +87,29 @@ class Noted:
         for _ in self._belonging(tasks, machine):
             pass
 
-    def _belonging(self, tasks: TaskSet, machine: Machine | None = None) -> Iterator[Placed]:
+    def _belonging(self, tasks: TaskSet, machine: Machine | None = None) -> Iterator[jobs.Placed]:
         """The notes as `numbered` has them, each after `belongs_to` looked at it."""
         if self.version == 2:
             same = sum(1 for _ in takewhile(lambda pair: pair[0] == pair[1], zip(self.tasks, tasks)))
             if same < max(len(self.tasks), len(tasks)):
                 raise TraceFault(same + 3, "its tasks aren't those of the task file")
         named = {task.name: task for task in tasks}
-        on = None if machine is None else OnMachine(machine, named)
+        on = None if machine is None else _belongs.OnMachine(machine, named)
         for line, note, speed in self.numbered():
-            if fault := not_of_tasks(note, named) or (on.fault(note, speed) if on else ""):
+            if fault := _belongs.not_of_tasks(note, named) or (on.fault(note, speed) if on else ""):
                 raise TraceFault(line, fault)
             yield line, note, speed
 
-    def each_job(self, tasks: TaskSet | None = None) -> Iterator[Job]:
+    def each_job(self, tasks: TaskSet | None = None) -> Iterator[jobs.Job]:
         """The jobs as Trace.jobs has them, in little memory; raises TraceFault as that does.
 
         >>> from rtdvs.trace import SAMPLE, Trace
         >>> [job.units for job in Trace.parse(SAMPLE).each_job()]
         [4]
         """
-        periods = {task.name: task.period for task in tasks or self.tasks} or periods_of(self.notes)
+        periods = {task.name: task.period for task in tasks or self.tasks} or jobs.periods_of(self.notes)
         placed = self.numbered() if tasks is None else self._belonging(tasks)
-        return in_order(ended(placed, periods, self.missed is Missed.DROP))
+        return jobs.in_order(jobs.ended(placed, periods, self.missed is Missed.DROP))
 
     @property
     def missed(self) -> Missed | None:

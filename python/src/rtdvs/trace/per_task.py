@@ -1,6 +1,6 @@
 """Statistics of a trace: a line for each task."""
 
-from collections.abc import Iterator, Mapping
+from collections.abc import Iterator
 from dataclasses import dataclass
 from fractions import Fraction
 
@@ -109,9 +109,7 @@ class Statistics(tuple[TaskStatistics, ...], Shown):
     """
 
     __slots__ = ()
-
-    def _columns(self) -> Mapping[str, str]:
-        return KINDS
+    _kinds = KINDS
 
     def _rows(self) -> Iterator[tuple[Cell, ...]]:
         return (each.cells() for each in self)

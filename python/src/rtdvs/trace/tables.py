@@ -6,15 +6,10 @@ Energies are whole numbers.
 
 from collections.abc import Callable, Iterator
 from fractions import Fraction
-from typing import TYPE_CHECKING
 
-from rtdvs._display import Cell, frame_of
-from rtdvs._numbers import decimal, significant
+from rtdvs import _display, _numbers
 from rtdvs.trace._noted import Noted
 from rtdvs.trace.notes import Decision, Idle, Run
-
-if TYPE_CHECKING:
-    import pandas
 
 REALS = {"j": "job", "s": "speed", "d": "demand", "e": "energy"}
 
@@ -25,7 +20,7 @@ def ticks(time: Fraction) -> str:
     >>> ticks(Fraction(28, 3)), ticks(Fraction(9))
     ('9.333333', '9')
     """
-    return decimal(time, 6 if time.denominator > 1 else 0)
+    return _numbers.decimal(time, 6 if time.denominator > 1 else 0)
 
 
 TABLES = {  # the columns, and the kind that pandas has of each
@@ -38,7 +33,7 @@ TABLES = {  # the columns, and the kind that pandas has of each
 }
 
 
-def rows(trace: Noted, table: str = "segments", charge: int = 0) -> Iterator[tuple[Cell, ...]]:
+def rows(trace: Noted, table: str = "segments", charge: int = 0) -> Iterator[tuple[_display.Cell, ...]]:
     """The rows of a table: segments, jobs or decisions; times in ticks, and None for what isn't known.
 
     `declared` has the machine's charge twice. Raises KeyError for another table, and TraceFault as
@@ -48,18 +43,18 @@ def rows(trace: Noted, table: str = "segments", charge: int = 0) -> Iterator[tup
     >>> [row[2:7] for row in rows(Trace.parse(SAMPLE), "jobs")]
     [(0, 2, Fraction(3, 2), Fraction(3, 2), Fraction(1, 2))]
     """
-    makers: dict[str, Callable[[], Iterator[tuple[Cell, ...]]]] = {
+    makers: dict[str, Callable[[], Iterator[tuple[_display.Cell, ...]]]] = {
         "segments": lambda: _segments(trace), "jobs": lambda: _jobs(trace, charge),
         "decisions": lambda: _decisions(trace)}
     return makers[table]()
 
 
-def _decisions(trace: Noted) -> Iterator[tuple[Cell, ...]]:
+def _decisions(trace: Noted) -> Iterator[tuple[_display.Cell, ...]]:
     return ((note.tick, note.speed, note.num, note.den, Fraction(note.num, note.den))
             for note in trace.notes if isinstance(note, Decision))
 
 
-def _segments(trace: Noted) -> Iterator[tuple[Cell, ...]]:
+def _segments(trace: Noted) -> Iterator[tuple[_display.Cell, ...]]:
     for note, speed in trace.at_speeds():
         if isinstance(note, Run | Idle):
             whose = ("run", note.task, note.job) if isinstance(note, Run) else ("idle", "", None)
@@ -67,7 +62,7 @@ def _segments(trace: Noted) -> Iterator[tuple[Cell, ...]]:
                    speed, note.units, note.energy)
 
 
-def _jobs(trace: Noted, charge: int) -> Iterator[tuple[Cell, ...]]:
+def _jobs(trace: Noted, charge: int) -> Iterator[tuple[_display.Cell, ...]]:
     declared = {task.name: task.worst + 2 * charge for task in trace.tasks}
     for job in trace.each_job():
         used = None if job.completion is None else job.units
@@ -98,13 +93,13 @@ def csv_lines(trace: Noted, table: str = "segments", charge: int = 0) -> Iterato
         yield f"{','.join(_cell_text(cell, table) for cell in row)}\n"
 
 
-def _cell_text(cell: Cell, table: str) -> str:
+def _cell_text(cell: _display.Cell, table: str) -> str:
     if isinstance(cell, Fraction):
-        return significant(*cell.as_integer_ratio(), 9) if table == "decisions" else ticks(cell)
+        return _numbers.significant(*cell.as_integer_ratio(), 9) if table == "decisions" else ticks(cell)
     return "" if cell is None else str(cell)
 
 
-def frame(trace: Noted, table: str = "segments", joule: Fraction | None = None, charge: int = 0) -> "pandas.DataFrame":
+def frame(trace: Noted, table: str = "segments", joule: Fraction | None = None, charge: int = 0) -> _display.Frame:
     """A table of a trace as a pandas frame; ImportError without pandas.
 
     Times are floats of ticks. Energies are Python's integers, so their sums are exact. With `joule`, the
@@ -114,7 +109,7 @@ def frame(trace: Noted, table: str = "segments", joule: Fraction | None = None, 
     >>> frame(Trace.parse(SAMPLE))["energy"].sum()
     6000
     """
-    made = frame_of(TABLES[table], rows(trace, table, charge))
+    made = _display.frame_of(TABLES[table], rows(trace, table, charge))
     if joule is not None and "energy" in made:
         made["joules"] = [float(energy * joule) for energy in made["energy"]]
     return made

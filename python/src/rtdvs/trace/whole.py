@@ -6,22 +6,17 @@ from dataclasses import asdict, dataclass
 from fractions import Fraction
 from itertools import pairwise
 from pathlib import Path
-from typing import TYPE_CHECKING, Self, TextIO
+from typing import Self, TextIO
 
-from rtdvs._display import html_of, picture
+from rtdvs._display import Frame, html_of, picture
 from rtdvs.model import Task, TaskSet
-from rtdvs.trace._noted import Noted
+from rtdvs.trace import _noted, reader, tables
 from rtdvs.trace.jobs import Job
 from rtdvs.trace.notes import Decision, End, Head, Idle, Note, Release, task_text
-from rtdvs.trace.reader import lines_of, parse_lines
-from rtdvs.trace.tables import TABLES, frame, rows
-
-if TYPE_CHECKING:
-    import pandas
 
 
 @dataclass(frozen=True, slots=True, repr=False)
-class Trace(Head, Noted):
+class Trace(Head, _noted.Noted):
     """A whole trace: its head, tasks and notes. Its tasks, with declared worst cases, are those of version 2.
 
     >>> trace = Trace.parse(SAMPLE)
@@ -57,7 +52,7 @@ class Trace(Head, Noted):
 
     @classmethod
     def _of(cls, file: TextIO) -> Self:
-        head, *items = parse_lines(lines_of(file))
+        head, *items = reader.parse_lines(reader.lines_of(file))
         tasks = tuple(item for item in items if isinstance(item, Task))
         notes = tuple(item for item in items if not isinstance(item, (Head, Task)))
         return cls(**asdict(head), tasks=tasks, notes=notes)
@@ -175,13 +170,13 @@ class Trace(Head, Noted):
         """
         return tuple(self.each_job(tasks))
 
-    def frame(self, table: str = "segments", joule: Fraction | None = None, charge: int = 0) -> "pandas.DataFrame":
+    def frame(self, table: str = "segments", joule: Fraction | None = None, charge: int = 0) -> Frame:
         """A table of the trace as a pandas frame, as rtdvs.trace.frame makes it; ImportError without pandas.
 
         >>> Trace.parse(SAMPLE).frame("jobs")["laxity"].tolist()
         [0.5]
         """
-        return frame(self, table, joule, charge)
+        return tables.frame(self, table, joule, charge)
 
     def __repr__(self) -> str:
         late = f", {len(self.misses())} missed, not a run of the program" if self.missed else ""
@@ -193,7 +188,7 @@ class Trace(Head, Noted):
         return picture(self)
 
     def _repr_html_(self) -> str:
-        return picture(self) or html_of(TABLES["segments"], rows(self), repr(self))
+        return picture(self) or html_of(tables.TABLES["segments"], tables.rows(self), repr(self))
 
 
 SAMPLE = """trace 2

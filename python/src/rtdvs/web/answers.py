@@ -7,11 +7,8 @@ from collections.abc import Callable, Mapping
 from contextlib import suppress
 from http import HTTPStatus
 
-from rtdvs._numbers import whole
+from rtdvs import _numbers, errors
 from rtdvs.engine import Engine, is_stopped
-from rtdvs.errors import (
-    BadRequest, Denied, Differs, EngineError, LoadFailed, Refused, RtdvsError, SystemFault, TooManyJobs,
-)
 from rtdvs.hints import second_line
 from rtdvs.rules import simulate
 from rtdvs.studies import HEADING, cells, compare
@@ -36,7 +33,7 @@ def example_of(body: bytes) -> Example:
     try:
         return Example.of(json.loads(body))
     except (ValueError, RecursionError):
-        raise BadRequest("not an example") from None
+        raise errors.BadRequest("not an example") from None
 
 
 def run_answer(example: Example, engine: Engine) -> Found:
@@ -45,7 +42,7 @@ def run_answer(example: Example, engine: Engine) -> Found:
     for label, pair in example.pairs().items():
         try:
             texts[label] = engine.answer(example.call(pair)).text()
-        except Denied as fault:
+        except errors.Denied as fault:
             if example.single["admission"] != "none":
                 raise
             texts[label], notes[label] = own_run(example, pair), not_the_programs(fault)
@@ -59,13 +56,13 @@ def own_run(example: Example, pair: tuple[str, str]) -> str:
     """The package's run of a set that isn't admitted, whose jobs are given up at their deadlines; raises Refused."""
     tasks, machine, demands = example.parsed()
     scheduler, governor = pair
-    ticks = whole(example.single["ticks"], 1)
+    ticks = _numbers.whole(example.single["ticks"], 1)
     return simulate(tasks, machine, scheduler, ticks, governor, demands, missed="drop").text()
 
 
 def compare_answer(example: Example, engine: Engine) -> Found:
     """The rows of all pairs; raises EngineError and Refused."""
-    rows = compare(engine, *example.parsed()[:2], whole(example.single["ticks"], 1), example.parsed()[2])
+    rows = compare(engine, *example.parsed()[:2], _numbers.whole(example.single["ticks"], 1), example.parsed()[2])
     heading = [*HEADING, *(f"at_{speed}" for speed in rows.speeds())]
     return {"heading": [name.replace("_", " ") for name in heading],
             "rows": [cells(row, rows.speeds()) for row in rows], "files": example.files()}
@@ -78,26 +75,24 @@ def answer_of(path: str, example: Example, engine: Engine) -> tuple[HTTPStatus, 
     """The status and the answer to what a page asks for. A fault of the program or of ours is also printed."""
     try:
         if example.jobs() > MOST_JOBS:
-            raise TooManyJobs(example.jobs(), MOST_JOBS)
+            raise errors.TooManyJobs(example.jobs(), MOST_JOBS)
         return HTTPStatus.OK, ANSWERS[path](example, engine)
-    except (LoadFailed, Differs) as fault:
-        return HTTPStatus.BAD_GATEWAY, failed(fault)
-    except Refused as fault:
-        return HTTPStatus.OK, refusal(fault, example)
-    except SystemFault as fault:
+    except errors.SystemFault as fault:
         return HTTPStatus.INTERNAL_SERVER_ERROR, failed(fault)
-    except EngineError as fault:
+    except (errors.LoadFailed, errors.Differs, errors.EngineError) as fault:
         return HTTPStatus.BAD_GATEWAY, failed(fault)
+    except errors.Refused as fault:
+        return HTTPStatus.OK, refusal(fault, example)
     except Exception as fault:
         return HTTPStatus.INTERNAL_SERVER_ERROR, failed(fault)
 
 
-def refusal(fault: Refused, example: Example) -> Found:
+def refusal(fault: errors.Refused, example: Example) -> Found:
     """A refusal with its field, what is wrong in the fields, and after a denial the offer of the package's run."""
     files = example.files()
     found: Found = {"refused": str(fault), "field": field_of(fault, example), "files": files,
                     "meaning": second_line(fault, files=files)}
-    return found | {"offer": True} if isinstance(fault, Denied) else found
+    return found | {"offer": True} if isinstance(fault, errors.Denied) else found
 
 
 def failed(fault: Exception) -> Found:
@@ -110,7 +105,7 @@ def failed(fault: Exception) -> Found:
         if is_stopped():
             return {}
         print(f"rtdvs: serve: {line}", file=sys.stderr, flush=True)
-        if not isinstance(fault, (RtdvsError, OSError, MemoryError)):
+        if not isinstance(fault, (errors.RtdvsError, OSError, MemoryError)):
             traceback.print_exception(fault, file=sys.stderr)
     return {"refused": line, "field": ""}
 
@@ -123,6 +118,6 @@ def said(fault: Exception) -> str:
     """
     if isinstance(fault, OSError) and fault.strerror:
         return f"{fault.filename or 'the system'}: {fault.strerror}"
-    if isinstance(fault, RtdvsError):
+    if isinstance(fault, errors.RtdvsError):
         return str(fault).replace("\n", "; ") or type(fault).__name__
     return f"{type(fault).__name__}: {fault}".replace("\n", "; ")[:LONGEST_LINE]

@@ -19,11 +19,8 @@ from pathlib import Path
 from rtdvs.board import Units
 from rtdvs.model import Demands, Machine, TaskSet
 from rtdvs.rules import GOVERNORS, Walk, explain
-from rtdvs.trace import Decision, Idle, Release, Run, Trace, split_governor
-from rtdvs.web.marks import mark_pieces
-from rtdvs.web.measures import (
-    energy_text, factors, job_energy, length_text, question_tables, tick_text, trace_tables,
-)
+from rtdvs.trace import Idle, Release, Run, Trace, split_governor
+from rtdvs.web import marks, measures
 
 WEB = Path(__file__).parent / "static"
 MEBIBYTE = 2**20
@@ -112,17 +109,17 @@ def sheet(text: str, trace: Trace, shown: Shown, label: str) -> dict[str, object
     head = f"{label}: {pair}" if label else pair
     boards, left = explanations(text, trace, shown)
     trace.belongs_to(shown.tasks, shown.machine)  # also what no explanation has checked
-    pieces = mark_pieces(trace, shown.tasks, energy=job_energy(trace, units))
+    pieces = marks.mark_pieces(trace, shown.tasks, energy=measures.job_energy(trace, units))
     return {
         "label": label or pair,
-        "title": f"{head}, {length_text(trace.ticks, units)}{', not admitted' if shown.note else ''}",
+        "title": f"{head}, {measures.length_text(trace.ticks, units)}{', not admitted' if shown.note else ''}",
         "note": shown.note,
-        "energy": energy_text(trace, units),
+        "energy": measures.energy_text(trace, units),
         "ticks": trace.ticks,
         "pieces": [pack(json.dumps(piece, separators=(",", ":"))) for piece in pieces],
         "boards": [*chunks(boards)],
         "left": left,
-        "tables": trace_tables(label or pair, trace, shown.tasks, units),
+        "tables": measures.trace_tables(label or pair, trace, shown.tasks, units),
     }
 
 
@@ -189,10 +186,10 @@ def apart(first: Trace, second: Trace, units: Units | None = None) -> dict[str, 
     found = parting(first, second)
     text = "The schedules are the same."
     if found:
-        text = f"The schedules part at tick {tick_text(found[0], units)}: {found[1]}, and {found[2]}."
+        text = f"The schedules part at tick {measures.tick_text(found[0], units)}: {found[1]}, and {found[2]}."
     if differ := other_demands(first, second):
         tick, *asked = differ
-        text += f" The published demands differ from tick {tick_text(tick, units)} on: {' and '.join(asked)}."
+        text += f" The published demands differ from tick {measures.tick_text(tick, units)} on: {' and '.join(asked)}."
     return {"tick": int(found[0]) if found else 0, "parts": found is not None, "text": text}
 
 
@@ -229,8 +226,8 @@ def page_data(texts: Mapping[str, str], shown: Shown, notes: Mapping[str, str] =
     return {
         "tasks": [{"name": task.name, "period": task.period, "worst": str(task.worst + charge)}
                   for task in shown.tasks],
-        "question": question_tables(shown.tasks, shown.machine, shown.demands, shown.units),
-        "board": factors(shown.units),
+        "question": measures.question_tables(shown.tasks, shown.machine, shown.demands, shown.units),
+        "board": measures.factors(shown.units),
         "top": shown.machine.top_speed,
         "window": first_window(traces, len(shown.tasks)),
         "sheets": [sheet(texts[label], trace, replace(shown, note=notes.get(label, "")), label)

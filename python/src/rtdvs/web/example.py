@@ -5,6 +5,7 @@ import re
 from collections.abc import Callable, Iterator, Mapping, Sequence
 from dataclasses import dataclass
 from fractions import Fraction
+from functools import partial
 from math import ceil
 from pathlib import Path
 from typing import Any
@@ -183,14 +184,10 @@ def field_of(fault: Exception, example: Example) -> str:
     return ""
 
 
-def _column(kind: str) -> Callable[[re.Match[str], Example], str]:
+def _column(kind: str, found: re.Match[str], example: Example) -> str:
     """The field of a row that a line names, or the row's first one."""
-
-    def place(found: re.Match[str], example: Example) -> str:
-        column = next((name for name in TABLES[kind] if re.search(rf"\b{name}\b", found[2])), TABLES[kind][0])
-        return f"{kind}.{int(found[1]) - 1}.{column}"
-
-    return place
+    column = next((name for name in TABLES[kind] if re.search(rf"\b{name}\b", found[2])), TABLES[kind][0])
+    return f"{kind}.{int(found[1]) - 1}.{column}"
 
 
 def _not_rising(found: re.Match[str], example: Example) -> str:
@@ -200,14 +197,10 @@ def _not_rising(found: re.Match[str], example: Example) -> str:
     return f"points.{place}.{'millivolts' if before < here else 'speed'}"
 
 
-def _named(column: str) -> Callable[[re.Match[str], Example], str]:
-    """A field of the task that a line names."""
-
-    def place(found: re.Match[str], example: Example) -> str:
-        names = [task["name"] for task in example.tasks]
-        return f"tasks.{names.index(found[1])}.{column}" if found[1] in names else "scheduler"
-
-    return place
+def _worst(found: re.Match[str], example: Example) -> str:
+    """The worst case of the task that a line names."""
+    names = [task["name"] for task in example.tasks]
+    return f"tasks.{names.index(found[1])}.worst" if found[1] in names else "scheduler"
 
 
 def _over_worst(found: re.Match[str], example: Example) -> str:
@@ -222,15 +215,15 @@ def _word(found: re.Match[str], example: Example) -> str:
 
 
 _FIELDS: Sequence[tuple[str, Callable[[re.Match[str], Example], str]]] = (
-    (r"tasks: task (\d+): (.*)", _column("tasks")),
-    (r"tasks: tasks \d+ and (\d+) have one (name)", _column("tasks")),
+    (r"tasks: task (\d+): (.*)", partial(_column, "tasks")),
+    (r"tasks: tasks \d+ and (\d+) have one (name)", partial(_column, "tasks")),
     (r"tasks: periods", lambda found, example: "tasks.0.period"),
     (r"machine: point (\d+): not rising", _not_rising),
-    (r"machine: point (\d+): (.*)", _column("points")),
+    (r"machine: point (\d+): (.*)", partial(_column, "points")),
     (r"machine: .*\b(idle|charge)\b", lambda found, example: found[1]),
-    (r"demands: row (\d+): (.*)", _column("demands")),
+    (r"demands: row (\d+): (.*)", partial(_column, "demands")),
     (r"over worst: (\S+) (\d+) ", _over_worst),
-    (r"denied rm (\S+) ", _named("worst")),
+    (r"denied rm (\S+) ", _worst),
     (r"denied edf ", lambda found, example: "scheduler"),
     (r"limit: |a whole number", lambda found, example: "ticks"),
     (r"words: rm has no governor", lambda found, example: "governor"),
@@ -260,9 +253,8 @@ def read_example(folder: Path) -> dict[str, object]:
     units = Demands.read(named, tasks).units if named.exists() else {}
     periods = [task.period for task in tasks]
     return {
-        "tasks": [{"name": task.name, "period": str(task.period), "worst": str(task.worst),
-                   "offset": str(task.offset)} for task in tasks],
-        "points": [{"speed": str(point.speed), "millivolts": str(point.millivolts)} for point in machine.points],
+        "tasks": [{name: str(getattr(task, name)) for name in TABLES["tasks"]} for task in tasks],
+        "points": [{name: str(getattr(point, name)) for name in TABLES["points"]} for point in machine],
         "demands": [{"task": task, "job": str(job), "units": str(number)} for (task, job), number in units.items()],
         "scheduler": "edf", "governor": "cc", "ticks": str(max(2 * min(periods), *periods)),
         "idle": str(machine.idle), "charge": str(machine.charge),

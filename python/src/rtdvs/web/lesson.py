@@ -36,8 +36,7 @@ from rtdvs.model import (
 )
 from rtdvs.rules import simulate
 from rtdvs.trace import Trace
-from rtdvs.web.data import Shown, apart, page_data
-from rtdvs.web.unadmitted import not_the_programs
+from rtdvs.web import data, unadmitted
 
 MOST_EXAMPLES = 100
 MOST_LESSON_TEXT = 1    # mebibytes of explanations of a run
@@ -146,22 +145,21 @@ def _pairs(table: Table) -> Iterator[LessonPair]:
     if not found:
         raise table.fault("no pairs")
     for place, entry in enumerate(found, 1):
-        inner = partial(_pair_fault, table, place)
-        others = sorted(entry.keys() - {"scheduler", "governor", "text", "missed"})
-        if others:
-            raise inner(f"unknown key {others[0]}")
-        words = [_text(entry, key, inner) for key in ("scheduler", "governor")]
-        missed = _text(entry, "missed", inner, "stop")
-        if missed not in ("stop", "drop"):
-            raise inner(f"missed is stop or drop, not {missed}")
         try:
-            yield LessonPair(pair_of(*words), _text(entry, "text", inner, ""), missed)
+            yield _pair(entry)
         except BadValue as fault:
-            raise inner(fault.reason) from None
+            raise table.fault(f"pair {place}: {fault.reason}") from None
 
 
-def _pair_fault(table: Table, place: int, reason: str) -> FileRefused:
-    return table.fault(f"pair {place}: {reason}")
+def _pair(entry: Mapping[str, Any]) -> LessonPair:
+    others = sorted(entry.keys() - {"scheduler", "governor", "text", "missed"})
+    if others:
+        raise BadValue(f"unknown key {others[0]}")
+    words = [_text(entry, key, BadValue) for key in ("scheduler", "governor")]
+    missed = _text(entry, "missed", BadValue, "stop")
+    if missed not in ("stop", "drop"):
+        raise BadValue(f"missed is stop or drop, not {missed}")
+    return LessonPair(pair_of(*words), _text(entry, "text", BadValue, ""), missed)
 
 
 # Runs
@@ -186,7 +184,7 @@ def run_of(example: LessonExample, chosen: LessonPair, engine: Engine) -> tuple[
             raise
         scheduler, governor = chosen.pair
         trace = simulate(*files, scheduler, example.ticks, governor, example.demands, missed=chosen.missed)
-        return trace.text(), not_the_programs(denied)
+        return trace.text(), unadmitted.not_the_programs(denied)
 
 
 def lesson_data(lesson: Lesson, engine: Engine) -> dict[str, object]:
@@ -206,8 +204,8 @@ def example_data(example: LessonExample, place: int, engine: Engine) -> dict[str
     for number, chosen in enumerate(example.pairs, 1):
         with _placed(place, number):
             text, note = run_of(example, chosen, engine)
-            shown = Shown(example.tasks, example.machine, example.demands, MOST_LESSON_TEXT)
-            pages.append(page_data({"": text}, shown, {"": note}))
+            shown = data.Shown(example.tasks, example.machine, example.demands, MOST_LESSON_TEXT)
+            pages.append(data.page_data({"": text}, shown, {"": note}))
             traces.append(Trace.parse(text))
     return {
         "name": example.name, "title": example.title, "text": example.text,
@@ -215,6 +213,6 @@ def example_data(example: LessonExample, place: int, engine: Engine) -> dict[str
                   for chosen in example.pairs],
         "page": {key: value for key, value in pages[0].items() if key not in ("sheets", "apart")},
         "sheets": [page["sheets"][0] for page in pages],
-        "apart": {f"{one} {two}": apart(traces[one], traces[two]) for one in range(len(traces))
+        "apart": {f"{one} {two}": data.apart(traces[one], traces[two]) for one in range(len(traces))
                   for two in range(len(traces)) if one != two},
     }

@@ -5,12 +5,11 @@ The facts are worked out here; the page only writes them. A time is a whole numb
 """
 
 from collections.abc import Callable, Iterator, Mapping
-from dataclasses import dataclass, field
 from fractions import Fraction
 from math import gcd
 
 from rtdvs.model import TaskSet
-from rtdvs.trace import Decision, Done, Idle, Job, Position, Release, Run, Trace
+from rtdvs.trace import Decision, Done, Idle, Job, Position, Release, Run, Trace, is_late
 
 PIECE = 4000        # marks that are read together
 Row = list[object]
@@ -41,34 +40,13 @@ def place_of(at: Position, speed: int) -> int | str:
     return f"{at.tick or ''} {at.offset // common}/{speed // common}".strip()
 
 
-def is_missed(job: Job, ticks: int) -> bool:
-    """Whether a job isn't complete at its deadline, in a run of some ticks.
+def empty_piece() -> dict[str, list[Row]]:
+    """Room for some marks of a trace, in the order of time; a run names its job by its place among all jobs.
 
-    >>> late = Job("t", 1, release=0, deadline=4, completion=Fraction(9, 2))
-    >>> is_missed(late, 8), is_missed(Job("t", 2, release=4, deadline=8), 8), is_missed(Job("t", 2, 4, 8), 7)
-    (True, True, False)
+    >>> empty_piece()["idles"]
+    []
     """
-    if job.deadline is None:
-        return False
-    return job.deadline <= ticks if job.completion is None else job.deadline < job.completion
-
-
-@dataclass(frozen=True, slots=True)
-class Piece:
-    """Some marks of a trace, in the order of time; a run names its job by its place among all jobs."""
-
-    jobs: list[Row] = field(default_factory=list)
-    runs: list[Row] = field(default_factory=list)
-    idles: list[Row] = field(default_factory=list)
-    decisions: list[Row] = field(default_factory=list)
-
-    def data(self) -> dict[str, list[Row]]:
-        """The piece as a value of JSON.
-
-        >>> Piece(idles=[[0, 2, 3, 6]]).data()["idles"]
-        [[0, 2, 3, 6]]
-        """
-        return {"jobs": self.jobs, "runs": self.runs, "idles": self.idles, "decisions": self.decisions}
+    return {"jobs": [], "runs": [], "idles": [], "decisions": []}
 
 
 def raw_energy(job: Job) -> str:
@@ -88,8 +66,8 @@ def job_row(job: Job, place: int, speed: int, ticks: int, energy: Callable[[Job]
     [0, 1, 0, 8, '2 2/3', '2 2/3', '5 1/3', 8, '500', 3, 0]
     """
     times = (time_of(time) for time in (job.completion, job.response, job.laxity))
-    return [place, job.number, job.release, job.deadline, *times, job.units, energy(job), speed,
-            int(is_missed(job, ticks))]
+    late = int(is_late(job, ticks))
+    return [place, job.number, job.release, job.deadline, *times, job.units, energy(job), speed, late]
 
 
 def mark_pieces(trace: Trace, tasks: TaskSet, size: int = PIECE,
@@ -106,25 +84,25 @@ def mark_pieces(trace: Trace, tasks: TaskSet, size: int = PIECE,
     jobs = {(job.task, job.number): job for job in trace.jobs(tasks)}
     places = {name: place for place, name in enumerate(jobs)}
     speeds = {(note.task, note.job): speed for note, speed in trace.at_speeds() if isinstance(note, Done)}
-    piece, count = Piece(), 0
+    piece, count = empty_piece(), 0
     for line, note, speed in trace.numbered():
         match note:
             case Release(task=task, job=number):
                 last = speeds.get((task, number), 0)
-                piece.jobs.append(job_row(jobs[task, number], rows[task], last, trace.ticks, energy))
+                piece["jobs"].append(job_row(jobs[task, number], rows[task], last, trace.ticks, energy))
             case Run():
-                piece.runs.append(_segment(note, speed, places))
+                piece["runs"].append(_segment(note, speed, places))
             case Idle():
-                piece.idles.append(_segment(note, speed, {}))
+                piece["idles"].append(_segment(note, speed, {}))
             case Decision():
-                piece.decisions.append([note.tick, note.speed, f"{note.num}/{note.den}", line])
+                piece["decisions"].append([note.tick, note.speed, f"{note.num}/{note.den}", line])
             case _:
                 continue
         count += 1
         if count % size == 0:
-            yield piece.data()
-            piece = Piece()
-    yield piece.data()
+            yield piece
+            piece = empty_piece()
+    yield piece
 
 
 def _segment(note: Run | Idle, speed: int, places: Mapping[Name, int]) -> Row:

@@ -21,8 +21,8 @@ from typing import Any
 
 from rtdvs.engine import Engine, Stop
 from rtdvs.errors import BadRequest
-from rtdvs.web.answers import ANSWERS, Found, answer_of, example_of, failed
-from rtdvs.web.data import SCRIPTS, WEB, with_data
+from rtdvs.web import answers, data
+from rtdvs.web.answers import example_of, failed
 from rtdvs.web.example import Example, examples
 
 HOST = "127.0.0.1"
@@ -72,9 +72,9 @@ class PageServer(HTTPServer):
         self.calls = 0  # that are being made
         self.change = Condition()  # of the visits and the calls
         self.files: Mapping[str, tuple[str, bytes]] = {
-            "/": ("text/html", with_data({"examples": [*examples()]}).encode()),
-            "/page.css": ("text/css", (WEB / "page.css").read_bytes()),
-            **{f"/{name}": ("text/javascript", (WEB / name).read_bytes()) for name in SCRIPTS}}
+            "/": ("text/html", data.with_data({"examples": [*examples()]}).encode()),
+            "/page.css": ("text/css", (data.WEB / "page.css").read_bytes()),
+            **{f"/{name}": ("text/javascript", (data.WEB / name).read_bytes()) for name in data.SCRIPTS}}
         super().__init__((HOST, port), _Handler)
 
     @property
@@ -272,7 +272,7 @@ class _Handler(BaseHTTPRequestHandler):
         length = self._length()
         if not self._is_own(length):
             return
-        if self.path not in ANSWERS:
+        if self.path not in answers.ANSWERS:
             self._refuse(HTTPStatus.NOT_FOUND, length)
         elif self.headers.get_content_type() != "application/json":
             self._refuse(HTTPStatus.UNSUPPORTED_MEDIA_TYPE, length)
@@ -300,12 +300,12 @@ class _Handler(BaseHTTPRequestHandler):
         else:
             self._refuse(HTTPStatus.SERVICE_UNAVAILABLE)
 
-    def _called(self, example: Example) -> tuple[HTTPStatus, Found]:
+    def _called(self, example: Example) -> tuple[HTTPStatus, answers.Found]:
         """The answer of a call, or that a newer one has ended it."""
         stop = self.visit.stop
         try:
             with stop.of_calls():
-                found = answer_of(self.path, example, self.server.engine)
+                found = answers.answer_of(self.path, example, self.server.engine)
         finally:
             self.server.turn_is_over()
         if stop.is_ended:
@@ -338,7 +338,7 @@ class _Handler(BaseHTTPRequestHandler):
         except OSError:
             pass
 
-    def _answer(self, status: HTTPStatus, found: Found) -> None:
+    def _answer(self, status: HTTPStatus, found: answers.Found) -> None:
         self._send(status, "application/json", json.dumps(found).encode())
 
     def _send(self, status: HTTPStatus, kind: str, content: bytes) -> None:

@@ -5,4 +5,4 @@ pub returns-in-BadNumber : goal.returns-in-BadNumber
 returns-in-BadNumber c = rw (c.in-BadNumber.is, c.bad_number_line.ensures) refl
 
 pub returns-in-Range : goal.returns-in-Range
-returns-in-Range c = rw (c.in-Range.is, c.row_line-in-Range.ensures) refl
+returns-in-Range c = rw (c.in-Range.is, c.row_line.ensures) refl

@@ -1,7 +1,7 @@
 use Rattle.std.proofs.Common.{◌≡◌, None, rules, sym, ap, subst, ◌∙◌}
 use Rattle.std.proofs.Math.ListN.{replicate}
 use Rattle.std.proofs.lemmas.Result.{IfOk-at_ok}
-use Rattle.sched_model.proofs.Tables.{same-table}
+use Rattle.grid_fraction.proofs.Tables.{same-table}
 use Rattle.deadline_list.specs.DeadlineFile.{none_given, AreGiven}
 use Rattle.deadline_list.proofs.GivenDeadlines.{none-are}
 use Rattle.deadline_list.proofs.read.none_given.Goals as goal

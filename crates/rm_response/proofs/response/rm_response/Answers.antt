@@ -3,7 +3,7 @@ use Rattle.dvs_base.specs.declared.kind.Scheduler.TheVariants.{Rm}
 use Rattle.sched_model.specs.Plan.{Plan, plan_of, count, period}
 use Rattle.sched_model.specs.Admission.{IsWithinLimits}
 use Rattle.sched_model.proofs.Limits.{some_period}
-use Rattle.sched_model.proofs.Tables.{length-list_below}
+use Rattle.grid_fraction.proofs.Tables.{length-list_below}
 use Rattle.rm_response_laws.specs.Responses.{response}
 use Rattle.rm_response_laws.proofs.ResponseMeaning.{always-meets, first-misses}
 use Rattle.rm_response_laws.proofs.ResponseSearch.{before-response}

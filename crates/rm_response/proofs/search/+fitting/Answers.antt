@@ -1,13 +1,15 @@
-use Rattle.std.proofs.Common.{◌≡◌, ◌<◌, ◌-◌, ◌*◌, ◌/◌, ◌⊎◌, true, inl, inr, is_some, List, ◌∷◌, sym, ◌∙◌, subst, arith}
+use Rattle.std.proofs.Common.{◌≡◌, ◌≤◌, ◌<◌, ◌-◌, ◌*◌, ◌/◌, ◌⊎◌, true, inl, inr, is_some, List, ◌∷◌, length, take, ap, sym, ◌∙◌, subst, arith}
 use Rattle.std.specs.Prelude.{All}
+use Rattle.std.proofs.lemmas.List.{length-take-le}
 use Rattle.std.proofs.lemmas.List.Elements.{All-head}
 use Rattle.std.proofs.Math.Nat.{div-mul-le_self}
 use Rattle.rm_response.specs.declared.loads.Load.{Load}
 use Rattle.rm_response.specs.Loads.{AreLoads, IsLoad}
-use Rattle.rm_response.specs.Fits.{FindsFit, IsFrom}
+use Rattle.rm_response.specs.Fits.{FindsFit, IsFrom, IsRelaxedSearch, AreNodes}
 use Rattle.rm_response.proofs.LoadFits.{others-loads, found-from, found-in, found-before}
-use Rattle.rm_response.proofs.RelaxedNodes.{nodes-later}
-use Rattle.rm_response.proofs.search.+fitting.Goals.{then-is_some-via-then-is_some, then-is_some-via-else-is_some+then-release-first}
+use Rattle.rm_response.proofs.RelaxedLoads.{none-found}
+use Rattle.rm_response.proofs.RelaxedNodes.{node-at, nodes-none}
+use Rattle.rm_response.proofs.search.+fitting.Goals.{then-is_some-via-then-is_some, then-is_some-via-else-is_some+then-release-first-2}
 use Rattle.rm_response.proofs.search.+fitting.Goals as goal
 
 pub returns-2 : goal.returns-2
@@ -47,7 +49,7 @@ returns-then-is_some t c =
     let why : (is_some found ≡ true) ⊎ ((most - 1) / x.period * x.period < least) =
     elim c.then-is_some.branch [
       | then-is_some-via-then-is_some w ↦ inl (sym c.is_some.ensures ∙ w.if-is_some.true)
-      | then-is_some-via-else-is_some+then-release-first w ↦ inr w.if-release-first.true
+      | then-is_some-via-else-is_some+then-release-first-2 w ↦ inr w.if-release-first-2.true
     ] in
     let fit : FindsFit s (x ∷ xs) rest least most found =
     found-in s x xs loads rest least most (omega (arith, c.requires.some_ticks, is.from)) is.within c.held.result
@@ -78,8 +80,7 @@ fitting-found-requires t c =
                 omega (arith, c.max.ensures, within, c.requires.some_ticks, is.from, is.within),
                 (
                   c.requires.low_ticks,
-                  nodes-later s c.args.loads.now c.args.nodes.now x xs c.later_nodes-later.result.now parts
-                      c.later_nodes-later.ensures c.requires.nodes,
+                  (subst (λ (ys : List Load). AreNodes s ys c.args.nodes.now) parts c.requires.nodes).1,
                 ),
               ),
             ),
@@ -107,11 +108,10 @@ fitting-requires-2 t c =
             (
               (let from = c.in-From.ensures.from in omega (arith, from, c.requires.some_ticks)),
               (
-                c.if-release-first.false,
+                c.if-release-first-2.false,
                 (
                   omega (arith, within, c.requires.low_ticks),
-                  nodes-later s c.args.loads.now c.args.nodes.now x xs c.later_nodes-later.result.now parts
-                      c.later_nodes-later.ensures c.requires.nodes,
+                  (subst (λ (ys : List Load). AreNodes s ys c.args.nodes.now) parts c.requires.nodes).1,
                 ),
               ),
             ),
@@ -129,3 +129,45 @@ pub held-requires-clause-low_worst : goal.held-requires-clause-low_worst
 held-requires-clause-low_worst t c =
     let all : All IsLoad (c.in-Some.load.now ∷ c.in-Some.others.now) = subst (All IsLoad) c.in-Some.ensures.cases.0 c.requires.loads.each in
     (All-head IsLoad c.in-Some.load.now c.in-Some.others.now all).low_worst
+
+pub fitting-requires : goal.fitting-requires
+fitting-requires t c =
+    let s = c.args.supply in
+    let xs = c.args.loads.now in
+    let r = c.in-Some-get.node.now in
+    let at = c.in-Some-get.ensures.lookup in
+    let some : 1 ≤ length xs = omega (arith, c.in-Some.ensures.cases.1) in
+    let is : IsRelaxedSearch s xs r = node-at s xs c.args.nodes.now r some at.3.0 at.1 c.requires.nodes (omega arith) in (
+      omega (arith, c.decreases, ap (length {A = Load}) c.heavy.ensures, length-take-le r.count r.loads is.within, is.fewer),
+      (
+        is.supply,
+        (
+          subst (AreLoads r.supply) (sym c.heavy.ensures) is.loads,
+          (
+            c.requires.low_rest,
+            (
+              (let from = c.in-From.ensures.from in omega (arith, from, c.requires.some_ticks)),
+              (
+                c.in-From.ensures.within,
+                (c.requires.low_ticks, nodes-none r.supply c.heavy.result.now),
+              ),
+            ),
+          ),
+        ),
+      ),
+    )
+
+pub returns : goal.returns
+returns t c =
+    let s = c.args.supply in
+    let xs = c.args.loads.now in
+    let r = c.in-Some-get.node.now in
+    let at = c.in-Some-get.ensures.lookup in
+    let least = c.in-From.first in
+    let most = c.args.span.last in
+    let some : 1 ≤ length xs = omega (arith, c.in-Some.ensures.cases.1) in
+    let is : IsRelaxedSearch s xs r = node-at s xs c.args.nodes.now r some at.3.0 at.1 c.requires.nodes (omega arith) in
+    let none : FindsFit r.supply (take r.count r.loads) c.args.rest least most c.fitting.result =
+    subst (λ (ys : List Load). FindsFit r.supply ys c.args.rest least most c.fitting.result) c.heavy.ensures c.fitting.ensures in
+    none-found s xs r.supply (take r.count r.loads) c.args.rest c.args.span.first most least c.fitting.result c.in-From.ensures
+    is.relaxed none c.if-is_none.ensures

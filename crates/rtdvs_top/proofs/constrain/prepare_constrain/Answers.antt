@@ -14,13 +14,12 @@ use Rattle.command_files.specs.Meanings.{tasks_at, machine_at}
 use Rattle.rtdvs_top.specs.Asked.{asked_with}
 use Rattle.rtdvs_top.specs.Constrain.{deadlines_at}
 use Rattle.rtdvs_top.specs.Promises.{ProvesTests}
-use Rattle.rtdvs_top.specs.declared.prepared.Prepared.{Prepared}
-use Rattle.rtdvs_top.specs.Prepared.{IsPrepareStep, RefusesBy}
-use Rattle.command_files.proofs.GivenLoads.{known-first, known-later, loads-two}
+use Rattle.rtdvs_top.specs.Prepared.{RefusesBy}
+use Rattle.command_files.proofs.GivenLoads.{both-steps, loads-two}
 use Rattle.command_files.specs.Files.{named_file, if_named, passes, loads_while, MakesLoads}
 use Rattle.command_files.specs.Loads.{loads_after}
 use Rattle.statuses.specs.declared.status.FileKind.TheVariants as file
-use Rattle.rtdvs_top.proofs.TasksFirst.{at-error, of-file-tested}
+use Rattle.rtdvs_top.proofs.TasksFirst.{of-file-tested, refused-step}
 use Rattle.rtdvs_top.proofs.constrain.prepare_constrain.Goals as goal
 
 -- what a refusal proves, from what the files mean
@@ -55,77 +54,40 @@ all-made files r tasks m old mid new read machine first later =
 pub returns-in_err-deadlines : goal.returns-in_err-deadlines
 returns-in_err-deadlines g c files known read =
     let r = shown_constrain c.args.words.now in
-    let tasks = c.args.tasks.now in
-    let old = g.S.Shelf.shows c.args.shelf.now in
-    let new = g.S.Shelf.shows c.load_deadlines.new.shelf in
-    let gm = (c.in_ok-machine.ensures.step None tt).loads in
-    let gd = (c.in_err-deadlines.ensures.step None tt).loads in
-    let m = c.in_ok-machine.ensures.step files (known-first _ _ _ _ _ gm.held gm.gave gd.gave files known) in
-    let d = c.in_err-deadlines.ensures.step files (known-later _ _ _ _ _ gm.held gm.gave gd.gave files known) in
-    at-error (λ (x : Result Prepared Status). IsPrepareStep old new (constrain r) (Some tasks) x files) _ _
-    c.from_residual-in_err-deadlines.ensures.1
+    let (m, d) = both-steps c.in_ok-machine.ensures.step c.in_err-deadlines.ensures.step files known in
+    refused-step _ c.from_residual-in_err-deadlines.ensures.1
     (record {
-      prepared = tt;
-      refused = record {
-        ended = search (rules, m, d, read);
-        tested = of-file-tested (asked_with files (constrain r)) _ c.in_err-deadlines.ensures.of_file;
-        named = search (rules, m, d, read);
-        shown = d.shown;
-      };
-      failed = search (rules, m, d, read);
-      loads = all-made files r tasks _ _ _ _ read m.read gm gd;
-      counts = search (rules, m, d);
+      ended = search (rules, m, d, read);
+      tested = of-file-tested (asked_with files (constrain r)) _ c.in_err-deadlines.ensures.of_file;
+      named = search (rules, m, d, read);
+      shown = d.shown;
     })
+    (search (rules, m, d, read)) (all-made files r c.args.tasks.now _ _ _ _ read m.read m.loads d.loads) (search (rules, m, d))
 
 pub returns-in_err-lowest_line : goal.returns-in_err-lowest_line
 returns-in_err-lowest_line g c files known read =
     let r = shown_constrain c.args.words.now in
     let tasks = c.args.tasks.now in
-    let old = g.S.Shelf.shows c.args.shelf.now in
-    let new = g.S.Shelf.shows c.load_deadlines.new.shelf in
-    let gm = (c.in_ok-machine.ensures.step None tt).loads in
-    let gd = (c.in_ok-deadlines.ensures.step None tt).loads in
-    let m = c.in_ok-machine.ensures.step files (known-first _ _ _ _ _ gm.held gm.gave gd.gave files known) in
-    let d = c.in_ok-deadlines.ensures.step files (known-later _ _ _ _ _ gm.held gm.gave gd.gave files known) in
+    let (m, d) = both-steps c.in_ok-machine.ensures.step c.in_ok-deadlines.ensures.step files known in
     let e = c.in_err-lowest_line.ensures in
-    at-error (λ (x : Result Prepared Status). IsPrepareStep old new (constrain r) (Some tasks) x files) _ _
-    c.from_residual-in_err-lowest_line.ensures.1
+    refused-step _ c.from_residual-in_err-lowest_line.ensures.1
     (record {
-      prepared = tt;
-      refused = record {
-        ended = search (rules, m, d, read);
-        tested = deadlines-tested files r tasks c.in_ok-machine.machine c.in_ok-deadlines.deadlines _ _ read
-            m.read (search (rules, d)) e.step.refused e.fails;
-        named = search (rules, m, d, read);
-        shown = e.step.shown;
-      };
-      failed = search (rules, m, d, read);
-      loads = all-made files r tasks _ _ _ _ read m.read gm gd;
-      counts = search (rules, m, d, read);
+      ended = search (rules, m, d, read);
+      tested = deadlines-tested files r tasks c.in_ok-machine.machine c.in_ok-deadlines.deadlines _ _ read
+          m.read (search (rules, d)) e.step.refused e.fails;
+      named = search (rules, m, d, read);
+      shown = e.step.shown;
     })
+    (search (rules, m, d, read)) (all-made files r tasks _ _ _ _ read m.read m.loads d.loads) (search (rules, m, d, read))
 
 pub returns : goal.returns
 returns g c files known read =
     let r = shown_constrain c.args.words.now in
-    let tasks = c.args.tasks.now in
-    let old = g.S.Shelf.shows c.args.shelf.now in
-    let new = g.S.Shelf.shows c.load_deadlines.new.shelf in
-    let gm = (c.in_ok-machine.ensures.step None tt).loads in
-    let gd = (c.in_ok-deadlines.ensures.step None tt).loads in
-    let m = c.in_ok-machine.ensures.step files (known-first _ _ _ _ _ gm.held gm.gave gd.gave files known) in
-    let d = c.in_ok-deadlines.ensures.step files (known-later _ _ _ _ _ gm.held gm.gave gd.gave files known) in
+    let (m, d) = both-steps c.in_ok-machine.ensures.step c.in_ok-deadlines.ensures.step files known in
     record {
-      prepared = record {
-        answer = search (rules, m, d, read);
-        puttable = search (rules, m, d, read);
-        tells = search (rules, m, d, read);
-        named = search (rules, m, d, read);
-        met = search (rules, m, d, read);
-        tested = search (rules, m, d, read);
-        told = search (rules, m, d, read);
-      };
+      prepared = search (rules, m, d, read);
       refused = tt;
       failed = tt;
-      loads = all-made files r tasks _ _ _ _ read m.read gm gd;
+      loads = all-made files r c.args.tasks.now _ _ _ _ read m.read m.loads d.loads;
       counts = search (rules, m, d);
     }

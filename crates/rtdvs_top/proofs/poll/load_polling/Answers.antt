@@ -1,60 +1,24 @@
-use Rattle.std.proofs.Common.{None, Some, rules}
+use Rattle.std.proofs.Common.{Some, rules}
 use Rattle.words.specs.Commands.{poll}
 use Rattle.words.specs.Shown.{shown_poll}
 use Rattle.statuses.specs.declared.status.FileKind.TheVariants as file
-use Rattle.command_files.proofs.GivenLoads.{known-first, known-later, loads-two}
+use Rattle.command_files.proofs.GivenLoads.{both-steps, loads-two}
 use Rattle.rtdvs_top.proofs.poll.load_polling.Goals as goal
 
 pub returns-in_err-requests-clause-step : goal.returns-in_err-requests-clause-step
 returns-in_err-requests-clause-step g c files known =
     let r = shown_poll c.args.words.now in
-    let m = c.in_ok-machine.ensures.step in
-    let d = c.in_err-requests.ensures in
-    let gm = (m None tt).loads in
-    let gd = (d None tt).loads in
-    let first = m files (known-first _ _ _ _ _ gm.held gm.gave gd.gave files known) in
-    let later = d files (known-later _ _ _ _ _ gm.held gm.gave gd.gave files known) in
-    record {
-      read = search (rules, first, later);
-      refused = search (rules, first, later);
-      failed = search (rules, first, later);
-      loads = loads-two files (poll r) r.machine _ file.Requests (Some r.requests) _ _ _ first.read gm gd;
-      counts = search (rules, first, later);
-      shown = search (rules, first, later);
-    }
+    let (first, later) = both-steps c.in_ok-machine.ensures.step c.in_err-requests.ensures files known in
+    search (rules, first, later, loads-two files (poll r) r.machine _ file.Requests (Some r.requests) _ _ _ first.read first.loads later.loads)
 
 pub returns-in_err-plan-clause-step : goal.returns-in_err-plan-clause-step
 returns-in_err-plan-clause-step g c files known =
     let r = shown_poll c.args.words.now in
-    let m = c.in_ok-machine.ensures.step in
-    let d = c.in_ok-requests.ensures in
-    let gm = (m None tt).loads in
-    let gd = (d None tt).loads in
-    let first = m files (known-first _ _ _ _ _ gm.held gm.gave gd.gave files known) in
-    let later = d files (known-later _ _ _ _ _ gm.held gm.gave gd.gave files known) in
-    record {
-      read = search (rules, first, later);
-      refused = search (rules, first, later);
-      failed = search (rules, first, later);
-      loads = loads-two files (poll r) r.machine _ file.Requests (Some r.requests) _ _ _ first.read gm gd;
-      counts = search (rules, first, later);
-      shown = search (rules, first, later);
-    }
+    let (first, later) = both-steps c.in_ok-machine.ensures.step c.in_ok-requests.ensures files known in
+    search (rules, first, later, loads-two files (poll r) r.machine _ file.Requests (Some r.requests) _ _ _ first.read first.loads later.loads)
 
 pub returns-clause-step : goal.returns-clause-step
 returns-clause-step g c files known =
     let r = shown_poll c.args.words.now in
-    let m = c.in_ok-machine.ensures.step in
-    let d = c.in_ok-requests.ensures in
-    let gm = (m None tt).loads in
-    let gd = (d None tt).loads in
-    let first = m files (known-first _ _ _ _ _ gm.held gm.gave gd.gave files known) in
-    let later = d files (known-later _ _ _ _ _ gm.held gm.gave gd.gave files known) in
-    record {
-      read = search (rules, first, later);
-      refused = tt;
-      failed = tt;
-      loads = loads-two files (poll r) r.machine _ file.Requests (Some r.requests) _ _ _ first.read gm gd;
-      counts = search (rules, first, later);
-      shown = tt;
-    }
+    let (first, later) = both-steps c.in_ok-machine.ensures.step c.in_ok-requests.ensures files known in
+    search (rules, first, later, loads-two files (poll r) r.machine _ file.Requests (Some r.requests) _ _ _ first.read first.loads later.loads)

@@ -1,16 +1,13 @@
-use Rattle.std.proofs.Common.{◌≡◌, ℕ, List, Option, Some, None, Result, refl, subst, rules}
+use Rattle.std.proofs.Common.{◌≡◌, ℕ, List, Option, Some, None, refl, subst, rules}
 use Rattle.dvs_base.specs.Outside.{Files}
 use Rattle.task_model.specs.declared.task.Task.{Task}
 use Rattle.words.specs.Commands.{TracedView, traced}
 use Rattle.words.specs.Shown.{shown_trace}
-use Rattle.statuses.specs.declared.status.Status.{Status}
 use Rattle.statuses.specs.Steps.{Gives}
 use Rattle.command_files.specs.Meanings.{tasks_at}
 use Rattle.command_files.specs.Files.{passes, loads_while, MakesLoads}
 use Rattle.command_files.specs.Loads.{files_after, loads_after}
-use Rattle.rtdvs_top.specs.declared.prepared.Prepared.{Prepared}
-use Rattle.rtdvs_top.specs.Prepared.{IsPrepareStep}
-use Rattle.rtdvs_top.proofs.TasksFirst.{at-error}
+use Rattle.rtdvs_top.proofs.TasksFirst.{refused-step}
 use Rattle.rtdvs_top.proofs.trace.prepare_trace.Goals as goal
 
 -- after tasks that were read, the loads go on
@@ -22,23 +19,14 @@ all-later (Some files) r tasks read = rw read refl
 pub returns-in_err-totals : goal.returns-in_err-totals
 returns-in_err-totals g c files known read =
     let p = c.in_ok-plan.ensures.step files known in
-    let r = shown_trace c.args.words.now in
-    let old = g.S.Shelf.shows c.args.shelf.now in
-    let new = g.S.Shelf.shows c.load_traced.new.shelf in
-    at-error (λ (x : Result Prepared Status). IsPrepareStep old new (traced r) (Some c.args.tasks.now) x files) _ _
-    c.from_residual-in_err-totals.ensures.1
+    refused-step _ c.from_residual-in_err-totals.ensures.1
     (record {
-      prepared = tt;
-      refused = record {
-        ended = search (rules, p, read);
-        tested = search (rules, p, read);
-        named = search (rules, p, read);
-        shown = c.in_err-totals.ensures.step.shown;
-      };
-      failed = search (rules, p, read);
-      loads = search (rules, p, read);
-      counts = search (rules, p, read);
+      ended = search (rules, p, read);
+      tested = search (rules, p, read);
+      named = search (rules, p, read);
+      shown = c.in_err-totals.ensures.step.shown;
     })
+    (search (rules, p, read)) (search (rules, p, read)) (search (rules, p, read))
 
 pub returns-in-Replay : goal.returns-in-Replay
 returns-in-Replay g c files known read =
@@ -46,15 +34,7 @@ returns-in-Replay g c files known read =
     let old = g.S.Shelf.shows c.args.shelf.now in
     let all = all-later files (shown_trace c.args.words.now) c.args.tasks.now read in
     record {
-      prepared = record {
-        answer = search (rules, p, read);
-        puttable = search (rules, p, read);
-        tells = search (rules, p, read);
-        named = search (rules, p, read);
-        met = search (rules, p, read);
-        tested = search (rules, p, read);
-        told = search (rules, p, read);
-      };
+      prepared = search (rules, p, read);
       refused = tt;
       failed = tt;
       loads = subst (λ (n : ℕ). MakesLoads n old (g.S.Shelf.shows c.load_traced.new.shelf)) all p.loads;

@@ -1,6 +1,6 @@
 use Rattle.std.proofs.Common.{◌∙◌, [], ◌∷◌}
 use Rattle.std.specs.Prelude.{codes, decimal}
-use Rattle.trace_reader.proofs.Lined.{same-line}
+use Rattle.trace_text.proofs.Lined.{same-line}
 use Rattle.trace_reader.proofs.head.is_task_line.Goals as goal
 
 pub returns : goal.returns

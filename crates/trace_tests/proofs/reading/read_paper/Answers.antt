@@ -1,6 +1,6 @@
 use Rattle.std.proofs.Common.{[], ◌∷◌, refl}
 use Rattle.std.specs.Prelude.{codes}
-use Rattle.trace_tests.proofs.Apart.{apart}
+use Rattle.trace_tests.proofs.DistinctNames.{apart}
 use Rattle.trace_tests.proofs.reading.read_paper.Goals as goal
 
 pub read_trace-requires-clause-distinct : goal.read_trace-requires-clause-distinct

@@ -1,7 +1,7 @@
 use Rattle.std.proofs.Common.{List, arith, sym, subst, refl}
 use Rattle.std.proofs.lemmas.Result.{err_from_is_err_and}
 use Rattle.dvs_base.specs.declared.note.Note.{Note}
-use Rattle.sched_model.specs.Admission.{IsAdmitted}
+use Rattle.sched_model.specs.Admission.{IsWithinLimits}
 use Rattle.energy.specs.Books.{Books}
 use Rattle.note_laws.specs.LineCounts.{AreFew}
 use Rattle.event_kernel.specs.SpanNotes.{HasBooked, HeardAll, notes_before_end_of}
@@ -37,7 +37,7 @@ tell-requires-clause-point g c =
 pub tell-requires-clause-room : goal.tell-requires-clause-room
 tell-requires-clause-room g c =
     let span = c.span-point.ensures in
-    (span-booked g.G.Governor.demand c.self.inside.set c.self.invariant.setting c.loop-set.progress.state.now _ _ _ _
+    (span-booked g.G.Governor.demand c.self.inside.set c.loop-set.progress.state.now _ _ _ _
     span.limit span.notes c.loop-set.invariant.booked span.entry).0
 
 pub loop-set-smaller : goal.loop-set-smaller
@@ -60,7 +60,7 @@ loop-set-preserved g c =
         omega (arith, i.told.1, told.1),
       );
       booked = subst (λ (b : Books). HasBooked set.plan.now b (before c.span-point.new.self.state.now)) (sym c.in_ok-tell.ensures.booked)
-          (span-booked g.G.Governor.demand set c.self.invariant.setting c.loop-set.progress.state.now _ _ _ _
+          (span-booked g.G.Governor.demand set c.loop-set.progress.state.now _ _ _ _
           span.limit span.notes i.booked span.entry).1;
     }
 
@@ -102,7 +102,7 @@ returns-clause-account_totals g c = run-totals g.G.Governor.demand c.args.self c
 pub returns-clause-few : goal.returns-clause-few
 returns-clause-few g c =
     subst AreFew (sym (returns-clause-account_totals g c))
-    (run-few g.G.Governor.demand c.args.self (subst (λ (r : Run). IsAdmitted r.plan) c.self.view_is c.self.invariant.setting.admitted))
+    (run-few g.G.Governor.demand c.args.self (subst (λ (r : Run). IsWithinLimits r.plan) c.self.view_is c.self.inside.set.sound.limits))
 
 pub returns-clause-met : goal.returns-clause-met
 returns-clause-met g c = met-as c.self.view_is (c.self.invariant.met c.self.inside.set.ticks)

@@ -1,6 +1,5 @@
 use Rattle.std.proofs.Common.{◌≡◌, ◌≤◌, ℕ}
 use Rattle.sched_model.specs.Plan.{count}
-use Rattle.sched_model.specs.States.{IsOfPlan}
 use Rattle.governor.specs.Schedule.{course}
 use Rattle.agenda.specs.Agenda.{due_left}
 use Rattle.event_kernel.specs.Current.{IsCurrent}
@@ -21,7 +20,6 @@ invariant-loop-task g l =
       within : released ≤ count p;
       so_far : HasReleased p dem past released l.any l.self.state;
       current : IsCurrent g.G.Governor.stands set l.self;
-      of : IsOfPlan p l.self.state;
       trace : l.self.trace ≡ with_notes l.fn.self.trace (notes_upto p dem past released);
     }
 

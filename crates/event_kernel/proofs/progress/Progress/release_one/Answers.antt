@@ -87,6 +87,7 @@ returns-then-complete-clause-current g c =
     let same : nat_eq c.demand-needs.result 0 ≡ needs_nothing (dem g c) (s g c) (i g c) =
     ap (λ n. nat_eq n 0) (c.demand-needs.ensures ∙ ap (λ (r : Row). dem g c (i g c) (r.job + 1)) (is g c)) in
     record {
+      of = search rules;
       counters = search rules;
       agenda = subst (λ (v : StateView). Stands p v c.renew.new.self) (sym (state-is g c))
           (subst (λ (b : Bool). Stands p (with_next_job p (s g c) (i g c) b) c.renew.new.self) same c.renew.ensures);
@@ -102,6 +103,7 @@ returns-else-complete-clause-current g c =
     let i = c.args.task in
     let row = row_read s _ i c.index.result.now c.state.view_is c.requires.can.task c.index.ensures in
     record {
+      of = search rules;
       counters = search rules;
       agenda = search rules;
       demands = written c.args.set.now s i (released_row (period p i) (row_at s i)) c.demand-needs.result

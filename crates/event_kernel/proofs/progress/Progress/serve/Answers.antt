@@ -31,6 +31,7 @@ returns-then-ends-clause-current g c =
     let s = c.args.self.now.state in
     let row : Row = record (row_at s c.args.task) { used = (row_at s c.args.task).used + c.args.units; done = c.args.ends } in
     record {
+      of = search rules;
       counters = search rules;
       agenda = search rules;
       demands = c.requires.current.demands ∙ (demands-kept c.args.set.now s c.args.task row c.requires.can.task refl
@@ -42,6 +43,7 @@ returns-else-ends-clause-current g c =
     let s = c.args.self.now.state in
     let row : Row = record (row_at s c.args.task) { used = (row_at s c.args.task).used + c.args.units } in
     record {
+      of = search rules;
       counters = search rules;
       agenda = subst (λ (s : StateView). Stands c.args.set.now.plan.now s c.serve.new.self) (sym c.run.ensures) c.serve.ensures;
       demands = c.requires.current.demands ∙ (demands-kept c.args.set.now s c.args.task row c.requires.can.task refl

@@ -1,4 +1,3 @@
-use Rattle.sched_model.specs.States.{IsOfPlan}
 use Rattle.event_kernel.specs.Current.{IsCurrent}
 use Rattle.event_kernel.specs.Runs.{demands_of}
 use Rattle.event_kernel.proofs.UnitLoop.{HoldsHanded}
@@ -12,7 +11,6 @@ invariant-loop-rest g l =
     record {
       so_far : HoldsHanded m.demand p (demands_of p l.fn.set.demands.now) l.fn.self.state.now l.rest l.completed run.state run.trace;
       current : IsCurrent m.stands l.fn.set run;
-      of : IsOfPlan p run.state;
     }
 
 abbrev pub decreases-loop-rest : goal.decreases-loop-rest
