@@ -62,6 +62,10 @@ pub status_proves : (n : NumbersView) (s : Status) → (s ≢ status.NoMemory �
 status_proves n s is proves other =
     subst (λ (r : Result Admission Status). ProvesKept n (ends r)) (sym (is (λ e. other (ap code_of e)))) proves
 
+-- a speed that was found, with its machine
+abbrev beside : Table → Result Constrained Status → Result (Table × Constrained) Status
+beside machine found = and_then found (λ c. Ok (machine, c))
+
 -- for files of the numbers the program's answer is that of the numbers
 pub constrains_as_files : (n : NumbersView) (r : ConstrainView) (files : Files) → Describe files r.tasks r.machine n
     → ((tasks : List Task) → tasks_on n ≡ Ok tasks → deadlines_at tasks r.deadlines files ≡ deadlines_on n tasks)
@@ -70,19 +74,19 @@ unfolding constrain_with
 constrains_as_files n r files d same = rw (d.tasks_are, d.machine_is) (go (tasks_on n) refl (machine_on n))
   where
     found : (machine : Table) (f : Result Constrained Status) → and_then f (λ c. Ok (constrained_text machine c))
-        ≡ and_then (and_then f (λ c. Ok (machine, c))) (λ x. Ok (constrained_text x.0 x.1))
+        ≡ and_then (beside machine f) (λ x. Ok (constrained_text x.0 x.1))
     found machine (Ok c) = refl
     found machine (Err e) = refl
 
     given : (tasks : List Task) (machine : Table) (ds : Result (List ℕ) Status) → and_then ds (λ ds. constrain_with tasks machine ds)
-        ≡ and_then (and_then ds (λ ds. and_then (constrained_on tasks machine ds) (λ c. Ok (machine, c)))) (λ x. Ok (constrained_text x.0 x.1))
+        ≡ and_then (and_then ds (λ ds. beside machine (constrained_on tasks machine ds))) (λ x. Ok (constrained_text x.0 x.1))
     given tasks machine (Ok ds) = found machine (constrained_on tasks machine ds)
     given tasks machine (Err e) = refl
 
     go : (t : Result (List Task) Status) → tasks_on n ≡ t → (m : Result Table Status)
         → and_then t (λ tasks. and_then m (λ machine. and_then (deadlines_at tasks r.deadlines files) (λ ds. constrain_with tasks machine ds)))
         ≡ and_then
-        (and_then (sets t m) (λ x. and_then (deadlines_on n x.0) (λ ds. and_then (constrained_on x.0 x.1 ds) (λ c. Ok (x.1, c)))))
+        (and_then (sets t m) (λ x. and_then (deadlines_on n x.0) (λ ds. beside x.1 (constrained_on x.0 x.1 ds))))
         (λ x. Ok (constrained_text x.0 x.1))
     go (Ok tasks) is (Ok machine) =
         ap (λ (ds : Result (List ℕ) Status). and_then ds (λ ds. constrain_with tasks machine ds)) (same tasks is)
