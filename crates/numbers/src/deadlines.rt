@@ -14,7 +14,12 @@ use task_model::TaskSet;
 fn given_ticks(alloc: Global, given: &[GivenTask]) -> Result<Vec<u64>, NoMemory>
     ensures { IfOk result (λ v. v.items ≡ map (λ g. g.deadline) given.now) }
 {
-    Ok(given.iter().map(|task| task.deadline).collect::<Vec<u64>>(alloc)?)
+    Ok(
+        given
+            .iter()
+            .map(|task| task.deadline)
+            .collect::<Vec<u64>>(alloc)?,
+    )
 }
 
 /// The relative deadlines of tasks by their numbers, in the same order; otherwise the refusal of a deadline file that has

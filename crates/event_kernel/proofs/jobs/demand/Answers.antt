@@ -10,7 +10,7 @@ overflow_add-result c =
     omega (
       arith,
       c.units.ensures.units,
-      c.charge.ensures.charge,
+      c.job_charge.ensures.charge,
       ap (λ (m : Table). m.charge) c.machine.ensures.machine,
       c.worsts-within.ensures.within c.args.task c.args.job (omega (arith, worsts-long p.tasks d c.requires.list, c.requires.task)),
       worst-listed p.tasks d c.requires.list c.args.task c.requires.task,
