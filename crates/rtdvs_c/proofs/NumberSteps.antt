@@ -187,7 +187,7 @@ never-done {A} step s undone is zero =
 pub done_of : (n : NumbersView) (s : Status) → (s ≢ status.NoMemory → ticks_on n ≡ Err s) → code_of s ≡ 0 → ⊥
 done_of n s is zero = never-done (ticks_on n) s (ticks_undone n) is zero
 
--- the same of an admission
+-- an admission is not refused with the status of an answer
 admission-undone : (n : NumbersView) (s : Scheduler) → admission_on s n ≡ Err status.Done → ⊥
 admission-undone n s = go (tasks_of_given n.tasks) (machine_of_given n.settings.idle n.settings.charge n.points)
   where
