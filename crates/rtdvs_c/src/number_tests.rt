@@ -198,8 +198,20 @@ fn refuses_too_many_jobs(rt: HostRuntime) -> Result<(), Fail> {
     let (code, answer) = constrained(rt.alloc(), &[task(1, 1), task(MOST_JOBS, 1)]);
     assert_eq!(rt; code, 5);
     assert_eq!(rt; answer.refusal.cause, JOBS);
-    assert_eq!(rt; answer.refusal.num, Wide { low: MOST_JOBS + 1, high: 0 });
-    assert_eq!(rt; answer.refusal.cap, Wide { low: MOST_JOBS, high: 0 });
+    assert_eq!(rt;
+        answer.refusal.num,
+        Wide {
+            low: MOST_JOBS + 1,
+            high: 0
+        }
+    );
+    assert_eq!(rt;
+        answer.refusal.cap,
+        Wide {
+            low: MOST_JOBS,
+            high: 0
+        }
+    );
     Ok(())
 }
 

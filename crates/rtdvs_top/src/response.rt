@@ -22,11 +22,7 @@ use task_model::TaskSet;
 use words::command::ResponseWords;
 
 /// The responses of tasks under RM on a machine, or the status of a task with an offset or without a response.
-pub fn responses_of(
-    alloc: Global,
-    tasks: &TaskSet,
-    machine: &Machine,
-) -> Result<Response, Status>
+pub fn responses_of(alloc: Global, tasks: &TaskSet, machine: &Machine) -> Result<Response, Status>
     ensures step { IsTestStep (responses_on tasks.now machine.now) result (λ r. r) }
     ensures one_each { IfOk result (λ r. length r ≡ length tasks.now) }
     ensures proves { OnOk result (Responds (plan_of tasks.now machine.now Scheduler.Rm)) }
