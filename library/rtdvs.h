@@ -111,9 +111,10 @@ uint8_t rtdvs_end(const uint8_t *words, size_t words_len, const uint8_t *tasks, 
 /* Calls that take and answer numbers, for callers that ask often: no file is read and no text written.
  *
  * Their results are the program's exit statuses: RTDVS_DONE, RTDVS_NOT_ADMITTED if a test denies the tasks, RTDVS_TEXT if
- * a number is outside the limits of the files, RTDVS_WORDS if the scheduler is none or the ticks are out of range, and
- * RTDVS_NO_MEMORY. The answer and the result depend on the numbers only. What is said above of the stack, of threads and
- * of memory holds here too; the pointers are not NULL, except those of no tasks or no points. */
+ * a number is outside the limits of the files, RTDVS_WORDS if the scheduler is none or the ticks are out of range,
+ * RTDVS_LIMIT if a hyperperiod has too many jobs, and RTDVS_NO_MEMORY. The answer and the result depend on the numbers
+ * only. What is said above of the stack, of threads and of memory holds here too; the pointers are not NULL, except those
+ * of no tasks or no points. */
 
 /* A number below 2^128: low + 2^64 * high. */
 struct rtdvs_wide {
@@ -121,7 +122,8 @@ struct rtdvs_wide {
     uint64_t high;
 };
 
-/* A task: period, offset and relative deadline in ticks, worst case in work units. No call reads the deadline yet. */
+/* A task: period, offset and relative deadline in ticks, worst case in work units. Only rtdvs_constrain reads the
+ * deadline, which is 1 to the period. */
 struct rtdvs_task {
     uint64_t period;
     uint64_t worst_case;
@@ -167,14 +169,17 @@ enum rtdvs_cause {
     RTDVS_SCHEDULER = 14,      /* the scheduler is none */
     RTDVS_EDF_TEST = 15,       /* the work of a hyperperiod is more than the highest speed does in it */
     RTDVS_RM_TEST = 16,        /* the work that a task's level asks for in its period is more than that */
-    RTDVS_FIRST_RELEASE = 17,  /* rtdvs_response: a task has an offset */
+    RTDVS_FIRST_RELEASE = 17,  /* rtdvs_response, rtdvs_constrain: a task has an offset */
     RTDVS_NO_RESPONSE = 18,    /* rtdvs_response: a task has no response; the work is its level's in its period */
+    RTDVS_DEMAND = 19,         /* rtdvs_constrain: the work due within some ticks is more than the highest speed does */
     RTDVS_UNITS = 20,          /* rtdvs_least: the units are more than the highest speed does in the ticks */
-    RTDVS_TICKS = 21           /* rtdvs_least: the ticks are out of range */
+    RTDVS_TICKS = 21,          /* rtdvs_least: the ticks are out of range */
+    RTDVS_DEADLINE = 22,       /* rtdvs_constrain: a deadline is not 1 to its task's period */
+    RTDVS_JOBS = 23            /* rtdvs_constrain: a hyperperiod has more than 100000 jobs */
 };
 
 /* The cause; the number of its task or point, from 1 on, or 0; and of a test the work units that are asked for, and those
- * that can be done. */
+ * that can be done. RTDVS_DEMAND has its ticks in the place of a task, RTDVS_JOBS the jobs, and the most of them. */
 struct rtdvs_refusal {
     uint64_t cause;
     uint64_t place;
@@ -182,7 +187,8 @@ struct rtdvs_refusal {
     struct rtdvs_wide cap;
 };
 
-/* The static demand num/den in work units per tick, not reduced, and the lowest speed that meets it; all 0 without one. */
+/* A demand num/den in work units per tick, not reduced, and the lowest speed that meets it: the static demand of
+ * rtdvs_admit, or the constrained demand of rtdvs_constrain. All are 0 without an answer. */
 struct rtdvs_admission {
     struct rtdvs_wide num;
     struct rtdvs_wide den;
@@ -229,6 +235,11 @@ uint8_t rtdvs_admit(const struct rtdvs_task *tasks, size_t tasks_len, const stru
  * known on its time. */
 uint8_t rtdvs_response(const struct rtdvs_task *tasks, size_t tasks_len, const struct rtdvs_point *points,
                        size_t points_len, const struct rtdvs_settings *settings, struct rtdvs_responses *answer);
+
+/* Gives the lowest speed at which the tasks meet their deadlines under EDF, as `rtdvs constrain` does for files of these
+ * numbers, with a row for each task in the file of deadlines. */
+uint8_t rtdvs_constrain(const struct rtdvs_task *tasks, size_t tasks_len, const struct rtdvs_point *points,
+                        size_t points_len, const struct rtdvs_settings *settings, struct rtdvs_admission *answer);
 
 /* Gives the least energy for the work, as `rtdvs least` does for a file of these numbers. */
 uint8_t rtdvs_least(const struct rtdvs_point *points, size_t points_len, const struct rtdvs_settings *settings,

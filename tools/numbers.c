@@ -1,6 +1,7 @@
 /* numbers.c: the calls that take numbers against rtdvs_call, for check_library.sh and speed_library.py:
  *     ./numbers compare SEED SETS     random sets, some outside the limits: the same status, numbers and places
- *     ./numbers admit|response|admit-text|response-text CALLS     so many calls for one set, by numbers or by text
+ *     ./numbers admit|response|constrain|least|admit-text|response-text|end CALLS     so many calls for one set, by
+ *                                                                                  numbers, by text, or for its end
  * It ends with 1, and says where, if an answer differs from the program's text, and with 9 if memory ran out; the answer
  * has to be empty then. All memory is as long as what it holds, so that a tool sees a read or a write outside of
  * it. */
@@ -25,11 +26,11 @@ struct text {
     size_t len;
 };
 
-static struct text task_file, machine_file, words, wanted, out, notes;
+static struct text task_file, machine_file, deadline_file, words, wanted, out, notes;
 
 static void fail(const char *why)
 {
-    fprintf(stderr, "numbers: %s\n%s%s", why, task_file.at, machine_file.at);
+    fprintf(stderr, "numbers: %s\n%s%s%s", why, task_file.at, machine_file.at, deadline_file.at);
     exit(1);
 }
 
@@ -81,7 +82,7 @@ static void draw_tasks(void)
         tasks[i].period = draw() % 40 == 0 ? number(1000, UINT64_C(1) << 40) : periods[draw() % 12];
         tasks[i].worst_case = number(tasks[i].period, UINT64_C(1) << 60);
         tasks[i].offset = draw() % 20 == 0 ? number(9, UINT64_C(1) << 40) : 0;
-        tasks[i].deadline = draw();
+        tasks[i].deadline = draw() % 4 == 0 ? number(tasks[i].period, tasks[i].period) : tasks[i].period - draw() % 3;
     }
 }
 
@@ -114,6 +115,10 @@ static void write_files(void)
     put(&machine_file, "idle = %" PRIu64 "\ncharge = %" PRIu64 "\n", settings.idle, settings.charge);
     for (size_t i = 0; i < point_count; i++)
         put(&machine_file, "[[point]]\nspeed = %" PRIu64 "\nmillivolts = %" PRIu64 "\n", points[i].speed, points[i].millivolts);
+    clear(&deadline_file);
+    put(&deadline_file, "task,deadline\n");
+    for (size_t i = 0; i < task_count; i++)
+        put(&deadline_file, "%zu,%" PRIu64 "\n", i + 1, tasks[i].deadline);
 }
 
 /* The program's answer for the files to the words. */
@@ -121,18 +126,19 @@ static uint8_t by_words(void)
 {
     struct rtdvs_lengths lengths = { 0, 0 };
     uint8_t status = rtdvs_call((uint8_t *)words.at, words.len, (uint8_t *)task_file.at, task_file.len,
-                                (uint8_t *)machine_file.at, machine_file.len, NULL, 0, (uint8_t *)out.at, ROOM - 1,
-                                (uint8_t *)notes.at, ROOM - 1, &lengths);
+                                (uint8_t *)machine_file.at, machine_file.len, (uint8_t *)deadline_file.at,
+                                deadline_file.len, (uint8_t *)out.at, ROOM - 1, (uint8_t *)notes.at, ROOM - 1, &lengths);
     out.at[lengths.out] = notes.at[lengths.notes] = 0;
     return status;
 }
 
-static uint8_t by_text(const char *command, const char *scheduler)
+/* The same with an option more, if it isn't NULL. */
+static uint8_t by_text(const char *command, const char *option, const char *value)
 {
     clear(&words);
     put(&words, "%s%c--tasks%ctasks%c--machine%cmachine%c", command, 0, 0, 0, 0, 0);
-    if (scheduler != NULL)
-        put(&words, "--scheduler%c%s%c", 0, scheduler, 0);
+    if (option != NULL)
+        put(&words, "%s%c%s%c", option, 0, value, 0);
     return by_words();
 }
 
@@ -171,9 +177,13 @@ static void put_refusal(struct text *text, const struct rtdvs_refusal *r)
     case RTDVS_FIRST_RELEASE: put(text, "denied offset %" PRIu64 "\n", r->place); break;
     case RTDVS_UNITS: put(text, "denied units "); break;
     case RTDVS_NO_RESPONSE: put(text, "misses %" PRIu64 " ", r->place); break;
+    case RTDVS_DEMAND: put(text, "denied demand %" PRIu64 " ", r->place); break;
+    case RTDVS_DEADLINE: put(text, "deadlines: row %" PRIu64 ": deadline out of range\n", r->place); break;
+    case RTDVS_JOBS: put(text, "limit: %" PRIu64 " jobs, at most %" PRIu64 "\n", r->num.low, r->cap.low); break;
     default: fail("an unknown cause");
     }
-    if (r->cause == RTDVS_EDF_TEST || r->cause == RTDVS_RM_TEST || r->cause == RTDVS_NO_RESPONSE || r->cause == RTDVS_UNITS) {
+    if (r->cause == RTDVS_EDF_TEST || r->cause == RTDVS_RM_TEST || r->cause == RTDVS_NO_RESPONSE || r->cause == RTDVS_UNITS ||
+        r->cause == RTDVS_DEMAND) {
         put_wide(text, r->num);
         put(text, " ");
         put_wide(text, r->cap);
@@ -181,7 +191,7 @@ static void put_refusal(struct text *text, const struct rtdvs_refusal *r)
     }
 }
 
-/* The two calls. If memory ran out, the answer has to be empty. */
+/* The calls. If memory ran out, the answer has to be empty. */
 static uint8_t admission(struct rtdvs_admission *a)
 {
     static const struct rtdvs_admission none;
@@ -202,34 +212,76 @@ static uint8_t responses(struct rtdvs_responses *r)
     return status;
 }
 
+static uint8_t constrained(struct rtdvs_admission *a)
+{
+    static const struct rtdvs_admission none;
+    memset(a, 0xA5, sizeof *a);
+    uint8_t status = rtdvs_constrain(tasks, task_count, points, point_count, &settings, a);
+    if (status == RTDVS_NO_MEMORY)
+        exit(memcmp(a, &none, sizeof none) == 0 ? 9 : 1);
+    return status;
+}
+
+static uint8_t least_energy(const struct rtdvs_work *work, struct rtdvs_least_energy *a)
+{
+    static const struct rtdvs_least_energy none;
+    memset(a, 0xA5, sizeof *a);
+    uint8_t status = rtdvs_least(points, point_count, &settings, work, a);
+    if (status == RTDVS_NO_MEMORY)
+        exit(memcmp(a, &none, sizeof none) == 0 ? 9 : 1);
+    return status;
+}
+
+/* The program's answer has to be the one by numbers. */
+static void check_text(const char *command, uint8_t status)
+{
+    if (strcmp(wanted.at, status == RTDVS_DONE ? out.at : notes.at) != 0) {
+        fprintf(stderr, "%s by numbers: %sby text: %s%s", command, wanted.at, out.at, notes.at);
+        fail("another answer");
+    }
+}
+
+/* A demand with the lowest speed after the words before it, or the refusal. */
+static void put_admission(const char *before, uint8_t status, const struct rtdvs_admission *a)
+{
+    clear(&wanted);
+    if (status == RTDVS_DONE) {
+        put(&wanted, "%s ", before);
+        put_wide(&wanted, a->num);
+        put(&wanted, "/");
+        put_wide(&wanted, a->den);
+        put(&wanted, " %" PRIu64 "\n", a->speed);
+    } else {
+        put_refusal(&wanted, &a->refusal);
+    }
+}
+
 static void admit(const char *scheduler)
 {
     struct rtdvs_admission a;
     settings.scheduler = scheduler[0] == 'e' ? RTDVS_EDF : RTDVS_RM;
     uint8_t status = admission(&a);
-    if (status != by_text("admit", scheduler))
+    if (status != by_text("admit", "--scheduler", scheduler))
         fail("admit: another status");
-    clear(&wanted);
-    if (status == RTDVS_DONE) {
-        put(&wanted, "admitted %s ", scheduler);
-        put_wide(&wanted, a.num);
-        put(&wanted, "/");
-        put_wide(&wanted, a.den);
-        put(&wanted, " %" PRIu64 "\n", a.speed);
-    } else {
-        put_refusal(&wanted, &a.refusal);
-    }
-    if (strcmp(wanted.at, status == RTDVS_DONE ? out.at : notes.at) != 0) {
-        fprintf(stderr, "by numbers: %sby text: %s%s", wanted.at, out.at, notes.at);
-        fail("admit: another answer");
-    }
+    put_admission(scheduler[0] == 'e' ? "admitted edf" : "admitted rm", status, &a);
+    check_text("admit", status);
+}
+
+static void constrain(void)
+{
+    struct rtdvs_admission a;
+    uint8_t status = constrained(&a);
+    if (status != by_text("constrain", "--deadlines", "deadlines"))
+        fail("constrain: another status");
+    put_admission("constrained", status, &a);
+    check_text("constrain", status);
 }
 
 static void response(void)
 {
     struct rtdvs_responses r;
     uint8_t status = responses(&r);
-    if (status != by_text("response", NULL))
+    if (status != by_text("response", NULL, NULL))
         fail("response: another status");
     clear(&wanted);
     if (status == RTDVS_DONE)
@@ -240,21 +292,14 @@ static void response(void)
     for (size_t i = status == RTDVS_DONE ? task_count : 0; i < RTDVS_MOST_TASKS; i++)
         if (r.ticks[i] != 0)
             fail("response: ticks past the last task");
-    if (strcmp(wanted.at, status == RTDVS_DONE ? out.at : notes.at) != 0) {
-        fprintf(stderr, "by numbers: %sby text: %s%s", wanted.at, out.at, notes.at);
-        fail("response: another answer");
-    }
+    check_text("response", status);
 }
 
 static void least(void)
 {
-    static const struct rtdvs_least_energy none;
     struct rtdvs_least_energy a;
     struct rtdvs_work work = { draw() % 5 == 0 ? draw() >> 8 : draw() % 3000, number(200, UINT64_C(1) << 40) };
-    memset(&a, 0xA5, sizeof a);
-    uint8_t status = rtdvs_least(points, point_count, &settings, &work, &a);
-    if (status == RTDVS_NO_MEMORY)
-        exit(memcmp(&a, &none, sizeof none) == 0 ? 9 : 1);
+    uint8_t status = least_energy(&work, &a);
     clear(&words);
     put(&words, "least%c--machine%cmachine%c--units%c%" PRIu64 "%c--ticks%c%" PRIu64 "%c", 0, 0, 0, 0, work.units, 0, 0,
         work.ticks, 0);
@@ -275,10 +320,7 @@ static void least(void)
     } else {
         put_refusal(&wanted, &a.refusal);
     }
-    if (strcmp(wanted.at, status == RTDVS_DONE ? out.at : notes.at) != 0) {
-        fprintf(stderr, "by numbers: %sby text: %s%s", wanted.at, out.at, notes.at);
-        fail("least: another answer");
-    }
+    check_text("least", status);
 }
 
 static void compare(uint64_t seed, uint64_t sets)
@@ -292,6 +334,7 @@ static void compare(uint64_t seed, uint64_t sets)
         admit("edf");
         admit("rm");
         response();
+        constrain();
         least();
     }
     settings.scheduler = 2;
@@ -301,32 +344,67 @@ static void compare(uint64_t seed, uint64_t sets)
     printf("%" PRIu64 " sets\n", sets);
 }
 
+/* The end of a run by rtdvs_end, as long as its last line: the 14 units of 16 ticks, each at 5000 millivolts. If memory ran
+ * out, the buffers have to be as before, and both lengths 0. */
+static uint8_t last_line(void)
+{
+    static const char line[] = "end 16 350000000000 0\n", before[] = "as before, and so it is";
+    struct rtdvs_lengths lengths = { 7, 7 };
+    char last[sizeof line], note[4] = "abc";
+    clear(&words);
+    put(&words, "run%c--tasks%ctasks%c--machine%cmachine%c--scheduler%cedf%c--governor%cnone%c--ticks%c16%c", 0, 0, 0, 0, 0,
+        0, 0, 0, 0, 0, 0);
+    memcpy(last, before, sizeof last);
+    uint8_t status = rtdvs_end((uint8_t *)words.at, words.len, (uint8_t *)task_file.at, task_file.len,
+                               (uint8_t *)machine_file.at, machine_file.len, NULL, 0, (uint8_t *)last, sizeof line - 1,
+                               (uint8_t *)note, 3, &lengths);
+    const char *left = status == RTDVS_NO_MEMORY ? before : line;
+    if (memcmp(last, left, sizeof line - 1) != 0 || strcmp(note, "abc") != 0 || lengths.notes != 0 ||
+        (lengths.out > 0) != (status == RTDVS_DONE))
+        fail("another end");
+    return status;
+}
+
 /* So many calls for the three tasks of Pillai and Shin 2001. In 280 ticks they ask for 105, 84 and 20 units; at speed 4 the
- * first job of each is done by tick 1, 2 and 2. */
+ * first job of each is done by tick 1, 2 and 2. The first deadline is shortened to 2 ticks, in which 3 units are due. The 28
+ * units of the least energy take 4 ticks at speed 1 and 12 at speed 2. */
 static void repeat(const char *how, uint64_t calls)
 {
-    static struct rtdvs_task given[] = { { 8, 3, 0, 0 }, { 10, 3, 0, 0 }, { 14, 1, 0, 0 } };
+    static struct rtdvs_task given[] = { { 8, 3, 0, 2 }, { 10, 3, 0, 10 }, { 14, 1, 0, 14 } };
     static struct rtdvs_point entry[] = { { 1, 3000 }, { 2, 4000 }, { 4, 5000 } };
+    static const struct rtdvs_work work = { 28, 16 };
     struct rtdvs_admission a;
     struct rtdvs_responses r;
+    struct rtdvs_least_energy e;
     tasks = given, task_count = 3, points = entry, point_count = 3;
     write_files();
     for (uint64_t i = 0; i < calls; i++) {
         uint8_t status;
         if (strcmp(how, "admit") == 0)
             status = admission(&a);
+        else if (strcmp(how, "constrain") == 0)
+            status = constrained(&a);
         else if (strcmp(how, "response") == 0)
             status = responses(&r);
+        else if (strcmp(how, "least") == 0)
+            status = least_energy(&work, &e);
+        else if (strcmp(how, "end") == 0)
+            status = last_line();
         else if (strcmp(how, "admit-text") == 0)
-            status = by_text("admit", "edf");
+            status = by_text("admit", "--scheduler", "edf");
         else
-            status = by_text("response", NULL);
+            status = by_text("response", NULL, NULL);
         if (status != RTDVS_DONE)
             exit(status);
         if (strcmp(how, "admit") == 0 && (a.num.low != 209 || a.num.high != 0 || a.den.low != 280 || a.speed != 1))
             fail("another admission");
+        if (strcmp(how, "constrain") == 0 && (a.num.low != 3 || a.num.high != 0 || a.den.low != 2 || a.speed != 2))
+            fail("another speed");
         if (strcmp(how, "response") == 0 && (r.ticks[0] != 1 || r.ticks[1] != 2 || r.ticks[2] != 2 || r.ticks[3] != 0))
             fail("other responses");
+        if (strcmp(how, "least") == 0 &&
+            (e.rounds != 1 || e.low_ticks != 4 || e.high_ticks != 12 || e.energy.low != 420000000000))
+            fail("another least energy");
     }
 }
 

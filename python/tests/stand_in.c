@@ -8,7 +8,7 @@
  *     migrate                 each time more than there is room for
  * rtdvs_end gives the end of the same answers. The calls with numbers answer what they were given, place by place: of the
  * last task and the last point. rtdvs_admit denies under RM, and refuses a task of period 1 for a cause that is none of a
- * test; rtdvs_response denies offsets. */
+ * test; rtdvs_response denies offsets; rtdvs_constrain refuses a period of 2 ticks for too many jobs, and denies one of 3. */
 #include "../../library/rtdvs.h"
 
 #include <stdio.h>
@@ -97,6 +97,25 @@ uint8_t rtdvs_admit(const struct rtdvs_task *tasks, size_t tasks_len, const stru
     answer->num = (struct rtdvs_wide) { task.worst_case, 2 };
     answer->den = (struct rtdvs_wide) { task.period, tasks_len };
     answer->speed = point.speed;
+    return RTDVS_DONE;
+}
+
+uint8_t rtdvs_constrain(const struct rtdvs_task *tasks, size_t tasks_len, const struct rtdvs_point *points,
+                        size_t points_len, const struct rtdvs_settings *settings, struct rtdvs_admission *answer)
+{
+    struct rtdvs_task task = tasks[tasks_len - 1];
+    memset(answer, 0, sizeof *answer);
+    if (task.period == 2) {
+        answer->refusal = (struct rtdvs_refusal) { RTDVS_JOBS, 0, { 100001, 0 }, { 100000, 0 } };
+        return RTDVS_LIMIT;
+    }
+    if (task.period == 3) {
+        answer->refusal = (struct rtdvs_refusal) { RTDVS_DEMAND, task.deadline, { task.worst_case, 1 }, { 1, 0 } };
+        return RTDVS_NOT_ADMITTED;
+    }
+    answer->num = (struct rtdvs_wide) { tasks[0].deadline, task.deadline };
+    answer->den = (struct rtdvs_wide) { task.period, settings->charge };
+    answer->speed = points[points_len - 1].speed;
     return RTDVS_DONE;
 }
 

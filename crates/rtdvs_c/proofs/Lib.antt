@@ -2,3 +2,4 @@ mod TopCall
 mod Words
 pub mod EndedWords
 pub mod NumberSteps
+pub mod DeadlineSteps

@@ -60,7 +60,7 @@ unless_memory step (Err (status.Load kind)) see h = absurd h.loads
 unless_memory step (Err s) see h = λ other. h.refused
 
 -- the tasks and the machine, or the status that refuses them
-abbrev sets : Result (List Task) Status → Result Table Status → Result (List Task × Table) Status
+abbrev pub sets : Result (List Task) Status → Result Table Status → Result (List Task × Table) Status
 sets t m = and_then t (λ tasks. and_then m (λ machine. Ok (tasks, machine)))
 
 -- a plan passes its scheduler's test, or is denied by the test's two numbers
@@ -186,6 +186,23 @@ never-done {A} step s undone is zero =
 
 pub done_of : (n : NumbersView) (s : Status) → (s ≢ status.NoMemory → ticks_on n ≡ Err s) → code_of s ≡ 0 → ⊥
 done_of n s is zero = never-done (ticks_on n) s (ticks_undone n) is zero
+
+-- an admission is not refused with the status of an answer
+admission-undone : (n : NumbersView) (s : Scheduler) → admission_on s n ≡ Err status.Done → ⊥
+admission-undone n s = go (tasks_of_given n.tasks) (machine_of_given n.settings.idle n.settings.charge n.points)
+  where
+    test : (p : Plan) → Decides p p.scheduler (admission p) → admission p ≡ Err status.Done → ⊥
+    test p (inl same) q = let both : Ok p ≡ Err status.Done = sym same.0 ∙ q in absurd (cc)
+    test p (inr denial) q = let both : Err (status.NotAdmitted denial.0) ≡ Err status.Done = sym denial.1 ∙ q in absurd (cc)
+
+    go : (ts : Result (List Task) TaskFault) (m : Result Table MachineFault)
+        → and_then (sets (or_status task_status ts) (or_status machine_status m)) (λ x. admission (plan_of x.0 x.1 s)) ≡ Err status.Done → ⊥
+    go (Ok tasks) (Ok machine) = test (plan_of tasks machine s) (decides (plan_of tasks machine s))
+    go (Ok tasks) (Err e) = λ q. let same : machine_status e ≡ status.Done = cc in machine-undone e same
+    go (Err e) m = λ q. let same : task_status e ≡ status.Done = cc in tasks-undone e same
+
+pub admitted_done_of : (n : NumbersView) (s : Scheduler) (e : Status) → (e ≢ status.NoMemory → admission_on s n ≡ Err e) → code_of e ≡ 0 → ⊥
+admitted_done_of n s e is zero = never-done (admission_on s n) e (admission-undone n s) is zero
 
 -- the same of the least energy
 least-undone : (n : NumbersView) (w : Work) → least_of_numbers n w ≡ Err status.Done → ⊥

@@ -5,3 +5,4 @@ pub mod Texts
 pub mod Numbers
 pub mod NumberReplies
 pub mod LeastNumbers
+pub mod DeadlineNumbers

@@ -6,11 +6,13 @@ use Rattle.dvs_base.specs.declared.limits.TheConstants.{MOST_TASKS}
 use Rattle.dvs_base.specs.declared.kind.Scheduler.{Scheduler}
 use Rattle.dvs_base.specs.declared.kind.Scheduler.TheVariants.{Rm}
 use Rattle.task_model.specs.declared.task.Task.{Task}
-use Rattle.freq_table.specs.Tables.{Table}
+use Rattle.freq_table.specs.Tables.{Table, lowest_entry}
 use Rattle.numbers.specs.declared.given.GivenTask.{GivenTask}
 use Rattle.numbers.specs.declared.given.GivenPoint.{GivenPoint}
 use Rattle.numbers.specs.Given.{tasks_of_given, machine_of_given}
 use Rattle.sched_model.specs.Plan.{Plan, plan_of}
+use Rattle.sched_model.specs.StaticDemand.{static_demand}
+use Rattle.static_gov.specs.StaticSpeed.{IsLowestEnough}
 use Rattle.words.specs.Commands.{AdmitView, ResponseView, admit, response}
 use Rattle.statuses.specs.declared.status.Denied.{Denied}
 use Rattle.statuses.specs.declared.status.Status.{Status}
@@ -137,6 +139,12 @@ RespondsAsFiles n =
 -- plan that is denied fails it by the two numbers
 abbrev pub AdmitsNumbers : NumbersView → Type 0
 AdmitsNumbers n = (s : Scheduler) → AdmitsOrDenies (λ p. PassesTest p.scheduler p) (plan_on s n) (ends (admission_on s n))
+
+-- the numbers are admitted under their scheduler, and the entry of the static demand is the lowest that is enough
+abbrev pub HasLowestEnough : NumbersView → Type 0
+HasLowestEnough n =
+    (s : Scheduler) × (p : Plan) × (scheduler_from n.settings.scheduler ≡ Some s) × (admission_on s n ≡ Ok p)
+    × IsLowestEnough p (lowest_entry p.machine (static_demand p))
 
 -- each task of the numbers has a response, and what this proves of every schedule
 abbrev pub RespondsOn : NumbersView → Type 0

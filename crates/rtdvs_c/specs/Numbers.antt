@@ -1,12 +1,14 @@
 -- What a call with numbers answers: wide numbers, refusals by their cause and place, and answers.
 use Rattle.std.specs.Prelude.{ℕ, ◌+◌, ◌%◌, ◌/◌, ◌^◌, ◌==◌, replicate, Option, Some, None, if◌then◌else◌}
-use Rattle.dvs_base.specs.declared.limits.TheConstants.{MOST_TASKS}
+use Rattle.dvs_base.specs.declared.limits.TheConstants.{MOST_TASKS, MOST_JOBS}
 use Rattle.dvs_base.specs.declared.kind.Scheduler.{Scheduler}
 use Rattle.dvs_base.specs.declared.kind.Scheduler.TheVariants.{Edf, Rm}
 use Rattle.task_model.specs.declared.fault.Field.{Field}
 use Rattle.task_model.specs.declared.fault.Field.TheVariants as field
 use Rattle.task_model.specs.declared.fault.TaskFault.{TaskFault}
 use Rattle.task_model.specs.declared.fault.TaskFault.TheVariants as task_fault
+use Rattle.deadline_list.specs.declared.fault.DeadlineFault.{DeadlineFault}
+use Rattle.deadline_list.specs.declared.fault.DeadlineFault.TheVariants as deadline_fault
 use Rattle.freq_table.specs.declared.fault.MachineField.{MachineField}
 use Rattle.freq_table.specs.declared.fault.MachineField.TheVariants as machine_field
 use Rattle.freq_table.specs.declared.fault.MachineFault.{MachineFault}
@@ -20,7 +22,7 @@ use Rattle.statuses.specs.declared.status.TextFault.{TextFault}
 use Rattle.statuses.specs.declared.status.TextFault.TheVariants as text
 use Rattle.statuses.specs.declared.status.Status.{Status}
 use Rattle.statuses.specs.declared.status.Status.TheVariants as status
-use Rattle.rtdvs_c.specs.declared.causes.TheConstants.{NO_CAUSE, NO_TASKS, TOO_MANY_TASKS, PERIOD, WORST_CASE, OFFSET, HYPERPERIOD, IDLE, CHARGE, NO_POINTS, TOO_MANY_POINTS, SPEED, MILLIVOLTS, NOT_RISING, EDF_TEST, RM_TEST, FIRST_RELEASE, NO_RESPONSE, DEMAND, UNITS, EDF, RM}
+use Rattle.rtdvs_c.specs.declared.causes.TheConstants.{NO_CAUSE, NO_TASKS, TOO_MANY_TASKS, PERIOD, WORST_CASE, OFFSET, HYPERPERIOD, IDLE, CHARGE, NO_POINTS, TOO_MANY_POINTS, SPEED, MILLIVOLTS, NOT_RISING, EDF_TEST, RM_TEST, FIRST_RELEASE, NO_RESPONSE, DEMAND, UNITS, DEADLINE, JOBS, EDF, RM}
 use Rattle.rtdvs_c.specs.declared.number_types.Wide.{Wide}
 use Rattle.rtdvs_c.specs.declared.number_types.Refusal.{Refusal}
 use Rattle.rtdvs_c.specs.declared.number_types.Admission.{Admission}
@@ -30,7 +32,7 @@ use Rattle.rtdvs_c.specs.declared.number_types.Responses.{Responses}
 abbrev pub halves_of : ℕ → Wide
 halves_of n = record { low = n % 2 ^ 64; high = n / 2 ^ 64 }
 
--- the refusal of a test: the work asked for, and the work that can be done
+-- the refusal of a test: the work asked for, and the work that can be done, or the jobs and the most
 abbrev pub short_by : ℕ → ℕ → ℕ → ℕ → Refusal
 short_by cause place num cap = record { cause = cause; place = place; num = halves_of num; cap = halves_of cap }
 
@@ -73,25 +75,32 @@ machine_refusal (machine_fault.Range place key) = refused_at (machine_field_caus
 machine_refusal (machine_fault.NotRising place) = refused_at NOT_RISING place
 machine_refusal why = no_refusal
 
--- the refusal of tasks or of a machine
+-- the refusal of deadlines; their rows have the numbers of their tasks
+abbrev pub deadline_refusal : DeadlineFault → Refusal
+deadline_refusal (deadline_fault.Range row) = refused_at DEADLINE row
+deadline_refusal why = no_refusal
+
+-- the refusal of tasks, of a machine or of deadlines
 abbrev pub text_refusal : TextFault → Refusal
 text_refusal (text.Tasks why) = task_refusal why
 text_refusal (text.Machine why) = machine_refusal why
+text_refusal (text.Deadlines why) = deadline_refusal why
 text_refusal why = no_refusal
 
--- the refusal of a test; tasks count from 1
+-- the refusal of a test; tasks count from 1, and in place of a task a demand has its ticks
 abbrev pub denied_refusal : Denied → Refusal
 denied_refusal (denied.Edf num cap) = short_by EDF_TEST 0 num cap
 denied_refusal (denied.Rm i num cap) = short_by RM_TEST (i + 1) num cap
 denied_refusal (denied.Offset i) = refused_at FIRST_RELEASE (i + 1)
 denied_refusal (denied.Response i num cap) = short_by NO_RESPONSE (i + 1) num cap
-denied_refusal (denied.Demand at num cap) = short_by DEMAND 0 num cap
+denied_refusal (denied.Demand at num cap) = short_by DEMAND at num cap
 denied_refusal (denied.Units num cap) = short_by UNITS 0 num cap
 
--- the refusal that a status is: of numbers that are refused, or that a test denies; otherwise none
+-- the refusal that a status is: of numbers that are refused, that a test denies, or of too many jobs; otherwise none
 abbrev pub refusal_of : Status → Refusal
 refusal_of (status.NotAdmitted why) = denied_refusal why
 refusal_of (status.Text why) = text_refusal why
+refusal_of (status.Limit jobs) = short_by JOBS 0 jobs MOST_JOBS
 refusal_of s = no_refusal
 
 -- the scheduler of a number, if it is one

@@ -1,7 +1,10 @@
 // Admission of numbers.
 ghost use Rattle.std.specs.Prelude.{◌≡◌, ◌≢◌};
 ghost use Rattle.rtdvs_c.specs.Numbers.{scheduler_from, admitted_numbers, refused_admission, no_refusal};
-ghost use Rattle.rtdvs_c.specs.NumberReplies.{numbers_of, admission_reply, AdmitsAsFiles, AdmitsNumbers};
+ghost use Rattle.freq_table.specs.Tables.{lowest_entry};
+ghost use Rattle.sched_model.specs.StaticDemand.{static_demand};
+ghost use Rattle.static_gov.specs.StaticSpeed.{IsLowestEnough};
+ghost use Rattle.rtdvs_c.specs.NumberReplies.{numbers_of, admission_reply, AdmitsAsFiles, AdmitsNumbers, HasLowestEnough};
 
 use crate::NO_MEMORY;
 use crate::causes::{EDF, NO_SCHEDULER, RM, SCHEDULER};
@@ -28,7 +31,8 @@ fn scheduler_from(n: u64) -> Option<Scheduler>
 
 // The answer of an admitted plan.
 fn admitted_numbers(plan: &Admitted) -> Admission
-    ensures { result ≡ admitted_numbers plan.now }
+    ensures answer { result ≡ admitted_numbers plan.now }
+    ensures lowest { IsLowestEnough plan.now (lowest_entry plan.now.machine (static_demand plan.now)) }
 {
     let demand = plan.static_demand();
     let pick = plan.machine().lowest(demand);
@@ -41,8 +45,8 @@ fn admitted_numbers(plan: &Admitted) -> Admission
     }
 }
 
-// The answer of a refusal.
-fn refused_admission(refusal: Refusal) -> Admission
+/// The answer of a refusal.
+pub(crate) fn refused_admission(refusal: Refusal) -> Admission
     ensures { result ≡ refused_admission refusal }
 {
     Admission {
@@ -56,7 +60,7 @@ fn refused_admission(refusal: Refusal) -> Admission
 /// Admits tasks on a machine by the test of a scheduler, as the program's `admit` does for files of the same numbers. The
 /// result is the program's exit status: 0 if the tasks are admitted, 1 if the test denies them, 4 if numbers are
 /// refused, 2 if the scheduler is none, and 9 if memory ran out.
-#[tactic(auto, using(crate::proofs::NumberSteps::admits_numbers, crate::proofs::NumberSteps::admits_as_files))]
+#[tactic(auto, using(crate::proofs::NumberSteps::admits_numbers, crate::proofs::NumberSteps::admits_as_files, crate::proofs::NumberSteps::admitted_done_of))]
 #[unsafe(no_mangle)]
 pub extern "C" fn rtdvs_admit(
     alloc: Global,
@@ -74,6 +78,8 @@ pub extern "C" fn rtdvs_admit(
     ensures no_answer { result ≡ NO_MEMORY → answer.new ≡ refused_admission no_refusal }
     // what the answer proves of these tasks and this machine
     ensures proves { AdmitsNumbers (numbers_of tasks.now points.now settings.now) }
+    // at the speed answered every job meets its deadline at worst, and at each lower one the test fails
+    ensures lowest { result ≡ 0 → HasLowestEnough (numbers_of tasks.now points.now settings.now) }
     // the program answers alike for each file of these tasks and each file of this machine
     ensures same { AdmitsAsFiles (numbers_of tasks.now points.now settings.now) }
 {

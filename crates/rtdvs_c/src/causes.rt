@@ -57,7 +57,7 @@ pub const FIRST_RELEASE: u64 = 17;
 /// The exact test under RM: a task has no response. The work is that of its level in its period.
 pub const NO_RESPONSE: u64 = 18;
 
-/// The work due within some ticks, against what the highest speed does in them.
+/// Deadlines below the periods: the work due within some ticks, against what the highest speed does in them.
 pub const DEMAND: u64 = 19;
 
 /// More units than the highest speed does in the ticks.
@@ -65,6 +65,12 @@ pub const UNITS: u64 = 20;
 
 /// The ticks of a least energy are not 1 to 2^40.
 pub const TICKS: u64 = 21;
+
+/// A relative deadline is not 1 tick to its task's period.
+pub const DEADLINE: u64 = 22;
+
+/// Deadlines below the periods: the jobs of a hyperperiod, against the most.
+pub const JOBS: u64 = 23;
 
 /// The number of EDF among the schedulers.
 pub const EDF: u64 = 0;

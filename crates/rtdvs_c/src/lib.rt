@@ -19,6 +19,7 @@ ghost use Rattle.rtdvs_c.specs.Proves.{Proves};
 
 mod admit;
 mod causes;
+mod constrain;
 mod end;
 mod files;
 mod least;

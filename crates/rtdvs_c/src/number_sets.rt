@@ -1,11 +1,9 @@
 // The tasks and the machine of numbers, and their tests.
-ghost use Rattle.std.specs.Prelude.{◌≡◌, ◌≤◌, length, IfOk, OnOk};
+ghost use Rattle.std.specs.Prelude.{◌≡◌, ◌≤◌, length, IfOk, IfErr, OnOk};
 ghost use Rattle.std.specs.Result.{IsErrOf};
 ghost use Rattle.dvs_base.specs.Checks.{IsUnlessMemory};
-ghost use Rattle.sched_model.specs.Plan.{plan_of};
 ghost use Rattle.statuses.specs.declared.status.Denied.{Denied};
-ghost use Rattle.statuses.specs.Steps.{IsTestStep};
-ghost use Rattle.rtdvs_top.specs.Response.{responses_on, Responds, FailsToRespond};
+ghost use Rattle.statuses.specs.Status.{IsOfFile};
 ghost use Rattle.rtdvs_c.specs.NumberReplies.{numbers_of, sets_on, admission_on, ticks_on, padded, RespondsOn, FailsOn};
 
 use crate::number_types::Settings;
@@ -13,22 +11,24 @@ use command_files::admit;
 use dvs_base::{MOST_TASKS, Scheduler};
 use freq_table::Machine;
 use numbers::{GivenPoint, GivenTask, machine_of, tasks_of};
-use rm_response::{Response, ResponseFault, rm_response};
-use rtdvs_top::{Denied, Status};
+use rm_response::Response;
+use rtdvs_top::{Status, responses_of};
 use sched_model::Admitted;
 use std::alloc::Global;
 use task_model::TaskSet;
 
-// The tasks and the machine of numbers, or the status that refuses them.
+/// The tasks and the machine of numbers, or the status that refuses them.
 #[tactic(auto, using(crate::proofs::NumberSteps::tasks_refused, crate::proofs::NumberSteps::machine_refused))]
-fn sets_of(
+pub(crate) fn sets_of(
     alloc: Global,
     tasks: &[GivenTask],
     points: &[GivenPoint],
     settings: &Settings,
 ) -> Result<(TaskSet, Machine), Status>
-    ensures { IsUnlessMemory Status.NoMemory (λ x. (x.0, x.1)) result
+    ensures sets { IsUnlessMemory Status.NoMemory (λ x. (x.0, x.1)) result
         (sets_on (numbers_of tasks.now points.now settings.now)) }
+    ensures one_each { IfOk result (λ x. length x.0 ≡ length tasks.now) }
+    ensures of_file { IfErr result IsOfFile }
 {
     let tasks = tasks_of(alloc, tasks)?;
     let machine = machine_of(alloc, settings.idle, settings.charge, points)?;
@@ -49,23 +49,6 @@ pub(crate) fn admitted_of(
 {
     let (tasks, machine) = sets_of(alloc, tasks, points, settings)?;
     admit(alloc, scheduler, &tasks, &machine)
-}
-
-// The responses of tasks on a machine.
-fn respond(alloc: Global, tasks: &TaskSet, machine: &Machine) -> Result<Response, Status>
-    ensures step { IsTestStep (responses_on tasks.now machine.now) result (λ r. r) }
-    ensures one_each { IfOk result (λ r. length r ≡ length tasks.now) }
-    ensures proves { OnOk result (Responds (plan_of tasks.now machine.now Scheduler.Rm)) }
-    ensures fails { (why : Denied) → IsErrOf result (Status.NotAdmitted why)
-        → FailsToRespond (plan_of tasks.now machine.now Scheduler.Rm) why }
-{
-    rm_response(alloc, tasks, machine).map_err(|why| match why {
-        ResponseFault::Offset { task } => Status::NotAdmitted(Denied::Offset { task }),
-        ResponseFault::Misses { task, num, cap } => {
-            Status::NotAdmitted(Denied::Response { task, num, cap })
-        }
-        ResponseFault::NoMemory => Status::NoMemory,
-    })
 }
 
 // The ticks of the responses, with 0 past the last task.
@@ -95,6 +78,6 @@ pub(crate) fn ticks_of(
         → FailsOn (numbers_of tasks.now points.now settings.now) why }
 {
     let (tasks, machine) = sets_of(alloc, tasks, points, settings)?;
-    let response = respond(alloc, &tasks, &machine)?;
+    let response = responses_of(alloc, &tasks, &machine)?;
     Ok(padded(&tasks, &response))
 }

@@ -1,10 +1,11 @@
 // Calls with numbers as C makes them. The answers are worked out by hand.
 use super::admit::rtdvs_admit;
 use super::causes::*;
+use super::constrain::rtdvs_constrain;
 use super::least::rtdvs_least;
 use super::number_types::{Admission, LeastEnergy, Refusal, Responses, Settings, Wide, Work};
 use super::response::rtdvs_response;
-use dvs_base::MOST_TASKS;
+use dvs_base::{MOST_JOBS, MOST_TASKS};
 use freq_table::TOP_SPEED;
 use numbers::{GivenPoint, GivenTask};
 use std::alloc::Global;
@@ -19,13 +20,18 @@ const NONE: Refusal = Refusal {
     cap: ZERO,
 };
 
-// A task without an offset. No call reads its deadline.
+// A task without an offset, whose deadline is its period.
 fn task(period: u64, worst_case: u64) -> GivenTask {
+    within(period, worst_case, period)
+}
+
+// A task without an offset.
+fn within(period: u64, worst_case: u64, deadline: u64) -> GivenTask {
     GivenTask {
         period,
         worst_case,
         offset: 0,
-        deadline: 7,
+        deadline,
     }
 }
 
@@ -122,6 +128,90 @@ fn responds_by_ticks(rt: HostRuntime) -> Result<(), Fail> {
     assert_eq!(rt; code, 0);
     assert_eq!(rt; &answer.ticks[..4], [1, 10, 3, 0].as_slice());
     assert_eq!(rt; answer.refusal, NONE);
+    Ok(())
+}
+
+// The exit status and the lowest speed for deadlines, on a machine of the speeds 1 and 2.
+fn constrained(alloc: Global, tasks: &[GivenTask]) -> (u8, Admission) {
+    let points = [
+        GivenPoint {
+            speed: 1,
+            millivolts: 1000,
+        },
+        GivenPoint {
+            speed: 2,
+            millivolts: 2000,
+        },
+    ];
+    let settings = Settings {
+        idle: 0,
+        charge: 0,
+        scheduler: 7,
+    };
+    let mut answer = Admission {
+        num: ZERO,
+        den: ZERO,
+        speed: 9,
+        refusal: NONE,
+    };
+    let code = rtdvs_constrain(alloc, tasks, &points, &settings, &mut answer);
+    (code, answer)
+}
+
+// By tick 2 the first job of each task is due, 3 units in 2 ticks; by tick 6 they are 5 units.
+#[test]
+fn constrains_to_the_second_speed(rt: HostRuntime) -> Result<(), Fail> {
+    let (code, answer) = constrained(rt.alloc(), &[within(6, 1, 2), within(4, 2, 2)]);
+    assert_eq!(rt; code, 0);
+    assert_eq!(rt; answer.num, Wide { low: 3, high: 0 });
+    assert_eq!(rt; answer.den, Wide { low: 2, high: 0 });
+    assert_eq!(rt; answer.speed, 2);
+    assert_eq!(rt; answer.refusal, NONE);
+    Ok(())
+}
+
+// By tick 1 the first task's 3 units are due, and speed 2 does 2.
+#[test]
+fn denies_a_demand_by_its_tick(rt: HostRuntime) -> Result<(), Fail> {
+    let (code, answer) = constrained(rt.alloc(), &[within(6, 3, 1), task(4, 1)]);
+    assert_eq!(rt; code, 1);
+    assert_eq!(rt; answer.refusal.cause, DEMAND);
+    assert_eq!(rt; answer.refusal.place, 1);
+    assert_eq!(rt; answer.refusal.num, Wide { low: 3, high: 0 });
+    assert_eq!(rt; answer.refusal.cap, Wide { low: 2, high: 0 });
+    Ok(())
+}
+
+#[test]
+fn refuses_a_deadline_above_the_period(rt: HostRuntime) -> Result<(), Fail> {
+    let (code, answer) = constrained(rt.alloc(), &[task(6, 1), within(4, 1, 5)]);
+    assert_eq!(rt; code, 4);
+    assert_eq!(rt; answer.refusal.cause, DEADLINE);
+    assert_eq!(rt; answer.refusal.place, 2);
+    assert_eq!(rt; answer.speed, 0);
+    Ok(())
+}
+
+// The hyperperiod is the most jobs in ticks: the first task has as many jobs in it, and the second one has one.
+#[test]
+fn refuses_too_many_jobs(rt: HostRuntime) -> Result<(), Fail> {
+    let (code, answer) = constrained(rt.alloc(), &[task(1, 1), task(MOST_JOBS, 1)]);
+    assert_eq!(rt; code, 5);
+    assert_eq!(rt; answer.refusal.cause, JOBS);
+    assert_eq!(rt;
+        answer.refusal.num,
+        Wide {
+            low: MOST_JOBS + 1,
+            high: 0
+        }
+    );
+    assert_eq!(rt;
+        answer.refusal.cap,
+        Wide {
+            low: MOST_JOBS,
+            high: 0
+        }
+    );
     Ok(())
 }
 

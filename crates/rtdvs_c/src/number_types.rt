@@ -23,8 +23,9 @@ pub struct Settings {
     pub scheduler: u64,
 }
 
-/// Why numbers are refused, or denied by a test: the cause; the number of the task or of the point, from 1 on, or 0; and
-/// of a test the work that is asked for and the work that can be done, in work units.
+/// Why numbers are refused, or denied by a test: the cause; the number of the task or of the point, from 1 on, or 0, and
+/// of the cause `DEMAND` the ticks; and of a test the work that is asked for and the work that can be done, in work units,
+/// or of the cause `JOBS` the jobs and the most.
 #[derive(Clone, Copy, Debug, PartialEq, Eq)]
 #[repr(C)]
 pub struct Refusal {
@@ -34,8 +35,8 @@ pub struct Refusal {
     pub cap: Wide,
 }
 
-/// The answer of an admission: the static demand `num/den` in work units per tick, not reduced, and the lowest speed
-/// that meets it. All three are 0 if there is a refusal.
+/// A demand `num/den` in work units per tick, not reduced, and the lowest speed that meets it: of an admission the static
+/// demand, of deadlines below the periods the constrained one. All three are 0 if there is a refusal.
 #[derive(Clone, Copy, Debug, PartialEq, Eq)]
 #[repr(C)]
 pub struct Admission {
@@ -98,7 +99,7 @@ pub(crate) fn refused_at(cause: u64, place: u64) -> Refusal
     short_by(cause, place, 0, 0)
 }
 
-/// The refusal of a test: the work asked for, and the work that can be done.
+/// The refusal of a test: the work asked for, and the work that can be done, or the jobs and the most.
 pub(crate) fn short_by(cause: u64, place: u64, num: u128, cap: u128) -> Refusal
     ensures { result ≡ short_by cause place num cap }
 {

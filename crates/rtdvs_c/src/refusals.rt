@@ -1,9 +1,11 @@
 // The refusal that a status is.
 ghost use Rattle.std.specs.Prelude.{◌≡◌};
-ghost use Rattle.rtdvs_c.specs.Numbers.{task_field_cause, task_refusal, machine_field_cause, machine_refusal, text_refusal, denied_refusal, refusal_of};
+ghost use Rattle.rtdvs_c.specs.Numbers.{task_field_cause, task_refusal, machine_field_cause, machine_refusal, deadline_refusal, text_refusal, denied_refusal, refusal_of};
 
 use crate::causes::*;
 use crate::number_types::{Refusal, no_refusal, refused_at, short_by};
+use deadline_list::DeadlineFault;
+use dvs_base::MOST_JOBS;
 use freq_table::{MachineFault, MachineField};
 use rtdvs_top::{Denied, Status, TextFault};
 use task_model::{Field, TaskFault};
@@ -67,16 +69,30 @@ fn machine_refusal(why: MachineFault) -> Refusal
     }
 }
 
+fn deadline_refusal(why: DeadlineFault) -> Refusal
+    ensures { result ≡ deadline_refusal why }
+{
+    match why {
+        DeadlineFault::Range { row } => refused_at(DEADLINE, row),
+        DeadlineFault::Header
+        | DeadlineFault::Fields { .. }
+        | DeadlineFault::UnknownTask { .. }
+        | DeadlineFault::BadNumber { .. }
+        | DeadlineFault::Repeated { .. }
+        | DeadlineFault::NoMemory => no_refusal(),
+    }
+}
+
 fn text_refusal(why: TextFault) -> Refusal
     ensures { result ≡ text_refusal why }
 {
     match why {
         TextFault::Tasks(why) => task_refusal(why),
         TextFault::Machine(why) => machine_refusal(why),
+        TextFault::Deadlines(why) => deadline_refusal(why),
         TextFault::TooLong { .. }
         | TextFault::Demands(_)
         | TextFault::Trace(_)
-        | TextFault::Deadlines(_)
         | TextFault::Requests(_)
         | TextFault::Server { .. } => no_refusal(),
     }
@@ -92,22 +108,22 @@ fn denied_refusal(why: Denied) -> Refusal
         Denied::Response { task, num, cap } => {
             short_by(NO_RESPONSE, u64::from(task) + 1, num, cap)
         }
-        Denied::Demand { num, cap, .. } => short_by(DEMAND, 0, num, cap),
+        Denied::Demand { at, num, cap } => short_by(DEMAND, at, num, cap),
         Denied::Units { num, cap } => short_by(UNITS, 0, num, cap),
     }
 }
 
-/// The refusal that a status is: of numbers that are refused, or that a test denies; otherwise none.
+/// The refusal that a status is: of numbers that are refused, that a test denies, or of too many jobs; otherwise none.
 pub(crate) fn refusal_of(status: Status) -> Refusal
     ensures { result ≡ refusal_of status }
 {
     match status {
         Status::NotAdmitted(why) => denied_refusal(why),
         Status::Text(why) => text_refusal(why),
+        Status::Limit { jobs } => short_by(JOBS, 0, u128::from(jobs), u128::from(MOST_JOBS)),
         Status::Done
         | Status::Words(_)
         | Status::Load { .. }
-        | Status::Limit { .. }
         | Status::OverWorst { .. }
         | Status::Differs { .. }
         | Status::Write

@@ -46,10 +46,15 @@ constrained_text machine found =
     ∷ decimal (speed_at machine found.point)
     ∷ [])
 
+-- the lowest speed for these tasks with these relative deadlines on a machine, with their demand, or the status
+abbrev pub constrained_on : List Task → Table → List ℕ → Result Constrained Status
+constrained_on tasks machine deadlines =
+    or_status constrain_status (tested_answer (plan_of tasks machine Edf) (slice_index deadlines))
+
 -- the answer of `constrain` for these tasks, this machine and these relative deadlines
 unfoldable pub constrain_with : List Task → Table → List ℕ → Result (List ℕ) Status
 constrain_with tasks machine deadlines = do
-  found ← or_status constrain_status (tested_answer (plan_of tasks machine Edf) (slice_index deadlines))
+  found ← constrained_on tasks machine deadlines
   Ok (constrained_text machine found)
 
 -- the answer of `constrain`, after its tasks were read

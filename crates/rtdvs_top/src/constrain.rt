@@ -10,7 +10,7 @@ ghost use Rattle.deadline_list.specs.Deadlines.{AreFor};
 ghost use Rattle.words.specs.Commands.{constrain as constrain_of};
 ghost use Rattle.words.specs.Shown.{shown_constrain};
 ghost use Rattle.statuses.specs.Status.{IsOfFile};
-ghost use Rattle.rtdvs_top.specs.Constrain.{deadlines_at, constrained_text, constrain_with, KeepsDeadlines};
+ghost use Rattle.rtdvs_top.specs.Constrain.{deadlines_at, constrained_text, constrained_on, constrain_with, KeepsDeadlines};
 ghost use Rattle.rtdvs_top.specs.Prepared.{RefusesBy, IsPrepareStep, ForFilesWith};
 
 use crate::prepared::Prepared;
@@ -56,6 +56,31 @@ fn constrained_line(machine: &Machine, found: Constrained) -> Line
     ])
 }
 
+/// The lowest speed for tasks with these deadlines on a machine, with their demand; or the status of a task with an
+/// offset, of too many jobs, or of a demand that the highest speed doesn't meet.
+pub fn constrained_of(
+    alloc: Global,
+    tasks: &TaskSet,
+    deadlines: &Deadlines,
+    machine: &Machine,
+) -> Result<Constrained, Status>
+    requires { AreFor tasks.now deadlines.now }
+    ensures step { IsTestStep (constrained_on tasks.now machine.now deadlines.now) result (λ c. c) }
+    ensures point { IfOk result (λ c. c.point < length machine.now.points) }
+    ensures proves { OnOk result (KeepsDeadlines (plan_of tasks.now machine.now Edf) (slice_index deadlines.now)) }
+    ensures fails { IfErr result (RefusesBy (plan_of tasks.now machine.now Edf) (slice_index deadlines.now)) }
+{
+    let _entries = machine.as_slice();
+    constrain(alloc, tasks, deadlines, machine).map_err(|why| match why {
+        ConstrainFault::Offset { task } => Status::NotAdmitted(Denied::Offset { task }),
+        ConstrainFault::TooManyJobs { count } => Status::Limit { jobs: count },
+        ConstrainFault::Denied { at, num, cap } => {
+            Status::NotAdmitted(Denied::Demand { at, num, cap })
+        }
+        ConstrainFault::NoMemory => Status::NoMemory,
+    })
+}
+
 // The line of the lowest speed for tasks with these deadlines on a machine.
 #[tactic(auto, unfolding(crate::specs::Constrain::constrain_with))]
 fn lowest_line(
@@ -70,18 +95,8 @@ fn lowest_line(
     ensures proves { OnOk result (KeepsDeadlines (plan_of tasks.now machine.now Edf) (slice_index deadlines.now)) }
     ensures fails { IfErr result (RefusesBy (plan_of tasks.now machine.now Edf) (slice_index deadlines.now)) }
 {
-    let _entries = machine.as_slice();
-    match constrain(alloc, tasks, deadlines, machine) {
-        Ok(found) => Ok(constrained_line(machine, found)),
-        Err(ConstrainFault::Offset { task }) => Err(Status::NotAdmitted(Denied::Offset { task })),
-        Err(ConstrainFault::TooManyJobs { count }) => Err(Status::Limit { jobs: count }),
-        Err(ConstrainFault::Denied { at, num, cap }) => Err(Status::NotAdmitted(Denied::Demand {
-            at,
-            num,
-            cap,
-        })),
-        Err(ConstrainFault::NoMemory) => Err(Status::NoMemory),
-    }
+    let found = constrained_of(alloc, tasks, deadlines, machine)?;
+    Ok(constrained_line(machine, found))
 }
 
 /// What `constrain` prepares, after its tasks were read.

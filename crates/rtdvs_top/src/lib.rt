@@ -2,7 +2,7 @@
 //!
 //! Callers may rely on `rtdvs` to answer exactly what `specs/Promises.antt` says for the words and the files, to
 //! give the cause of each refusal, and to meet every deadline of a run that it writes. That each put has one line is
-//! tested, not proved.
+//! tested, not proved. `responses_of` and `constrained_of` give the exact tests' answers without their texts.
 #![tactic(auto)]
 
 mod admit;
@@ -21,5 +21,7 @@ mod run;
 mod top;
 mod trace;
 
+pub use constrain::constrained_of;
+pub use response::responses_of;
 pub use statuses::{Denied, FileKind, Status, TextFault};
 pub use top::rtdvs;

@@ -21,8 +21,8 @@ use std::alloc::Global;
 use task_model::TaskSet;
 use words::command::ResponseWords;
 
-// The responses of tasks on a machine.
-fn respond(alloc: Global, tasks: &TaskSet, machine: &Machine) -> Result<Response, Status>
+/// The responses of tasks under RM on a machine, or the status of a task with an offset or without a response.
+pub fn responses_of(alloc: Global, tasks: &TaskSet, machine: &Machine) -> Result<Response, Status>
     ensures step { IsTestStep (responses_on tasks.now machine.now) result (λ r. r) }
     ensures one_each { IfOk result (λ r. length r ≡ length tasks.now) }
     ensures proves { OnOk result (Responds (plan_of tasks.now machine.now Scheduler.Rm)) }
@@ -82,6 +82,6 @@ pub(crate) fn prepare_response<'a, S: Shelf>(
         (IsPrepareStep (S.shows shelf.old) (S.shows shelf.new) (response_of (shown_response words.now)) (Some tasks.now) result) }
 {
     let machine = load_machine(alloc, words.machine, shelf)?;
-    let response = respond(alloc, tasks, &machine)?;
+    let response = responses_of(alloc, tasks, &machine)?;
     Ok(Prepared::Responses(tasks, response))
 }

@@ -164,7 +164,7 @@ def test_files_that_are_no_library(timeout: float | None, tmp_path: Path) -> Non
             LibraryEngine(tmp_path / name, timeout).answer(workload_call(1))
 
 
-CALLS = ("rtdvs_call", "rtdvs_end", "rtdvs_admit", "rtdvs_response", "rtdvs_least")
+CALLS = ("rtdvs_call", "rtdvs_end", "rtdvs_admit", "rtdvs_constrain", "rtdvs_response", "rtdvs_least")
 
 
 def functions(names: Sequence[str], body: str) -> str:

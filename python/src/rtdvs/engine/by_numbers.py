@@ -5,16 +5,21 @@ The structures are those of rtdvs.h. Each call gives None where only a call with
 
 import ctypes
 from array import array
+from collections.abc import Mapping
 from ctypes import POINTER, byref, c_size_t, c_uint64, c_void_p
+from types import MappingProxyType
 from typing import Any
 
-from rtdvs.engine.answers import Admitted, Least
-from rtdvs.errors import Denied
-from rtdvs.model import GREATEST, MOST_TASKS, Machine, TaskSet
+from rtdvs.engine.answers import Admitted, Constrained, Least
+from rtdvs.errors import Denied, TooManyJobs
+from rtdvs.model import GREATEST, MOST_TASKS, Deadlines, Machine, TaskSet
 
 SCHEDULERS = {"edf": 0, "rm": 1}
-TESTS = {15: "edf", 16: "rm", 17: "offset", 18: "misses", 20: "units"}
+TESTS = {15: "edf", 16: "rm", 17: "offset", 18: "misses", 19: "demand", 20: "units"}
 """The causes of the refusals that are denials, each with the word of its test."""
+
+JOBS = 23
+"""The cause of too many jobs in a hyperperiod."""
 
 
 class Wide(ctypes.Structure):
@@ -34,13 +39,13 @@ class Settings(ctypes.Structure):
 
 
 class Refusal(ctypes.Structure):
-    """A cause, the number of its task from 1 on, and a test's two numbers of work units."""
+    """A cause, the number of its task from 1 on or its ticks, and a test's two numbers of work units, or of jobs."""
 
     _fields_ = [("cause", c_uint64), ("place", c_uint64), ("num", Wide), ("cap", Wide)]
 
 
 class Admission(ctypes.Structure):
-    """The static demand, and the lowest speed that meets it."""
+    """The static or the constrained demand, and the lowest speed that meets it."""
 
     _fields_ = [("num", Wide), ("den", Wide), ("speed", c_uint64), ("refusal", Refusal)]
 
@@ -68,6 +73,7 @@ class LeastEnergy(ctypes.Structure):
 ARRAY: list[Any] = [c_void_p, c_size_t]
 CALLS: dict[str, list[Any]] = {
     "rtdvs_admit": [*ARRAY, *ARRAY, POINTER(Settings), POINTER(Admission)],
+    "rtdvs_constrain": [*ARRAY, *ARRAY, POINTER(Settings), POINTER(Admission)],
     "rtdvs_response": [*ARRAY, *ARRAY, POINTER(Settings), POINTER(Responses)],
     "rtdvs_least": [*ARRAY, POINTER(Settings), POINTER(Work), POINTER(LeastEnergy)],
 }
@@ -105,6 +111,18 @@ def responses(library: ctypes.CDLL, tasks: TaskSet, machine: Machine) -> dict[st
     return dict(zip(tasks.names, found.ticks))
 
 
+def constrained(library: ctypes.CDLL, tasks: TaskSet, machine: Machine, deadlines: Deadlines) -> Constrained | None:
+    """The answer of `constrain`; raises Denied and TooManyJobs."""
+    if not deadlines.ticks.keys() <= set(tasks.names):
+        return None
+    found = Admission()
+    numbers = _tasks(tasks, deadlines.ticks)
+    if library.rtdvs_constrain(*numbers, *_points(machine), byref(_settings(machine)), byref(found)):
+        raise_denial(found.refusal, tasks)
+        return None
+    return Constrained(number(found.num), number(found.den), found.speed)
+
+
 def least(library: ctypes.CDLL, machine: Machine, units: int, ticks: int) -> Least | None:
     """The answer of `least` for that many work units in those ticks; raises Denied."""
     if not (type(units) is type(ticks) is int and 0 <= units <= GREATEST and 0 <= ticks <= GREATEST):
@@ -118,9 +136,10 @@ def least(library: ctypes.CDLL, machine: Machine, units: int, ticks: int) -> Lea
                  number(found.unit_price), -price if found.tick_minus else price)
 
 
-def _tasks(tasks: TaskSet) -> tuple[Any, int]:
+def _tasks(tasks: TaskSet, deadlines: Mapping[str, int] = MappingProxyType({})) -> tuple[Any, int]:
     """The address of the tasks' numbers, which have to live as long as it is used, and how many tasks there are."""
-    return _array([part for task in tasks for part in (task.period, task.worst, task.offset, 0)]), len(tasks)
+    return _array([part for task in tasks for part in (
+        task.period, task.worst, task.offset, deadlines.get(task.name, task.period))]), len(tasks)
 
 
 def _points(machine: Machine) -> tuple[Any, int]:
@@ -137,16 +156,20 @@ def _settings(machine: Machine, scheduler: str = "edf") -> Settings:
 
 
 def raise_denial(refusal: Refusal, tasks: TaskSet | None = None) -> None:
-    """Raises the Denied of a refusal that is one; the task is named by its place.
+    """Raises the Denied of a refusal that is one, or TooManyJobs; the task is named by its place.
 
     >>> raise_denial(Refusal(20, 0, Wide(65), Wide(64)))
     Traceback (most recent call last):
     rtdvs.errors.Denied: denied units 65 64
     >>> raise_denial(Refusal(cause=3, place=1))
     """
+    if refusal.cause == JOBS:
+        raise TooManyJobs(number(refusal.num), number(refusal.cap))
     test = TESTS.get(refusal.cause)
     if test is None:
         return
+    if test == "demand":
+        raise Denied(test, number(refusal.num), number(refusal.cap), ticks=refusal.place)
     name = tasks[refusal.place - 1].name if tasks is not None and refusal.place else None
     if test == "offset":
         raise Denied(test, task=name)

@@ -20,7 +20,7 @@ from rtdvs.engine.calls import (
 )
 from rtdvs.engine.process import guarded, program_answer
 from rtdvs.errors import Crashed, NoEngine, Refused
-from rtdvs.model import Machine, TaskSet
+from rtdvs.model import Deadlines, Machine, TaskSet
 from rtdvs.trace import Trace
 
 T = TypeVar("T")
@@ -192,7 +192,7 @@ class LibraryEngine(Engine):
     """The shared library, which `program` names: calls in this process, of several threads at a time.
 
     Such a call can't be stopped. With a time limit each call has a Python process of its own, which is killed after it.
-    `admit`, `respond` and `least` of values, without a limit, take and answer numbers, with no text between.
+    `admit`, `respond`, `constrain` and `least` of values, without a limit, take and answer numbers, and no text.
 
     >>> LibraryEngine(Path("/absent.so")).workload(1)  # doctest: +ELLIPSIS
     Traceback (most recent call last):
@@ -230,6 +230,19 @@ class LibraryEngine(Engine):
         """
         found = self._by_numbers(by_numbers.responses, (tasks, machine))
         return super().respond(tasks, machine) if found is None else found
+
+    def constrain(self, tasks: TaskSource, machine: MachineSource, deadlines: DeadlineSource) -> Constrained:
+        """As the program's.
+
+        >>> LibraryEngine(Path("/absent.so")).constrain(Path("t.toml"), b"", b"")  # doctest: +ELLIPSIS
+        Traceback (most recent call last):
+        rtdvs.errors.NoEngine: /absent.so: cannot open shared object file: ...
+        """
+        found = None
+        if (self.timeout is None and isinstance(tasks, TaskSet) and isinstance(machine, Machine)
+                and isinstance(deadlines, Deadlines)):
+            found = by_numbers.constrained(library.opened(self.program), tasks, machine, deadlines)
+        return super().constrain(tasks, machine, deadlines) if found is None else found
 
     def least(self, machine: MachineSource, units: int, ticks: int) -> Least:
         """As the program's.
