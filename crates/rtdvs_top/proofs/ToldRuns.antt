@@ -4,7 +4,7 @@ use Rattle.std.specs.Prelude.{Vec}
 use Rattle.dvs_base.specs.Outside.{SinkView}
 use Rattle.dvs_base.specs.WritesText.{WritesText}
 use Rattle.dvs_base.specs.declared.kind.GovernorKind.{GovernorKind}
-use Rattle.event_kernel.specs.Runs.{Run, run_for}
+use Rattle.event_kernel.specs.Runs.{run_for}
 use Rattle.probes.specs.Tallies.{ProbeView}
 use Rattle.probes.specs.Outputs.{outputs_of}
 use Rattle.rtdvs_top.specs.declared.prepared.ReadyRun.{ReadyRun}
@@ -13,17 +13,15 @@ use Rattle.rtdvs_top.specs.declared.prepared.Prepared.TheVariants as prepared
 use Rattle.rtdvs_top.specs.ToldRuns.{TellsRun}
 use Rattle.rtdvs_top.specs.Prepared.{Ends, IsPutStep, PutTells, answer_of, answer_of_run, status_of_writing, tells_probes}
 
-module _ {W P A T E : Type 0} (shows : W → SinkView) (seen : P → ProbeView) {old new : W × Vec P A} where
+module _ {W P A T E : Type 0} (shows : W → SinkView) (seen : P → ProbeView) (old new : W × Vec P A) where
   -- a run under a governor of its kind, whose lines were written, or those before one that was written in part
   module _ (w : ReadyRun) (kind : GovernorKind) (own : w.governor ≡ kind) where
-    abbrev ready : Run
-    ready = run_for w.plan w.demands w.ticks
-
     abbrev Ended : Result T E → Type 0
-    Ended r = Ends (shows old.0) (shows new.0) (answer_of_run w.version kind ready) (status_of_writing r)
+    Ended r = Ends (shows old.0) (shows new.0) (answer_of_run w.version kind (run_for w.plan w.demands w.ticks)) (status_of_writing r)
 
     abbrev Told : Result T E → Type 0
-    Told r = TellsRun w.version kind ready (outputs_of shows seen old.0 old.1) (outputs_of shows seen new.0 new.1) (status_of_writing r)
+    Told r = TellsRun w.version kind (run_for w.plan w.demands w.ticks) (outputs_of shows seen old.0 old.1)
+        (outputs_of shows seen new.0 new.1) (status_of_writing r)
 
     abbrev Put : GovernorKind → Result T E → Type 0
     Put k r = IsPutStep shows seen old new (prepared.Trace (record w { governor = k })) (status_of_writing r)
