@@ -4,5 +4,5 @@ pub mod GivenAsFiles
 pub mod FileLoads
 pub mod RefusedSteps
 pub mod Overloads
-pub mod Shows
+pub mod OverWorstShown
 pub mod RmAnswers

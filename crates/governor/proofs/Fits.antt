@@ -6,8 +6,8 @@ use Rattle.dvs_base.specs.declared.kind.Scheduler.{Scheduler}
 use Rattle.dvs_base.specs.declared.kind.Scheduler.TheVariants.{Edf, Rm}
 use Rattle.freq_table.specs.Tables.{speed_at, lowest_entry, lowest_pick}
 use Rattle.freq_table.proofs.Chosen.{below_highest, lowest_within, picked_meets, picked_met}
-use Rattle.sched_model.specs.Plan.{Plan, count, period, hyper, top_speed}
-use Rattle.sched_model.specs.Tests.{IsEdfFeasible, IsRmFeasible, total_rate, level_work}
+use Rattle.sched_model.specs.Plan.{Plan, count, period, top_speed}
+use Rattle.sched_model.specs.Tests.{PassesAt, IsEdfFeasible, IsRmFeasible, level_work}
 use Rattle.sched_model.specs.StaticDemand.{heaviest, full_demand, rm_static, static_demand_of, static_demand}
 use Rattle.sched_model.specs.Admission.{IsWithinLimits, IsAdmitted, PassesTest}
 use Rattle.sched_model.proofs.Limits.{some_period}
@@ -17,8 +17,8 @@ use Rattle.governor.specs.Speeds.{fixed_speed}
 
 -- the speed F passes the test of the plan's scheduler
 pub record IsEnough (F : ℕ) (plan : Plan) : Type 0 where
-  pub edf : plan.scheduler ≡ Edf → total_rate plan ≤ F * hyper plan
-  pub rm : plan.scheduler ≡ Rm → (i : ℕ) → i < count plan → level_work plan i ≤ F * period plan i
+  pub edf : plan.scheduler ≡ Edf → PassesAt F Edf plan
+  pub rm : plan.scheduler ≡ Rm → PassesAt F Rm plan
 
 edf_test : (plan : Plan) → IsAdmitted plan → plan.scheduler ≡ Edf → IsEdfFeasible plan
 edf_test plan adm e = subst (λ (sch : Scheduler). PassesTest sch plan) e adm.test

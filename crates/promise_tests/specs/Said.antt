@@ -9,9 +9,9 @@ use Rattle.task_model.specs.declared.task.Task.{Task}
 use Rattle.task_model.specs.DemandRows.{DemandRow}
 use Rattle.freq_table.specs.Tables.{Table, lowest_entry, speed_at}
 use Rattle.demand_list.specs.Demands.{DemandsView}
+use Rattle.sched_model.specs.Tests.{PassesAt}
 use Rattle.sched_model.specs.Admission.{PassesTest}
 use Rattle.sched_model.specs.StaticDemand.{static_demand}
-use Rattle.static_gov.specs.StaticSpeed.{PassesAt}
 use Rattle.sched_model.specs.Jobs.{released_jobs}
 use Rattle.sched_model.specs.Plan.{Plan, plan_of}
 use Rattle.sched_model.specs.Ticks.{IsMet}

@@ -18,7 +18,7 @@ use Rattle.task_model.specs.Tasks.{NoneOffset}
 use Rattle.rm_response_laws.proofs.ResponseMeaning.{first-at-response}
 use Rattle.rm_response.specs.Denials.{responses, AreLeast}
 use Rattle.rm_response.specs.Known.{AreAllKnown, late_task}
-use Rattle.rm_response.proofs.Places.{at-below, at-ordered, at-all}
+use Rattle.rm_response.proofs.OrderPlaces.{at-below, at-ordered, at-all}
 
 -- whether a task has no response
 abbrev pub is_late : Plan → ℕ → Bool

@@ -1,4 +1,4 @@
-pub mod Places
+pub mod OrderPlaces
 pub mod KnownResponses
 pub mod Examples
 pub mod LoadFits

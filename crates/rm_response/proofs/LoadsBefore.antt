@@ -26,7 +26,7 @@ use Rattle.rm_response.specs.declared.supply.Supply.{Supply}
 use Rattle.rm_response.specs.Supplies.{IsSupply, IsDone, full_supply}
 use Rattle.rm_response.specs.Loads.{held, work_of, load_of, IsLoad, HasRate, AreInTurn, AreBefore, IsAdded}
 use Rattle.rm_response.specs.Fits.{IsFirstFit}
-use Rattle.rm_response.proofs.Places.{at-below}
+use Rattle.rm_response.proofs.OrderPlaces.{at-below}
 use Rattle.rm_response.proofs.LoadFits.{put-in_turn}
 
 -- the loads are the first k of the tasks js, those of equal periods as one

@@ -32,7 +32,7 @@ fn load_its_tasks<S: Shelf>(
     }
 }
 
-// The status of a put.
+// The status of a put: `Done`, or that with which it failed.
 fn status_of_put(wrote: Result<(), Status>) -> Status
     ensures { result ≡ status_of_put wrote }
 {

@@ -2,12 +2,11 @@
 use Rattle.std.specs.Prelude.{◌≡◌, ℕ, List}
 use Rattle.grid_fraction.specs.declared.Frac.{Frac}
 use Rattle.dvs_base.specs.declared.kind.Scheduler.{Scheduler}
-use Rattle.dvs_base.specs.declared.kind.Scheduler.TheVariants.{Edf, Rm}
 use Rattle.task_model.specs.Tasks.{IsTaskSet}
 use Rattle.freq_table.specs.Tables.{IsTable}
-use Rattle.sched_model.specs.Plan.{Plan, count, names, period, hyper}
+use Rattle.sched_model.specs.Plan.{Plan, count, names, period, hyper, top_speed}
 use Rattle.sched_model.specs.StaticDemand.{static_demand}
-use Rattle.sched_model.specs.Tests.{IsEdfFeasible, IsRmFeasible}
+use Rattle.sched_model.specs.Tests.{PassesAt}
 use Rattle.sched_model.specs.Priority.{in_order}
 
 -- the tasks and the machine are within the limits
@@ -15,10 +14,9 @@ pub record IsWithinLimits (p : Plan) : Type 0 where
   pub tasks : IsTaskSet p.tasks
   pub machine : IsTable p.machine
 
--- the test of a scheduler
+-- the test of a scheduler, at the highest speed
 abbrev pub PassesTest : Scheduler → Plan → Type 0
-PassesTest Edf p = IsEdfFeasible p
-PassesTest Rm p = IsRmFeasible p
+PassesTest s p = PassesAt (top_speed p) s p
 
 -- an admitted plan: within the limits, and its scheduler's test passes
 pub record IsAdmitted (p : Plan) : Type 0 where

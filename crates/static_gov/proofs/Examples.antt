@@ -5,10 +5,11 @@ use Rattle.grid_fraction.specs.Fraction.{least_common_multiple}
 use Rattle.freq_table.specs.Tables.{lowest_entry}
 use Rattle.sched_model.specs.Jobs.{release, due, latest, worst_demand}
 use Rattle.sched_model.specs.Ticks.{exec}
+use Rattle.sched_model.specs.Tests.{PassesAt}
 use Rattle.sched_model.specs.StaticDemand.{static_demand}
 use Rattle.sched_model.specs.Schedule.{schedule_by}
 use Rattle.sched_model.proofs.Examples.{three_speeds, paper_example}
-use Rattle.static_gov.specs.StaticSpeed.{PassesAt, schedule_with, Misses}
+use Rattle.static_gov.specs.StaticSpeed.{schedule_with, Misses}
 
 -- of the speeds 2, 3 and 4 the demand 836/280 picks 3 under EDF, and the demand 52/14 picks 4 under RM
 edf_entry : lowest_entry three_speeds (static_demand (paper_example Edf)) ≡ 1

@@ -13,7 +13,7 @@ use Rattle.grid_fraction.proofs.Sums.{sum_below-add, sum_below-le, sum_below-lea
 use Rattle.freq_table.specs.Tables.{speed_at, lowest_entry, IsTable}
 use Rattle.freq_table.proofs.Chosen.{speeds_rise, lowest_within, lowest-most}
 use Rattle.sched_model.specs.Plan.{Plan, count, point, period, offset, worst, rate, hyper}
-use Rattle.sched_model.specs.Tests.{total_rate}
+use Rattle.sched_model.specs.Tests.{PassesAt, total_rate}
 use Rattle.sched_model.specs.Jobs.{JobDemands, due, worst_demand}
 use Rattle.sched_model.specs.Ticks.{PublishedDemand, Tick, at, exec, share, units_left, IsMet}
 use Rattle.sched_model.specs.Priority.{allotment, key_of}
@@ -29,7 +29,7 @@ use Rattle.sched_model.proofs.Served.{served, jobs-served}
 use Rattle.sched_model.proofs.Units.{shares-fit}
 use Rattle.governor.proofs.Fits.{IsEnough, static_enough}
 use Rattle.governor.proofs.Worst.{entry-same, published-fixed, worst-met}
-use Rattle.static_gov.specs.StaticSpeed.{PassesAt, speed_of, schedule_with, Misses, IsLowestEnough}
+use Rattle.static_gov.specs.StaticSpeed.{speed_of, schedule_with, Misses, IsLowestEnough}
 
 -- an entry's own speed as a demand picks this entry
 own-lowest : (p : Plan) → IsTable p.machine → (e : ℕ) → e < length p.machine.points → lowest_entry p.machine (speed_of p e) ≡ e

@@ -1,19 +1,13 @@
 -- What the lowest speed that meets the static demand means (Pillai and Shin 2001).
-use Rattle.std.specs.Prelude.{ℕ, List, length, ◌≡◌, ◌<◌, ◌≤◌, ◌*◌}
-use Rattle.dvs_base.specs.declared.kind.Scheduler.{Scheduler}
-use Rattle.dvs_base.specs.declared.kind.Scheduler.TheVariants.{Edf, Rm}
+use Rattle.std.specs.Prelude.{ℕ, List, length, ◌≡◌, ◌<◌, ◌≤◌}
+use Rattle.dvs_base.specs.declared.kind.Scheduler.TheVariants.{Edf}
 use Rattle.grid_fraction.specs.declared.Frac.{Frac}
 use Rattle.freq_table.specs.Tables.{speed_at, lowest_entry}
-use Rattle.sched_model.specs.Plan.{Plan, count, period, hyper}
-use Rattle.sched_model.specs.Tests.{total_rate, level_work}
+use Rattle.sched_model.specs.Plan.{Plan, count}
+use Rattle.sched_model.specs.Tests.{PassesAt}
 use Rattle.sched_model.specs.Jobs.{JobDemands, due, worst_demand}
 use Rattle.sched_model.specs.Ticks.{Tick, at, exec, IsMet}
 use Rattle.sched_model.specs.Schedule.{schedule_by}
-
--- the test of a scheduler at this speed
-abbrev pub PassesAt : ℕ → Scheduler → Plan → Type 0
-PassesAt f Edf p = total_rate p ≤ f * hyper p
-PassesAt f Rm p = (i : ℕ) → i < count p → level_work p i ≤ f * period p i
 
 -- the speed of entry e as a demand
 abbrev pub speed_of : Plan → ℕ → Frac

@@ -2,7 +2,7 @@ use Rattle.std.proofs.Common.{Some}
 use Rattle.statuses.specs.declared.status.FileKind.TheVariants as file
 use Rattle.command_files.specs.Meanings.{demands_at}
 use Rattle.command_files.proofs.RefusedSteps.{demands-refused, demand-file-refused}
-use Rattle.command_files.proofs.Shows.{demand-shown}
+use Rattle.command_files.proofs.OverWorstShown.{demand-shown}
 use Rattle.command_files.proofs.files.load_named_demands.Goals as goal
 
 pub returns-in_err-read-clause-step : goal.returns-in_err-read-clause-step

@@ -10,7 +10,7 @@ use Rattle.rm_response_laws.specs.Responses.{HasResponse, response}
 use Rattle.rm_response.specs.declared.loads.Load.{Load}
 use Rattle.rm_response.specs.Supplies.{full_supply}
 use Rattle.rm_response.specs.Loads.{load_of, work_of, IsLoad, IsAdded}
-use Rattle.rm_response.proofs.Places.{at-below}
+use Rattle.rm_response.proofs.OrderPlaces.{at-below}
 use Rattle.rm_response.proofs.KnownResponses.{AreKnown, earlier, known-next, known-all}
 use Rattle.rm_response.proofs.LoadsBefore.{first-before, first-more, own-work}
 use Rattle.rm_response.proofs.response.respond.Goals as goal
