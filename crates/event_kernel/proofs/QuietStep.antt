@@ -5,6 +5,7 @@ use Rattle.std.proofs.lemmas.Bool.Decides.{nat_tests}
 use Rattle.std.proofs.lemmas.Bool.{and_right}
 use Rattle.std.proofs.lemmas.List.{set-set}
 use Rattle.grid_fraction.proofs.Searches.{any_below-none}
+use Rattle.grid_fraction.proofs.Least.{least-same}
 use Rattle.dvs_base.specs.declared.kind.Scheduler.{Scheduler}
 use Rattle.dvs_base.specs.declared.kind.Scheduler.TheVariants.{Edf, Rm}
 use Rattle.sched_model.specs.declared.state.Row.{Row}
@@ -24,7 +25,7 @@ use Rattle.event_kernel.specs.Boundary.{some_due}
 use Rattle.event_kernel.specs.declared.progress.Setting.{Setting}
 use Rattle.event_kernel.specs.declared.in_force.InForce.{InForce}
 use Rattle.event_kernel.proofs.PlanBounds.{parts_of}
-use Rattle.event_kernel.specs.Settings.{AreQuiet, IsInSpan, HasWorked}
+use Rattle.event_kernel.specs.Settings.{AreQuiet, IsInSpan, HasWorked, next_event}
 use Rattle.event_kernel.proofs.UnitLoop.{HoldsHanded, some-speed, begin, rows-there, turned, idled, full, finished}
 use Rattle.event_kernel.proofs.SpanSteps.{goes-on}
 
@@ -93,6 +94,13 @@ module _ (st : StateView) (m : ℕ) (p : Plan) (rows : length st.rows ≡ count 
       (first-row {first = Some i} refl is.below)
       ∙ (ap (λ rows. record st { now = b; rows = rows }) (set-set st.rows i _ _)
       ∙ ap (λ u. record st { now = b; rows = set st.rows i (record (row_at st i) { used = u; done = false }) }) (omega arith))
+
+-- units release no job, so the next event stays
+pub event-on : (set : Setting) (st : StateView) (m a : ℕ) (first : Option ℕ) → length st.rows ≡ count set.plan.now → IsFirst set.plan.now st first
+    → next_event set st ≡ next_event set (after_advance (gives st first m) a)
+event-on set st m a first rows is =
+    ap (min set.ticks) (least-same (count set.plan.now) (λ k. (row_at st k).deadline) (λ k. (row_at (gives st first m) k).deadline)
+    (λ k lt. sym (due-on st m set.plan.now rows first is k)))
 
 module _ (set : Setting) (force : InForce) where
   open parts_of set use {p, dem}

@@ -13,7 +13,7 @@ use Rattle.agenda.specs.Agenda.{IsFirstUndone}
 use Rattle.event_kernel.specs.Segment.{CanEnter, IsFirst}
 use Rattle.event_kernel.specs.declared.progress.Setting.{Setting}
 use Rattle.event_kernel.specs.declared.in_force.InForce.{InForce}
-use Rattle.event_kernel.specs.Settings.{AreQuiet, IsInSpan}
+use Rattle.event_kernel.specs.Settings.{AreQuiet, IsInSpan, next_event}
 use Rattle.event_kernel.proofs.PlanBounds.{parts_of, bounds}
 use Rattle.event_kernel.proofs.StatesOfPlan.{of-state}
 use Rattle.event_kernel.proofs.DecisionStates.{at-decision}
@@ -44,7 +44,7 @@ module _ {set : Setting} {demand : OwnDemand} {force : InForce} {st : StateView}
   before : IsBeforeAll p st
   before = subst (λ (s : StateView). IsBeforeAll p s) (sym here.state) (at-decision p (bounds p set.sound.limits) dem (course demand p dem st.now)).before
 
-  pub first-event : st.now < min set.ticks (earliest_in p st)
+  pub first-event : st.now < next_event set st
   first-event =
       let late : st.now + 1 ≤ earliest_in p st = least-above (count p) (λ i. (row_at st i).deadline) (st.now + 1) some_task
       (λ i l. (let b = before i l in omega (arith, b))) in
@@ -67,7 +67,7 @@ module _ {set : Setting} {demand : OwnDemand} {force : InForce} {st : StateView}
 
   -- the number of ticks up to the next release or the end, less one
   abbrev most : ℕ
-  most = min set.ticks (earliest_in p st) - 1 - st.now
+  most = next_event set st - 1 - st.now
 
   within-end : (n : ℕ) → n ≤ most → st.now + n < set.ticks
   within-end n le = omega (arith, le, first-event)

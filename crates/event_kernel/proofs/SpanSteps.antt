@@ -1,8 +1,8 @@
 -- From one decision to the next.
-use Rattle.std.proofs.Common.{◌≡◌, ℕ, zero, suc, ◌+◌, ◌-◌, ◌<◌, ◌≤◌, Bool, true, false, ◌||◌, List, [], ◌∷◌, ◌++◌, length, refl, arith, if◌then◌else◌, ap, ap₂, ◌∙◌, sym, subst, inl, inr, nat_eq, nat_lt, nat_le, add-one, drop, true≢false}
+use Rattle.std.proofs.Common.{◌≡◌, ℕ, zero, suc, ◌+◌, ◌-◌, ◌<◌, ◌≤◌, min, Bool, true, false, ◌||◌, List, [], ◌∷◌, ◌++◌, length, refl, arith, if◌then◌else◌, ap, ap₂, ◌∙◌, sym, subst, ◌⊎◌, inl, inr, nat_eq, nat_lt, nat_le, add-one, drop, true≢false}
 use Rattle.std.specs.Prelude.{count_by}
 use Rattle.std.proofs.Math.Logic.{⊎_elim}
-use Rattle.std.proofs.lemmas.Bool.{cases_lt, or_cases, or_parts, or_left, or_right}
+use Rattle.std.proofs.lemmas.Bool.{cases_lt, or_left, or_right}
 use Rattle.std.proofs.lemmas.Bool.Decides.{nat_tests}
 use Rattle.dvs_base.specs.declared.note.Note.{Note}
 use Rattle.dvs_base.specs.declared.note.Note.TheVariants.{Speed}
@@ -17,11 +17,13 @@ use Rattle.sched_model.specs.Ticks.{PublishedDemand, Tick, at, exec, IsMet}
 use Rattle.sched_model.specs.Decision.{is_decision}
 use Rattle.sched_model.specs.Schedule.{entry_in_force, schedule_by}
 use Rattle.sched_model.specs.Notes.{Span, spans_of, pieces_of, same_holder, all_release_notes, span_notes, segment_notes, notes_before_end}
-use Rattle.sched_model.specs.States.{row_at, prior_row, prior_state, StateView, state_of}
+use Rattle.sched_model.specs.States.{row_at, prior_row, prior_state, StateView, state_of, earliest_in}
 use Rattle.sched_model.proofs.Schedules.{length-list_below, force-decided}
 use Rattle.sched_model.proofs.Spans.{notes-span, stays}
-use Rattle.sched_model.proofs.States.{due_released, row_at-prior_state, state-still}
+use Rattle.sched_model.proofs.States.{due_released, row_at-prior_state, row_at-state_of, state-still}
 use Rattle.grid_fraction.proofs.Searches.{any_below-same}
+use Rattle.grid_fraction.proofs.Least.{least-above, least-same}
+use Rattle.agenda.proofs.StateQueues.{release-now}
 use Rattle.event_kernel.specs.declared.span_trace.SpanTrace.{SpanTrace}
 use Rattle.governor.specs.Meanings.{OwnDemand}
 use Rattle.governor.specs.Schedule.{ask_of, course}
@@ -34,7 +36,7 @@ use Rattle.event_kernel.specs.Tickwork.{had_at, span_at, tick_at, whole_span, no
 use Rattle.event_kernel.specs.Boundary.{some_due, speed_note}
 use Rattle.event_kernel.specs.declared.progress.Setting.{Setting}
 use Rattle.event_kernel.specs.declared.in_force.InForce.{InForce}
-use Rattle.event_kernel.specs.Settings.{IsAtBoundary, IsBetween, IsInSpan, HasWorked, HasWalked}
+use Rattle.event_kernel.specs.Settings.{IsAtBoundary, IsBetween, IsInSpan, HasWorked, HasWalked, next_event}
 use Rattle.event_kernel.proofs.OpenSegment.{Shows, held-in, tells, notes-more, open-start}
 use Rattle.event_kernel.proofs.Courses.{course-next, course-len, exec-within}
 use Rattle.agenda.specs.Agenda.{NonePast}
@@ -142,7 +144,7 @@ module _ (demand : OwnDemand) (p : Plan) (dem : JobDemands) where
 
 module _ (set : Setting) where
   open parts_of set use {p, dem}
-  open bounds set.plan.now set.sound.limits use {some_period}
+  open bounds set.plan.now set.sound.limits use {some_period, some_task}
 
   module _ {demand : OwnDemand} where
     decision-is : {t : ℕ} {s : StateView} {trace : SpanTrace} {completed : Bool} → HasWorked set demand t s trace completed
@@ -291,19 +293,36 @@ module _ (set : Setting) where
         held Nobody q = tt
         held (Held k j) q = (q.0, q.1 ∙ sym (steady k q.0))
 
-    -- whether the span ends, as the functions of the code compute it
+    -- whether the span ends, as the code computes it
     module _ {force : InForce} {t : ℕ} {s0 s : StateView} {trace0 trace : SpanTrace} {completed : Bool} (i : IsInSpan set demand force t s0 trace0)
         (h : HasWorked set demand t s trace completed) where
       pub now-next : s.now ≡ t + 1
       now-next = ap (λ (v : StateView). v.now) h.state ∙ course-len demand p dem (t + 1)
 
-      pub past-next : NonePast p s
-      past-next = subst (λ (v : StateView). NonePast p v) (sym h.state) (prior-past p dem (course demand p dem (t + 1)) some_period)
-
       last-is : t ≡ s.now - 1
       last-is = omega (arith, now-next)
 
-      pub walked-end : (completed || (nat_eq s.now set.ticks || some_due p s)) ≡ true → HasWalked set demand force (s.now - 1) s trace
+      past-next : NonePast p s
+      past-next = subst (λ (v : StateView). NonePast p v) (sym h.state) (prior-past p dem (course demand p dem (t + 1)) some_period)
+
+      -- a tick releases no job, so the next release stays
+      pub same-event : next_event set s0 ≡ next_event set s
+      same-event = ap (min set.ticks) (least-same (count p) (λ k. (row_at s0 k).deadline) (λ k. (row_at s k).deadline)
+          (λ k lt. ap (λ (r : Row). r.deadline)
+          (ap (λ (v : StateView). row_at v k) i.state ∙ row_at-state_of p dem (course demand p dem t) k lt)
+          ∙ sym (ap (λ (r : Row). r.deadline) (ap (λ (v : StateView). row_at v k) (h.state ∙ ap (prior_state p dem) (course-next demand p dem t))
+          ∙ row_at-prior_state p dem (tick_at demand p dem t ∷ course demand p dem t) k lt))))
+
+      early : s.now ≤ earliest_in p s
+      early = least-above (count p) (λ k. (row_at s k).deadline) s.now some_task past-next
+
+      -- at the next event a job is released, or the run ends
+      at-event : s.now ≡ next_event set s0 → t + 1 < set.ticks → some_due p s ≡ true
+      at-event e lt =
+          let due : earliest_in p s ≡ s.now = omega (arith, e, same-event, now-next, lt) in
+          sym (release-now p s some_task past-next) ∙ grind (arith, nat_tests, due)
+
+      pub walked-end : (completed ≡ true) ⊎ (s.now ≡ next_event set s0) → HasWalked set demand force (s.now - 1) s trace
       walked-end ends = subst (λ n. HasWalked set demand force n s trace) last-is (record {
         now = now-next;
         before_end = i.before_end;
@@ -312,24 +331,16 @@ module _ (set : Setting) where
         force_is = i.force_is;
         completed = completed;
         worked = h;
-        decision = λ lt. decision-is h ∙ ⊎_elim (or_right (some_due p s) completed) (λ r.
-            ⊎_elim (λ q. absurd (omega (arith, at q, lt))) (or_left (some_due p s) completed) (or_cases (nat_eq s.now set.ticks) (some_due p s) r))
-            (or_cases completed _ ends);
+        decision = λ lt. decision-is h ∙ ⊎_elim (or_right (some_due p s) completed) (λ e. or_left (some_due p s) completed (at-event e lt)) ends;
       })
-        where
-          at : nat_eq s.now set.ticks ≡ true → t + 1 ≡ set.ticks
-          at q = let same : s.now ≡ set.ticks = grind (arith, nat_tests) in sym now-next ∙ same
 
-      pub walked-on : (completed || (nat_eq s.now set.ticks || some_due p s)) ≡ false
-          → IsInSpan set demand force s.now s trace
-      walked-on ends =
-          let none = or_parts completed (nat_eq s.now set.ticks || some_due p s) ends in
-          let more = or_parts (nat_eq s.now set.ticks) (some_due p s) none.1 in
-          let other : nat_eq s.now set.ticks ≡ false = more.0 in
-          let differ : (s.now ≡ set.ticks) → ⊥ = grind (arith, nat_tests) in
-          let lt : t + 1 < set.ticks = omega (arith, now-next, i.before_end, differ) in
+      pub walked-on : completed ≡ false → (s.now ≡ next_event set s0 → ⊥) → IsInSpan set demand force s.now s trace
+      walked-on none more =
+          let before : s.now < next_event set s = omega (arith, early, same-event, now-next, i.before_end, more) in
+          let differ : nat_eq (earliest_in p s) s.now ≡ false = grind (arith, nat_tests, before) in
           subst (λ n. IsInSpan set demand force n s trace) (sym now-next)
-          (goes-on i (subst (λ b. HasWorked set demand t s trace b) none.0 h) more.1 lt)
+          (goes-on i (subst (λ b. HasWorked set demand t s trace b) none h) (sym (release-now p s some_task past-next) ∙ differ)
+          (omega (arith, before, now-next)))
 
     -- the end of a span
     module _ {force : InForce} {last : ℕ} {s : StateView} {trace : SpanTrace} (h : HasWalked set demand force last s trace) where

@@ -1,5 +1,5 @@
 -- What the contracts of a run say: its setting, and how far the run is.
-use Rattle.std.specs.Prelude.{◌≡◌, ℕ, ◌+◌, ◌*◌, ◌<◌, ◌≤◌, Bool, true, List, ◌++◌, Option, Some}
+use Rattle.std.specs.Prelude.{◌≡◌, ℕ, ◌+◌, ◌*◌, ◌<◌, ◌≤◌, Bool, true, List, ◌++◌, Option, Some, min}
 use Rattle.grid_fraction.specs.Numbers.{any_below}
 use Rattle.dvs_base.specs.declared.note.Note.{Note}
 use Rattle.dvs_base.specs.declared.limits.TheConstants.{MOST_TICKS}
@@ -8,7 +8,7 @@ use Rattle.sched_model.specs.Jobs.{JobDemands, latest}
 use Rattle.sched_model.specs.Ticks.{exec, IsMet}
 use Rattle.sched_model.specs.Decision.{is_decision, completes_in}
 use Rattle.sched_model.specs.Schedule.{entry_in_force}
-use Rattle.sched_model.specs.States.{row_at, prior_state, state_of, StateView}
+use Rattle.sched_model.specs.States.{row_at, prior_state, state_of, StateView, earliest_in}
 use Rattle.governor.specs.Meanings.{OwnDemand}
 use Rattle.governor.specs.Schedule.{ask_of, course}
 use Rattle.event_kernel.specs.declared.progress.Setting.{Setting}
@@ -25,6 +25,10 @@ module _ (set : Setting) where
 
   abbrev dem : JobDemands
   dem = demands_of set.plan.now set.demands.now
+
+  -- the tick of the next event that is known ahead: the next release, or the end of the run
+  abbrev pub next_event : StateView → ℕ
+  next_event s = min set.ticks (earliest_in p s)
 
   -- The n ticks after a state are quiet: the run doesn't end in them, no job is released in them or at their end, and
   -- the first job is not completed in them.

@@ -4,7 +4,7 @@ ghost use Rattle.sched_model.specs.States.{CanRun};
 ghost use Rattle.event_kernel.specs.Segment.{IsFirst};
 ghost use Rattle.event_kernel.specs.Current.{IsCurrent};
 ghost use Rattle.event_kernel.specs.Tickwork.{gives};
-ghost use Rattle.event_kernel.specs.Settings.{IsInSpan, AreQuiet};
+ghost use Rattle.event_kernel.specs.Settings.{IsInSpan, AreQuiet, next_event};
 
 use crate::in_force::InForce;
 use crate::jobs::{holder_of, lacking};
@@ -14,15 +14,15 @@ use crate::span_trace::Moment;
 use governor::Governor;
 
 impl<G: Governor> Progress<G> {
-    // The number of ticks before the span's last one.
-    fn quiet_ticks(&self, set: &Setting<'_>, force: InForce, first: Option<u32>) -> u64
+    // The number of ticks before the span's last one, by the next release or the end of the run.
+    fn quiet_ticks(&self, set: &Setting<'_>, force: InForce, first: Option<u32>, event: u64) -> u64
+        requires event { event ≡ next_event set.now self.now.state }
         requires at { IsInSpan set.now G.demand force self.now.state.now self.now.state self.now.trace }
         requires first { IsFirst set.now.plan.now self.now.state first }
         requires current { IsCurrent G.stands set.now self.now }
         ensures { AreQuiet set.now force self.now.state first result }
     {
         let state = &self.state;
-        let event = set.ticks.min(self.agenda.next_release(set.plan, state));
         let most = event - 1 - state.now;
         match first {
             Some(task) => most.min((lacking(set, state, &self.needs, task) - 1) / force.speed),
@@ -46,11 +46,13 @@ impl<G: Governor> Progress<G> {
 
     /// Runs all ticks of a span before its last one in one step, unless the walk is by ticks: no job is released or
     /// completed in them, so one job has all their units, or they are idle.
-    pub(crate) fn stay(&mut self, walk: Walk, set: &Setting<'_>, force: InForce)
+    pub(crate) fn stay(&mut self, walk: Walk, set: &Setting<'_>, force: InForce, event: u64)
+        requires event { event ≡ next_event set.now self.old.state }
         requires at { IsInSpan set.now G.demand force self.old.state.now self.old.state self.old.trace }
         requires current { IsCurrent G.stands set.now self.old }
         ensures in_span { IsInSpan set.now G.demand force self.new.state.now self.new.state self.new.trace }
         ensures later { self.old.state.now ≤ self.new.state.now }
+        ensures event { event ≡ next_event set.now self.new.state }
         ensures current { IsCurrent G.stands set.now self.new }
     {
         if let Walk::Ticks = walk {
@@ -59,7 +61,7 @@ impl<G: Governor> Progress<G> {
         let plan = set.plan;
         let now = self.now();
         let first = self.agenda.first_ready(plan, &self.state);
-        let quiet = self.quiet_ticks(set, force, first);
+        let quiet = self.quiet_ticks(set, force, first, event);
         if quiet == 0 {
             return;
         }

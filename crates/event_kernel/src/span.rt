@@ -1,8 +1,6 @@
 // A span: the ticks from one decision to the next.
-ghost use Rattle.std.specs.Prelude.{◌≡◌, ◌-◌, ◌<◌, ◌≤◌, ◌||◌, nat_eq, length};
-ghost use Rattle.agenda.specs.Agenda.{NonePast};
+ghost use Rattle.std.specs.Prelude.{◌-◌, ◌<◌, ◌≤◌, length};
 ghost use Rattle.event_kernel.specs.Current.{IsCurrent};
-ghost use Rattle.event_kernel.specs.Boundary.{some_due};
 ghost use Rattle.event_kernel.specs.Settings.{IsBetween, IsInSpan, HasWalked, IsMetBy, AddsNotes};
 
 use crate::in_force::InForce;
@@ -18,25 +16,6 @@ pub enum Walk {
 }
 
 impl<G: Governor> Progress<G> {
-    // Whether some job is released now.
-    fn any_due(&self, set: &Setting<'_>) -> bool
-        requires past { NonePast set.now.plan.now self.now.state }
-        requires current { IsCurrent G.stands set.now self.now }
-        ensures { result ≡ some_due set.now.plan.now self.entry.now.state }
-    {
-        self.agenda.next_release(set.plan, &self.state) == self.now()
-    }
-
-    // Whether the span ends before this tick: a job completed, the run ends, or a job is released.
-    fn is_end(&self, set: &Setting<'_>, completed: bool) -> bool
-        requires past { NonePast set.now.plan.now self.now.state }
-        requires current { IsCurrent G.stands set.now self.now }
-        ensures { result ≡ (completed || (nat_eq self.entry.now.state.now set.now.ticks
-            || some_due set.now.plan.now self.entry.now.state)) }
-    {
-        completed || self.now() == set.ticks || self.any_due(set)
-    }
-
     // Runs the ticks of a span by this walk, up to the next decision or the end.
     fn walk_span(&mut self, walk: Walk, set: &Setting<'_>, force: InForce)
         requires at { IsInSpan set.now G.demand force self.old.state.now self.old.state self.old.trace }
@@ -44,10 +23,12 @@ impl<G: Governor> Progress<G> {
         ensures walked { HasWalked set.now G.demand force (self.new.state.now - 1) self.new.state self.new.trace }
         ensures current { IsCurrent G.stands set.now self.new }
     {
+        let release = self.agenda.next_release(set.plan, &self.state);
+        let event = set.ticks.min(release);
         loop {
-            self.stay(walk, set, force);
+            self.stay(walk, set, force, event);
             let completed = self.work(set, force);
-            if self.is_end(set, completed) {
+            if completed || self.now() == event {
                 return;
             }
         }

@@ -9,17 +9,11 @@ use Rattle.event_kernel.proofs.progress.Progress.quiet_ticks.Goals as goal
 
 pub overflow_sub-most : goal.overflow_sub-most
 overflow_sub-most g c =
-    omega (arith, first-event c.requires.at, c.min-event.ensures, c.next_release.ensures)
+    omega (arith, first-event c.requires.at, c.requires.event)
 
 pub overflow_sub-most-2 : goal.overflow_sub-most-2
 overflow_sub-most-2 g c =
-    omega (
-      arith,
-      first-event c.requires.at,
-      ap (λ (v : StateView). v.now) c.state.view_is,
-      c.min-event.ensures,
-      c.next_release.ensures,
-    )
+    omega (arith, first-event c.requires.at, ap (λ (v : StateView). v.now) c.state.view_is, c.requires.event)
 
 pub lacking-requires-clause-rows : goal.lacking-requires-clause-rows
 lacking-requires-clause-rows g c = c.requires.current.of.rows
@@ -42,17 +36,11 @@ returns-in-Some g c =
     let first = subst (IsFirst c.args.set.now.plan.now c.args.self.now.state) c.in-Some.is c.requires.first in
     subst (λ (r : Option ℕ). AreQuiet c.args.set.now c.args.force c.args.self.now.state r c.min.result) (sym c.in-Some.is)
     (quiet-held c.requires.at c.in-Some.task first c.min.result c.lacking.result c.lacking.ensures
-    (omega (
-      arith,
-      ap (λ (v : StateView). v.now) c.state.view_is,
-      c.min-event.ensures,
-      c.next_release.ensures,
-      c.min.ensures,
-    )))
+    (omega (arith, ap (λ (v : StateView). v.now) c.state.view_is, c.requires.event, c.min.ensures)))
 
 pub returns-in-None : goal.returns-in-None
 returns-in-None g c =
-    let n = c.min-event.result - 1 - c.state.inside.now in
+    let n = c.args.event - 1 - c.state.inside.now in
     subst (λ (r : Option ℕ). AreQuiet c.args.set.now c.args.force c.args.self.now.state r n) (sym c.in-None.is)
     (quiet-idle c.requires.at n
-    (omega (arith, ap (λ (v : StateView). v.now) c.state.view_is, c.min-event.ensures, c.next_release.ensures)))
+    (omega (arith, ap (λ (v : StateView). v.now) c.state.view_is, c.requires.event)))

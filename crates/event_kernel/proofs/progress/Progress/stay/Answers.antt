@@ -1,10 +1,11 @@
-use Rattle.std.proofs.Common.{◌≡◌, ℕ, ◌+◌, ◌*◌, arith, ap, ap₂, ◌∙◌}
+use Rattle.std.proofs.Common.{◌≡◌, ℕ, ◌+◌, ◌*◌, arith, ap, ap₂, ◌∙◌, sym}
 use Rattle.std.specs.Prelude.{Option}
 use Rattle.sched_model.specs.States.{after_advance, StateView}
 use Rattle.event_kernel.specs.Segment.{after_units, holder_at, IsFirst}
 use Rattle.event_kernel.specs.Tickwork.{gives}
+use Rattle.event_kernel.specs.Settings.{next_event}
 use Rattle.event_kernel.proofs.QuietTicks.{is-first, can-enter-quiet, can-run-first}
-use Rattle.event_kernel.proofs.QuietStep.{stays}
+use Rattle.event_kernel.proofs.QuietStep.{stays, event-on}
 use Rattle.event_kernel.proofs.progress.Progress.stay.Given.{Over}
 use Rattle.event_kernel.proofs.progress.Progress.stay.Goals as goal
 
@@ -50,3 +51,9 @@ returns-clause-in_span g c =
 
 pub returns-clause-later : goal.returns-clause-later
 returns-clause-later g c = omega (arith, ap (λ (v : StateView). v.now) (moved g c))
+
+pub returns-clause-event : goal.returns-clause-event
+returns-clause-event g c =
+    c.requires.event
+    ∙ (event-on c.args.set.now (st g c) (units g c) (c.args.self.now.state.now + c.quiet_ticks-quiet.result) (first g c)
+    c.requires.current.of.rows (is g c) ∙ sym (ap (next_event c.args.set.now) (moved g c)))
