@@ -2,7 +2,6 @@
 ghost use Rattle.std.specs.Prelude.{◌≡◌, ◌<◌, ◌≤◌, ◌^◌, IfOk, OnOk, IfErr, MatchResult, None, Some, length, slice_index, vec_capacity, [], ℕ};
 ghost use Rattle.dvs_base.specs.Checks.{IsUnlessMemory};
 ghost use Rattle.dvs_base.specs.declared.kind.Scheduler.TheVariants.{Rm};
-ghost use Rattle.task_model.specs.declared.limits.TheConstants.{LONGEST_PERIOD};
 ghost use Rattle.task_model.specs.Tasks.{task_at, NoneOffset};
 ghost use Rattle.sched_model.specs.Plan.{plan_of, count, period};
 ghost use Rattle.sched_model.specs.Priority.{in_order};
@@ -85,9 +84,6 @@ fn searched(supply: Supply, earlier: &mut Earlier, rest: u128, span: Span) -> u6
     requires loads { AreLoads supply earlier.old.loads.items }
     requires nodes { HasNodes supply earlier.old }
     requires low_rest { rest ≤ 2 ^ 102 }
-    requires some_ticks { 1 ≤ span.first }
-    requires in_span { span.first ≤ span.last }
-    requires low_ticks { span.last ≤ LONGEST_PERIOD }
     ensures first { IsFirstFit supply earlier.old.loads.items rest span.first span.last result }
     ensures loads { earlier.new.loads ≡ earlier.old.loads }
     ensures nodes { HasNodes supply earlier.new }
@@ -162,7 +158,7 @@ fn respond(
 }
 
 // The fault of a task without a response, with the numbers of its period.
-fn missing(tasks: &TaskSet, machine: &Machine, late: Late) -> ResponseFault
+fn miss_fault(tasks: &TaskSet, machine: &Machine, late: Late) -> ResponseFault
     requires task { late.task < length tasks.now }
     requires work { let p = plan_of tasks.now machine.now Rm in
         late.work ≡ level_work_in p (period p late.task) late.task }
@@ -207,6 +203,6 @@ pub fn rm_response(
     let earlier = Earlier::with_capacity(alloc, count).map_err(|_| ResponseFault::NoMemory)?;
     match respond(entries, earlier, &order, tasks, machine) {
         Ok(ticks) => Ok(Response { ticks }),
-        Err(late) => Err(missing(tasks, machine, late)),
+        Err(late) => Err(miss_fault(tasks, machine, late)),
     }
 }

@@ -14,11 +14,14 @@ use crate::supply::{Supply, most_in};
 // The most times that the first of the ticks is raised in one call of `fitting`.
 const MOST_RAISES: u32 = 1;
 
-/// The ticks `first` to `last`.
+/// The ticks `first` to `last`: one or more, up to the longest period.
 #[derive(Clone, Copy)]
 pub(crate) struct Span {
     pub(crate) first: u64,
     pub(crate) last: u64,
+    ghost some: { 1 ≤ first },
+    ghost ordered: { first ≤ last },
+    ghost low: { last ≤ LONGEST_PERIOD },
 }
 
 // What the ends of a span decide: that `Fit(t)` is a fit, that there is none, or that there is none before
@@ -68,8 +71,6 @@ pub(crate) fn raised(supply: Supply, loads: &[Load], rest: u128, span: Span, ste
     requires few { length loads.now ≤ MOST_TASKS }
     requires each { All IsLoad loads.now }
     requires low_rest { rest ≤ u64_end }
-    requires in_span { span.first ≤ span.last }
-    requires low_ticks { span.last ≤ LONGEST_PERIOD }
     ensures { NoneBefore supply loads.now rest span.first span.last result }
 {
     let mut first = span.first;
@@ -97,9 +98,6 @@ fn ends_of(supply: Supply, loads: &[Load], rest: u128, span: Span) -> Ends
     requires few { length loads.now ≤ MOST_TASKS }
     requires each { All IsLoad loads.now }
     requires low_rest { rest ≤ u64_end }
-    requires some_ticks { 1 ≤ span.first }
-    requires in_span { span.first ≤ span.last }
-    requires low_ticks { span.last ≤ LONGEST_PERIOD }
     ensures { EndsDecide supply loads.now rest span.first span.last result }
 {
     if let Some((load, _)) = loads.split_first()
@@ -133,9 +131,6 @@ pub(crate) fn fitting(
     requires supply { IsSupply supply }
     requires loads { AreLoads supply loads.now }
     requires low_rest { rest ≤ 2 ^ 102 }
-    requires some_ticks { 1 ≤ span.first }
-    requires in_span { span.first ≤ span.last }
-    requires low_ticks { span.last ≤ LONGEST_PERIOD }
     requires nodes { AreNodes supply loads.now nodes.now }
     ensures { FindsFit supply loads.now rest span.first span.last result }
 {
@@ -187,9 +182,6 @@ pub(crate) fn first_fitting(
     requires supply { IsSupply supply }
     requires loads { AreLoads supply loads.now }
     requires low_rest { rest ≤ 2 ^ 102 }
-    requires some_ticks { 1 ≤ span.first }
-    requires in_span { span.first ≤ span.last }
-    requires low_ticks { span.last ≤ LONGEST_PERIOD }
     requires nodes { AreNodes supply loads.now nodes.now }
     ensures { IsFirstFit supply loads.now rest span.first span.last result }
 {

@@ -2,7 +2,6 @@ use Rattle.std.proofs.Common.{◌≡◌, ◌≤◌, ◌<◌, ◌-◌, ◌*◌, �
 use Rattle.std.specs.Prelude.{All}
 use Rattle.std.proofs.lemmas.List.{length-take-le}
 use Rattle.std.proofs.lemmas.List.Elements.{All-head}
-use Rattle.std.proofs.Math.Nat.{div-mul-le_self}
 use Rattle.rm_response.specs.declared.loads.Load.{Load}
 use Rattle.rm_response.specs.Loads.{AreLoads, IsLoad}
 use Rattle.rm_response.specs.Fits.{FindsFit, IsFrom, IsRelaxedSearch, AreNodes}
@@ -52,7 +51,7 @@ returns-then-is_some t c =
       | then-is_some-via-else-is_some+then-release-first-2 w ↦ inr w.if-release-first-2.true
     ] in
     let fit : FindsFit s (x ∷ xs) rest least most found =
-    found-in s x xs loads rest least most (omega (arith, c.requires.some_ticks, is.from)) is.within c.held.result
+    found-in s x xs loads rest least most (omega (arith, c.args.span.some, is.from)) is.within c.held.result
     c.max.result found (c.held.ensures.value, c.max.ensures, c.fitting-found.ensures) why in
     subst (λ (ys : List Load). FindsFit s ys rest first most found) (sym parts)
     (found-from s (x ∷ xs) rest first most least found is fit)
@@ -64,8 +63,6 @@ fitting-found-requires t c =
     let xs = c.in-Some.others.now in
     let parts : c.args.loads.now ≡ x ∷ xs = c.in-Some.ensures.cases.0 in
     let loads : AreLoads s (x ∷ xs) = subst (AreLoads s) parts c.requires.loads in
-    let is = c.in-From.ensures in
-    let within = div-mul-le_self (c.args.span.last - 1) x.period in
     let low = c.is_beyond.ensures.low c.if-is_beyond.false in (
       omega (arith, c.decreases, c.in-Some.ensures.cases.1),
       (
@@ -74,16 +71,7 @@ fitting-found-requires t c =
           others-loads s x xs loads,
           (
             omega (arith, low, c.held.ensures.low),
-            (
-              omega (arith, c.max.ensures),
-              (
-                omega (arith, c.max.ensures, within, c.requires.some_ticks, is.from, is.within),
-                (
-                  c.requires.low_ticks,
-                  (subst (λ (ys : List Load). AreNodes s ys c.args.nodes.now) parts c.requires.nodes).1,
-                ),
-              ),
-            ),
+            (subst (λ (ys : List Load). AreNodes s ys c.args.nodes.now) parts c.requires.nodes).1,
           ),
         ),
       ),
@@ -96,7 +84,6 @@ fitting-requires-2 t c =
     let xs = c.in-Some.others.now in
     let parts : c.args.loads.now ≡ x ∷ xs = c.in-Some.ensures.cases.0 in
     let loads : AreLoads s (x ∷ xs) = subst (AreLoads s) parts c.requires.loads in
-    let within = div-mul-le_self (c.args.span.last - 1) x.period in
     let low = c.is_beyond.ensures.low c.if-is_beyond.false in (
       omega (arith, c.decreases, c.in-Some.ensures.cases.1),
       (
@@ -105,16 +92,7 @@ fitting-requires-2 t c =
           others-loads s x xs loads,
           (
             omega (arith, low, c.held-2.ensures.low),
-            (
-              (let from = c.in-From.ensures.from in omega (arith, from, c.requires.some_ticks)),
-              (
-                c.if-release-first-2.false,
-                (
-                  omega (arith, within, c.requires.low_ticks),
-                  (subst (λ (ys : List Load). AreNodes s ys c.args.nodes.now) parts c.requires.nodes).1,
-                ),
-              ),
-            ),
+            (subst (λ (ys : List Load). AreNodes s ys c.args.nodes.now) parts c.requires.nodes).1,
           ),
         ),
       ),
@@ -143,16 +121,7 @@ fitting-requires t c =
         is.supply,
         (
           subst (AreLoads r.supply) (sym c.heavy.ensures) is.loads,
-          (
-            c.requires.low_rest,
-            (
-              (let from = c.in-From.ensures.from in omega (arith, from, c.requires.some_ticks)),
-              (
-                c.in-From.ensures.within,
-                (c.requires.low_ticks, nodes-none r.supply c.heavy.result.now),
-              ),
-            ),
-          ),
+          (c.requires.low_rest, nodes-none r.supply c.heavy.result.now),
         ),
       ),
     )

@@ -11,7 +11,7 @@ returns-then-work-most_in c =
     let at = c.loop.invariant in
     let last = c.args.span.last in
     record {
-      from = omega (arith, c.requires.in_span);
+      from = omega (arith, c.args.span.ordered);
       within = omega arith;
       none = none-raised s xs c.args.rest c.args.span.first c.loop.first (last + 1) c.requires.each at.none
           (λ t lt.
@@ -28,7 +28,7 @@ returns-then-next-from c =
     let is : c.div_ceil-next.result ≡ div_ceil (n * s.hyper) s.units =
     c.div_ceil-next.ensures ∙ ap₂ (λ (w h : ℕ). div_ceil ((c.args.rest + w) * h) s.units) c.work_of.ensures.value c.from.ensures in
     record {
-      from = omega (arith, c.requires.in_span);
+      from = omega (arith, c.args.span.ordered);
       within = omega arith;
       none = none-raised s xs c.args.rest c.args.span.first c.loop.first (c.args.span.last + 1) c.requires.each at.none
           (λ t lt.
