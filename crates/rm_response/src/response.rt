@@ -7,17 +7,17 @@ ghost use Rattle.sched_model.specs.Plan.{plan_of, count, period};
 ghost use Rattle.sched_model.specs.Priority.{in_order};
 ghost use Rattle.governor.specs.Worst.{level_work_in};
 ghost use Rattle.rm_response_laws.specs.Responses.{response, AllRespond, IsUnserved, MeetsAllDeadlines};
-ghost use Rattle.rm_response.specs.Supplies.{IsSupply, full_supply};
 ghost use Rattle.rm_response.specs.Loads.{AreBefore, AreLoads};
 ghost use Rattle.rm_response.specs.Fits.{IsFirstFit};
-ghost use Rattle.rm_response.specs.Earlier.{HasNodes};
+ghost use Rattle.rm_response.specs.Earlier.{HasNodes, HasFullNodes};
 ghost use Rattle.rm_response.specs.Denials.{IsFirstLate, responses, AreLeast, misses_at, IsResponseDenial, IsMissedAtPeriod, IsShownMiss, exact_answer};
 ghost use Rattle.rm_response.specs.Known.{AreAllKnown, late_task};
 
 use crate::earlier::Earlier;
+use crate::inputs::{Span, Supply};
 use crate::loads::{load_of, work_of};
-use crate::search::{Span, first_fitting, fits, raised};
-use crate::supply::{Supply, full_supply};
+use crate::search::{first_fitting, fits, raised};
+use crate::supply::full_supply;
 use freq_table::Machine;
 use sched_model::{rm_order, worst};
 use std::alloc::Global;
@@ -80,7 +80,6 @@ struct Late {
 // search has fewer of them and takes longer.
 #[inline(never)]
 fn searched(supply: Supply, earlier: &mut Earlier, rest: u128, span: Span) -> u64
-    requires supply { IsSupply supply }
     requires loads { AreLoads supply earlier.old.loads.items }
     requires nodes { HasNodes supply earlier.old }
     requires low_rest { rest ≤ 2 ^ 102 }
@@ -97,12 +96,12 @@ fn searched(supply: Supply, earlier: &mut Earlier, rest: u128, span: Span) -> u6
 fn response_of(tasks: &TaskSet, machine: &Machine, earlier: &mut Earlier, from: u64, i: u32) -> u64
     requires task { i < length tasks.now }
     requires before { AreBefore (plan_of tasks.now machine.now Rm) i earlier.old.loads.items }
-    requires nodes { HasNodes (full_supply (plan_of tasks.now machine.now Rm)) earlier.old }
+    requires nodes { HasFullNodes (plan_of tasks.now machine.now Rm) earlier.old }
     requires some { 1 ≤ from }
     requires unserved { IsUnserved (plan_of tasks.now machine.now Rm) i from }
     ensures response { result ≡ response (plan_of tasks.now machine.now Rm) i }
     ensures loads { earlier.new.loads ≡ earlier.old.loads }
-    ensures nodes { HasNodes (full_supply (plan_of tasks.now machine.now Rm)) earlier.new }
+    ensures nodes { HasFullNodes (plan_of tasks.now machine.now Rm) earlier.new }
 {
     let _task_limits = tasks.as_slice();
     let last = tasks.task(i).period;

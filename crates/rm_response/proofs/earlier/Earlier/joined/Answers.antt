@@ -1,8 +1,8 @@
-use Rattle.std.proofs.Common.{◌≡◌, ◌<◌, List, length, sym, ◌∙◌, ap, subst}
+use Rattle.std.proofs.Common.{◌≡◌, ◌<◌, List, length, refl, sym, ◌∙◌, ap, subst, arith}
 use Rattle.std.specs.Prelude.{slice_index_or}
-use Rattle.rm_response.specs.declared.loads.Load.{Load}
+use Rattle.rm_response.specs.declared.inputs.Load.{Load}
 use Rattle.rm_response.specs.Loads.{IsJoined}
-use Rattle.rm_response.proofs.JoinedLoads.{both, joined-both}
+use Rattle.rm_response.proofs.JoinedLoads.{worst-within, joined-both}
 use Rattle.rm_response.proofs.earlier.Earlier.joined.Goals as goal
 
 pub returns-clause-joined : goal.returns-clause-joined
@@ -17,5 +17,19 @@ returns-clause-joined c =
     let same : z.period ≡ x.period =
     ap (λ (y : Load). y.period) is
     ∙ subst (λ (ys : List Load). (slice_index_or ys k z).period ≡ x.period) now (c.in-Some.ensures.same z) in
-    subst (IsJoined x xs (both x z xs k below is same)) (sym c.take_out-other.ensures.items)
-    (joined-both x z xs k below is same c.requires.each)
+    subst (IsJoined x xs _) (sym c.take_out-other.ensures.items) (joined-both x z _ xs k below is same refl refl refl)
+
+pub invariant_of-result : goal.invariant_of-result
+invariant_of-result c =
+    let x = c.args.load in
+    let z = c.take_out-other.result in
+    let xs = c.args.self.now.loads.items in
+    let k = c.in-Some.place in
+    let below : k < length xs = subst (λ (ys : List Load). k < length ys) c.deref.ensures.value c.in-Some.ensures.place in
+    let worst = worst-within z xs k below c.take_out-other.ensures.value in
+    record {
+      some_period = x.some_period;
+      low_period = x.low_period;
+      low_worst = omega (arith, worst, c.requires);
+      low_rate = omega (arith, x.low_rate, z.low_rate);
+    }
