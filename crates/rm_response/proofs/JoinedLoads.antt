@@ -1,5 +1,5 @@
 -- Two loads of the same period as one load.
-use Rattle.std.proofs.Common.{◌≡◌, ℕ, zero, suc, ◌+◌, ◌*◌, ◌<◌, ◌≤◌, List, [], ◌∷◌, length, take, drop, refl, sym, ap, ap₂, subst, arith}
+use Rattle.std.proofs.Common.{◌≡◌, ℕ, zero, suc, ◌+◌, ◌*◌, ◌<◌, ◌≤◌, List, [], ◌∷◌, length, take, drop, sym, ap, ap₂, subst, arith}
 use Rattle.std.specs.Prelude.{All, slice_index_or}
 use Rattle.std.specs.List.{remove}
 use Rattle.std.proofs.lemmas.List.Edits.{length-remove}
@@ -35,16 +35,6 @@ pub worst-within : (z : Load) (xs : List Load) (k : ℕ) → k < length xs → z
 worst-within z xs k below is =
     let at : held 1 z ≡ held 1 (slice_index_or xs k z) = ap (held 1) is in
     omega (arith, at, sum_by-remove (held 1) xs k z below, held-once 1 z (omega arith) z.some_period)
-
--- a load by itself
-pub joined-none : (x : Load) (xs : List Load) → IsJoined x xs x xs
-joined-none x xs = record {
-  same_period = refl;
-  fewer = omega arith;
-  work = λ t. refl;
-  rates = λ h own rates. (own, rates);
-  in_turn = λ s turn. turn;
-}
 
 -- y is a load and the one at place k as one
 module _ (x z y : Load) (xs : List Load) (k : ℕ) (below : k < length xs) (is : z ≡ slice_index_or xs k z)

@@ -1,5 +1,5 @@
 -- The loads of the tasks before a task in RM order, and what a fit beside them says of its response.
-use Rattle.std.proofs.Common.{◌≡◌, inl, inr, ℕ, ◌+◌, ◌*◌, ◌^◌, ◌<◌, ◌≤◌, List, [], ◌∷◌, ◌++◌, length, take, drop, refl, sym, ◌∙◌, ap, ap₂, subst, arith}
+use Rattle.std.proofs.Common.{◌≡◌, inl, inr, ℕ, ◌+◌, ◌*◌, ◌^◌, ◌<◌, ◌≤◌, List, [], ◌∷◌, ◌++◌, length, take, drop, sym, ◌∙◌, ap, ap₂, subst, arith}
 use Rattle.std.specs.Prelude.{All, insert, slice_index}
 use Rattle.std.specs.Coded.{le_prop}
 use mathlib.Core.HLevel.{is_prop→PathP}
@@ -8,7 +8,7 @@ use Rattle.std.proofs.lemmas.Bool.{cases_lt}
 use Rattle.std.proofs.lemmas.Nat.{mul-le}
 use Rattle.std.proofs.lemmas.List.{take-append-drop, drop_more, take_more}
 use Rattle.std.proofs.lemmas.List.Edits.{length-insert}
-use Rattle.std.proofs.lemmas.List.Elements.{All-append, All-cons, All-drop, All-nil, All-take}
+use Rattle.std.proofs.lemmas.List.Elements.{All-append, All-cons, All-drop, All-take}
 use Rattle.std.proofs.lemmas.List.Sums.{sum_by-cons, sum_by-insert}
 use Rattle.grid_fraction.specs.Numbers.{ceil_div}
 use Rattle.freq_table.specs.Tables.{last_entry}
@@ -68,14 +68,6 @@ full-units p s full t =
     ap (λ u. u * t) all ∙ omega arith
 
 module _ (p : Plan) (lim : IsWithinLimits p) (js : List ℕ) (is : js ≡ in_order (period p) (count p)) (k : ℕ) where
-  pub first-none : AreFirst p js 0 []
-  first-none = record {
-    long = omega arith;
-    rates = All-nil (HasRate (hyper p));
-    in_turn = λ s full. tt;
-    work = λ t. refl;
-  }
-
   module _ (xs : List Load) (are : AreFirst p js k xs) (below : k < length js) where
     abbrev j : ℕ
     j = slice_index js k

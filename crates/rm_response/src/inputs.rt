@@ -15,17 +15,6 @@ pub(crate) struct Load {
     ghost low_rate: { rate ≤ worst * LONGEST_HYPERPERIOD },
 }
 
-impl Default for Load {
-    // A load without work.
-    fn default() -> Load {
-        Load {
-            period: 1,
-            worst: 0,
-            rate: 0,
-        }
-    }
-}
-
 /// What the processor does for the loads of a search: at most `speed` units in a tick, and `units` in each `hyper`
 /// ticks.
 #[derive(Clone, Copy)]

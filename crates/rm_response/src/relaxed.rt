@@ -21,9 +21,15 @@ pub(crate) struct Relaxed {
 impl Relaxed {
     // No loads that count with their jobs.
     pub(crate) fn empty(supply: Supply) -> Relaxed
-        ensures { result.count ≡ 0 }
+        ensures supply { result.supply ≡ supply }
+        ensures count { result.count ≡ 0 }
     {
-        let loads = [Load::default(); MOST_HEAVY];
+        let none = Load {
+            period: 1,
+            worst: 0,
+            rate: 0,
+        };
+        let loads = [none; MOST_HEAVY];
         Relaxed {
             supply,
             loads,
@@ -50,13 +56,12 @@ pub(crate) fn relaxed_by(supply: Supply, loads: &[Load], marks: &[bool]) -> Opti
     ensures hyper { IfSome result (λ r. r.supply.hyper ≡ supply.hyper) }
     ensures relaxed { IfSome result (λ r. IsRelaxed supply loads.now r.supply.units (take r.count r.loads)) }
 {
-    let mut heavy = [Load::default(); MOST_HEAVY];
-    let mut count = 0;
+    let mut relaxed = Relaxed::empty(supply);
     let mut units = supply.units;
     for (k, load) in loads.iter().enumerate() {
-        if count < MOST_HEAVY && marks[k] {
-            heavy[count] = *load;
-            count += 1;
+        if relaxed.count < MOST_HEAVY && marks[k] {
+            relaxed.loads[relaxed.count] = *load;
+            relaxed.count += 1;
             continue;
         }
         units = units.saturating_sub(load.rate);
@@ -64,13 +69,6 @@ pub(crate) fn relaxed_by(supply: Supply, loads: &[Load], marks: &[bool]) -> Opti
     if units == 0 {
         return None;
     }
-    Some(Relaxed {
-        supply: Supply {
-            speed: supply.speed,
-            hyper: supply.hyper,
-            units,
-        },
-        loads: heavy,
-        count,
-    })
+    relaxed.supply.units = units;
+    Some(relaxed)
 }
