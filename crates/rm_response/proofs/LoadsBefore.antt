@@ -79,18 +79,19 @@ module _ (p : Plan) (lim : IsWithinLimits p) (js : List ℕ) (is : js ≡ in_ord
         sym (take-append-drop k js) ∙ ap (λ ys. take k js ++ ys) (drop_more js k 0 below) in
         are.work t ∙ sym (sum_before-prefix (period p) (held_work p t) (count p) j (take k js) (drop (k + 1) js) (sym is ∙ parts))
 
-    pub first-few : length xs ≤ MOST_TASKS
-    first-few = let n = lim.tasks.few in omega (arith, are.long, ap (length {A = ℕ}) is, length-in_order (period p) (count p))
-
     pub first-before : AreBefore p j xs
-    first-before = record {
-      loads = λ s full. record {
-        few = first-few;
-        rates = subst (λ h. All (HasRate h) xs) (sym full.hyper_is) are.rates;
-        in_turn = are.in_turn s full;
-      };
-      work = before-work;
-    }
+    first-before =
+        let tasks = lim.tasks.few in
+        let few : length xs ≤ MOST_TASKS = omega (arith, tasks, are.long, ap (length {A = ℕ}) is, length-in_order (period p) (count p)) in
+        record {
+          few = few;
+          loads = λ s full. record {
+            few = few;
+            rates = subst (λ h. All (HasRate h) xs) (sym full.hyper_is) are.rates;
+            in_turn = are.in_turn s full;
+          };
+          work = before-work;
+        }
 
     -- the next task as a load, if it has a response
     module _ (x : Load) (of : IsLoadOf p j x) (has : HasResponse p j) where

@@ -51,6 +51,7 @@ pub record AreLoads (s : Supply) (xs : List Load) : Type 0 where
 
 -- the loads are the tasks before task i in RM order
 pub record AreBefore (p : Plan) (i : ℕ) (xs : List Load) : Type 0 where
+  pub few : length xs ≤ MOST_TASKS
   pub loads : (s : Supply) → IsFull p s → AreLoads s xs
   pub work : (t : ℕ) → work_of xs t ≡ sum_before (count p) (period p) (held_work p t) i
 

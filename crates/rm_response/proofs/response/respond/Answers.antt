@@ -11,7 +11,7 @@ use Rattle.rm_response.specs.declared.inputs.Load.{Load}
 use Rattle.rm_response.specs.Loads.{work_of, IsAdded}
 use Rattle.rm_response.proofs.Places.{at-below}
 use Rattle.rm_response.proofs.KnownResponses.{AreKnown, earlier, known-next, known-all}
-use Rattle.rm_response.proofs.LoadsBefore.{first-before, first-few, first-low, first-more, own-work}
+use Rattle.rm_response.proofs.LoadsBefore.{first-before, first-low, first-more, own-work}
 use Rattle.rm_response.proofs.response.respond.Goals as goal
 
 pub response_of-response-requires : goal.response_of-response-requires
@@ -33,10 +33,10 @@ pub work_of-requires-clause-few : goal.work_of-requires-clause-few
 work_of-requires-clause-few c =
     let p : Plan = plan_of c.args.tasks.now c.args.machine.now Rm in
     let lim : IsWithinLimits p = record { tasks = c.as_slice-task_limits.ensures.limits; machine = c.as_slice-machine_limits.ensures.limits } in
-    let few = first-few p lim c.args.order.now c.requires.order c.loop-task.task-index c.loop-task.earlier.loads.items
+    let before = first-before p lim c.args.order.now c.requires.order c.loop-task.task-index c.loop-task.earlier.loads.items
     c.loop-task.invariant.loads c.loop-task-test.true in
     let same : c.deref.result.now ≡ c.loop-task.earlier.loads.items = cc in
-    omega (arith, ap (length {A = Load}) same, few)
+    omega (arith, ap (length {A = Load}) same, before.few)
 
 pub returns-then-response-period-clause-work : goal.returns-then-response-period-clause-work
 returns-then-response-period-clause-work c =

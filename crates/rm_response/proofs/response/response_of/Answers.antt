@@ -1,4 +1,4 @@
-use Rattle.std.proofs.Common.{◌≡◌, ◌∙◌, List, length, ap, subst, arith}
+use Rattle.std.proofs.Common.{◌≡◌, ◌∙◌, List, ap, subst, arith}
 use Rattle.dvs_base.specs.declared.kind.Scheduler.TheVariants.{Rm}
 use Rattle.task_model.specs.declared.task.Task.{Task}
 use Rattle.sched_model.specs.Plan.{Plan, plan_of, period}
@@ -17,16 +17,6 @@ returns-then-from-last-clause-response c =
     let p : Plan = plan_of c.args.tasks.now c.args.machine.now Rm in
     let long : c.task-last.result.period ≡ period p c.args.i = ap (λ (x : Task). x.period) c.task-last.ensures.task in
     omega (arith, long, response-none p c.args.i (λ u pos lt. c.requires.unserved u pos (omega (arith, lt, c.if-from-last.true, long))))
-
-pub raised-first-requires-clause-few : goal.raised-first-requires-clause-few
-raised-first-requires-clause-few c =
-    let few = (c.requires.before.loads c.full_supply-supply.result c.full_supply-supply.ensures).few in
-    omega (arith, few, ap (length {A = Load}) c.as_slice-loads.ensures.value)
-
-pub fits-requires-clause-few : goal.fits-requires-clause-few
-fits-requires-clause-few c =
-    let few = (c.requires.before.loads c.full_supply-supply.result c.full_supply-supply.ensures).few in
-    omega (arith, few, ap (length {A = Load}) c.as_slice-loads.ensures.value)
 
 pub searched-requires-clause-loads : goal.searched-requires-clause-loads
 searched-requires-clause-loads c = c.requires.before.loads c.full_supply-supply.result c.full_supply-supply.ensures

@@ -19,17 +19,9 @@ returns-clause-joined c =
     ∙ subst (λ (ys : List Load). (slice_index_or ys k z).period ≡ x.period) now (c.in-Some.ensures.same z) in
     subst (IsJoined x xs _) (sym c.take_out-other.ensures.items) (joined-both x z _ xs k below is same refl refl refl)
 
-pub invariant_of-result : goal.invariant_of-result
-invariant_of-result c =
-    let x = c.args.load in
-    let z = c.take_out-other.result in
+pub invariant_of-result-clause-low_worst : goal.invariant_of-result-clause-low_worst
+invariant_of-result-clause-low_worst c =
     let xs = c.args.self.now.loads.items in
     let k = c.in-Some.place in
     let below : k < length xs = subst (λ (ys : List Load). k < length ys) c.deref.ensures.value c.in-Some.ensures.place in
-    let worst = worst-within z xs k below c.take_out-other.ensures.value in
-    record {
-      some_period = x.some_period;
-      low_period = x.low_period;
-      low_worst = omega (arith, worst, c.requires);
-      low_rate = omega (arith, x.low_rate, z.low_rate);
-    }
+    omega (arith, worst-within c.take_out-other.result xs k below c.take_out-other.ensures.value, c.requires)
