@@ -46,8 +46,8 @@ impl Relaxed {
     }
 }
 
-// Relaxed loads: those that are marked count with their jobs, at most `MOST_HEAVY` of them, in their order. There are none
-// if the rates of the others leave nothing.
+// Relaxed loads: those that are marked count with their jobs, at most `MOST_HEAVY` of them, in their order. There are
+// none if the rates of the others leave nothing.
 pub(crate) fn relaxed_by(supply: Supply, loads: &[Load], marks: &[bool]) -> Option<Relaxed>
     requires marked { length loads.now ≤ length marks.now }
     requires rates { All (HasRate supply.hyper) loads.now }
