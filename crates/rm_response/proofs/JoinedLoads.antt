@@ -1,16 +1,16 @@
 -- Two loads of the same period as one load.
-use Rattle.std.proofs.Common.{◌≡◌, ℕ, zero, suc, ◌+◌, ◌*◌, ◌<◌, List, [], ◌∷◌, length, take, drop, refl, sym, ap, subst, arith}
+use Rattle.std.proofs.Common.{◌≡◌, ℕ, zero, suc, ◌+◌, ◌*◌, ◌<◌, ◌≤◌, List, [], ◌∷◌, length, take, drop, sym, ap, ap₂, subst, arith}
 use Rattle.std.specs.Prelude.{All, slice_index_or}
 use Rattle.std.specs.List.{remove}
 use Rattle.std.proofs.lemmas.List.Edits.{length-remove}
 use Rattle.std.proofs.lemmas.List.Elements.{All-append, All-drop, All-get_or, All-take}
 use Rattle.std.proofs.lemmas.List.Sums.{sum_by-cons, sum_by-remove}
 use Rattle.grid_fraction.specs.Numbers.{ceil_div}
-use Rattle.rm_response.specs.declared.loads.Load.{Load}
-use Rattle.rm_response.specs.declared.supply.Supply.{Supply}
+use Rattle.rm_response.specs.declared.inputs.Load.{Load}
+use Rattle.rm_response.specs.declared.inputs.Supply.{Supply}
 use Rattle.rm_response.specs.Supplies.{IsDone}
-use Rattle.rm_response.specs.Loads.{held, work_of, IsLoad, HasRate, AreInTurn, IsJoined}
-use Rattle.rm_response.proofs.LoadFits.{done-fewer}
+use Rattle.rm_response.specs.Loads.{held, work_of, HasRate, AreInTurn, IsJoined}
+use Rattle.rm_response.proofs.LoadFits.{held-once, done-fewer}
 
 -- what holds of a list's elements holds of all but one
 all-remove : (P : Load → Type 0) (xs : List Load) (k : ℕ) → All P xs → All P (remove xs k)
@@ -30,41 +30,36 @@ removed-turn s (x ∷ xs) (suc k) below turn =
       removed-turn s xs k (omega (arith, below)) turn.1,
     )
 
--- a load by itself
-pub joined-none : (x : Load) (xs : List Load) → All IsLoad xs → IsJoined x xs x xs
-joined-none x xs each = record {
-  same_period = refl;
-  fewer = omega arith;
-  work = λ t. refl;
-  each = each;
-  rates = λ h own rates. (own, rates);
-  in_turn = λ s turn. turn;
-}
+-- the worst case of one of some loads is within their work of one tick
+pub worst-within : (z : Load) (xs : List Load) (k : ℕ) → k < length xs → z ≡ slice_index_or xs k z → z.worst ≤ work_of xs 1
+worst-within z xs k below is =
+    let at : held 1 z ≡ held 1 (slice_index_or xs k z) = ap (held 1) is in
+    omega (arith, at, sum_by-remove (held 1) xs k z below, held-once 1 z (omega arith) z.some_period)
 
--- a load and the one at place k
-module _ (x z : Load) (xs : List Load) (k : ℕ) (below : k < length xs) (is : z ≡ slice_index_or xs k z)
-    (same : z.period ≡ x.period) where
-  abbrev pub both : Load
-  both = record { period = x.period; worst = x.worst + z.worst; rate = x.rate + z.rate }
-
-  held-both : (t : ℕ) → held t both ≡ held t x + held t z
+-- y is a load and the one at place k as one
+module _ (x z y : Load) (xs : List Load) (k : ℕ) (below : k < length xs) (is : z ≡ slice_index_or xs k z)
+    (same : z.period ≡ x.period) (period : y.period ≡ x.period) (worst : y.worst ≡ x.worst + z.worst)
+    (rate : y.rate ≡ x.rate + z.rate) where
+  held-both : (t : ℕ) → held t y ≡ held t x + held t z
   held-both t =
+      let own : held t y ≡ ceil_div t x.period * (x.worst + z.worst) = ap₂ (λ d n. ceil_div t d * n) period worst in
       let other : ceil_div t x.period * z.worst ≡ held t z = ap (λ d. ceil_div t d * z.worst) (sym same) in
-      omega (arith, other)
+      omega (arith, own, other)
 
-  rate-both : (h : ℕ) → HasRate h x → HasRate h z → HasRate h both
+  rate-both : (h : ℕ) → HasRate h x → HasRate h z → HasRate h y
   rate-both h own other =
       let there : z.rate * x.period ≡ z.worst * h = subst (λ d. z.rate * d ≡ z.worst * h) same other in
-      omega (arith, own, there)
+      let all : y.rate * y.period ≡ (x.rate + z.rate) * x.period = ap₂ (λ r d. r * d) rate period in
+      let units : y.worst * h ≡ (x.worst + z.worst) * h = ap (λ n. n * h) worst in
+      omega (arith, own, there, all, units)
 
-  pub joined-both : All IsLoad xs → IsJoined x xs both (remove xs k)
-  joined-both each = record {
-    same_period = refl;
+  pub joined-both : IsJoined x xs y (remove xs k)
+  joined-both = record {
+    same_period = period;
     fewer = omega (arith, length-remove xs k below);
     work = λ t.
         let at : held t z ≡ held t (slice_index_or xs k z) = ap (held t) is in
         omega (arith, held-both t, at, sum_by-remove (held t) xs k z below);
-    each = all-remove IsLoad xs k each;
     rates = λ h own rates.
         let other : HasRate h z = subst (HasRate h) (sym is) (All-get_or (HasRate h) xs k z below rates) in
         (rate-both h own other, all-remove (HasRate h) xs k rates);

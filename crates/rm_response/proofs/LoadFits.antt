@@ -11,10 +11,10 @@ use Rattle.grid_fraction.specs.Numbers.{ceil_div}
 use Rattle.grid_fraction.proofs.Ceilings.{ceil-mono, div_ceil_is}
 use Rattle.governor.proofs.RmLevels.{ceil_covers}
 use Rattle.rm_response_laws.proofs.Ceilings.{ceil-after, ceil-least, ceil-sum}
-use Rattle.rm_response.specs.declared.loads.Load.{Load}
-use Rattle.rm_response.specs.declared.supply.Supply.{Supply}
-use Rattle.rm_response.specs.Supplies.{IsSupply, IsDone, IsMore}
-use Rattle.rm_response.specs.Loads.{held, work_of, rates_of, IsLoad, HasRate, AreInTurn, AreLoads}
+use Rattle.rm_response.specs.declared.inputs.Load.{Load}
+use Rattle.rm_response.specs.declared.inputs.Supply.{Supply}
+use Rattle.rm_response.specs.Supplies.{IsDone, IsMore}
+use Rattle.rm_response.specs.Loads.{held, work_of, rates_of, HasRate, AreInTurn, AreLoads}
 use Rattle.rm_response.specs.Fits.{Fits, NoneFits, NoneBefore, FindsFit, IsFrom}
 
 -- of fewer units all are done too, and more units are too many too
@@ -56,76 +56,81 @@ later-past P s d low some most step (suc n) t within past here =
           (later.0, omega (arith, later.1), later.2, later.3, later.4)
     ]
 
-held-later : (t u : ℕ) (x : Load) → IsLoad x → t ≤ u → held t x ≤ held u x
-held-later t u x is le = mul-le-mul_right x.worst (ceil-mono t u x.period is.some_period le)
+-- in ticks up to its period a load asks for one job
+pub held-once : (t : ℕ) (x : Load) → 1 ≤ t → t ≤ x.period → held t x ≡ x.worst
+held-once t x some within =
+    let one : ceil_div t x.period ≡ 1 = ap (λ u. ceil_div u x.period) (omega arith) ∙ ceil-after 0 x.period t some within in
+    ap (λ n. n * x.worst) one ∙ omega arith
+
+held-later : (t u : ℕ) (x : Load) → t ≤ u → held t x ≤ held u x
+held-later t u x le = mul-le-mul_right x.worst (ceil-mono t u x.period x.some_period le)
 
 -- in more ticks loads can ask for no less work
-work-later : (t u : ℕ) (xs : List Load) → All IsLoad xs → t ≤ u → work_of xs t ≤ work_of xs u
-work-later t u [] each le = omega arith
-work-later t u (x ∷ xs) each le =
-    let first = held-later t u x (All-head IsLoad x xs each) le in
-    let others = work-later t u xs (All-tail IsLoad x xs each) le in
+pub work-later : (t u : ℕ) (xs : List Load) → t ≤ u → work_of xs t ≤ work_of xs u
+work-later t u [] le = omega arith
+work-later t u (x ∷ xs) le =
+    let first = held-later t u x le in
+    let others = work-later t u xs le in
     omega (arith, first, others, sum_by-cons (held t) x xs, sum_by-cons (held u) x xs)
 
 -- the work of a sum of ticks is at most the sum of the work
-work-sum : (t s : ℕ) (xs : List Load) → All IsLoad xs → work_of xs (t + s) ≤ work_of xs t + work_of xs s
-work-sum t s [] each = omega arith
-work-sum t s (x ∷ xs) each =
-    let is = All-head IsLoad x xs each in
-    let first = mul-le-mul_right x.worst (ceil-sum t s x.period is.some_period) in
-    let others = work-sum t s xs (All-tail IsLoad x xs each) in
+work-sum : (t s : ℕ) (xs : List Load) → work_of xs (t + s) ≤ work_of xs t + work_of xs s
+work-sum t s [] = omega arith
+work-sum t s (x ∷ xs) =
+    let first = mul-le-mul_right x.worst (ceil-sum t s x.period x.some_period) in
+    let others = work-sum t s xs in
     omega (arith, first, others, sum_by-cons (held (t + s)) x xs, sum_by-cons (held t) x xs, sum_by-cons (held s) x xs)
 
 -- the rate of a load for t ticks is within the work of its jobs that they can hold
-pub rate-held : (h t : ℕ) (x : Load) → IsLoad x → HasRate h x → t * x.rate ≤ h * held t x
-rate-held h t x is rate =
-    let m : t * x.rate ≤ ceil_div t x.period * x.period * x.rate = mul-le-mul_right x.rate (ceil_covers t x.period is.some_period) in
+pub rate-held : (h t : ℕ) (x : Load) → HasRate h x → t * x.rate ≤ h * held t x
+rate-held h t x rate =
+    let m : t * x.rate ≤ ceil_div t x.period * x.period * x.rate = mul-le-mul_right x.rate (ceil_covers t x.period x.some_period) in
     let whole : ceil_div t x.period * (x.rate * x.period) ≡ ceil_div t x.period * (x.worst * h) = ap (λ n. ceil_div t x.period * n) rate in
     omega (arith, m, whole)
 
-rates-work : (h t : ℕ) (xs : List Load) → All IsLoad xs → All (HasRate h) xs → t * rates_of xs ≤ h * work_of xs t
-rates-work h t [] each rates = omega arith
-rates-work h t (x ∷ xs) each rates =
-    let first = rate-held h t x (All-head IsLoad x xs each) (All-head (HasRate h) x xs rates) in
-    let others = rates-work h t xs (All-tail IsLoad x xs each) (All-tail (HasRate h) x xs rates) in
+rates-work : (h t : ℕ) (xs : List Load) → All (HasRate h) xs → t * rates_of xs ≤ h * work_of xs t
+rates-work h t [] rates = omega arith
+rates-work h t (x ∷ xs) rates =
+    let first = rate-held h t x (All-head (HasRate h) x xs rates) in
+    let others = rates-work h t xs (All-tail (HasRate h) x xs rates) in
     let left : t * rates_of (x ∷ xs) ≡ t * (x.rate + rates_of xs) = ap (λ n. t * n) (sum_by-cons (λ (y : Load). y.rate) x xs) in
     let right : h * work_of (x ∷ xs) t ≡ h * (held t x + work_of xs t) = ap (λ n. h * n) (sum_by-cons (held t) x xs) in
     omega (arith, first, others, left, right)
 
 -- if `rest` units take more than `most` ticks of what the rates leave, they don't fit
-pub none-beyond : (s : Supply) (xs : List Load) (rest most : ℕ) → All IsLoad xs → All (HasRate s.hyper) xs
+pub none-beyond : (s : Supply) (xs : List Load) (rest most : ℕ) → All (HasRate s.hyper) xs
     → (s.units - rates_of xs) * most < rest * s.hyper → NoneFits s xs rest 0 (most + 1)
-none-beyond s xs rest most each rates over t from lt =
+none-beyond s xs rest most rates over t from lt =
     elim (cases_done s (rest + work_of xs t) t) [
       | inl more ↦ more
       | inr done ↦
-          let less = spare-does rest (work_of xs t) s.units s.hyper t (rates_of xs) done (rates-work s.hyper t xs each rates) in
+          let less = spare-does rest (work_of xs t) s.units s.hyper t (rates_of xs) done (rates-work s.hyper t xs rates) in
           let within : (s.units - rates_of xs) * t ≤ (s.units - rates_of xs) * most = mul-le-mul_left (s.units - rates_of xs) (omega arith) in
           absurd (omega (arith, less, within, over))
     ]
 
 -- if `rest` units and the work of `least` ticks are more than `next` ticks less one do, they fit into none before those
-pub none-raised : (s : Supply) (xs : List Load) (rest low least next : ℕ) → All IsLoad xs → NoneFits s xs rest low least
+pub none-raised : (s : Supply) (xs : List Load) (rest low least next : ℕ) → NoneFits s xs rest low least
     → ((t : ℕ) → t < next → IsMore s (rest + work_of xs least) t) → NoneFits s xs rest low next
-none-raised s xs rest low least next each none over t from lt =
+none-raised s xs rest low least next none over t from lt =
     elim (cases_lt t least) [
       | inl before ↦ none t from before
       | inr after ↦
-          let more = work-later least t xs each after in
+          let more = work-later least t xs after in
           more-most s (rest + work_of xs least) (rest + work_of xs t) t (omega (arith, more)) (over t lt)
     ]
 
 -- fewer ticks than n units take don't do them
-pub more-before : (s : Supply) (n next t : ℕ) → 1 ≤ s.units → next ≡ div_ceil (n * s.hyper) s.units → t < next → IsMore s n t
-more-before s n next t some is lt =
-    ceil-least (n * s.hyper) s.units t some (omega (arith, lt, is, div_ceil_is (n * s.hyper) s.units some))
+pub more-before : (s : Supply) (n next t : ℕ) → next ≡ div_ceil (n * s.hyper) s.units → t < next → IsMore s n t
+more-before s n next t is lt =
+    ceil-least (n * s.hyper) s.units t s.some_units (omega (arith, lt, is, div_ceil_is (n * s.hyper) s.units s.some_units))
 
 -- what exceeds the speed for `last` ticks is more than any of these do
-pub more-within : (s : Supply) (n last t : ℕ) → IsSupply s → s.speed * last < n → t < last + 1 → IsMore s n t
-more-within s n last t is over lt =
-    let ticks : s.units * t ≤ s.speed * s.hyper * last = mul-le s.units t (s.speed * s.hyper) last is.within (omega arith) in
+pub more-within : (s : Supply) (n last t : ℕ) → s.speed * last < n → t < last + 1 → IsMore s n t
+more-within s n last t over lt =
+    let ticks : s.units * t ≤ s.speed * s.hyper * last = mul-le s.units t (s.speed * s.hyper) last s.within (omega arith) in
     let units : suc (s.speed * last) * s.hyper ≤ n * s.hyper = mul-le-mul_right s.hyper over in
-    omega (arith, ticks, units, is.some_hyper)
+    omega (arith, ticks, units, s.some_hyper)
 
 -- none before a first tick, and from there none before a later one, is none before the later one
 pub before-later : (s : Supply) (xs : List Load) (rest low most first later : ℕ) → NoneBefore s xs rest low most first
@@ -152,13 +157,9 @@ module _ (s : Supply) (x : Load) (xs : List Load) (loads : AreLoads s (x ∷ xs)
   abbrev d : ℕ
   d = x.period
 
-  is_load : IsLoad x
-  is_load = All-head IsLoad x xs loads.each
-
   pub others-loads : AreLoads s xs
   others-loads = record {
     few = (let n = loads.few in omega arith);
-    each = All-tail IsLoad x xs loads.each;
     rates = All-tail (HasRate s.hyper) x xs loads.rates;
     in_turn = loads.in_turn.1;
   }
@@ -173,7 +174,7 @@ module _ (s : Supply) (x : Load) (xs : List Load) (loads : AreLoads s (x ∷ xs)
     from = (let g = fit.from in omega arith);
     within = (let w = fit.within in omega arith);
     done = done-fewer s (rest + work_of (x ∷ xs) t) (rest + held m x + work_of xs t) t
-        (omega (arith, split t, held-later t m x is_load fit.within)) fit.done;
+        (omega (arith, split t, held-later t m x fit.within)) fit.done;
   }
 
   -- after the last multiple of the period up to m, as many jobs of the first load begin in t ticks as in m
@@ -213,7 +214,7 @@ module _ (s : Supply) (x : Load) (xs : List Load) (loads : AreLoads s (x ∷ xs)
           let later : (u : ℕ) → IsDone s (rest + work_of (x ∷ xs) u) u → IsDone s (rest + work_of (x ∷ xs) (u + n)) (u + n) =
           λ u fit.
           let less : rest + work_of (x ∷ xs) (u + n) ≤ rest + work_of (x ∷ xs) u + work_of (x ∷ xs) n =
-          omega (arith, work-sum u n (x ∷ xs) loads.each) in
+          omega (arith, work-sum u n (x ∷ xs)) in
           omega (arith, mul-le-mul_right s.hyper less, served.done, fit) in
           let found = later-past (λ u. IsDone s (rest + work_of (x ∷ xs) u) u) n d (q * d) served.some served.within
           later (suc (q * d)) t (omega (arith, within)) (omega arith) done in
@@ -236,7 +237,7 @@ module _ (s : Supply) (x : Load) (xs : List Load) (loads : AreLoads s (x ∷ xs)
         → NoneFits s (x ∷ xs) rest low (most + 1)
     neither none-in none-before =
         let split = div-add-mod' (most - 1) d in
-        let less = mod-lt (most - 1) is_load.some_period in
+        let less = mod-lt (most - 1) x.some_period in
         none-first rest low most ((most - 1) / d) some below (omega (arith, split, less, some, in_span)) none-in none-before
 
     -- what is found beside the jobs that begin before `most` ticks are over, and no less than `after` ticks

@@ -1,12 +1,12 @@
 -- Work that fits into some ticks beside loads (after Bini and Buttazzo 2004).
 use Rattle.std.specs.Prelude.{ℕ, List, [], ◌∷◌, All, IfSome, slice_get, length, take, ◌+◌, ◌*◌, ◌≡◌, ◌<◌, ◌≤◌, Option, MatchOption}
-use Rattle.rm_response.specs.declared.loads.Load.{Load}
-use Rattle.rm_response.specs.declared.supply.Supply.{Supply}
+use Rattle.rm_response.specs.declared.inputs.Load.{Load}
+use Rattle.rm_response.specs.declared.inputs.Supply.{Supply}
 use Rattle.rm_response.specs.declared.relaxed.Relaxed.{Relaxed}
 use Rattle.rm_response.specs.declared.search.Ends.{Ends}
 use Rattle.rm_response.specs.declared.search.Ends.TheVariants.{Fit, NoFit, From}
-use Rattle.rm_response.specs.Supplies.{IsSupply, IsDone, IsMore}
-use Rattle.rm_response.specs.Loads.{IsLoad, HasRate, AreLoads, work_of}
+use Rattle.rm_response.specs.Supplies.{IsDone, IsMore}
+use Rattle.rm_response.specs.Loads.{HasRate, AreLoads, work_of}
 
 -- `rest` units fit into t of the ticks `low` to `most`: in t ticks a supply does them and the work of the loads
 pub record Fits (s : Supply) (xs : List Load) (rest low most t : ℕ) : Type 0 where
@@ -46,25 +46,22 @@ pub record IsFirstFit (s : Supply) (xs : List Load) (rest low most first : ℕ) 
   pub before : NoneBefore s xs rest low most first
   pub fit : first ≤ most → IsDone s (rest + work_of xs first) first
 
--- Some of the loads xs, and a supply that is lower by the rates of the others: in no number of ticks do the others ask
--- for less than the supply lacks.
-pub record IsRelaxed (s : Supply) (xs : List Load) (lower : Supply) (ys : List Load) : Type 0 where
-  pub same_speed : lower.speed ≡ s.speed
-  pub same_hyper : lower.hyper ≡ s.hyper
-  pub lower_units : lower.units ≤ s.units
+-- Some of the loads xs, and what the rates of the others leave of the units of a supply: in no number of ticks do the
+-- others ask for less than the supply lacks.
+pub record IsRelaxed (s : Supply) (xs : List Load) (units : ℕ) (ys : List Load) : Type 0 where
+  pub lower_units : units ≤ s.units
   pub few : length ys ≤ length xs
-  pub each : All IsLoad ys
   pub rates : All (HasRate s.hyper) ys
-  pub work : (t : ℕ) → work_of ys t * s.hyper + s.units * t ≤ work_of xs t * s.hyper + lower.units * t
+  pub work : (t : ℕ) → work_of ys t * s.hyper + s.units * t ≤ work_of xs t * s.hyper + units * t
 
 -- The loads of r that count with their jobs, fewer than the loads xs, can be searched with the supply of r, and what
 -- does not fit beside them does not fit beside xs.
 pub record IsRelaxedSearch (s : Supply) (xs : List Load) (r : Relaxed) : Type 0 where
   pub within : r.count ≤ length r.loads
   pub fewer : r.count < length xs
-  pub supply : IsSupply r.supply
+  pub same_hyper : r.supply.hyper ≡ s.hyper
   pub loads : AreLoads r.supply (take r.count r.loads)
-  pub relaxed : IsRelaxed s xs r.supply (take r.count r.loads)
+  pub relaxed : IsRelaxed s xs r.supply.units (take r.count r.loads)
 
 -- if some loads of r count with their jobs, they are for a relaxed search
 abbrev pub IsNode : Supply → List Load → Relaxed → Type 0

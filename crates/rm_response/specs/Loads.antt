@@ -1,14 +1,13 @@
 -- Loads: tasks whose jobs count beside other work, in the order in which the search takes them away.
-use Rattle.std.specs.Prelude.{ℕ, List, [], ◌∷◌, length, take, insert, sum_by, All, ◌≡◌, ◌+◌, ◌*◌, ◌^◌, ◌≤◌}
+use Rattle.std.specs.Prelude.{ℕ, List, [], ◌∷◌, length, take, insert, sum_by, All, ◌≡◌, ◌+◌, ◌*◌, ◌≤◌}
 use Rattle.grid_fraction.specs.Numbers.{ceil_div}
 use Rattle.dvs_base.specs.declared.limits.TheConstants.{MOST_TASKS}
-use Rattle.task_model.specs.declared.limits.TheConstants.{LONGEST_PERIOD}
 use Rattle.sched_model.specs.Plan.{Plan, count, period, worst, rate}
 use Rattle.sched_model.specs.Priority.{sum_before}
 use Rattle.rm_response_laws.specs.HeldWork.{held_work}
-use Rattle.rm_response.specs.declared.loads.Load.{Load}
-use Rattle.rm_response.specs.declared.supply.Supply.{Supply}
-use Rattle.rm_response.specs.Supplies.{IsDone, full_supply}
+use Rattle.rm_response.specs.declared.inputs.Load.{Load}
+use Rattle.rm_response.specs.declared.inputs.Supply.{Supply}
+use Rattle.rm_response.specs.Supplies.{IsDone, IsFull}
 
 -- the work of the jobs of a load that t ticks can hold
 abbrev pub held : ℕ → Load → ℕ
@@ -22,16 +21,11 @@ work_of xs t = sum_by (held t) xs
 abbrev pub rates_of : List Load → ℕ
 rates_of xs = sum_by (λ x. x.rate) xs
 
--- task j of a plan as a load
-abbrev pub load_of : Plan → ℕ → Load
-load_of p j = record { period = period p j; worst = worst p j; rate = rate p j }
-
--- a load has a period, and its numbers are low
-pub record IsLoad (x : Load) : Type 0 where
-  pub some_period : 1 ≤ x.period
-  pub low_period : x.period ≤ LONGEST_PERIOD
-  pub low_worst : x.worst ≤ 2 ^ 61
-  pub low_rate : x.rate ≤ 2 ^ 109
+-- a load is task j of a plan
+pub record IsLoadOf (p : Plan) (j : ℕ) (x : Load) : Type 0 where
+  pub period_is : x.period ≡ period p j
+  pub worst_is : x.worst ≡ worst p j
+  pub rate_is : x.rate ≡ rate p j
 
 -- in h ticks, a multiple of its period, the jobs of a load ask for its rate
 abbrev pub HasRate : ℕ → Load → Type 0
@@ -52,13 +46,13 @@ AreInTurn s (x ∷ xs) = AreServedWithin s (x ∷ xs) x.period × AreInTurn s xs
 -- at most as many loads as a set has tasks, which can be taken away in turn with a supply
 pub record AreLoads (s : Supply) (xs : List Load) : Type 0 where
   pub few : length xs ≤ MOST_TASKS
-  pub each : All IsLoad xs
   pub rates : All (HasRate s.hyper) xs
   pub in_turn : AreInTurn s xs
 
 -- the loads are the tasks before task i in RM order
 pub record AreBefore (p : Plan) (i : ℕ) (xs : List Load) : Type 0 where
-  pub loads : AreLoads (full_supply p) xs
+  pub few : length xs ≤ MOST_TASKS
+  pub loads : (s : Supply) → IsFull p s → AreLoads s xs
   pub work : (t : ℕ) → work_of xs t ≡ sum_before (count p) (period p) (held_work p t) i
 
 -- a load is put into others, after some whose periods are at least s ticks
@@ -73,7 +67,6 @@ pub record IsJoined (x : Load) (old : List Load) (y : Load) (new : List Load) : 
   pub same_period : y.period ≡ x.period
   pub fewer : length new ≤ length old
   pub work : (t : ℕ) → held t y + work_of new t ≡ held t x + work_of old t
-  pub each : All IsLoad new
   pub rates : (h : ℕ) → HasRate h x → All (HasRate h) old → HasRate h y × All (HasRate h) new
   pub in_turn : (s : Supply) → AreInTurn s old → AreInTurn s new
 

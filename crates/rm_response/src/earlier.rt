@@ -1,13 +1,12 @@
 // The loads of the earlier tasks, with the nodes of a search beside them.
-ghost use Rattle.std.specs.Prelude.{◌≡◌, ◌≤◌, ◌<◌, IfOk, [], All, insert, slice_index_or, vec_len, vec_capacity};
+ghost use Rattle.std.specs.Prelude.{◌≡◌, ◌≤◌, ◌<◌, ◌+◌, ◌^◌, IfOk, [], insert, slice_index_or, vec_len, vec_capacity};
 ghost use Rattle.std.specs.List.{remove};
-ghost use Rattle.rm_response.specs.Supplies.{IsSupply};
-ghost use Rattle.rm_response.specs.Loads.{IsLoad, AreLoads, IsJoined, IsAdded};
+ghost use Rattle.rm_response.specs.Loads.{AreLoads, IsJoined, IsAdded, work_of};
 
-use crate::loads::{Load, place_among, place_of};
+use crate::inputs::{Load, Supply};
+use crate::loads::{place_among, place_of};
 use crate::nodes::node_of;
 use crate::relaxed::Relaxed;
-use crate::supply::Supply;
 use dvs_base::MOST_TASKS;
 use std::alloc::{AllocError, Global};
 
@@ -59,8 +58,7 @@ impl Earlier {
 
     // Takes out the load of the same period, if there is one, and makes one of both.
     fn joined(&mut self, load: Load) -> Load
-        requires low { IsLoad load }
-        requires each { All IsLoad self.old.loads.items }
+        requires { load.worst + work_of self.old.loads.items 1 ≤ 2 ^ 61 }
         ensures joined { IsJoined load self.old.loads.items result self.new.loads.items }
         ensures capacity { vec_capacity self.old.loads ≤ vec_capacity self.new.loads }
         ensures nodes { KeepsNodes self.old self.new }
@@ -79,8 +77,7 @@ impl Earlier {
     // Puts a load with this response into its place, as one with the load of the same period.
     pub(crate) fn add(&mut self, load: Load, response: u64)
         requires room { vec_len self.old.loads < vec_capacity self.old.loads }
-        requires low { IsLoad load }
-        requires each { All IsLoad self.old.loads.items }
+        requires low { load.worst + work_of self.old.loads.items 1 ≤ 2 ^ 61 }
         ensures added { IsAdded response load self.old.loads.items self.new.loads.items }
         ensures capacity { vec_capacity self.old.loads ≤ vec_capacity self.new.loads }
         ensures nodes { KeepsNodes self.old self.new }
@@ -92,7 +89,6 @@ impl Earlier {
 
     // Makes the nodes that are not there, for the last loads from the fewest on.
     pub(crate) fn make_nodes(&mut self, supply: Supply) -> Result<(), AllocError>
-        requires supply { IsSupply supply }
         requires loads { AreLoads supply self.old.loads.items }
         requires nodes { HasNodes supply self.old }
         ensures loads { self.new.loads ≡ self.old.loads }

@@ -8,6 +8,7 @@
 #![tactic(auto)]
 
 mod earlier;
+mod inputs;
 mod loads;
 mod nodes;
 mod relaxed;

@@ -4,28 +4,21 @@ ghost use Rattle.dvs_base.specs.declared.kind.Scheduler.TheVariants.{Rm};
 ghost use Rattle.dvs_base.specs.declared.limits.TheConstants.{MOST_TASKS};
 ghost use Rattle.task_model.specs.declared.limits.TheConstants.{LONGEST_PERIOD};
 ghost use Rattle.sched_model.specs.Plan.{plan_of};
-ghost use Rattle.rm_response.specs.declared.loads.Load.{Load};
-ghost use Rattle.rm_response.specs.Loads.{IsLoad, held, work_of, rates_of, load_of};
+ghost use Rattle.rm_response.specs.declared.inputs.Load.{Load};
+ghost use Rattle.rm_response.specs.Loads.{held, work_of, rates_of, IsLoadOf};
 
+use crate::inputs::Load;
 use freq_table::Machine;
 use grid_fraction::up;
 use sched_model::{rate, worst};
 use task_model::TaskSet;
 
-/// A task that counts with its jobs: its period in ticks, its worst case, and its work in one hyperperiod.
-#[derive(Clone, Copy, Default)]
-pub(crate) struct Load {
-    pub(crate) period: u64,
-    pub(crate) worst: u64,
-    pub(crate) rate: u128,
-}
-
 // Task j as a load.
 pub(crate) fn load_of(tasks: &TaskSet, machine: &Machine, j: u32) -> Load
     requires { j < length tasks.now }
-    ensures value { result ≡ load_of (plan_of tasks.now machine.now Rm) j }
-    ensures low { IsLoad result }
+    ensures { IsLoadOf (plan_of tasks.now machine.now Rm) j result }
 {
+    let _task_limits = tasks.as_slice();
     Load {
         period: tasks.task(j).period,
         worst: worst(tasks, machine, j),
@@ -35,9 +28,7 @@ pub(crate) fn load_of(tasks: &TaskSet, machine: &Machine, j: u32) -> Load
 
 // The work of the jobs of a load that `ticks` ticks can hold, in work units.
 pub(crate) fn held(load: Load, ticks: u64) -> u128
-    requires ticks { ticks ≤ LONGEST_PERIOD }
-    requires some_period { 1 ≤ load.period }
-    requires low_worst { load.worst ≤ 2 ^ 61 }
+    requires { ticks ≤ LONGEST_PERIOD }
     ensures value { result ≡ held ticks load }
     ensures low { result ≤ 2 ^ 101 }
 {
@@ -48,7 +39,6 @@ pub(crate) fn held(load: Load, ticks: u64) -> u128
 pub(crate) fn work_of(loads: &[Load], ticks: u64) -> u128
     requires ticks { ticks ≤ LONGEST_PERIOD }
     requires few { length loads.now ≤ MOST_TASKS }
-    requires each { All IsLoad loads.now }
     ensures value { result ≡ work_of loads.now ticks }
     ensures low { result ≤ 2 ^ 107 }
 {
@@ -61,8 +51,7 @@ pub(crate) fn work_of(loads: &[Load], ticks: u64) -> u128
 
 // The work of the loads in one hyperperiod, in work units.
 pub(crate) fn rates_of(loads: &[Load]) -> u128
-    requires few { length loads.now ≤ MOST_TASKS }
-    requires each { All IsLoad loads.now }
+    requires { length loads.now ≤ MOST_TASKS }
     ensures value { result ≡ rates_of loads.now }
     ensures low { result ≤ 2 ^ 115 }
 {

@@ -2,14 +2,12 @@
 ghost use Rattle.std.specs.Prelude.{◌≡◌, ◌≤◌, ◌<◌, IsTrue, IfSome, length, All};
 ghost use Rattle.dvs_base.specs.declared.limits.TheConstants.{MOST_TASKS};
 ghost use Rattle.rm_response.specs.declared.relaxed.TheConstants.{MOST_HEAVY};
-ghost use Rattle.rm_response.specs.Supplies.{IsSupply};
-ghost use Rattle.rm_response.specs.Loads.{IsLoad, AreInTurn, HasRate};
+ghost use Rattle.rm_response.specs.Loads.{AreInTurn, HasRate};
 ghost use Rattle.rm_response.specs.Fits.{IsNode};
 
-use crate::loads::Load;
+use crate::inputs::{Load, Span, Supply};
 use crate::relaxed::{MOST_HEAVY, Relaxed, relaxed_by};
-use crate::search::{Span, fitting};
-use crate::supply::Supply;
+use crate::search::fitting;
 use dvs_base::MOST_TASKS;
 
 // The most loads that are tried for one node.
@@ -17,9 +15,7 @@ const MOST_TRIES: u32 = 12;
 
 // Whether loads can be taken away in turn.
 fn are_in_turn(supply: Supply, loads: &[Load]) -> bool
-    requires supply { IsSupply supply }
     requires few { length loads.now ≤ MOST_TASKS }
-    requires each { All IsLoad loads.now }
     requires rates { All (HasRate supply.hyper) loads.now }
     ensures { IsTrue result → AreInTurn supply loads.now }
 {
@@ -66,15 +62,13 @@ fn marked(loads: &[Load]) -> [bool; MOST_TASKS]
 
 // A node whose marked loads count with their jobs, unless these can't be taken away in turn.
 fn node_by(supply: Supply, loads: &[Load], marks: &[bool]) -> Option<Relaxed>
-    requires supply { IsSupply supply }
     requires many { MOST_HEAVY < length loads.now }
     requires marked { length loads.now ≤ length marks.now }
-    requires each { All IsLoad loads.now }
     requires rates { All (HasRate supply.hyper) loads.now }
     ensures { IfSome result (IsNode supply loads.now) }
 {
-    let node = relaxed_by(supply, loads, marks);
-    if node.supply.units == 0 || !are_in_turn(node.supply, node.heavy()) {
+    let node = relaxed_by(supply, loads, marks)?;
+    if !are_in_turn(node.supply, node.heavy()) {
         return None;
     }
     Some(node)
@@ -83,14 +77,12 @@ fn node_by(supply: Supply, loads: &[Load], marks: &[bool]) -> Option<Relaxed>
 // A node whose loads are put in one by one, those of greatest worst case first. One with which they can't be taken away
 // in turn is left out.
 fn node_one_by_one(supply: Supply, loads: &[Load]) -> Relaxed
-    requires supply { IsSupply supply }
     requires many { MOST_HEAVY < length loads.now }
     requires few { length loads.now ≤ MOST_TASKS }
-    requires each { All IsLoad loads.now }
     requires rates { All (HasRate supply.hyper) loads.now }
     ensures { IsNode supply loads.now result }
 {
-    let mut node = Relaxed::default();
+    let mut node = Relaxed::empty(supply);
     let mut tried = [false; MOST_TASKS];
     let mut counted = [false; MOST_TASKS];
     for _ in 0..MOST_TRIES {
@@ -113,14 +105,12 @@ fn node_one_by_one(supply: Supply, loads: &[Load]) -> Relaxed
 // The node for loads: those of greatest worst case count with their jobs, as far as they can be taken away in turn. Loads
 // that are `MOST_HEAVY` or fewer have none.
 pub(crate) fn node_of(supply: Supply, loads: &[Load]) -> Relaxed
-    requires supply { IsSupply supply }
     requires few { length loads.now ≤ MOST_TASKS }
-    requires each { All IsLoad loads.now }
     requires rates { All (HasRate supply.hyper) loads.now }
     ensures { IsNode supply loads.now result }
 {
     if loads.len() <= MOST_HEAVY {
-        return Relaxed::default();
+        return Relaxed::empty(supply);
     }
     match node_by(supply, loads, &marked(loads)) {
         Some(node) => node,

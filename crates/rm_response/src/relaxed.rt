@@ -1,18 +1,17 @@
 // Relaxed loads: a few loads count with their jobs, and the others with their rates. What does not fit beside these does
 // not fit beside all jobs either.
-ghost use Rattle.std.specs.Prelude.{◌≡◌, ◌≤◌, length, take, All};
-ghost use Rattle.rm_response.specs.Loads.{IsLoad, HasRate};
+ghost use Rattle.std.specs.Prelude.{◌≡◌, ◌≤◌, IfSome, length, take, All};
+ghost use Rattle.rm_response.specs.Loads.{HasRate};
 ghost use Rattle.rm_response.specs.Fits.{IsRelaxed};
 
-use crate::loads::Load;
-use crate::supply::Supply;
+use crate::inputs::{Load, Supply};
 
 // The most loads that count with their jobs.
 pub(crate) const MOST_HEAVY: usize = 8;
 
 /// The loads that count with their jobs, the first `count` of `loads`, and what the rates of the others leave of a
 /// supply.
-#[derive(Clone, Copy, Default)]
+#[derive(Clone, Copy)]
 pub(crate) struct Relaxed {
     pub(crate) supply: Supply,
     pub(crate) loads: [Load; MOST_HEAVY],
@@ -20,6 +19,24 @@ pub(crate) struct Relaxed {
 }
 
 impl Relaxed {
+    // No loads that count with their jobs.
+    pub(crate) fn empty(supply: Supply) -> Relaxed
+        ensures supply { result.supply ≡ supply }
+        ensures count { result.count ≡ 0 }
+    {
+        let none = Load {
+            period: 1,
+            worst: 0,
+            rate: 0,
+        };
+        let loads = [none; MOST_HEAVY];
+        Relaxed {
+            supply,
+            loads,
+            count: 0,
+        }
+    }
+
     // The loads that count with their jobs.
     pub(crate) fn heavy(&self) -> &[Load]
         requires { self.now.count ≤ length self.now.loads }
@@ -29,29 +46,29 @@ impl Relaxed {
     }
 }
 
-// Relaxed loads: those that are marked count with their jobs, at most `MOST_HEAVY` of them, in their order.
-pub(crate) fn relaxed_by(supply: Supply, loads: &[Load], marks: &[bool]) -> Relaxed
+// Relaxed loads: those that are marked count with their jobs, at most `MOST_HEAVY` of them, in their order. There are
+// none if the rates of the others leave nothing.
+pub(crate) fn relaxed_by(supply: Supply, loads: &[Load], marks: &[bool]) -> Option<Relaxed>
     requires marked { length loads.now ≤ length marks.now }
-    requires each { All IsLoad loads.now }
     requires rates { All (HasRate supply.hyper) loads.now }
-    ensures within { result.count ≤ length result.loads }
-    ensures few { result.count ≤ MOST_HEAVY }
-    ensures relaxed { IsRelaxed supply loads.now result.supply (take result.count result.loads) }
+    ensures within { IfSome result (λ r. r.count ≤ length r.loads) }
+    ensures few { IfSome result (λ r. r.count ≤ MOST_HEAVY) }
+    ensures hyper { IfSome result (λ r. r.supply.hyper ≡ supply.hyper) }
+    ensures relaxed { IfSome result (λ r. IsRelaxed supply loads.now r.supply.units (take r.count r.loads)) }
 {
-    let mut heavy = [Load::default(); MOST_HEAVY];
-    let mut count = 0;
+    let mut relaxed = Relaxed::empty(supply);
     let mut units = supply.units;
     for (k, load) in loads.iter().enumerate() {
-        if count < MOST_HEAVY && marks[k] {
-            heavy[count] = *load;
-            count += 1;
+        if relaxed.count < MOST_HEAVY && marks[k] {
+            relaxed.loads[relaxed.count] = *load;
+            relaxed.count += 1;
             continue;
         }
         units = units.saturating_sub(load.rate);
     }
-    Relaxed {
-        supply: Supply { units, ..supply },
-        loads: heavy,
-        count,
+    if units == 0 {
+        return None;
     }
+    relaxed.supply.units = units;
+    Some(relaxed)
 }

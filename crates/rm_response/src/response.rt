@@ -2,23 +2,22 @@
 ghost use Rattle.std.specs.Prelude.{◌≡◌, ◌<◌, ◌≤◌, ◌^◌, IfOk, OnOk, IfErr, MatchResult, None, Some, length, slice_index, vec_capacity, [], ℕ};
 ghost use Rattle.dvs_base.specs.Checks.{IsUnlessMemory};
 ghost use Rattle.dvs_base.specs.declared.kind.Scheduler.TheVariants.{Rm};
-ghost use Rattle.task_model.specs.declared.limits.TheConstants.{LONGEST_PERIOD};
 ghost use Rattle.task_model.specs.Tasks.{task_at, NoneOffset};
 ghost use Rattle.sched_model.specs.Plan.{plan_of, count, period};
 ghost use Rattle.sched_model.specs.Priority.{in_order};
 ghost use Rattle.governor.specs.Worst.{level_work_in};
 ghost use Rattle.rm_response_laws.specs.Responses.{response, AllRespond, IsUnserved, MeetsAllDeadlines};
-ghost use Rattle.rm_response.specs.Supplies.{IsSupply, full_supply};
 ghost use Rattle.rm_response.specs.Loads.{AreBefore, AreLoads};
 ghost use Rattle.rm_response.specs.Fits.{IsFirstFit};
-ghost use Rattle.rm_response.specs.Earlier.{HasNodes};
+ghost use Rattle.rm_response.specs.Earlier.{HasNodes, HasFullNodes};
 ghost use Rattle.rm_response.specs.Denials.{IsFirstLate, responses, AreLeast, misses_at, IsResponseDenial, IsMissedAtPeriod, IsShownMiss, exact_answer};
 ghost use Rattle.rm_response.specs.Known.{AreAllKnown, late_task};
 
 use crate::earlier::Earlier;
+use crate::inputs::{Span, Supply};
 use crate::loads::{load_of, work_of};
-use crate::search::{Span, first_fitting, fits, raised};
-use crate::supply::{Supply, full_supply};
+use crate::search::{first_fitting, fits, raised};
+use crate::supply::full_supply;
 use freq_table::Machine;
 use sched_model::{rm_order, worst};
 use std::alloc::Global;
@@ -81,13 +80,9 @@ struct Late {
 // search has fewer of them and takes longer.
 #[inline(never)]
 fn searched(supply: Supply, earlier: &mut Earlier, rest: u128, span: Span) -> u64
-    requires supply { IsSupply supply }
     requires loads { AreLoads supply earlier.old.loads.items }
     requires nodes { HasNodes supply earlier.old }
     requires low_rest { rest ≤ 2 ^ 102 }
-    requires some_ticks { 1 ≤ span.first }
-    requires in_span { span.first ≤ span.last }
-    requires low_ticks { span.last ≤ LONGEST_PERIOD }
     ensures first { IsFirstFit supply earlier.old.loads.items rest span.first span.last result }
     ensures loads { earlier.new.loads ≡ earlier.old.loads }
     ensures nodes { HasNodes supply earlier.new }
@@ -101,12 +96,12 @@ fn searched(supply: Supply, earlier: &mut Earlier, rest: u128, span: Span) -> u6
 fn response_of(tasks: &TaskSet, machine: &Machine, earlier: &mut Earlier, from: u64, i: u32) -> u64
     requires task { i < length tasks.now }
     requires before { AreBefore (plan_of tasks.now machine.now Rm) i earlier.old.loads.items }
-    requires nodes { HasNodes (full_supply (plan_of tasks.now machine.now Rm)) earlier.old }
+    requires nodes { HasFullNodes (plan_of tasks.now machine.now Rm) earlier.old }
     requires some { 1 ≤ from }
     requires unserved { IsUnserved (plan_of tasks.now machine.now Rm) i from }
     ensures response { result ≡ response (plan_of tasks.now machine.now Rm) i }
     ensures loads { earlier.new.loads ≡ earlier.old.loads }
-    ensures nodes { HasNodes (full_supply (plan_of tasks.now machine.now Rm)) earlier.new }
+    ensures nodes { HasFullNodes (plan_of tasks.now machine.now Rm) earlier.new }
 {
     let _task_limits = tasks.as_slice();
     let last = tasks.task(i).period;
@@ -162,7 +157,7 @@ fn respond(
 }
 
 // The fault of a task without a response, with the numbers of its period.
-fn missing(tasks: &TaskSet, machine: &Machine, late: Late) -> ResponseFault
+fn miss_fault(tasks: &TaskSet, machine: &Machine, late: Late) -> ResponseFault
     requires task { late.task < length tasks.now }
     requires work { let p = plan_of tasks.now machine.now Rm in
         late.work ≡ level_work_in p (period p late.task) late.task }
@@ -207,6 +202,6 @@ pub fn rm_response(
     let earlier = Earlier::with_capacity(alloc, count).map_err(|_| ResponseFault::NoMemory)?;
     match respond(entries, earlier, &order, tasks, machine) {
         Ok(ticks) => Ok(Response { ticks }),
-        Err(late) => Err(missing(tasks, machine, late)),
+        Err(late) => Err(miss_fault(tasks, machine, late)),
     }
 }

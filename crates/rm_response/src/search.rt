@@ -3,23 +3,17 @@ ghost use Rattle.std.specs.Prelude.{◌≡◌, ◌≤◌, ◌+◌, ◌^◌, IsTr
 ghost use Rattle.dvs_base.specs.Widths.{u64_end};
 ghost use Rattle.dvs_base.specs.declared.limits.TheConstants.{MOST_TASKS};
 ghost use Rattle.task_model.specs.declared.limits.TheConstants.{LONGEST_PERIOD};
-ghost use Rattle.rm_response.specs.Supplies.{IsSupply, IsDone, IsMore};
-ghost use Rattle.rm_response.specs.Loads.{IsLoad, AreLoads, HasRate, work_of};
+ghost use Rattle.rm_response.specs.Supplies.{IsDone, IsMore};
+ghost use Rattle.rm_response.specs.Loads.{AreLoads, HasRate, work_of};
 ghost use Rattle.rm_response.specs.Fits.{NoneFits, FindsFit, EndsDecide, NoneBefore, IsFirstFit, AreNodes};
 
-use crate::loads::{Load, held, rates_of, work_of};
+use crate::inputs::{Load, Span, Supply};
+use crate::loads::{held, rates_of, work_of};
 use crate::relaxed::Relaxed;
-use crate::supply::{Supply, most_in};
+use crate::supply::most_in;
 
 // The most times that the first of the ticks is raised in one call of `fitting`.
 const MOST_RAISES: u32 = 1;
-
-/// The ticks `first` to `last`.
-#[derive(Clone, Copy)]
-pub(crate) struct Span {
-    pub(crate) first: u64,
-    pub(crate) last: u64,
-}
 
 // What the ends of a span decide: that `Fit(t)` is a fit, that there is none, or that there is none before
 // `From(first)`.
@@ -33,9 +27,7 @@ enum Ends {
 // Whether `rest` units are too many for `most` ticks at the speed, or for what the rates of the loads leave of the
 // supply.
 fn is_beyond(supply: Supply, loads: &[Load], rest: u128, most: u64) -> bool
-    requires supply { IsSupply supply }
     requires few { length loads.now ≤ MOST_TASKS }
-    requires each { All IsLoad loads.now }
     requires rates { All (HasRate supply.hyper) loads.now }
     requires low_ticks { most ≤ LONGEST_PERIOD }
     ensures none { IsTrue result → NoneFits supply loads.now rest 0 (most + 1) }
@@ -48,9 +40,7 @@ fn is_beyond(supply: Supply, loads: &[Load], rest: u128, most: u64) -> bool
 
 // Whether `rest` units fit into `ticks` ticks beside the work of the loads.
 pub(crate) fn fits(supply: Supply, loads: &[Load], rest: u128, ticks: u64) -> bool
-    requires supply { IsSupply supply }
     requires few { length loads.now ≤ MOST_TASKS }
-    requires each { All IsLoad loads.now }
     requires low_rest { rest ≤ u64_end }
     requires low_ticks { ticks ≤ LONGEST_PERIOD }
     ensures yes { IsTrue result → IsDone supply (rest + work_of loads.now ticks) ticks }
@@ -64,12 +54,8 @@ pub(crate) fn fits(supply: Supply, loads: &[Load], rest: u128, ticks: u64) -> bo
 // The first ticks of a span raised to those that the work of `rest` units and of the loads in them takes, at most
 // `steps` times (the iteration of Joseph and Pandya 1986); one more than the last if they pass it.
 pub(crate) fn raised(supply: Supply, loads: &[Load], rest: u128, span: Span, steps: u32) -> u64
-    requires supply { IsSupply supply }
     requires few { length loads.now ≤ MOST_TASKS }
-    requires each { All IsLoad loads.now }
     requires low_rest { rest ≤ u64_end }
-    requires in_span { span.first ≤ span.last }
-    requires low_ticks { span.last ≤ LONGEST_PERIOD }
     ensures { NoneBefore supply loads.now rest span.first span.last result }
 {
     let mut first = span.first;
@@ -93,13 +79,8 @@ pub(crate) fn raised(supply: Supply, loads: &[Load], rest: u128, span: Span, ste
 // What the ends of the span decide. They are looked at only if the first load has a release in the span: otherwise it can
 // be taken away in one way only, at less cost.
 fn ends_of(supply: Supply, loads: &[Load], rest: u128, span: Span) -> Ends
-    requires supply { IsSupply supply }
     requires few { length loads.now ≤ MOST_TASKS }
-    requires each { All IsLoad loads.now }
     requires low_rest { rest ≤ u64_end }
-    requires some_ticks { 1 ≤ span.first }
-    requires in_span { span.first ≤ span.last }
-    requires low_ticks { span.last ≤ LONGEST_PERIOD }
     ensures { EndsDecide supply loads.now rest span.first span.last result }
 {
     if let Some((load, _)) = loads.split_first()
@@ -130,12 +111,8 @@ pub(crate) fn fitting(
     span: Span,
     nodes: &[Relaxed],
 ) -> Option<u64>
-    requires supply { IsSupply supply }
     requires loads { AreLoads supply loads.now }
     requires low_rest { rest ≤ 2 ^ 102 }
-    requires some_ticks { 1 ≤ span.first }
-    requires in_span { span.first ≤ span.last }
-    requires low_ticks { span.last ≤ LONGEST_PERIOD }
     requires nodes { AreNodes supply loads.now nodes.now }
     ensures { FindsFit supply loads.now rest span.first span.last result }
 {
@@ -184,12 +161,8 @@ pub(crate) fn first_fitting(
     span: Span,
     nodes: &[Relaxed],
 ) -> u64
-    requires supply { IsSupply supply }
     requires loads { AreLoads supply loads.now }
     requires low_rest { rest ≤ 2 ^ 102 }
-    requires some_ticks { 1 ≤ span.first }
-    requires in_span { span.first ≤ span.last }
-    requires low_ticks { span.last ≤ LONGEST_PERIOD }
     requires nodes { AreNodes supply loads.now nodes.now }
     ensures { IsFirstFit supply loads.now rest span.first span.last result }
 {

@@ -4,24 +4,15 @@ ghost use Rattle.dvs_base.specs.declared.kind.Scheduler.TheVariants.{Rm};
 ghost use Rattle.dvs_base.specs.Widths.{u64_end};
 ghost use Rattle.task_model.specs.declared.limits.TheConstants.{LONGEST_PERIOD};
 ghost use Rattle.sched_model.specs.Plan.{plan_of};
-ghost use Rattle.rm_response.specs.Supplies.{IsSupply, full_supply};
+ghost use Rattle.rm_response.specs.Supplies.{IsFull};
 
+use crate::inputs::Supply;
 use freq_table::Machine;
 use task_model::TaskSet;
 
-/// What the processor does for the loads of a search: at most `speed` units in a tick, and `units` in each `hyper`
-/// ticks.
-#[derive(Clone, Copy, Default)]
-pub(crate) struct Supply {
-    pub(crate) speed: u64,
-    pub(crate) hyper: u64,
-    pub(crate) units: u128,
-}
-
 // The whole processor at the highest speed.
 pub(crate) fn full_supply(tasks: &TaskSet, machine: &Machine) -> Supply
-    ensures value { result ≡ full_supply (plan_of tasks.now machine.now Rm) }
-    ensures low { IsSupply result }
+    ensures { IsFull (plan_of tasks.now machine.now Rm) result }
 {
     let _task_limits = tasks.as_slice();
     let _machine_limits = machine.as_slice();
@@ -34,8 +25,7 @@ pub(crate) fn full_supply(tasks: &TaskSet, machine: &Machine) -> Supply
 
 // The most that a supply does in `ticks` ticks, in work units.
 pub(crate) fn most_in(supply: Supply, ticks: u64) -> u128
-    requires supply { IsSupply supply }
-    requires ticks { ticks ≤ LONGEST_PERIOD }
+    requires { ticks ≤ LONGEST_PERIOD }
     ensures value { result ≡ supply.speed * ticks }
     ensures low { result ≤ u64_end }
 {

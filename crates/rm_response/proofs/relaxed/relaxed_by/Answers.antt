@@ -1,24 +1,24 @@
 use Rattle.std.proofs.Common.{◌+◌, ℕ, take, sym, subst, arith, length-set}
-use Rattle.std.specs.Prelude.{slice_index_or}
 use Rattle.std.proofs.lemmas.List.{take_more_set}
 use Rattle.rm_response.specs.Fits.{IsRelaxed}
-use Rattle.rm_response.proofs.RelaxedLoads.{no_load, with_units, relaxed-counts, relaxed-leaves}
+use Rattle.rm_response.proofs.RelaxedLoads.{relaxed-counts, relaxed-leaves}
 use Rattle.rm_response.proofs.relaxed.relaxed_by.Goals as goal
 
 pub loop-k-preserved-then-marks-k : goal.loop-k-preserved-then-marks-k
 loop-k-preserved-then-marks-k c =
     let s = c.args.supply in
     let xs = c.args.loads.now in
-    let ys = c.loop-k.heavy in
+    let ys = c.loop-k.relaxed.loads in
     let k = c.loop-k.k in
-    let n = c.loop-k.count in
+    let n = c.loop-k.relaxed.count in
     let at = c.loop-k.invariant in
-    let x = slice_index_or xs k no_load in
-    let more = relaxed-counts s xs (take n ys) k c.loop-k.units c.loop-k-test.true c.requires.each c.requires.rates at.relaxed in
+    let x = c.index-loads-k.result in
+    let more = relaxed-counts s x xs (take n ys) k c.loop-k.units c.loop-k-test.true c.index-loads-k.is c.requires.rates at.relaxed in
     record {
+      supply = at.supply;
       long = omega (arith, at.long, length-set ys n x);
       room = omega arith;
-      relaxed = subst (IsRelaxed s (take (k + 1) xs) (with_units s c.loop-k.units)) (sym (take_more_set ys n x (omega (arith, at.long)))) more;
+      relaxed = subst (IsRelaxed s (take (k + 1) xs) c.loop-k.units) (sym (take_more_set ys n x (omega (arith, at.long)))) more;
     }
 
 pub loop-k-preserved : goal.loop-k-preserved
@@ -27,10 +27,12 @@ loop-k-preserved c =
     let xs = c.args.loads.now in
     let k = c.loop-k.k in
     let at = c.loop-k.invariant in
-    let ys = take c.loop-k.count c.loop-k.heavy in
+    let x = c.index-loads-k.result in
+    let ys = take c.loop-k.relaxed.count c.loop-k.relaxed.loads in
     record {
+      supply = at.supply;
       long = at.long;
       room = at.room;
-      relaxed = subst (λ (n : ℕ). IsRelaxed s (take (k + 1) xs) (with_units s n) ys) (sym c.saturating_sub-units.ensures)
-          (relaxed-leaves s xs ys k c.loop-k.units c.loop-k-test.true c.requires.each c.requires.rates at.relaxed);
+      relaxed = subst (λ (n : ℕ). IsRelaxed s (take (k + 1) xs) n ys) (sym c.saturating_sub-units.ensures)
+          (relaxed-leaves s x xs ys k c.loop-k.units c.loop-k-test.true c.index-loads-k.is c.requires.rates at.relaxed);
     }

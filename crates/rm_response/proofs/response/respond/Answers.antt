@@ -1,5 +1,5 @@
-use Rattle.std.proofs.Common.{ℕ, ◌+◌, List, length, ap, ap₂, ◌∙◌, sym, subst, arith}
-use Rattle.std.specs.Prelude.{All, slice_index, slice_set, vec_len, vec_capacity, ◌≡◌}
+use Rattle.std.proofs.Common.{ℕ, ◌+◌, ◌^◌, ◌≤◌, List, length, ap, ap₂, ◌∙◌, sym, subst, arith}
+use Rattle.std.specs.Prelude.{slice_index, slice_set, vec_len, vec_capacity, ◌≡◌}
 use Rattle.dvs_base.specs.declared.kind.Scheduler.TheVariants.{Rm}
 use Rattle.task_model.specs.declared.task.Task.{Task}
 use Rattle.sched_model.specs.Plan.{Plan, plan_of, count, period}
@@ -7,12 +7,11 @@ use Rattle.sched_model.specs.Admission.{IsWithinLimits}
 use Rattle.sched_model.proofs.Limits.{some_period}
 use Rattle.sched_model.proofs.Orders.{length-in_order}
 use Rattle.rm_response_laws.specs.Responses.{HasResponse, response}
-use Rattle.rm_response.specs.declared.loads.Load.{Load}
-use Rattle.rm_response.specs.Supplies.{full_supply}
-use Rattle.rm_response.specs.Loads.{load_of, work_of, IsLoad, IsAdded}
+use Rattle.rm_response.specs.declared.inputs.Load.{Load}
+use Rattle.rm_response.specs.Loads.{work_of, IsAdded}
 use Rattle.rm_response.proofs.OrderPlaces.{at-below}
 use Rattle.rm_response.proofs.KnownResponses.{AreKnown, earlier, known-next, known-all}
-use Rattle.rm_response.proofs.LoadsBefore.{first-before, first-more, own-work}
+use Rattle.rm_response.proofs.LoadsBefore.{first-before, first-low, first-more, own-work}
 use Rattle.rm_response.proofs.response.respond.Goals as goal
 
 pub response_of-response-requires : goal.response_of-response-requires
@@ -37,7 +36,7 @@ work_of-requires-clause-few c =
     let before = first-before p lim c.args.order.now c.requires.order c.loop-task.task-index c.loop-task.earlier.loads.items
     c.loop-task.invariant.loads c.loop-task-test.true in
     let same : c.deref.result.now ≡ c.loop-task.earlier.loads.items = cc in
-    omega (arith, ap (length {A = Load}) same, before.loads.few)
+    omega (arith, ap (length {A = Load}) same, before.few)
 
 pub returns-then-response-period-clause-work : goal.returns-then-response-period-clause-work
 returns-then-response-period-clause-work c =
@@ -79,6 +78,7 @@ loop-task-preserved c =
     let k = c.loop-task.task-index in
     let j = slice_index js k in
     let lim : IsWithinLimits p = record { tasks = c.as_slice-task_limits.ensures.limits; machine = c.as_slice-machine_limits.ensures.limits } in
+    let x = c.load_of.result in
     let old = c.loop-task.earlier.loads.items in
     let new = c.add.new.self.loads.items in
     let entries = c.loop-task.entries.items in
@@ -89,13 +89,10 @@ loop-task-preserved c =
     record {
       known = subst (λ (r : ℕ). AreKnown p js (k + 1) r (slice_set entries (slice_index js k) r)) (sym found)
           (known-next p js c.requires.order k c.loop-task.from entries c.loop-task.invariant.known c.loop-task-test.true has);
-      loads = first-more p lim js c.requires.order k old c.loop-task.invariant.loads c.loop-task-test.true new has
-          (subst IsLoad c.load_of.ensures.value c.load_of.ensures.low)
-          (subst (λ (xs : List Load). IsAdded (response p j) (load_of p j) xs new) same
-          (subst (λ (r : ℕ). IsAdded r (load_of p j) c.response_of-response.new.earlier.loads.items new) found
-          (subst (λ (x : Load). IsAdded c.response_of-response.result x c.response_of-response.new.earlier.loads.items new)
-          c.load_of.ensures.value c.add.ensures.added)));
-      nodes = c.add.ensures.nodes (full_supply p) c.response_of-response.ensures.nodes;
+      loads = first-more p lim js c.requires.order k old c.loop-task.invariant.loads c.loop-task-test.true x c.load_of.ensures has new
+          (subst (λ (xs : List Load). IsAdded (response p j) x xs new) same
+          (subst (λ (r : ℕ). IsAdded r x c.response_of-response.new.earlier.loads.items new) found c.add.ensures.added));
+      nodes = λ s full. c.add.ensures.nodes s (c.response_of-response.ensures.nodes s full);
       room =
           let room : vec_capacity c.response_of-response.new.earlier.loads ≡ vec_capacity c.loop-task.earlier.loads = cc in
           omega (arith, room, c.add.ensures.capacity, c.loop-task.invariant.room);
@@ -110,6 +107,11 @@ returns-clause-known c =
 pub add-requires : goal.add-requires
 add-requires c =
     let p : Plan = plan_of c.args.tasks.now c.args.machine.now Rm in
+    let lim : IsWithinLimits p = record { tasks = c.as_slice-task_limits.ensures.limits; machine = c.as_slice-machine_limits.ensures.limits } in
+    let js = c.args.order.now in
+    let k = c.loop-task.task-index in
+    let limit = ap (λ (t : Task). t.period) c.task-period.ensures.task in
+    let has : HasResponse p (slice_index js k) = omega (arith, c.if-response-period.false, c.response_of-response.ensures.response, limit) in
     let all = ap (length {A = ℕ}) c.requires.order in
     let at = c.loop-task.invariant in
     let old = c.loop-task.earlier.loads in
@@ -119,6 +121,6 @@ add-requires c =
     let room : vec_capacity new ≡ vec_capacity old = cc in
     record {
       room = omega (arith, long, room, old.ok, at.loads.long, at.room, all, length-in_order (period p) (count p), c.loop-task-test.true);
-      low = c.load_of.ensures.low;
-      each = subst (All IsLoad) (sym items) at.loads.each;
+      low = subst (λ (xs : List Load). c.load_of.result.worst + work_of xs 1 ≤ 2 ^ 61) (sym items)
+          (first-low p lim js c.requires.order k old.items at.loads c.loop-task-test.true c.load_of.result c.load_of.ensures has);
     }

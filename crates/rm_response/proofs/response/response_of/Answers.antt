@@ -3,10 +3,12 @@ use Rattle.dvs_base.specs.declared.kind.Scheduler.TheVariants.{Rm}
 use Rattle.task_model.specs.declared.task.Task.{Task}
 use Rattle.sched_model.specs.Plan.{Plan, plan_of, period}
 use Rattle.rm_response_laws.proofs.ResponseSearch.{response-none}
-use Rattle.rm_response.specs.declared.loads.Load.{Load}
+use Rattle.rm_response.specs.declared.inputs.Load.{Load}
+use Rattle.rm_response.specs.declared.inputs.Supply.{Supply}
+use Rattle.rm_response.specs.Earlier.{HasNodes}
 use Rattle.rm_response.specs.Fits.{IsFirstFit, NoneBefore}
 use Rattle.rm_response.proofs.LoadFits.{before-later}
-use Rattle.rm_response.proofs.LoadsBefore.{first-is}
+use Rattle.rm_response.proofs.LoadsBefore.{full-same, first-is}
 use Rattle.rm_response.proofs.response.response_of.Goals as goal
 use Rattle.rm_response.proofs.response.response_of.Goals.{then-first-last-via-then-first-last, then-first-last-via-else-first-last+then-fits}
 
@@ -15,6 +17,15 @@ returns-then-from-last-clause-response c =
     let p : Plan = plan_of c.args.tasks.now c.args.machine.now Rm in
     let long : c.task-last.result.period ≡ period p c.args.i = ap (λ (x : Task). x.period) c.task-last.ensures.task in
     omega (arith, long, response-none p c.args.i (λ u pos lt. c.requires.unserved u pos (omega (arith, lt, c.if-from-last.true, long))))
+
+pub searched-requires-clause-loads : goal.searched-requires-clause-loads
+searched-requires-clause-loads c = c.requires.before.loads c.full_supply-supply.result c.full_supply-supply.ensures
+
+pub returns-clause-nodes : goal.returns-clause-nodes
+returns-clause-nodes c = λ s full.
+    let p : Plan = plan_of c.args.tasks.now c.args.machine.now Rm in
+    let same = full-same p c.full_supply-supply.result s c.full_supply-supply.ensures full in
+    subst (λ (r : Supply). HasNodes r c.searched.new.earlier) same c.searched.ensures.nodes
 
 pub returns-then-first-last-clause-response : goal.returns-then-first-last-clause-response
 returns-then-first-last-clause-response c =
@@ -32,7 +43,7 @@ returns-then-first-last-clause-response c =
     let beside : IsFirstFit s.result xs c.from-job.result c.args.from c.task-last.result.period c.raised-first.result =
     subst (λ (ys : List Load). IsFirstFit s.result ys c.from-job.result c.args.from c.task-last.result.period c.raised-first.result)
     c.as_slice-loads.ensures.value fit in
-    first-is p c.args.i xs c.requires.before s.result s.ensures.value s.ensures.low c.args.from c.from-job.result
+    first-is p c.args.i xs c.requires.before s.result s.ensures c.args.from c.from-job.result
     c.task-last.result.period c.raised-first.result (c.from-job.ensures ∙ c.worst.ensures.value)
     (ap (λ (x : Task). x.period) c.task-last.ensures.task) c.requires.some c.requires.unserved beside
 
@@ -49,6 +60,6 @@ returns-clause-response c =
     let found = c.searched.ensures.first in
     let fit : IsFirstFit s.result xs job c.args.from last c.searched.result =
     record { before = before-later s.result xs job c.args.from last first c.searched.result none found.before; fit = found.fit } in
-    first-is p c.args.i xs c.requires.before s.result s.ensures.value s.ensures.low c.args.from job last c.searched.result
+    first-is p c.args.i xs c.requires.before s.result s.ensures c.args.from job last c.searched.result
     (c.from-job.ensures ∙ c.worst.ensures.value) (ap (λ (x : Task). x.period) c.task-last.ensures.task) c.requires.some
     c.requires.unserved fit

@@ -34,7 +34,7 @@ returns-clause-missed c =
     let p : Plan = plan_of c.args.tasks.now c.args.machine.now Rm in
     let lim : IsWithinLimits p = record { tasks = c.as_slice-task_limits.ensures.limits; machine = c.as_slice-machine_limits.ensures.limits } in
     let late = c.in-Err.ensures.late in
-    subst (IsMissedAtPeriod p) (sym c.missing.ensures)
+    subst (IsMissedAtPeriod p) (sym c.miss_fault.ensures)
     (first-misses p lim refl c.in-Err.late.task late.task c.in_default.ensures.finds late.first late.late)
 
 pub returns-clause-shown : goal.returns-clause-shown
@@ -43,4 +43,4 @@ returns-clause-shown c =
     let lim : IsWithinLimits p = record { tasks = c.as_slice-task_limits.ensures.limits; machine = c.as_slice-machine_limits.ensures.limits } in
     let i = c.in-Err.late.task in
     let late = c.in-Err.ensures.late in
-    subst IsShownMiss (sym c.missing.ensures) (before-response p i (period p i) (some_period p lim i late.task) late.late)
+    subst IsShownMiss (sym c.miss_fault.ensures) (before-response p i (period p i) (some_period p lim i late.task) late.late)

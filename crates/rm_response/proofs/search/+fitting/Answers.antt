@@ -1,10 +1,7 @@
 use Rattle.std.proofs.Common.{◌≡◌, ◌≤◌, ◌<◌, ◌-◌, ◌*◌, ◌/◌, ◌⊎◌, true, inl, inr, is_some, List, ◌∷◌, length, take, ap, sym, ◌∙◌, subst, arith}
-use Rattle.std.specs.Prelude.{All}
 use Rattle.std.proofs.lemmas.List.{length-take-le}
-use Rattle.std.proofs.lemmas.List.Elements.{All-head}
-use Rattle.std.proofs.Math.Nat.{div-mul-le_self}
-use Rattle.rm_response.specs.declared.loads.Load.{Load}
-use Rattle.rm_response.specs.Loads.{AreLoads, IsLoad}
+use Rattle.rm_response.specs.declared.inputs.Load.{Load}
+use Rattle.rm_response.specs.Loads.{AreLoads}
 use Rattle.rm_response.specs.Fits.{FindsFit, IsFrom, IsRelaxedSearch, AreNodes}
 use Rattle.rm_response.proofs.LoadFits.{others-loads, found-from, found-in, found-before}
 use Rattle.rm_response.proofs.RelaxedLoads.{none-found}
@@ -52,7 +49,7 @@ returns-then-is_some t c =
       | then-is_some-via-else-is_some+then-release-first-2 w ↦ inr w.if-release-first-2.true
     ] in
     let fit : FindsFit s (x ∷ xs) rest least most found =
-    found-in s x xs loads rest least most (omega (arith, c.requires.some_ticks, is.from)) is.within c.held.result
+    found-in s x xs loads rest least most (omega (arith, c.args.span.some, is.from)) is.within c.held.result
     c.max.result found (c.held.ensures.value, c.max.ensures, c.fitting-found.ensures) why in
     subst (λ (ys : List Load). FindsFit s ys rest first most found) (sym parts)
     (found-from s (x ∷ xs) rest first most least found is fit)
@@ -64,27 +61,13 @@ fitting-found-requires t c =
     let xs = c.in-Some.others.now in
     let parts : c.args.loads.now ≡ x ∷ xs = c.in-Some.ensures.cases.0 in
     let loads : AreLoads s (x ∷ xs) = subst (AreLoads s) parts c.requires.loads in
-    let is = c.in-From.ensures in
-    let within = div-mul-le_self (c.args.span.last - 1) x.period in
     let low = c.is_beyond.ensures.low c.if-is_beyond.false in (
       omega (arith, c.decreases, c.in-Some.ensures.cases.1),
       (
-        c.requires.supply,
+        others-loads s x xs loads,
         (
-          others-loads s x xs loads,
-          (
-            omega (arith, low, c.held.ensures.low),
-            (
-              omega (arith, c.max.ensures),
-              (
-                omega (arith, c.max.ensures, within, c.requires.some_ticks, is.from, is.within),
-                (
-                  c.requires.low_ticks,
-                  (subst (λ (ys : List Load). AreNodes s ys c.args.nodes.now) parts c.requires.nodes).1,
-                ),
-              ),
-            ),
-          ),
+          omega (arith, low, c.held.ensures.low),
+          (subst (λ (ys : List Load). AreNodes s ys c.args.nodes.now) parts c.requires.nodes).1,
         ),
       ),
     )
@@ -96,39 +79,16 @@ fitting-requires-2 t c =
     let xs = c.in-Some.others.now in
     let parts : c.args.loads.now ≡ x ∷ xs = c.in-Some.ensures.cases.0 in
     let loads : AreLoads s (x ∷ xs) = subst (AreLoads s) parts c.requires.loads in
-    let within = div-mul-le_self (c.args.span.last - 1) x.period in
     let low = c.is_beyond.ensures.low c.if-is_beyond.false in (
       omega (arith, c.decreases, c.in-Some.ensures.cases.1),
       (
-        c.requires.supply,
+        others-loads s x xs loads,
         (
-          others-loads s x xs loads,
-          (
-            omega (arith, low, c.held-2.ensures.low),
-            (
-              (let from = c.in-From.ensures.from in omega (arith, from, c.requires.some_ticks)),
-              (
-                c.if-release-first-2.false,
-                (
-                  omega (arith, within, c.requires.low_ticks),
-                  (subst (λ (ys : List Load). AreNodes s ys c.args.nodes.now) parts c.requires.nodes).1,
-                ),
-              ),
-            ),
-          ),
+          omega (arith, low, c.held-2.ensures.low),
+          (subst (λ (ys : List Load). AreNodes s ys c.args.nodes.now) parts c.requires.nodes).1,
         ),
       ),
     )
-
-pub held-requires-2-clause-low_worst : goal.held-requires-2-clause-low_worst
-held-requires-2-clause-low_worst t c =
-    let all : All IsLoad (c.in-Some.load.now ∷ c.in-Some.others.now) = subst (All IsLoad) c.in-Some.ensures.cases.0 c.requires.loads.each in
-    (All-head IsLoad c.in-Some.load.now c.in-Some.others.now all).low_worst
-
-pub held-requires-clause-low_worst : goal.held-requires-clause-low_worst
-held-requires-clause-low_worst t c =
-    let all : All IsLoad (c.in-Some.load.now ∷ c.in-Some.others.now) = subst (All IsLoad) c.in-Some.ensures.cases.0 c.requires.loads.each in
-    (All-head IsLoad c.in-Some.load.now c.in-Some.others.now all).low_worst
 
 pub fitting-requires : goal.fitting-requires
 fitting-requires t c =
@@ -140,20 +100,8 @@ fitting-requires t c =
     let is : IsRelaxedSearch s xs r = node-at s xs c.args.nodes.now r some at.3.0 at.1 c.requires.nodes (omega arith) in (
       omega (arith, c.decreases, ap (length {A = Load}) c.heavy.ensures, length-take-le r.count r.loads is.within, is.fewer),
       (
-        is.supply,
-        (
-          subst (AreLoads r.supply) (sym c.heavy.ensures) is.loads,
-          (
-            c.requires.low_rest,
-            (
-              (let from = c.in-From.ensures.from in omega (arith, from, c.requires.some_ticks)),
-              (
-                c.in-From.ensures.within,
-                (c.requires.low_ticks, nodes-none r.supply c.heavy.result.now),
-              ),
-            ),
-          ),
-        ),
+        subst (AreLoads r.supply) (sym c.heavy.ensures) is.loads,
+        (c.requires.low_rest, nodes-none r.supply c.heavy.result.now),
       ),
     )
 
@@ -170,4 +118,4 @@ returns t c =
     let none : FindsFit r.supply (take r.count r.loads) c.args.rest least most c.fitting.result =
     subst (λ (ys : List Load). FindsFit r.supply ys c.args.rest least most c.fitting.result) c.heavy.ensures c.fitting.ensures in
     none-found s xs r.supply (take r.count r.loads) c.args.rest c.args.span.first most least c.fitting.result c.in-From.ensures
-    is.relaxed none c.if-is_none.ensures
+    is.same_hyper is.relaxed none c.if-is_none.ensures

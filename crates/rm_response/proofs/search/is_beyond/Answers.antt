@@ -7,7 +7,7 @@ use Rattle.rm_response.proofs.search.is_beyond.Goals as goal
 
 pub returns-then-rest-most_in-clause-none : goal.returns-then-rest-most_in-clause-none
 returns-then-rest-most_in-clause-none c = λ on t from lt.
-    more-within c.args.supply (c.args.rest + work_of c.args.loads.now t) c.args.most t c.requires.supply
+    more-within c.args.supply (c.args.rest + work_of c.args.loads.now t) c.args.most t
     (omega (arith, c.if-rest-most_in.true, c.most_in.ensures.value)) lt
 
 pub returns-else-rest-most_in-clause-none : goal.returns-else-rest-most_in-clause-none
@@ -22,7 +22,7 @@ returns-else-rest-most_in-clause-none c = λ on.
     ap₂ (λ (w m : ℕ). w * m) spare c.from.ensures in
     let right : c.args.rest * c.from-else-rest-most_in.result ≡ c.args.rest * s.hyper =
     ap (λ (n : ℕ). c.args.rest * n) c.from-else-rest-most_in.ensures in
-    none-beyond s xs c.args.rest c.args.most c.requires.each c.requires.rates (omega (arith, over, left, right))
+    none-beyond s xs c.args.rest c.args.most c.requires.rates (omega (arith, over, left, right))
 
 pub returns-else-rest-most_in-clause-within : goal.returns-else-rest-most_in-clause-within
 returns-else-rest-most_in-clause-within c = λ off.

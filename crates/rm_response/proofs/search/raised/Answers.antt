@@ -11,11 +11,11 @@ returns-then-work-most_in c =
     let at = c.loop.invariant in
     let last = c.args.span.last in
     record {
-      from = omega (arith, c.requires.in_span);
+      from = omega (arith, c.args.span.ordered);
       within = omega arith;
-      none = none-raised s xs c.args.rest c.args.span.first c.loop.first (last + 1) c.requires.each at.none
+      none = none-raised s xs c.args.rest c.args.span.first c.loop.first (last + 1) at.none
           (λ t lt.
-          more-within s (c.args.rest + work_of xs c.loop.first) last t c.requires.supply
+          more-within s (c.args.rest + work_of xs c.loop.first) last t
           (omega (arith, c.if-work-most_in.true, c.work_of.ensures.value, c.most_in.ensures.value)) lt);
     }
 
@@ -28,11 +28,11 @@ returns-then-next-from c =
     let is : c.div_ceil-next.result ≡ div_ceil (n * s.hyper) s.units =
     c.div_ceil-next.ensures ∙ ap₂ (λ (w h : ℕ). div_ceil ((c.args.rest + w) * h) s.units) c.work_of.ensures.value c.from.ensures in
     record {
-      from = omega (arith, c.requires.in_span);
+      from = omega (arith, c.args.span.ordered);
       within = omega arith;
-      none = none-raised s xs c.args.rest c.args.span.first c.loop.first (c.args.span.last + 1) c.requires.each at.none
+      none = none-raised s xs c.args.rest c.args.span.first c.loop.first (c.args.span.last + 1) at.none
           (λ t lt.
-          more-before s n c.div_ceil-next.result t c.requires.supply.some_units is
+          more-before s n c.div_ceil-next.result t is
           (omega (arith, lt, c.if-next-from.true, c.from-in-loop.ensures)));
     }
 
@@ -47,6 +47,6 @@ loop-preserved c =
     record {
       low = omega arith;
       within = omega arith;
-      none = none-raised s xs c.args.rest c.args.span.first c.loop.first c.div_ceil-next.result c.requires.each at.none
-          (λ t lt. more-before s n c.div_ceil-next.result t c.requires.supply.some_units is lt);
+      none = none-raised s xs c.args.rest c.args.span.first c.loop.first c.div_ceil-next.result at.none
+          (λ t lt. more-before s n c.div_ceil-next.result t is lt);
     }

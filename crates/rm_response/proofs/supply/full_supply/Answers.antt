@@ -7,8 +7,8 @@ use Rattle.sched_model.specs.Admission.{IsWithinLimits}
 use Rattle.sched_model.proofs.Limits.{some_hyper}
 use Rattle.rm_response.proofs.supply.full_supply.Goals as goal
 
-pub returns-clause-low : goal.returns-clause-low
-returns-clause-low c =
+pub invariant_of-result : goal.invariant_of-result
+invariant_of-result c =
     let p : Plan = plan_of c.args.tasks.now c.args.machine.now Rm in
     let lim : IsWithinLimits p = record { tasks = c.as_slice-task_limits.ensures.limits; machine = c.as_slice-machine_limits.ensures.limits } in
     let point = lim.machine.each (last_entry c.args.machine.now) (let n = lim.machine.some in omega arith) in

@@ -1,6 +1,6 @@
 use Rattle.std.proofs.Common.{◌≡◌, ◌-◌, ℕ, List, length, drop, sym, subst, arith}
 use Rattle.std.proofs.lemmas.List.{take_all, length-drop}
-use Rattle.rm_response.specs.declared.loads.Load.{Load}
+use Rattle.rm_response.specs.declared.inputs.Load.{Load}
 use Rattle.rm_response.specs.declared.relaxed.Relaxed.{Relaxed}
 use Rattle.rm_response.specs.Fits.{IsNode, AreNodes}
 use Rattle.rm_response.proofs.RelaxedNodes.{nodes-more}

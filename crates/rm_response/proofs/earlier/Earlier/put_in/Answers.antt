@@ -1,6 +1,6 @@
 use Rattle.std.proofs.Common.{◌≡◌, ◌+◌, ◌-◌, ◌<◌, ◌≤◌, ℕ, List, Result, Ok, Err, OnErr, is_ok, cond, vec_len, vec_capacity, sym, subst, arith}
 use Rattle.std.specs.Prelude.{insert}
-use Rattle.rm_response.specs.declared.loads.Load.{Load}
+use Rattle.rm_response.specs.declared.inputs.Load.{Load}
 use Rattle.rm_response.specs.declared.relaxed.Relaxed.{Relaxed}
 use Rattle.rm_response.specs.Fits.{AreNodes}
 use Rattle.rm_response.proofs.RelaxedNodes.{nodes-inserted}

@@ -1,6 +1,6 @@
 use Rattle.std.proofs.Common.{◌-◌, List, sym, subst, arith}
 use Rattle.std.specs.Prelude.{remove}
-use Rattle.rm_response.specs.declared.loads.Load.{Load}
+use Rattle.rm_response.specs.declared.inputs.Load.{Load}
 use Rattle.rm_response.specs.declared.relaxed.Relaxed.{Relaxed}
 use Rattle.rm_response.specs.Fits.{AreNodes}
 use Rattle.rm_response.proofs.RelaxedNodes.{nodes-removed}
