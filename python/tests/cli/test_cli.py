@@ -168,11 +168,12 @@ def test_interrupted(stub: Stub, capsys: Captured) -> None:
     ("response", {"board", "export", "plot", "rules", "studies", "web"}),
     ("sensitivity", {"board", "export", "plot", "web"})], ids=str)
 def test_a_command_imports_what_it_needs(command: str, others: set[str]) -> None:
-    """No other command, no package that it doesn't use, no server, no pool of processes, and no pattern of a line or of a
-    refusal before one is read."""
+    """No other command, no package that it doesn't use, no server, no pool of processes, and no pattern of a line, and
+    none or no row of a refusal, before one is read."""
     script = ("import sys; from rtdvs.cli.main import main; main([sys.argv[1], '--help']); "
               "from rtdvs.hints import table; from rtdvs.trace import reader; "
-              "print(*sorted(sys.modules), reader._line.cache_info().currsize + table._pattern.cache_info().currsize)")
+              "print(*sorted(sys.modules), reader._line.cache_info().currsize + table.sections.cache_info().currsize + "
+              "table._pattern.cache_info().currsize)")
     made = subprocess.run([sys.executable, "-c", script, command], env={"PYTHONPATH": SOURCE}, capture_output=True,
                           text=True, check=True)
     *names, patterns = made.stdout.splitlines()[-1].split()
