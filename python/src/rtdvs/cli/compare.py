@@ -24,7 +24,7 @@ from rtdvs._numbers import aligned, decimal, plain, rounded
 from rtdvs.cli import boards, options
 from rtdvs.cli.options import engine_of
 from rtdvs.errors import BadValue, TraceFault
-from rtdvs.studies import PAIRS, Case, Row, cells, compare, finer_energies, finer_table, table
+from rtdvs.studies import PAIRS, Case, Comparison, Row, cells, compare, finer_energies, finer_table, table
 from rtdvs.trace import Trace
 
 
@@ -78,8 +78,7 @@ def board_table(rows: Sequence[Row], ticks: int, units: "boards.Units") -> str:
     10 ms      J  mW  of_none  above_bound  switches  idle  least_laxity_ms  jitter_ms
     rm     cc  denied rm a 7 6
     """
-    speeds = sorted({speed for row in rows if row.result for speed in row.result.residency})
-    battery = units.board.battery
+    speeds, battery = Comparison(rows).speeds(), units.board.battery
     costs = [None if row.result is None else units.spent_at(row.result.ran) for row in rows]
     hours = [] if battery is None else ["hours"]
     heading = [f"{plain(units.milliseconds(ticks))} ms", "", "J", "mW", *hours, "of_none", "above_bound", "switches",

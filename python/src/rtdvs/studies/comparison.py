@@ -61,9 +61,7 @@ class Row:
     refusal: str = ""
 
 
-KINDS = {"scheduler": "object", "governor": "object", "energy": "object", "of_none": "float64",
-         "above_bound": "float64", "switches": "Int64", "idle": "float64", "least_laxity": "float64",
-         "jitter": "float64"}
+KINDS = dict.fromkeys(HEADING, "float64") | dict.fromkeys(HEADING[:3], "object") | {"switches": "Int64"}
 
 
 class Comparison(tuple[Row, ...], _display.Shown):
@@ -133,7 +131,7 @@ def runs(engine: Engine, case: Case, pairs: Iterable[tuple[str, str]],
     >>> [parse_totals(str(text)).energy for text in runs(find_engine(), case, PAIRS[:2])]
     [8000000000, 8000000000]
     """
-    return map(text_or_denial, engine.answers(_calls(run_call, case, pairs), executor))
+    return (_or_denial(answer, str) for answer in engine.answers(_calls(run_call, case, pairs), executor))
 
 
 def totals(engine: Engine, case: Case, pairs: Iterable[tuple[str, str]],
@@ -145,7 +143,7 @@ def totals(engine: Engine, case: Case, pairs: Iterable[tuple[str, str]],
     >>> [*totals(find_engine(), case, PAIRS[:1])]
     [RunTotals(ticks=8, run_energy=8000000000, idle_energy=0)]
     """
-    return map(totals_or_denial, engine.answers(_calls(totals_call, case, pairs), executor))
+    return (_or_denial(answer, parse_totals) for answer in engine.answers(_calls(totals_call, case, pairs), executor))
 
 
 def _calls(of: Callable[[bytes, bytes, str, str, int, bytes | None], Call[T]], case: Case,
@@ -156,26 +154,18 @@ def _calls(of: Callable[[bytes, bytes, str, str, int, bytes | None], Call[T]], c
     return (of(tasks, machine, scheduler, governor, case.ticks, demands) for scheduler, governor in pairs)
 
 
-def text_or_denial(answer: Answer) -> str | Denied:
-    """Standard output of the answer, or the Denied that it is; raises any other refusal.
+def _or_denial(answer: Answer, parse: Callable[[str], T]) -> T | Denied:
+    """What an answer says, or the Denied that it is; raises any other refusal.
 
-    >>> text_or_denial(Answer(1, b"", b"denied rm y 7 6\\n"))
+    >>> _or_denial(Answer(1, b"", b"denied rm y 7 6\\n"), parse_totals)
     Denied(test='rm', asked=7, capacity=6, task='y', ticks=None)
-    """
-    try:
-        return answer.text()
-    except Denied as denied:
-        return denied
-
-
-def totals_or_denial(answer: Answer) -> RunTotals | Denied:
-    """The totals of a run, or the Denied that it is; raises any other refusal.
-
-    >>> totals_or_denial(Answer(0, b"end 8 4000 0\\n", b""))
+    >>> _or_denial(Answer(0, b"end 8 4000 0\\n", b""), parse_totals)
     RunTotals(ticks=8, run_energy=4000, idle_energy=0)
     """
-    text = text_or_denial(answer)
-    return text if isinstance(text, Denied) else parse_totals(text)
+    try:
+        return parse(answer.text())
+    except Denied as denied:
+        return denied
 
 
 def units_of(trace: Trace) -> int:
@@ -264,7 +254,7 @@ def table(rows: Sequence[Row]) -> str:
     >>> table([Row("rm", "cc", None, "denied rm y 7 6")]).splitlines()[1]
     'rm         cc        denied rm y 7 6'
     """
-    speeds = sorted({speed for row in rows if row.result for speed in row.result.residency})
+    speeds = Comparison(rows).speeds()
     heading = (*HEADING, *(f"at_{speed}" for speed in speeds))
     return _numbers.aligned([heading, *(cells(row, speeds) for row in rows)], left=2)
 
