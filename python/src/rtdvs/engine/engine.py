@@ -218,7 +218,7 @@ class LibraryEngine(Engine):
         Traceback (most recent call last):
         rtdvs.errors.NoEngine: /absent.so: cannot open shared object file: ...
         """
-        found = self._by_numbers(by_numbers.admitted, (tasks, machine), scheduler)
+        found = self._by_numbers(by_numbers.admitted, (machine, tasks), scheduler)
         return super().admit(tasks, machine, scheduler) if found is None else found
 
     def respond(self, tasks: TaskSource, machine: MachineSource) -> dict[str, int]:
@@ -228,7 +228,7 @@ class LibraryEngine(Engine):
         Traceback (most recent call last):
         rtdvs.errors.NoEngine: /absent.so: cannot open shared object file: ...
         """
-        found = self._by_numbers(by_numbers.responses, (tasks, machine))
+        found = self._by_numbers(by_numbers.responses, (machine, tasks))
         return super().respond(tasks, machine) if found is None else found
 
     def constrain(self, tasks: TaskSource, machine: MachineSource, deadlines: DeadlineSource) -> Constrained:
@@ -238,10 +238,7 @@ class LibraryEngine(Engine):
         Traceback (most recent call last):
         rtdvs.errors.NoEngine: /absent.so: cannot open shared object file: ...
         """
-        found = None
-        if (self.timeout is None and isinstance(tasks, TaskSet) and isinstance(machine, Machine)
-                and isinstance(deadlines, Deadlines)):
-            found = by_numbers.constrained(library.opened(self.program), tasks, machine, deadlines)
+        found = self._by_numbers(by_numbers.constrained, (machine, tasks, deadlines))
         return super().constrain(tasks, machine, deadlines) if found is None else found
 
     def least(self, machine: MachineSource, units: int, ticks: int) -> Least:
@@ -256,8 +253,7 @@ class LibraryEngine(Engine):
 
     def _by_numbers(self, ask: Callable[..., T | None], files: Sequence[object], *more: object) -> T | None:
         """The answer to values without a text of them; None if one is a path or a content, or if a text is needed."""
-        *sets, machine = files
-        are_values = isinstance(machine, Machine) and all(isinstance(tasks, TaskSet) for tasks in sets)
+        are_values = all(map(isinstance, files, (Machine, TaskSet, Deadlines)))
         return ask(library.opened(self.program), *files, *more) if are_values and self.timeout is None else None
 
 

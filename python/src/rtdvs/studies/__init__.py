@@ -13,7 +13,8 @@ from rtdvs.studies.grading import Asked, Grade, Grades, expected, grade, grades,
 from rtdvs.studies.own import Own, OwnGovernor, OwnTraces, scaled_to
 from rtdvs.studies.paper_table import FINER, PAPER_EXAMPLE, PAPER_PAIRS, PUBLISHED, paper_lines, paper_shares
 from rtdvs.studies.published import (
-    DRAWS, PUBLISHED_COUNTS, PUBLISHED_MILLISECOND, PUBLISHED_SEED, PUBLISHED_TOP, SetName, published_sets, uunifast_sets,
+    DRAWS, PUBLISHED_COUNTS, PUBLISHED_MILLISECOND, PUBLISHED_SEED, PUBLISHED_TOP, SetName, published_sets,
+    uunifast_sets,
 )
 from rtdvs.studies.random_sets import (
     MOST_SEED, PUBLISHED_TICKS, Listed, LogUniform, require, taken, taken_uniform, uunifast,
