@@ -53,8 +53,7 @@ def parsed(*words: str) -> argparse.Namespace:
 def add_options(parser: argparse.ArgumentParser, required: list[str], optional: list[str]) -> None:
     commandline.add_files(parser, required, optional)
     commandline.add_output(parser)
-    commandline.add_engine_options(parser)
-    commandline.add_jobs(parser)
+    commandline.add_engine_options(parser, jobs=True)
 
 
 def standard_input(content: bytes) -> io.TextIOWrapper:
@@ -257,7 +256,7 @@ def test_output(tmp_path: Path, capsysbinary: pytest.CaptureFixture[bytes]) -> N
 @pytest.mark.parametrize("word", ["", "-1", "+1", "01", "1.0", "1e3", "65", "0", "\u0661", "1" * 5000])
 def test_numbers_that_are_none(word: str) -> None:
     with pytest.raises(argparse.ArgumentTypeError, match="a whole number from 1 to 64, not"):
-        commandline.whole_number(1, 64)(word)
+        commandline.whole_number(word, (1, 64))
 
 
 @pytest.mark.parametrize(("word", "value"), [

@@ -46,12 +46,11 @@ def add_command(commands: options.Commands) -> None:
     options.add_unchecked(parser)
     finer = "the energies in ticks N times finer too, as shares of those in the ticks given"
     options.add_number(parser, "--finer", finer, nargs="+", default=[])
-    options.add_engine_options(parser)
-    options.add_jobs(parser)
+    options.add_engine_options(parser, jobs=True)
     boards.add_board(parser)
 
 
-def _handle(args: argparse.Namespace) -> int:
+def _handle(args: argparse.Namespace) -> None:
     engine, given = engine_of(args), boards.read_given(args)
     assert given.tasks and given.machine
     case = Case(given.tasks, given.machine, boards.ticks_of(args, given), given.demands)
@@ -63,7 +62,6 @@ def _handle(args: argparse.Namespace) -> int:
                  for times in options.progress(args.finer, len(args.finer), "finer ticks")}
     if finer:
         print("\n" + finer_table(rows[:len(PAIRS)], finer), end="")
-    return 0
 
 
 def board_table(rows: Sequence[Row], ticks: int, units: "boards.Units") -> str:

@@ -17,7 +17,6 @@ from pathlib import Path
 
 from rtdvs import _files, errors, studies
 from rtdvs.cli import options
-from rtdvs.cli.options import processes_of
 from rtdvs.model import MOST_TASKS, Machine
 
 
@@ -47,8 +46,7 @@ def add_command(commands: options.Commands) -> None:
                         help="functions of files of Python, as for rtdvs.simulate")
     parser.add_argument("--traces", type=Path, nargs="+", default=[], metavar="FOLDER",
                         help="traces by other simulators")
-    options.add_engine_options(parser)
-    options.add_jobs(parser)
+    options.add_engine_options(parser, jobs=True)
 
 
 def tenth(word: str) -> int:
@@ -89,7 +87,7 @@ def _handle(args: argparse.Namespace) -> int:
     total = len(set(args.counts)) * len(set(args.utilisations)) * args.sets
     for line in studies.broken(args.folder, sweep):
         print(f"{line}; it is made again if the sweep has it", file=sys.stderr)
-    with processes_of(args) as executor:
+    with options.processes_of(args) as executor:
         made = studies.evaluate(options.engine_of(args), args.folder, sweep, executor)
         for _ in options.progress(made, total, "sets"):
             pass

@@ -91,7 +91,7 @@ def _handled(words: Sequence[str], name: str, args: argparse.Namespace) -> int:
         lists = (value if isinstance(value, list) else [value] for value in vars(args).values())
         if sum(isinstance(value, bytes) for values in lists for value in values) > 1:
             top.error("only one file can be standard input")
-        return int(args.handler(args))
+        return int(args.handler(args) or 0)
     except SystemExit as end:
         return end.code if isinstance(end.code, int) else 0
 

@@ -23,7 +23,7 @@ from rtdvs.cli import boards, options
 from rtdvs.trace import COLUMNS, Trace, task_statistics
 
 
-def _handle(args: argparse.Namespace) -> int:
+def _handle(args: argparse.Namespace) -> None:
     given = boards.read_given(args)
     if given.units is None:
         trace, _ = options.trace_file(args)
@@ -31,7 +31,6 @@ def _handle(args: argparse.Namespace) -> int:
         print(aligned([COLUMNS, *(each.row() for each in task_statistics(trace, given.tasks))]), end="")
     else:
         _print_of_board(args, given)
-    return 0
 
 
 def _print_of_board(args: argparse.Namespace, given: boards.Given) -> None:

@@ -136,7 +136,7 @@ def _named(words: Sequence[Word], files: list[bytes]) -> Iterator[bytes]:
 
     A file that can't be read has a name that the library doesn't know. A word that the program refuses is kept.
     """
-    for option, word in _values(words):
+    for option, word in option_values(words):
         if isinstance(word, bytes) or (option in FILES and word and _is_text(word)):
             content = word if isinstance(word, bytes) else _content(word, option)
             files[FILES.get(option, 2)] = content or b""
@@ -145,10 +145,10 @@ def _named(words: Sequence[Word], files: list[bytes]) -> Iterator[bytes]:
             yield os.fsencode(word)
 
 
-def _values(words: Sequence[Word]) -> Iterator[tuple[str, Word]]:
+def option_values(words: Sequence[Word]) -> Iterator[tuple[str, Word]]:
     """Each word with the option whose value it is, as the program reads them; with "" if it is none.
 
-    >>> [*_values(["run", "--probes", "--ticks", "9"])]
+    >>> [*option_values(["run", "--probes", "--ticks", "9"])]
     [('', 'run'), ('', '--probes'), ('', '--ticks'), ('--ticks', '9')]
     """
     option = ""

@@ -3,6 +3,7 @@
 from rtdvs.hints.given import Given, Source, Word
 from rtdvs.hints.second import second_line
 from rtdvs.hints.table import Row, sections
-from rtdvs.hints.words import COMMANDS, FILES, FLAGS, VALUES, Usage
+from rtdvs.hints.words import COMMANDS, FILE_OPTIONS, FILES, FLAGS, VALUES, Usage
 
-__all__ = ["COMMANDS", "FILES", "FLAGS", "Given", "Row", "Source", "Usage", "VALUES", "Word", "second_line", "sections"]
+__all__ = ["COMMANDS", "FILES", "FILE_OPTIONS", "FLAGS", "Given", "Row", "Source", "Usage", "VALUES", "Word",
+           "second_line", "sections"]

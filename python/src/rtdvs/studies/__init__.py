@@ -1,8 +1,8 @@
 """Comparisons, limits, random sets, the evaluation and exercises."""
 
 from rtdvs.studies.comparison import (
-    HEADING, PAIRS, Case, Comparison, Result, Row, cells, compare, finer_energies, finer_table, runs, table, totals,
-    units_of,
+    FINER, HEADING, PAIRS, PAPER_EXAMPLE, PAPER_PAIRS, PUBLISHED, Case, Comparison, Result, Row, cells, compare,
+    finer_energies, finer_table, paper_lines, paper_shares, runs, table, totals, units_of,
 )
 from rtdvs.studies.evaluation import (
     CURVES, FIGURES, MACHINES, TENTHS, Panel, Record, Sweep, broken, evaluate, faults, figure_table, finished,
@@ -11,7 +11,6 @@ from rtdvs.studies.evaluation import (
 from rtdvs.studies.exercises import BOARD, Exercise, exercise
 from rtdvs.studies.grading import Asked, Grade, Grades, expected, grade, grades, handed_in, mended
 from rtdvs.studies.own import Own, OwnGovernor, OwnTraces, scaled_to
-from rtdvs.studies.paper_table import FINER, PAPER_EXAMPLE, PAPER_PAIRS, PUBLISHED, paper_lines, paper_shares
 from rtdvs.studies.published import (
     DRAWS, PUBLISHED_COUNTS, PUBLISHED_MILLISECOND, PUBLISHED_SEED, PUBLISHED_TOP, SetName, published_sets,
     uunifast_sets,
