@@ -171,11 +171,8 @@ def _content(path: Path | str, option: str) -> bytes | None:
 
 def _is_text(word: Path | str) -> bool:
     """Whether a name is UTF-8; the program answers with status 10 if it isn't."""
-    try:
-        os.fsencode(word).decode("utf-8")
-    except UnicodeDecodeError:
-        return False
-    return True
+    encoded = os.fsencode(word)
+    return encoded.decode("utf-8", "ignore").encode("utf-8") == encoded
 
 
 def _ended(word: bytes) -> bytes:
