@@ -42,8 +42,7 @@ def _handle(args: argparse.Namespace) -> None:
     if args.to in WRITERS and (args.table or args.charge is not None):
         raise BadValue(f"--table and --charge are for csv only, and not for {args.to}")
     trace, charge = options.trace_file(args)
-    table = args.table or "segments"
     if args.table == "jobs":
         options.note_charge(trace, charge)
-    lines = WRITERS[args.to](trace) if args.to in WRITERS else csv_lines(trace, table, charge)
+    lines = WRITERS[args.to](trace) if args.to in WRITERS else csv_lines(trace, args.table or "segments", charge)
     options.write_output(args, lines)
