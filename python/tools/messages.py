@@ -8,7 +8,7 @@ from collections.abc import Iterator
 from pathlib import Path
 
 from rtdvs._files import write_whole
-from rtdvs.hints import SECTIONS, Row
+from rtdvs.hints import Row, sections
 
 PAGE = Path(__file__).parents[2] / "docs" / "MESSAGES.md"
 HEADING = ("Line", "When", "Second line", "Also")
@@ -43,7 +43,7 @@ def table(rows: tuple[Row, ...]) -> Iterator[str]:
 def with_tables(page: str) -> str:
     """The page with the table of each section, in place of the one that is there."""
     def renewed(found: re.Match[str]) -> str:
-        rows = SECTIONS.get(found["heading"])
+        rows = sections().get(found["heading"])
         return found[0] if rows is None else found["before"] + "".join(table(rows))
 
     return SECTION.sub(renewed, page)

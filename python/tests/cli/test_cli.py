@@ -53,8 +53,7 @@ def parsed(*words: str) -> argparse.Namespace:
 def add_options(parser: argparse.ArgumentParser, required: list[str], optional: list[str]) -> None:
     commandline.add_files(parser, required, optional)
     commandline.add_output(parser)
-    commandline.add_engine_options(parser)
-    commandline.add_jobs(parser)
+    commandline.add_engine_options(parser, jobs=True)
 
 
 def standard_input(content: bytes) -> io.TextIOWrapper:
@@ -168,11 +167,12 @@ def test_interrupted(stub: Stub, capsys: Captured) -> None:
     ("response", {"board", "export", "plot", "rules", "studies", "web"}),
     ("sensitivity", {"board", "export", "plot", "web"})], ids=str)
 def test_a_command_imports_what_it_needs(command: str, others: set[str]) -> None:
-    """No other command, no package that it doesn't use, no server, no pool of processes, and no pattern of a line or of a
-    refusal before one is read."""
+    """No other command, no package that it doesn't use, no server, no pool of processes, and no pattern of a line, and
+    none or no row of a refusal, before one is read."""
     script = ("import sys; from rtdvs.cli.main import main; main([sys.argv[1], '--help']); "
               "from rtdvs.hints import table; from rtdvs.trace import reader; "
-              "print(*sorted(sys.modules), reader._line.cache_info().currsize + table._pattern.cache_info().currsize)")
+              "print(*sorted(sys.modules), reader._line.cache_info().currsize + table.sections.cache_info().currsize + "
+              "table._pattern.cache_info().currsize)")
     made = subprocess.run([sys.executable, "-c", script, command], env={"PYTHONPATH": SOURCE}, capture_output=True,
                           text=True, check=True)
     *names, patterns = made.stdout.splitlines()[-1].split()
@@ -256,7 +256,7 @@ def test_output(tmp_path: Path, capsysbinary: pytest.CaptureFixture[bytes]) -> N
 @pytest.mark.parametrize("word", ["", "-1", "+1", "01", "1.0", "1e3", "65", "0", "\u0661", "1" * 5000])
 def test_numbers_that_are_none(word: str) -> None:
     with pytest.raises(argparse.ArgumentTypeError, match="a whole number from 1 to 64, not"):
-        commandline.whole_number(1, 64)(word)
+        commandline.whole_number(word, (1, 64))
 
 
 @pytest.mark.parametrize(("word", "value"), [

@@ -465,7 +465,7 @@ OWN = ("evaluate --folder OUT/sweep --sets 1 --counts 1 --utilisations 0.5 --mac
 
 def test_an_evaluation_of_one_s_own(tmp_path: Path, capsys: Captured, monkeypatch: pytest.MonkeyPatch) -> None:
     """The traces are asked for with their task files; the governor's and theirs are those of the highest speed."""
-    monkeypatch.setattr("rtdvs.cli.evaluate.processes_of", lambda args: ThreadPoolExecutor(1))
+    monkeypatch.setattr("rtdvs.cli.options.processes_of", lambda args: ThreadPoolExecutor(1))
     (tmp_path / "governor.py").write_text("def full(view): return view.plan.machine.top_speed\n")
     words, trace = OWN.replace("OUT", str(tmp_path)).split(), tmp_path / "other" / "mine" / "1_5_1.trace"
     assert refusal(capsys, words) == (

@@ -8,12 +8,12 @@ from hypothesis import strategies as st
 
 from rtdvs.engine import run_call
 from rtdvs.errors import BadValue, Denied, Differs, FileRefused, RtdvsError, TraceFault
-from rtdvs.hints import COMMANDS, FLAGS, SECTIONS, VALUES, second_line
+from rtdvs.hints import COMMANDS, FLAGS, VALUES, second_line, sections
 from rtdvs.hints.toml_faults import Place, toml_fault
 from rtdvs.model import Machine, Point, Task, TaskSet, checked_number
 from tests.shared.examples import BOARD, TOP
 
-ROWS = [row for rows in SECTIONS.values() for row in rows]
+ROWS = [row for rows in sections().values() for row in rows]
 
 
 @pytest.mark.parametrize(("text", "line", "column", "fault"), [

@@ -296,7 +296,7 @@ def test_a_file_of_another_set_is_named(name: str, tmp_path: Path, measured: lis
 
 def test_the_command_names_what_is_wrong(tmp_path: Path, measured: list[str], capsys: Captured,
                                          monkeypatch: pytest.MonkeyPatch) -> None:
-    monkeypatch.setattr("rtdvs.cli.evaluate.processes_of", lambda args: ThreadPoolExecutor(1))
+    monkeypatch.setattr("rtdvs.cli.options.processes_of", lambda args: ThreadPoolExecutor(1))
     words = ["evaluate", "--program", "/bin/true", "--folder", str(tmp_path), "--sets", "1", "--counts", "5",
              "--utilisations", "0.1"]
     printed(capsys, words)

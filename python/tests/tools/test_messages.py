@@ -4,7 +4,7 @@ import re
 
 import pytest
 
-from rtdvs.hints import SECTIONS, Row, second_line
+from rtdvs.hints import Row, second_line, sections
 from rtdvs.hints.facts import FACTS
 from tests.shared.examples import TOP
 from tools.messages import PAGE, SECTION, with_tables
@@ -19,7 +19,7 @@ def test_page_is_made_of_the_table() -> None:
     """`python3 -m tools.messages` in python makes it."""
     page = PAGE.read_text(encoding="utf-8")
     assert with_tables(page) == page
-    assert {found["heading"] for found in SECTION.finditer(page)} == {*SECTIONS}
+    assert {found["heading"] for found in SECTION.finditer(page)} == {*sections()}
 
 
 def test_a_changed_table_is_seen() -> None:
@@ -33,7 +33,7 @@ def test_stored_lines_have_a_second_one(line: str) -> None:
     assert re.fullmatch(r"[^\n]+\.", second_line(line))
 
 
-@pytest.mark.parametrize("row", [pytest.param(row, id=row.lines[0]) for rows in SECTIONS.values() for row in rows])
+@pytest.mark.parametrize("row", [pytest.param(row, id=row.lines[0]) for rows in sections().values() for row in rows])
 def test_names_are_known(row: Row) -> None:
     """What a second line looks up is a part of each of its lines, or a fact."""
     for line in row.lines:

@@ -3,7 +3,7 @@
 import argparse
 import re
 import sys
-from collections.abc import Callable, Sequence
+from collections.abc import Sequence
 from dataclasses import dataclass
 from fractions import Fraction
 from pathlib import Path
@@ -67,28 +67,25 @@ def add_board(parser: argparse.ArgumentParser) -> None:
                            help="the length of the run; without it a hyperperiod, or some 2000 jobs")
 
 
-def measure(least: int) -> Callable[[str], Fraction]:
+def measure(word: str, least: int) -> Fraction:
     """For argparse's `type`: ticks or units from there on; with a board a decimal above 0 is some ms or MHz.
 
-    >>> measure(1)("0.5"), measure(1)("16")
+    >>> measure("0.5", least=1), measure("16", least=1)
     (Fraction(1, 2), Fraction(16, 1))
-    >>> measure(1)("0")
+    >>> measure("0", least=1)
     Traceback (most recent call last):
     argparse.ArgumentTypeError: a whole number from 1 on, not 0
     """
-    def number(word: str) -> Fraction:
-        if re.fullmatch(r"[0-9]{1,99}\.[0-9]{1,99}", word) and Fraction(word) > 0:
-            return Fraction(word)
-        return Fraction(options.whole_number(least)(word))
-
-    return number
+    if re.fullmatch(r"[0-9]{1,99}\.[0-9]{1,99}", word) and Fraction(word) > 0:
+        return Fraction(word)
+    return Fraction(options.whole_number(word, (least, None)))
 
 
 def add_scale(group: "argparse._ActionsContainer") -> None:
     """Adds `--tick-ms` and `--unit-cycles`."""
-    for name, metavar, about in (("--tick-ms", "MS", "the tick, in place of a chosen one"),
-                                 ("--unit-cycles", "CYCLES", "the work unit, likewise")):
-        group.add_argument(name, type=options.exact_fraction, metavar=metavar, help=about)
+    group.add_argument("--tick-ms", type=options.exact_fraction, metavar="MS",
+                       help="the tick, in place of a chosen one")
+    group.add_argument("--unit-cycles", type=options.exact_fraction, metavar="CYCLES", help="the work unit, likewise")
 
 
 def add_tree(parser: argparse.ArgumentParser) -> None:
@@ -168,7 +165,7 @@ def read_given(args: argparse.Namespace) -> Given:
             raise errors.BadValue(f"--{'folder' if args.device_tree is None else 'device-tree'} needs --board")
         tasks = None if args.tasks is None else options.read_tasks(args)
         machine = options.read_machine(args) if getattr(args, "machine", None) is not None else None
-        return Given(tasks, machine, options.read_demands(args, tasks) if tasks and hasattr(args, "demands") else None)
+        return Given(tasks, machine, None if tasks is None else options.read_demands(args, tasks))
     if args.tasks is not None or getattr(args, "machine", None) is not None:
         raise errors.BadValue("give either --board or --tasks and --machine")
     from rtdvs.board import Board, Units, choose_scale, design
@@ -176,8 +173,7 @@ def read_given(args: argparse.Namespace) -> Given:
     board = Board.parse(options.read_text(args.board, "board"), table_of(args).points)
     made = (design(board, choose_scale(board, args.tick_ms, args.unit_cycles)) if args.folder is None
             else read_made(args, board))
-    demands = options.read_demands(args, made.tasks) if hasattr(args, "demands") else None
-    return Given(made.tasks, made.machine, demands, Units(board, made))
+    return Given(made.tasks, made.machine, options.read_demands(args, made.tasks), Units(board, made))
 
 
 def ticks_of(args: argparse.Namespace, given: Given) -> int:

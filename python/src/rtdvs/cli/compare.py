@@ -24,7 +24,7 @@ from rtdvs._numbers import aligned, decimal, plain, rounded
 from rtdvs.cli import boards, options
 from rtdvs.cli.options import engine_of
 from rtdvs.errors import BadValue, TraceFault
-from rtdvs.studies import PAIRS, Case, Row, cells, compare, finer_energies, finer_table, table
+from rtdvs.studies import PAIRS, Case, Comparison, Row, cells, compare, finer_energies, finer_table, table
 from rtdvs.trace import Trace
 
 
@@ -46,12 +46,11 @@ def add_command(commands: options.Commands) -> None:
     options.add_unchecked(parser)
     finer = "the energies in ticks N times finer too, as shares of those in the ticks given"
     options.add_number(parser, "--finer", finer, nargs="+", default=[])
-    options.add_engine_options(parser)
-    options.add_jobs(parser)
+    options.add_engine_options(parser, jobs=True)
     boards.add_board(parser)
 
 
-def _handle(args: argparse.Namespace) -> int:
+def _handle(args: argparse.Namespace) -> None:
     engine, given = engine_of(args), boards.read_given(args)
     assert given.tasks and given.machine
     case = Case(given.tasks, given.machine, boards.ticks_of(args, given), given.demands)
@@ -63,7 +62,6 @@ def _handle(args: argparse.Namespace) -> int:
                  for times in options.progress(args.finer, len(args.finer), "finer ticks")}
     if finer:
         print("\n" + finer_table(rows[:len(PAIRS)], finer), end="")
-    return 0
 
 
 def board_table(rows: Sequence[Row], ticks: int, units: "boards.Units") -> str:
@@ -78,8 +76,7 @@ def board_table(rows: Sequence[Row], ticks: int, units: "boards.Units") -> str:
     10 ms      J  mW  of_none  above_bound  switches  idle  least_laxity_ms  jitter_ms
     rm     cc  denied rm a 7 6
     """
-    speeds = sorted({speed for row in rows if row.result for speed in row.result.residency})
-    battery = units.board.battery
+    speeds, battery = Comparison(rows).speeds(), units.board.battery
     costs = [None if row.result is None else units.spent_at(row.result.ran) for row in rows]
     hours = [] if battery is None else ["hours"]
     heading = [f"{plain(units.milliseconds(ticks))} ms", "", "J", "mW", *hours, "of_none", "above_bound", "switches",

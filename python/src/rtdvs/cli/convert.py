@@ -38,13 +38,11 @@ def add_command(commands: options.Commands) -> None:
     options.add_output(parser)
 
 
-def _handle(args: argparse.Namespace) -> int:
+def _handle(args: argparse.Namespace) -> None:
     if args.to in WRITERS and (args.table or args.charge is not None):
         raise BadValue(f"--table and --charge are for csv only, and not for {args.to}")
     trace, charge = options.trace_file(args)
-    table = args.table or "segments"
     if args.table == "jobs":
         options.note_charge(trace, charge)
-    lines = WRITERS[args.to](trace) if args.to in WRITERS else csv_lines(trace, table, charge)
+    lines = WRITERS[args.to](trace) if args.to in WRITERS else csv_lines(trace, args.table or "segments", charge)
     options.write_output(args, lines)
-    return 0

@@ -68,15 +68,11 @@ def add_command(commands: options.Commands) -> None:
     parser.add_argument("--ms", type=options.exact_fraction, metavar="MS",
                         help="the time of the runs of --report, and of demands.csv")
     boards.add_tree(parser)
-    _add_settle_options(parser)
-    options.add_output(parser)
-
-
-def _add_settle_options(parser: argparse.ArgumentParser) -> None:
     group = parser.add_argument_group("the tick", "halves the tick until the energy of a run moves by at most 1 %")
     group.add_argument("--settle-ms", type=options.exact_fraction, metavar="MS", help="the time of each run")
     options.add_pair(parser, "edf", "cc")
     options.add_engine_options(parser)
+    options.add_output(parser)
 
 
 def _handle(args: argparse.Namespace) -> int:

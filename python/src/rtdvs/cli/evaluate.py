@@ -15,14 +15,9 @@ import argparse
 import sys
 from pathlib import Path
 
-from rtdvs import _files, errors
+from rtdvs import _files, errors, studies
 from rtdvs.cli import options
-from rtdvs.cli.options import processes_of
 from rtdvs.model import MOST_TASKS, Machine
-from rtdvs.studies import (
-    DRAWS, PUBLISHED_COUNTS, PUBLISHED_TICKS, TENTHS, Own, OwnGovernor, OwnTraces, Sweep, broken, evaluate,
-    faults, figure_table, finished, read_records, shares, summary,
-)
 
 
 def add_command(commands: options.Commands) -> None:
@@ -39,10 +34,10 @@ def add_command(commands: options.Commands) -> None:
     parser.add_argument("--folder", type=Path, required=True, help="where results and tables are kept")
     options.add_number(parser, "--sets", "for each number of tasks and each utilisation; 100 unless given", (1, 999),
                        default=100)
-    parser.add_argument("--draws", choices=list(DRAWS), default="published", help="published unless given")
+    parser.add_argument("--draws", choices=list(studies.DRAWS), default="published", help="published unless given")
     options.add_number(parser, "--counts", "the numbers of tasks; 5, 8, 10 and 15 unless given", (1, MOST_TASKS),
-                       nargs="+", default=PUBLISHED_COUNTS)
-    parser.add_argument("--utilisations", type=tenth, nargs="+", default=TENTHS, metavar="U",
+                       nargs="+", default=studies.PUBLISHED_COUNTS)
+    parser.add_argument("--utilisations", type=tenth, nargs="+", default=studies.TENTHS, metavar="U",
                         help="tenths from 0.1 to 1; all unless given")
     parser.add_argument("--machine", type=Path, nargs="+", default=[], metavar="FILE", help="machine files of your own")
     parser.add_argument("--scheduler", choices=options.SCHEDULERS, default="edf",
@@ -51,8 +46,7 @@ def add_command(commands: options.Commands) -> None:
                         help="functions of files of Python, as for rtdvs.simulate")
     parser.add_argument("--traces", type=Path, nargs="+", default=[], metavar="FOLDER",
                         help="traces by other simulators")
-    options.add_engine_options(parser)
-    options.add_jobs(parser)
+    options.add_engine_options(parser, jobs=True)
 
 
 def tenth(word: str) -> int:
@@ -62,12 +56,12 @@ def tenth(word: str) -> int:
     (7, 10)
     """
     tenths = options.exact_fraction(word) * 10
-    if tenths not in TENTHS:
+    if tenths not in studies.TENTHS:
         raise argparse.ArgumentTypeError(f"a utilisation is 0.1, 0.2 .. or 1, not {word}")
     return int(tenths)
 
 
-def own_of(args: argparse.Namespace) -> Own:
+def own_of(args: argparse.Namespace) -> studies.Own:
     """The machines, governors and traces of the options; raises BadValue, Refused and OSError.
 
     >>> words = {"machine": [], "scheduler": "edf", "governor": ["mine.py"], "traces": []}
@@ -78,28 +72,29 @@ def own_of(args: argparse.Namespace) -> Own:
     machines = {path.stem: Machine.read(path) for path in args.machine}
     if len(machines) < len(args.machine):
         raise errors.BadValue("two machine files of one name")
-    governors = tuple(map(OwnGovernor.parse, args.governor))
+    governors = tuple(map(studies.OwnGovernor.parse, args.governor))
     for governor in governors:
         governor.chooser()
-    return Own(machines, args.scheduler, governors, tuple(map(OwnTraces, args.traces)))
+    return studies.Own(machines, args.scheduler, governors, tuple(map(studies.OwnTraces, args.traces)))
 
 
 def _handle(args: argparse.Namespace) -> int:
-    sweep = Sweep(args.draws, args.sets, counts=args.counts, tenths=args.utilisations, own=own_of(args))
+    sweep = studies.Sweep(args.draws, args.sets, counts=args.counts, tenths=args.utilisations, own=own_of(args))
     if missing := sweep.missing():
         others = f", and {len(missing) - 1} more; the task file of each" if missing[1:] else "; its task file"
-        runs = f"runs of {PUBLISHED_TICKS} ticks under {args.scheduler}"
+        runs = f"runs of {studies.PUBLISHED_TICKS} ticks under {args.scheduler}"
         raise errors.BadValue(f"{missing[0]} is missing{others} is there: {runs}")
     total = len(set(args.counts)) * len(set(args.utilisations)) * args.sets
-    for line in broken(args.folder, sweep):
+    for line in studies.broken(args.folder, sweep):
         print(f"{line}; it is made again if the sweep has it", file=sys.stderr)
-    with processes_of(args) as executor:
-        for _ in options.progress(evaluate(options.engine_of(args), args.folder, sweep, executor), total, "sets"):
+    with options.processes_of(args) as executor:
+        made = studies.evaluate(options.engine_of(args), args.folder, sweep, executor)
+        for _ in options.progress(made, total, "sets"):
             pass
-    records = read_records(args.folder, finished(args.folder, sweep), sweep)
-    found = shares(records)
+    records = studies.read_records(args.folder, studies.finished(args.folder, sweep), sweep)
+    found = studies.shares(records)
     for figure, panels in sweep.figures().items():
-        _files.write_whole(args.folder / f"{figure}.tsv", figure_table(panels, found, sweep.curves()))
-    wrong = [*broken(args.folder, sweep), *faults(records, sweep)]
-    print(*wrong, summary(records, wrong), sep="\n")
+        _files.write_whole(args.folder / f"{figure}.tsv", studies.figure_table(panels, found, sweep.curves()))
+    wrong = [*studies.broken(args.folder, sweep), *studies.faults(records, sweep)]
+    print(*wrong, studies.summary(records, wrong), sep="\n")
     return 2 if wrong else 0

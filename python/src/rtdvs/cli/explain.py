@@ -19,15 +19,14 @@ those of its own. The status is 1 if one of them is wrong.
 """
 
 import argparse
-import io
 import sys
 from collections.abc import Iterable, Iterator
 from pathlib import Path
 
 from rtdvs import _files, errors
-from rtdvs.cli.options import Commands, add_files, add_parser, open_input, read_files, read_text
+from rtdvs.cli.options import Commands, add_files, add_parser, input_lines, read_files, read_text
 from rtdvs.rules import Walk, explain, last_line
-from rtdvs.trace import Trace, lines_of
+from rtdvs.trace import Trace
 
 
 def _handle(args: argparse.Namespace) -> int:
@@ -39,17 +38,16 @@ def _handle(args: argparse.Namespace) -> int:
         raise errors.BadValue("give --trace or --grade")
     tasks, machine, demands = read_files(args)
     latest: list[str] = []
-    with open_input(args.trace) as file:
-        lines = _kept(lines_of(io.TextIOWrapper(file, "latin-1", newline="\n")), latest)
-        try:
-            summary = explain(Walk(tasks, machine, lines, demands, args.any), None if args.quiet else print)
-        except errors.WrongTrace as fault:
-            from rtdvs.studies import expected  # here, so that a right trace needs no study
+    walk = Walk(tasks, machine, _kept(input_lines(args.trace), latest), demands, args.any)
+    try:
+        summary = explain(walk, None if args.quiet else print)
+    except errors.WrongTrace as fault:
+        from rtdvs.studies import expected  # here, so that a right trace needs no study
 
-            sys.stdout.flush()
-            form = expected(fault.line, latest[0]) if latest else ""
-            print(fault, *[f"  {form}"][:len(form)], sep="\n", file=sys.stderr)
-            return 1
+        sys.stdout.flush()
+        form = expected(fault.line, latest[0]) if latest else ""
+        print(fault, *[f"  {form}"][:len(form)], sep="\n", file=sys.stderr)
+        return 1
     print(last_line(summary, args.any, demands is not None))
     return 0
 

@@ -52,35 +52,32 @@ def _add_uunifast(kinds: options.Commands) -> None:
     options.add_output(parser)
 
 
-def _run_uunifast(args: argparse.Namespace) -> int:
+def _run_uunifast(args: argparse.Namespace) -> None:
     """Draws a task set by UUniFast (Bini and Buttazzo 2005)."""
     given = {name: getattr(args, name) for name in ("low", "high", "multiple")}
     bounds = {name: value for name, value in given.items() if value is not None}
     require(not (args.periods and bounds), "periods are a list, or from low to high, not both")
     periods: Listed | LogUniform = Listed(tuple(args.periods)) if args.periods else LogUniform(**bounds)
     options.write_output(args, uunifast(args.count, args.utilisation, args.seed, periods, args.top).text())
-    return 0
 
 
 def _add_published(kinds: options.Commands) -> None:
     parser = options.add_parser(kinds, "published", _run_published, "a set of the published evaluation",
                         "generate published --count 8 --tenths 7 --number 1")
     parser.add_argument("--count", type=int, choices=PUBLISHED_COUNTS, required=True, help="the number of tasks")
-    for name, most, about in (("tenths", 10, "the utilisation in tenths"),
-                              ("number", 999, "the set's number among these")):
-        options.add_number(parser, f"--{name}", about, (1, most), required=True)
+    options.add_number(parser, "--tenths", "the utilisation in tenths", (1, 10), required=True)
+    options.add_number(parser, "--number", "the set's number among these", (1, 999), required=True)
     options.add_number(parser, "--sets", "how many there are of each kind; 100 unless given", (1, 999), default=100)
     _add_seed(parser, default=PUBLISHED_SEED, about=f"{PUBLISHED_SEED} unless given")
     options.add_output(parser)
 
 
-def _run_published(args: argparse.Namespace) -> int:
+def _run_published(args: argparse.Namespace) -> None:
     """Draws a set of docs/EVALUATION.md, as those of Pillai and Shin (2001)."""
     require(args.number <= args.sets, f"number is 1 to {args.sets}")
     wanted = SetName(args.count, args.tenths, args.number)
     sets = published_sets(args.sets, args.seed)
     options.write_output(args, next(tasks for name, tasks in sets if name == wanted).text())
-    return 0
 
 
 def _add_demands(kinds: options.Commands) -> None:
@@ -95,13 +92,12 @@ def _add_demands(kinds: options.Commands) -> None:
     options.add_output(parser)
 
 
-def _run_demands(args: argparse.Namespace) -> int:
+def _run_demands(args: argparse.Namespace) -> None:
     """Prints a demand file for all jobs of a run; with a seed each job draws its own share."""
     tasks, share = options.read_tasks(args), args.share
     require(share is None or share <= 1, "share is 0 to 1")
     demands = taken_uniform(tasks, args.seed, args.ticks) if share is None else taken(tasks, share, args.ticks)
     options.write_output(args, demands.text())
-    return 0
 
 
 def _add_exercise(kinds: options.Commands) -> None:
@@ -113,7 +109,7 @@ def _add_exercise(kinds: options.Commands) -> None:
     options.add_engine_options(parser)
 
 
-def _run_exercise(args: argparse.Namespace) -> int:
+def _run_exercise(args: argparse.Namespace) -> None:
     """Draws a set with small numbers, and writes an exercise into a folder.
 
     It has the question, the files, the trace that solves it and the explanation of each decision. The
@@ -122,4 +118,3 @@ def _run_exercise(args: argparse.Namespace) -> int:
     drawn_one = exercise(options.engine_of(args), args.seed, args.scheduler, args.governor)
     drawn_one.write(args.folder)
     print(drawn_one.question(), end="")
-    return 0

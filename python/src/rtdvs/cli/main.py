@@ -19,11 +19,9 @@ from rtdvs.hints import COMMANDS as PROGRAM, FILES, second_line
 SIGNALS = (signal.SIGINT, signal.SIGTERM, signal.SIGHUP)
 PERIOD = 0.25  # seconds after which a process that waits looks for signals again
 GRACE = 2.0  # seconds for an orderly end
-COMMANDS = {
-    "explain": "explain", "simulate": "simulate", "statistics": "per_task", "compare": "compare",
-    "response": "response", "sensitivity": "sensitivity", "generate": "generate", "evaluate": "evaluate", "paper-table": "paper_table",
-    "design": "design", "plot": "plot", "convert": "convert", "page": "page", "serve": "serve",
-}
+COMMANDS = {name: {"statistics": "per_task"}.get(name, name.replace("-", "_")) for name in (
+    "explain", "simulate", "statistics", "compare", "response", "sensitivity", "generate", "evaluate", "paper-table",
+    "design", "plot", "convert", "page", "serve")}
 """The module of each command. `response` is the program's too."""
 OF_BOARDS = {"--board", "--folder", "--device-tree"}
 
@@ -91,7 +89,7 @@ def _handled(words: Sequence[str], name: str, args: argparse.Namespace) -> int:
         lists = (value if isinstance(value, list) else [value] for value in vars(args).values())
         if sum(isinstance(value, bytes) for values in lists for value in values) > 1:
             top.error("only one file can be standard input")
-        return int(args.handler(args))
+        return int(args.handler(args) or 0)
     except SystemExit as end:
         return end.code if isinstance(end.code, int) else 0
 

@@ -28,23 +28,19 @@ Item = TypeVar("Item")
 Input = Path | bytes
 """A file's path, or what standard input held."""
 
-FILES = {
-    "tasks": "the task file",
-    "machine": "the machine file",
-    "demands": "the demand file: the work units of single jobs",
-    "deadlines": "the deadline file",
-    "requests": "the request file",
-    "trace": "the trace, in version 1 or 2",
-}
+FILES = {"tasks": "the task file", "machine": "the machine file", "trace": "the trace, in version 1 or 2",
+         "demands": "the demand file: the work units of single jobs"}
 BAR = 30
 SCHEDULERS, KINDS = tuple(map(str, Scheduler)), tuple(map(str, Governor))
 
 
 # Options
 
-def add_parser(commands: Commands, name: str, handler: Callable[[argparse.Namespace], int], about: str,
+def add_parser(commands: Commands, name: str, handler: Callable[[argparse.Namespace], int | None], about: str,
                example: str) -> argparse.ArgumentParser:
     """Adds a command: its handler, whose docstring or its module's is the help, and calls as an example.
+
+    The handler returns the exit status, or None for 0.
 
     >>> commands = argparse.ArgumentParser(prog="rtdvs").add_subparsers()
     >>> parser = add_parser(commands, "shout", lambda args: 0, "prints loudly", "shout --ticks 3")
@@ -69,7 +65,7 @@ def add_number(parser: argparse._ActionsContainer, name: str, about: str | None 
     [2, 7]
     """
     settings: dict[str, Any] = {"metavar": "N", **more}
-    parser.add_argument(name, type=whole_number(*within), help=about, **settings)
+    parser.add_argument(name, type=partial(whole_number, within=within), help=about, **settings)
 
 
 def add_ticks(parser: argparse.ArgumentParser) -> None:
@@ -97,7 +93,7 @@ def add_pair(parser: argparse.ArgumentParser, scheduler: str | None = None, gove
 
 
 def add_files(parser: argparse.ArgumentParser, required: Sequence[str], optional: Sequence[str] = ()) -> None:
-    """Adds options for files, each an Input: tasks, machine, demands, deadlines, requests, trace.
+    """Adds options for files, each an Input: tasks, machine, demands, trace.
 
     >>> parser = argparse.ArgumentParser()
     >>> add_files(parser, ["tasks"], ["demands"])
@@ -120,28 +116,19 @@ def add_output(parser: argparse.ArgumentParser) -> None:
     parser.add_argument("-o", "--output", type=Path, metavar="FILE", help="write to this file, and print nothing")
 
 
-def add_engine_options(parser: argparse.ArgumentParser) -> None:
-    """Adds `--program` and `--timeout` (seconds).
+def add_engine_options(parser: argparse.ArgumentParser, jobs: bool = False) -> None:
+    """Adds `--program` and `--timeout` (seconds), and `--jobs`, the number of calls of the program at a time.
 
     >>> parser = argparse.ArgumentParser()
-    >>> add_engine_options(parser)
-    >>> parser.parse_args(["--timeout", "0.5"])
-    Namespace(program=None, timeout=0.5)
+    >>> add_engine_options(parser, jobs=True)
+    >>> parser.parse_args(["--timeout", "0.5", "--jobs", "4"])
+    Namespace(program=None, timeout=0.5, jobs=4)
     """
     about = "the program rtdvs or its library librtdvs.so; without it that of $RTDVS, a built one, or rtdvs on the path"
     parser.add_argument("--program", type=Path, metavar="FILE", help=about)
     parser.add_argument("--timeout", type=seconds, metavar="SECONDS", help="the longest that a call may take")
-
-
-def add_jobs(parser: argparse.ArgumentParser) -> None:
-    """Adds `--jobs`, the number of calls of the program at a time.
-
-    >>> parser = argparse.ArgumentParser()
-    >>> add_jobs(parser)
-    >>> parser.parse_args(["--jobs", "4"])
-    Namespace(jobs=4)
-    """
-    add_number(parser, "--jobs", "calls of the program at a time (default: 1)", (1, 1024), default=1)
+    if jobs:
+        add_number(parser, "--jobs", "calls of the program at a time (default: 1)", (1, 1024), default=1)
 
 
 def add_unchecked(parser: argparse.ArgumentParser) -> None:
@@ -156,22 +143,19 @@ def add_unchecked(parser: argparse.ArgumentParser) -> None:
                         help="takes the trace without a check of its lines, and says so")
 
 
-def whole_number(least: int = 0, most: int | None = None) -> Callable[[str], int]:
+def whole_number(word: str, within: tuple[int, int | None]) -> int:
     """For argparse's `type`: decimal digits without sign or leading zero, within the bounds.
 
-    >>> whole_number(1)("16")
+    >>> whole_number("16", within=(1, None))
     16
-    >>> whole_number(1)("016")
+    >>> whole_number("016", within=(1, None))
     Traceback (most recent call last):
     argparse.ArgumentTypeError: a whole number from 1 on, not 016
     """
-    def number(word: str) -> int:
-        try:
-            return _numbers.whole(word, least, most)
-        except WordFault as fault:
-            raise argparse.ArgumentTypeError(str(fault)) from None
-
-    return number
+    try:
+        return _numbers.whole(word, *within)
+    except WordFault as fault:
+        raise argparse.ArgumentTypeError(str(fault)) from None
 
 
 def exact_fraction(word: str) -> Fraction:
@@ -232,13 +216,13 @@ def read_machine(args: argparse.Namespace) -> Machine:
 
 
 def read_demands(args: argparse.Namespace, tasks: TaskSet) -> Demands | None:
-    """The demands of `--demands`, or None without that option; raises Refused and OSError.
+    """The demands of `--demands`, or None without that option, which not all commands have; raises Refused and OSError.
 
     >>> from rtdvs.model import Task
     >>> read_demands(argparse.Namespace(demands=b"task,job,units\\na,1,2\\n"), TaskSet((Task("a", 4, 3),)))
     Demands(units={('a', 1): 2})
     """
-    return None if args.demands is None else Demands.parse(_content(args.demands), tasks)
+    return None if getattr(args, "demands", None) is None else Demands.parse(_content(args.demands), tasks)
 
 
 def read_files(args: argparse.Namespace) -> tuple[TaskSet, Machine, Demands | None]:
@@ -309,11 +293,16 @@ def trace_file(args: argparse.Namespace) -> tuple[TraceFile, int]:
     source: Input = args.trace
     if isinstance(source, Path) and not source.is_file():
         source = source.read_bytes()
-    trace = TraceFile.of(partial(_lines_of, source))
+    trace = TraceFile.of(partial(input_lines, source))
     return trace, _believed(args, trace)
 
 
-def _lines_of(source: Input) -> Iterator[str]:
+def input_lines(source: Input) -> Iterator[str]:
+    """The lines of a trace, with their line feeds; raises OSError.
+
+    >>> [*input_lines(b"trace 2\\n")]
+    ['trace 2\\n']
+    """
     with open_input(source) as file:
         yield from lines_of(io.TextIOWrapper(file, "latin-1", newline="\n"))
 

@@ -23,14 +23,12 @@ def add_command(commands: options.Commands) -> None:
                         "paper-table --finer 3 30")
     options.add_number(parser, "--finer", "a row for each; 1, 3, 10 and 100 unless given", nargs="+", default=FINER,
                        metavar="K")
-    options.add_engine_options(parser)
-    options.add_jobs(parser)
+    options.add_engine_options(parser, jobs=True)
 
 
-def _handle(args: argparse.Namespace) -> int:
+def _handle(args: argparse.Namespace) -> None:
     engine = options.engine_of(args)
     with options.executor_of(args) as executor:
         rows = [(times, paper_shares(engine, times, executor))
                 for times in options.progress(args.finer, len(args.finer), "rows")]
     print("\n".join(paper_lines(rows)))
-    return 0

@@ -23,21 +23,15 @@ from rtdvs.cli import boards, options
 from rtdvs.trace import COLUMNS, Trace, task_statistics
 
 
-def _handle(args: argparse.Namespace) -> int:
+def _handle(args: argparse.Namespace) -> None:
     given = boards.read_given(args)
-    if given.units is None:
-        trace, _ = options.trace_file(args)
+    if (units := given.units) is None:
+        file, _ = options.trace_file(args)
         assert given.tasks
-        print(aligned([COLUMNS, *(each.row() for each in task_statistics(trace, given.tasks))]), end="")
-    else:
-        _print_of_board(args, given)
-    return 0
-
-
-def _print_of_board(args: argparse.Namespace, given: boards.Given) -> None:
-    trace, units = Trace.parse(options.read_text(args.trace, "trace")), given.units
-    assert units
-    given.check(trace)
+        print(aligned([COLUMNS, *(each.row() for each in task_statistics(file, given.tasks))]), end="")
+        return
+    trace = Trace.parse(options.read_text(args.trace, "trace"))
+    units.check(trace)
     options.check_first(args, trace, given.tasks, given.machine)
     print(aligned(units.table(trace)), end="")
     print("\n".join(["", *units.lines(trace)] if not units.no_power() else ["", f"no power: {units.no_power()}"]))

@@ -8,6 +8,7 @@ import argparse
 import sys
 from collections.abc import Callable
 from fractions import Fraction
+from functools import partial
 from math import ceil, floor
 from pathlib import Path
 
@@ -39,10 +40,9 @@ def add_command(commands: options.Commands) -> None:
     for option, least, text in (("--from", 0, "the first tick; with --board in ms"),
                                 ("--to", 1, "the last tick; with --board in ms"),
                                 ("--top", 1, "the speed of full height, the fastest by default; with --board in MHz")):
-        trace.add_argument(option, type=boards.measure(least), metavar="N", help=text)
-    for option, least, text in (("--charge", 0, "the machine's charge, which a trace doesn't name"),
-                                ("--width", 1, "pixels; 1000 by default")):
-        options.add_number(trace, option, text, (least, None))
+        trace.add_argument(option, type=partial(boards.measure, least=least), metavar="N", help=text)
+    options.add_number(trace, "--charge", "the machine's charge, which a trace doesn't name", (0, None))
+    options.add_number(trace, "--width", "pixels; 1000 by default")
     options.add_unchecked(trace)
     boards.add_board(trace)
     _add_file(trace, _run_trace)

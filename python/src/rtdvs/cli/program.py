@@ -1,15 +1,13 @@
 """Hands on the nine commands of the program: its output, its line and its exit status, with a second line below."""
 
 import sys
-from collections.abc import Iterator, Sequence
+from collections.abc import Sequence
 from dataclasses import dataclass
 from pathlib import Path
 
-from rtdvs.engine import Call, Engine, Word
+from rtdvs.engine import Call, Engine, Word, option_values
 from rtdvs.errors import error_of
-from rtdvs.hints import FILES, FLAGS, second_line
-
-OPTIONS = tuple(f"--{kind}" for kind in FILES)
+from rtdvs.hints import FILE_OPTIONS, second_line
 
 
 @dataclass(frozen=True)
@@ -34,7 +32,8 @@ def hand_on(words: Sequence[str], engine: Engine) -> int:
     Traceback (most recent call last):
     rtdvs.errors.NoEngine: /absent/rtdvs: No such file or directory
     """
-    call = Typed(words[0], given=tuple(_read(words[1:])))
+    command, *given = (_content(word) if option in FILE_OPTIONS else word for option, word in option_values(words))
+    call = Typed(str(command), given=tuple(given))
     answer = engine.answer(call)
     if answer.status < 0:
         raise error_of(answer.status, answer.notes)
@@ -46,17 +45,9 @@ def hand_on(words: Sequence[str], engine: Engine) -> int:
     return answer.status
 
 
-def _read(words: Sequence[str]) -> Iterator[Word]:
-    """The words after the command: a file is its path, and standard input or a pipe its content."""
-    option = ""
-    for word in words:
-        yield _content(word) if option in OPTIONS else word
-        option = "" if option or word in FLAGS else word
-
-
-def _content(name: str) -> Word:
+def _content(name: Word) -> Word:
     """The path of a file, the bytes of what is none; a name that isn't there is for the program to refuse."""
-    path = Path(name)
+    path = Path(str(name))
     if name == "-" and sys.stdin is not None:
         return sys.stdin.buffer.read()
     if not name or path.is_dir() or not path.exists():

@@ -30,12 +30,11 @@ def add_command(commands: options.Commands) -> None:
     boards.add_board(parser)
 
 
-def _handle(args: argparse.Namespace) -> int:
+def _handle(args: argparse.Namespace) -> None:
     given = boards.read_given(args)
     assert given.units
     made = given.units.made
     print(response_table(engine_of(args).respond(made.tasks, made.machine), given.units), end="")
-    return 0
 
 
 def response_table(responses: dict[str, int], units: "boards.Units") -> str:

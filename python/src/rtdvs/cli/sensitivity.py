@@ -34,12 +34,11 @@ def add_command(commands: options.Commands) -> None:
     options.add_files(parser, ["tasks", "machine"])
     parser.add_argument("--test", choices=TESTS, default=TESTS[0],
                         help="edf or rm: the test of admit; response: the exact one under RM (default: edf)")
-    options.add_engine_options(parser)
-    options.add_jobs(parser)
+    options.add_engine_options(parser, jobs=True)
     boards.add_board(parser)
 
 
-def _handle(args: argparse.Namespace) -> int:
+def _handle(args: argparse.Namespace) -> None:
     engine, given = engine_of(args), boards.read_given(args)
     assert given.tasks and given.machine
     question = Question(engine, given.tasks, given.machine, args.test)
@@ -49,7 +48,6 @@ def _handle(args: argparse.Namespace) -> int:
     limits = Limits(thousandths, tuple(worsts), speed)
     text = limits_table(question, limits) if given.units is None else board_limits(question, limits, given.units)
     print(text, end="")
-    return 0
 
 
 def board_limits(question: Question, limits: Limits, units: "boards.Units") -> str:

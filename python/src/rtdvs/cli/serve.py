@@ -17,7 +17,7 @@ from rtdvs.engine import TryEngine
 from rtdvs.web import LONGEST_CALL, LONGEST_TRY, PORT, PageServer
 
 
-def _handle(args: argparse.Namespace) -> int:
+def _handle(args: argparse.Namespace) -> None:
     args.timeout = args.timeout or LONGEST_CALL
     engine = engine_of(args)
     if isinstance(engine, TryEngine):
@@ -25,7 +25,6 @@ def _handle(args: argparse.Namespace) -> int:
     with PageServer(args.port, engine) as server:
         print(f"{server.address} for browsers on this machine only; Ctrl and C end it", flush=True)
         server.serve_forever()
-    return 0
 
 
 def add_command(commands: Commands) -> None:

@@ -15,7 +15,7 @@ from rtdvs.rules import simulate
 from rtdvs.trace import Missed, TaskEnergy, Trace
 
 
-def _handle(args: argparse.Namespace) -> int:
+def _handle(args: argparse.Namespace) -> None:
     tasks, machine, demands = read_files(args)
     trace = simulate(tasks, machine, args.scheduler, args.ticks, args.governor, demands,
                      admitted=args.missed is None, missed=args.missed)
@@ -23,7 +23,6 @@ def _handle(args: argparse.Namespace) -> int:
     if args.missed is not None:
         print("\n".join(["note: not a run of the program", *(f"note: {miss.text()}" for miss in trace.misses())]),
               file=sys.stderr)
-    return 0
 
 
 def first_version(trace: Trace) -> Trace:

@@ -5,10 +5,11 @@ The structures are those of rtdvs.h. Each call gives None where only a call with
 
 import ctypes
 from array import array
-from collections.abc import Mapping
+from collections.abc import Callable, Iterable, Mapping
 from ctypes import POINTER, byref, c_size_t, c_uint64, c_void_p
+from itertools import chain
 from types import MappingProxyType
-from typing import Any
+from typing import Any, TypeVar
 
 from rtdvs.engine.answers import Admitted, Constrained, Least
 from rtdvs.errors import Denied, TooManyJobs
@@ -70,6 +71,7 @@ class LeastEnergy(ctypes.Structure):
                 ("tick_minus", c_uint64), ("refusal", Refusal)]
 
 
+Found = TypeVar("Found", Admission, Responses, LeastEnergy)
 ARRAY: list[Any] = [c_void_p, c_size_t]
 CALLS: dict[str, list[Any]] = {
     "rtdvs_admit": [*ARRAY, *ARRAY, POINTER(Settings), POINTER(Admission)],
@@ -90,69 +92,65 @@ def number(wide: Wide) -> int:
     return low + (high << 64)
 
 
-def admitted(library: ctypes.CDLL, tasks: TaskSet, machine: Machine, scheduler: str) -> Admitted | None:
+def admitted(library: ctypes.CDLL, machine: Machine, tasks: TaskSet, scheduler: str) -> Admitted | None:
     """The answer of `admit`; raises Denied."""
     if scheduler not in SCHEDULERS:
         return None
-    found = Admission()
-    status = library.rtdvs_admit(*_tasks(tasks), *_points(machine), byref(_settings(machine, scheduler)), byref(found))
-    if status:
-        raise_denial(found.refusal, tasks)
-        return None
-    return Admitted(scheduler, number(found.num), number(found.den), found.speed)
+    found = _answer(library.rtdvs_admit, Admission(), tasks, *_set(machine, tasks, scheduler))
+    return None if found is None else Admitted(scheduler, number(found.num), number(found.den), found.speed)
 
 
-def responses(library: ctypes.CDLL, tasks: TaskSet, machine: Machine) -> dict[str, int] | None:
+def responses(library: ctypes.CDLL, machine: Machine, tasks: TaskSet) -> dict[str, int] | None:
     """The answer of `response`, in ticks by task; raises Denied."""
-    found = Responses()
-    if library.rtdvs_response(*_tasks(tasks), *_points(machine), byref(_settings(machine)), byref(found)):
-        raise_denial(found.refusal, tasks)
-        return None
-    return dict(zip(tasks.names, found.ticks))
+    found = _answer(library.rtdvs_response, Responses(), tasks, *_set(machine, tasks))
+    return None if found is None else dict(zip(tasks.names, found.ticks))
 
 
-def constrained(library: ctypes.CDLL, tasks: TaskSet, machine: Machine, deadlines: Deadlines) -> Constrained | None:
+def constrained(library: ctypes.CDLL, machine: Machine, tasks: TaskSet, deadlines: Deadlines) -> Constrained | None:
     """The answer of `constrain`; raises Denied and TooManyJobs."""
     if not deadlines.ticks.keys() <= set(tasks.names):
         return None
-    found = Admission()
-    numbers = _tasks(tasks, deadlines.ticks)
-    if library.rtdvs_constrain(*numbers, *_points(machine), byref(_settings(machine)), byref(found)):
-        raise_denial(found.refusal, tasks)
-        return None
-    return Constrained(number(found.num), number(found.den), found.speed)
+    found = _answer(library.rtdvs_constrain, Admission(), tasks, *_set(machine, tasks, deadlines=deadlines.ticks))
+    return None if found is None else Constrained(number(found.num), number(found.den), found.speed)
 
 
 def least(library: ctypes.CDLL, machine: Machine, units: int, ticks: int) -> Least | None:
     """The answer of `least` for that many work units in those ticks; raises Denied."""
     if not (type(units) is type(ticks) is int and 0 <= units <= GREATEST and 0 <= ticks <= GREATEST):
         return None
-    found, work = LeastEnergy(), Work(units, ticks)
-    if library.rtdvs_least(*_points(machine), byref(_settings(machine)), byref(work), byref(found)):
-        raise_denial(found.refusal)
+    found = _answer(library.rtdvs_least, LeastEnergy(), None, *_points(machine), byref(Work(units, ticks)))
+    if found is None:
         return None
     price = number(found.tick_price)
     return Least(found.rounds, found.low, found.low_ticks, found.high, found.high_ticks, number(found.energy),
                  number(found.unit_price), -price if found.tick_minus else price)
 
 
-def _tasks(tasks: TaskSet, deadlines: Mapping[str, int] = MappingProxyType({})) -> tuple[Any, int]:
-    """The address of the tasks' numbers, which have to live as long as it is used, and how many tasks there are."""
-    return _array([part for task in tasks for part in (
-        task.period, task.worst, task.offset, deadlines.get(task.name, task.period))]), len(tasks)
+def _answer(call: Callable[..., int], found: Found, tasks: TaskSet | None, *arguments: Any) -> Found | None:
+    """The structure, which the call has filled in; raises Denied and TooManyJobs, and any other refusal is None."""
+    if not call(*arguments, byref(found)):
+        return found
+    raise_denial(found.refusal, tasks)
+    return None
 
 
-def _points(machine: Machine) -> tuple[Any, int]:
-    return _array([part for point in machine.points for part in (point.speed, point.millivolts)]), len(machine.points)
+def _set(machine: Machine, tasks: TaskSet, scheduler: str = "edf",
+         deadlines: Mapping[str, int] = MappingProxyType({})) -> list[Any]:
+    """The tasks, the points and the settings, as a call has them."""
+    rows = ((task.period, task.worst, task.offset, deadlines.get(task.name, task.period)) for task in tasks)
+    return [_array(rows), len(tasks), *_points(machine, scheduler)]
 
 
-def _array(numbers: list[int]) -> Any:
-    """The numbers in memory, as an argument that keeps them."""
-    return (c_uint64 * len(numbers)).from_buffer(array("Q", numbers))
+def _points(machine: Machine, scheduler: str = "edf") -> list[Any]:
+    rows = ((point.speed, point.millivolts) for point in machine.points)
+    settings = Settings(machine.idle, machine.charge, SCHEDULERS[scheduler])
+    return [_array(rows), len(machine.points), byref(settings)]
 
 
-def _settings(machine: Machine, scheduler: str = "edf") -> Settings:
-    return Settings(machine.idle, machine.charge, SCHEDULERS[scheduler])
+def _array(rows: Iterable[tuple[int, ...]]) -> Any:
+    """The numbers of the rows in memory, as an argument that keeps them."""
+    numbers = array("Q", chain.from_iterable(rows))
+    return (c_uint64 * len(numbers)).from_buffer(numbers)
 
 
 def raise_denial(refusal: Refusal, tasks: TaskSet | None = None) -> None:

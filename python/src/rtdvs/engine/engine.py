@@ -218,8 +218,8 @@ class LibraryEngine(Engine):
         Traceback (most recent call last):
         rtdvs.errors.NoEngine: /absent.so: cannot open shared object file: ...
         """
-        found = self._by_numbers(by_numbers.admitted, (tasks, machine), scheduler)
-        return super().admit(tasks, machine, scheduler) if found is None else found
+        return (self._by_numbers(by_numbers.admitted, (machine, tasks), scheduler)
+                or super().admit(tasks, machine, scheduler))
 
     def respond(self, tasks: TaskSource, machine: MachineSource) -> dict[str, int]:
         """As the program's.
@@ -228,8 +228,7 @@ class LibraryEngine(Engine):
         Traceback (most recent call last):
         rtdvs.errors.NoEngine: /absent.so: cannot open shared object file: ...
         """
-        found = self._by_numbers(by_numbers.responses, (tasks, machine))
-        return super().respond(tasks, machine) if found is None else found
+        return self._by_numbers(by_numbers.responses, (machine, tasks)) or super().respond(tasks, machine)
 
     def constrain(self, tasks: TaskSource, machine: MachineSource, deadlines: DeadlineSource) -> Constrained:
         """As the program's.
@@ -238,11 +237,8 @@ class LibraryEngine(Engine):
         Traceback (most recent call last):
         rtdvs.errors.NoEngine: /absent.so: cannot open shared object file: ...
         """
-        found = None
-        if (self.timeout is None and isinstance(tasks, TaskSet) and isinstance(machine, Machine)
-                and isinstance(deadlines, Deadlines)):
-            found = by_numbers.constrained(library.opened(self.program), tasks, machine, deadlines)
-        return super().constrain(tasks, machine, deadlines) if found is None else found
+        return (self._by_numbers(by_numbers.constrained, (machine, tasks, deadlines))
+                or super().constrain(tasks, machine, deadlines))
 
     def least(self, machine: MachineSource, units: int, ticks: int) -> Least:
         """As the program's.
@@ -251,13 +247,11 @@ class LibraryEngine(Engine):
         Traceback (most recent call last):
         rtdvs.errors.NoEngine: /absent.so: cannot open shared object file: ...
         """
-        found = self._by_numbers(by_numbers.least, (machine,), units, ticks)
-        return super().least(machine, units, ticks) if found is None else found
+        return self._by_numbers(by_numbers.least, (machine,), units, ticks) or super().least(machine, units, ticks)
 
     def _by_numbers(self, ask: Callable[..., T | None], files: Sequence[object], *more: object) -> T | None:
         """The answer to values without a text of them; None if one is a path or a content, or if a text is needed."""
-        *sets, machine = files
-        are_values = isinstance(machine, Machine) and all(isinstance(tasks, TaskSet) for tasks in sets)
+        are_values = all(map(isinstance, files, (Machine, TaskSet, Deadlines)))
         return ask(library.opened(self.program), *files, *more) if are_values and self.timeout is None else None
 
 

@@ -136,7 +136,7 @@ def _named(words: Sequence[Word], files: list[bytes]) -> Iterator[bytes]:
 
     A file that can't be read has a name that the library doesn't know. A word that the program refuses is kept.
     """
-    for option, word in _values(words):
+    for option, word in option_values(words):
         if isinstance(word, bytes) or (option in FILES and word and _is_text(word)):
             content = word if isinstance(word, bytes) else _content(word, option)
             files[FILES.get(option, 2)] = content or b""
@@ -145,10 +145,10 @@ def _named(words: Sequence[Word], files: list[bytes]) -> Iterator[bytes]:
             yield os.fsencode(word)
 
 
-def _values(words: Sequence[Word]) -> Iterator[tuple[str, Word]]:
+def option_values(words: Sequence[Word]) -> Iterator[tuple[str, Word]]:
     """Each word with the option whose value it is, as the program reads them; with "" if it is none.
 
-    >>> [*_values(["run", "--probes", "--ticks", "9"])]
+    >>> [*option_values(["run", "--probes", "--ticks", "9"])]
     [('', 'run'), ('', '--probes'), ('', '--ticks'), ('--ticks', '9')]
     """
     option = ""
@@ -171,11 +171,8 @@ def _content(path: Path | str, option: str) -> bytes | None:
 
 def _is_text(word: Path | str) -> bool:
     """Whether a name is UTF-8; the program answers with status 10 if it isn't."""
-    try:
-        os.fsencode(word).decode("utf-8")
-    except UnicodeDecodeError:
-        return False
-    return True
+    encoded = os.fsencode(word)
+    return encoded.decode("utf-8", "ignore").encode("utf-8") == encoded
 
 
 def _ended(word: bytes) -> bytes:

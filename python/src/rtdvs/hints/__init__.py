@@ -2,7 +2,8 @@
 
 from rtdvs.hints.given import Given, Source, Word
 from rtdvs.hints.second import second_line
-from rtdvs.hints.table import SECTIONS, Row
-from rtdvs.hints.words import COMMANDS, FILES, FLAGS, VALUES, Usage
+from rtdvs.hints.table import Row, sections
+from rtdvs.hints.words import COMMANDS, FILE_OPTIONS, FILES, FLAGS, VALUES, Usage
 
-__all__ = ["COMMANDS", "FILES", "FLAGS", "Given", "Row", "SECTIONS", "Source", "Usage", "VALUES", "Word", "second_line"]
+__all__ = ["COMMANDS", "FILES", "FILE_OPTIONS", "FLAGS", "Given", "Row", "Source", "Usage", "VALUES", "Word",
+           "second_line", "sections"]

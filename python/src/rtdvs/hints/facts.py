@@ -255,15 +255,10 @@ def _earlier(found: Found) -> str:
 
 # Runs
 
-def _asked(found: Found) -> str:
-    """The work units of a tick that the tasks ask for."""
-    top = found.machine().top_speed
-    return above(Fraction(found.number("num") * top, found.number("cap")), top)
-
-
-def _ratio(found: Found) -> str | None:
-    capacity = found.number("cap")
-    return above(Fraction(found.number("num"), capacity), 1) if capacity else None
+def _asked(found: Found, capacity: int) -> str | None:
+    """What is asked for, in the unit in which the machine's capacity is this one; None if it has none."""
+    of_machine = found.number("cap")
+    return above(Fraction(found.number("num") * capacity, of_machine), capacity) if of_machine else None
 
 
 def _most(found: Found) -> str | None:
@@ -281,7 +276,7 @@ def _most(found: Found) -> str | None:
 
 FACTS: dict[str, Callable[[Found], str | None]] = {
     "above": lambda found: found.cell(1),
-    "asked": _asked,
+    "asked": lambda found: _asked(found, found.machine().top_speed),
     "before": _before,
     "cause": _cause,
     "cell": lambda found: known(found.cell()).replace("\n", " ")[:LONGEST_TEXT],
@@ -310,7 +305,7 @@ FACTS: dict[str, Callable[[Found], str | None]] = {
     "period": lambda found: str(found.tasks()[known(found.record())[1][0]].period),
     "periods": lambda found: listed(dict.fromkeys(str(entry["period"]) for entry in found.given.entries("tasks"))),
     "present": lambda found: listed(found.entry()),
-    "ratio": _ratio,
+    "ratio": lambda found: _asked(found, 1),
     "record": lambda found: shortened(",".join(known(found.record())[1])),
     "required": lambda found: listed(_usage(found).required),
     "rule": _rule,

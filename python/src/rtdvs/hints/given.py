@@ -10,7 +10,7 @@ from pathlib import Path
 from typing import Any, TypeVar
 
 from rtdvs.errors import ENTRIES, Refused
-from rtdvs.hints.words import FILES
+from rtdvs.hints.words import FILE_OPTIONS
 from rtdvs.model import Machine, TaskSet, load
 
 Word = str | bytes | Path
@@ -33,7 +33,7 @@ class Given:
     def of(cls, words: Sequence[Word] = (), files: Mapping[str, Source] | None = None) -> "Given":
         """What words name, and files beside it."""
         named = {str(option)[2:]: Path(value) if isinstance(value, str) else value
-                 for option, value in zip(words[1::], words[2::]) if option in OPTIONS}
+                 for option, value in zip(words[1::], words[2::]) if option in FILE_OPTIONS}
         return cls(words, {**named, **(files or {})})
 
     def path(self, kind: str) -> Path | None:
@@ -107,6 +107,3 @@ class Given:
         """The number of the first line that begins with a key, or is its heading."""
         pattern = re.compile(rf"\s*\[*\s*[\"']?{re.escape(key)}[\"']?\s*[=\]]")
         return next((number for number, line in enumerate(self.lines(kind), 1) if pattern.match(line)), None)
-
-
-OPTIONS = tuple(f"--{kind}" for kind in FILES)

@@ -2,12 +2,12 @@
 
 import re
 from collections.abc import Iterator, Mapping, Sequence
+from itertools import chain
 
 from rtdvs.errors import BadValue, FileRefused
 from rtdvs.hints import facts, table
 from rtdvs.hints.given import Given, Source, Word
 
-ROWS = tuple(row for rows in table.SECTIONS.values() for row in rows)
 OF_VALUES = {"task": "tasks: task 0", "point": "machine: point 0", "request": "requests: row 0"}
 """The beginning of a line for a task, a point or a request that is in no file."""
 
@@ -29,7 +29,7 @@ def second_line(refusal: Exception | str, words: Sequence[Word] = (), files: Map
     """
     line = _line(refusal)
     given = Given.of(words, files)
-    for row in ROWS:
+    for row in chain.from_iterable(table.sections().values()):
         parts = row.match(line)
         if parts is not None:
             found = facts.Found(line, parts, given)

@@ -44,10 +44,11 @@ COMMANDS = {
 """The nine commands, in README's order."""
 
 FILES = ("tasks", "machine", "demands", "deadlines", "requests", "trace")
-"""The kinds of files, each the name of an option."""
+FILE_OPTIONS = tuple(f"--{kind}" for kind in FILES)
+"""The kinds of files, and the option that names a file of each."""
 
 VALUES = {
-    **{f"--{kind}": "the name of a file" for kind in FILES},
+    **dict.fromkeys(FILE_OPTIONS, "the name of a file"),
     "--scheduler": "`edf` or `rm`",
     "--governor": "`none`, `static`, `cc` or `la`",
     "--ticks": f"a whole number from 1 to {MOST_TICKS}, in digits only",

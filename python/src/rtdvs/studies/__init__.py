@@ -1,19 +1,19 @@
 """Comparisons, limits, random sets, the evaluation and exercises."""
 
 from rtdvs.studies.comparison import (
-    HEADING, PAIRS, Case, Comparison, Result, Row, cells, compare, finer_energies, finer_table, runs, table, totals,
-    units_of,
+    FINER, HEADING, PAIRS, PAPER_EXAMPLE, PAPER_PAIRS, PUBLISHED, Case, Comparison, Result, Row, cells, compare,
+    finer_energies, finer_table, paper_lines, paper_shares, runs, table, totals, units_of,
 )
 from rtdvs.studies.evaluation import (
-    CURVES, DRAWS, FIGURES, MACHINES, TENTHS, Panel, Record, Sweep, broken, evaluate, faults, figure_table, finished,
+    CURVES, FIGURES, MACHINES, TENTHS, Panel, Record, Sweep, broken, evaluate, faults, figure_table, finished,
     measure, panels_of, point, read_records, recount, shares, summary, units_at_top,
 )
 from rtdvs.studies.exercises import BOARD, Exercise, exercise
 from rtdvs.studies.grading import Asked, Grade, Grades, expected, grade, grades, handed_in, mended
 from rtdvs.studies.own import Own, OwnGovernor, OwnTraces, scaled_to
-from rtdvs.studies.paper_table import FINER, PAPER_EXAMPLE, PAPER_PAIRS, PUBLISHED, paper_lines, paper_shares
 from rtdvs.studies.published import (
-    PUBLISHED_COUNTS, PUBLISHED_MILLISECOND, PUBLISHED_SEED, PUBLISHED_TOP, SetName, published_sets, uunifast_sets,
+    DRAWS, PUBLISHED_COUNTS, PUBLISHED_MILLISECOND, PUBLISHED_SEED, PUBLISHED_TOP, SetName, published_sets,
+    uunifast_sets,
 )
 from rtdvs.studies.random_sets import (
     MOST_SEED, PUBLISHED_TICKS, Listed, LogUniform, require, taken, taken_uniform, uunifast,

@@ -1,4 +1,4 @@
-"""What each scheduler and governor does to the energy and to the tasks of one set."""
+"""What each scheduler and governor does to the energy and to the tasks of one set, such as the published example."""
 
 from collections.abc import Callable, Iterable, Iterator, Mapping, Sequence
 from concurrent.futures import Executor
@@ -11,7 +11,7 @@ from rtdvs.engine import (
     Answer, Call, Engine, Least, RunTotals, least_call, parse_least, parse_totals, run_call, totals_call,
 )
 from rtdvs.errors import Denied, TraceFault
-from rtdvs.model import PAIRS as ALL_PAIRS, Demands, Machine, TaskSet
+from rtdvs.model import PAIRS as ALL_PAIRS, Demands, Machine, Point, Task, TaskSet
 from rtdvs.trace import Ran, Run, Trace, task_statistics
 
 T = TypeVar("T")
@@ -61,9 +61,7 @@ class Row:
     refusal: str = ""
 
 
-KINDS = {"scheduler": "object", "governor": "object", "energy": "object", "of_none": "float64",
-         "above_bound": "float64", "switches": "Int64", "idle": "float64", "least_laxity": "float64",
-         "jitter": "float64"}
+KINDS = dict.fromkeys(HEADING, "float64") | dict.fromkeys(HEADING[:3], "object") | {"switches": "Int64"}
 
 
 class Comparison(tuple[Row, ...], _display.Shown):
@@ -133,7 +131,7 @@ def runs(engine: Engine, case: Case, pairs: Iterable[tuple[str, str]],
     >>> [parse_totals(str(text)).energy for text in runs(find_engine(), case, PAIRS[:2])]
     [8000000000, 8000000000]
     """
-    return map(text_or_denial, engine.answers(_calls(run_call, case, pairs), executor))
+    return (_or_denial(answer, str) for answer in engine.answers(_calls(run_call, case, pairs), executor))
 
 
 def totals(engine: Engine, case: Case, pairs: Iterable[tuple[str, str]],
@@ -145,7 +143,7 @@ def totals(engine: Engine, case: Case, pairs: Iterable[tuple[str, str]],
     >>> [*totals(find_engine(), case, PAIRS[:1])]
     [RunTotals(ticks=8, run_energy=8000000000, idle_energy=0)]
     """
-    return map(totals_or_denial, engine.answers(_calls(totals_call, case, pairs), executor))
+    return (_or_denial(answer, parse_totals) for answer in engine.answers(_calls(totals_call, case, pairs), executor))
 
 
 def _calls(of: Callable[[bytes, bytes, str, str, int, bytes | None], Call[T]], case: Case,
@@ -156,26 +154,18 @@ def _calls(of: Callable[[bytes, bytes, str, str, int, bytes | None], Call[T]], c
     return (of(tasks, machine, scheduler, governor, case.ticks, demands) for scheduler, governor in pairs)
 
 
-def text_or_denial(answer: Answer) -> str | Denied:
-    """Standard output of the answer, or the Denied that it is; raises any other refusal.
+def _or_denial(answer: Answer, parse: Callable[[str], T]) -> T | Denied:
+    """What an answer says, or the Denied that it is; raises any other refusal.
 
-    >>> text_or_denial(Answer(1, b"", b"denied rm y 7 6\\n"))
+    >>> _or_denial(Answer(1, b"", b"denied rm y 7 6\\n"), parse_totals)
     Denied(test='rm', asked=7, capacity=6, task='y', ticks=None)
-    """
-    try:
-        return answer.text()
-    except Denied as denied:
-        return denied
-
-
-def totals_or_denial(answer: Answer) -> RunTotals | Denied:
-    """The totals of a run, or the Denied that it is; raises any other refusal.
-
-    >>> totals_or_denial(Answer(0, b"end 8 4000 0\\n", b""))
+    >>> _or_denial(Answer(0, b"end 8 4000 0\\n", b""), parse_totals)
     RunTotals(ticks=8, run_energy=4000, idle_energy=0)
     """
-    text = text_or_denial(answer)
-    return text if isinstance(text, Denied) else parse_totals(text)
+    try:
+        return parse(answer.text())
+    except Denied as denied:
+        return denied
 
 
 def units_of(trace: Trace) -> int:
@@ -264,7 +254,7 @@ def table(rows: Sequence[Row]) -> str:
     >>> table([Row("rm", "cc", None, "denied rm y 7 6")]).splitlines()[1]
     'rm         cc        denied rm y 7 6'
     """
-    speeds = sorted({speed for row in rows if row.result for speed in row.result.residency})
+    speeds = Comparison(rows).speeds()
     heading = (*HEADING, *(f"at_{speed}" for speed in speeds))
     return _numbers.aligned([heading, *(cells(row, speeds) for row in rows)], left=2)
 
@@ -291,3 +281,57 @@ def finer_table(rows: Sequence[Row], finer: Mapping[int, Sequence[Fraction | Non
                for row, energy in zip(rows, energies)] for energies in finer.values()]
     return _numbers.aligned([heading, *((row.scheduler, row.governor, *(_numbers.decimal(share, 4) for share in column))
                                for row, *column in zip(rows, *shares))], left=2)
+
+
+# The energies of the worked example of Pillai and Shin (2001), as shares of EDF with `none`. A row has ticks k
+# times finer: periods, worst cases, demands and the ticks of the run times k, at the same speeds. The last row is
+# the paper's own.
+
+PAPER_EXAMPLE = Case(
+    TaskSet((Task("t1", 8, 12), Task("t2", 10, 12), Task("t3", 14, 4))),
+    Machine((Point(2, 3000), Point(3, 4000), Point(4, 5000))),
+    16,
+    Demands({("t1", 1): 8, ("t1", 2): 4, ("t2", 1): 4, ("t2", 2): 4, ("t3", 1): 4, ("t3", 2): 4}),
+)
+"""A tick is a millisecond, and 4 work units are one at full speed."""
+
+PAPER_PAIRS = (("edf", "none"), ("rm", "static"), ("edf", "static"), ("edf", "cc"), ("rm", "cc"), ("edf", "la"))
+PAPER_HEADING = ("k", "none", "RM static", "EDF static", "EDF cc", "RM cc", "EDF la")
+PUBLISHED = ("paper", "1.0", "1.0", "0.64", "0.52", "0.71", "0.44")
+FINER = (1, 3, 10, 100)
+
+
+def paper_shares(engine: Engine, times: int, executor: Executor | None = None) -> tuple[Fraction, ...]:
+    """The energies of the published pairs in ticks that are so much finer, each over the first.
+
+    If the ticks are 3 times finer, or a multiple of it, each completion is at a tick. Then it is seen at
+    once, as in the continuous time of the paper, and the shares are exactly those.
+
+    >>> from rtdvs import find_engine
+    >>> paper_shares(find_engine(), 3)[3:]
+    (Fraction(13, 25), Fraction(5, 7), Fraction(11, 25))
+    """
+    answers = engine.answers(_calls(totals_call, PAPER_EXAMPLE.finer(times), PAPER_PAIRS), executor)
+    energies = [parse_totals(answer.text()).energy for answer in answers]
+    return tuple(Fraction(energy, energies[0]) for energy in energies)
+
+
+def paper_lines(rows: Iterable[tuple[int, tuple[Fraction, ...]]]) -> Iterator[str]:
+    """The table line by line: its heading, a row for each k with six decimal places, the paper's own.
+
+    >>> [row.split() for row in paper_lines([(3, (Fraction(1), Fraction(5, 7)))])][1]
+    ['3', '1.000000', '0.714286']
+    """
+    yield paper_line(PAPER_HEADING)
+    for times, row in rows:
+        yield paper_line((str(times), *(_numbers.decimal(share, 6) for share in row)))
+    yield paper_line(PUBLISHED)
+
+
+def paper_line(cells: tuple[str, ...]) -> str:
+    """The cells in columns.
+
+    >>> paper_line(("3", "1.000000"))
+    '     3    1.000000'
+    """
+    return f"{cells[0]:>6}" + "".join(f"  {cell:>10}" for cell in cells[1:])

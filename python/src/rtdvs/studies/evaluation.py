@@ -3,6 +3,7 @@
 from collections import Counter, defaultdict
 from collections.abc import Collection, Generator, Iterable, Iterator, Mapping
 from concurrent.futures import Executor, Future, as_completed
+from contextlib import suppress
 from dataclasses import dataclass
 from fractions import Fraction
 from pathlib import Path
@@ -16,12 +17,9 @@ from rtdvs.errors import BadValue, Crashed, Denied
 from rtdvs.model import Demands, Machine, Point, TaskSet
 from rtdvs.studies import comparison, random_sets
 from rtdvs.studies.own import Own, scaled_to
-from rtdvs.studies.published import (
-    PUBLISHED_COUNTS, PUBLISHED_SEED, PUBLISHED_TOP, SetName, published_sets, uunifast_sets,
-)
+from rtdvs.studies.published import DRAWS, PUBLISHED_COUNTS, PUBLISHED_SEED, PUBLISHED_TOP, SetName
 from rtdvs.trace import Done, Idle, Release, Run, Trace
 
-DRAWS = {"published": published_sets, "uunifast": uunifast_sets}
 CURVES = (*(f"{scheduler} {governor}" for scheduler, governor in comparison.PAIRS), "bound")
 TENTHS = range(1, 11)
 NOT_WHOLE = "not the whole result of a set"
@@ -238,49 +236,40 @@ def measure(engine: Engine, sweep: Sweep, named: tuple[SetName, TaskSet]) -> lis
     name, tasks = named
     return [Record(name, kind, take, curve, energy)
             for kind, take in panels_of(name, sweep)
-            for curve, energy in _all_energies(engine, sweep, name, sweep.case(name, tasks, kind, take), kind)]
+            for curve, energy in _energies(engine, sweep, name, sweep.case(name, tasks, kind, take), kind)]
 
 
-def _all_energies(engine: Engine, sweep: Sweep, name: SetName, case: comparison.Case,
-                  kind: str) -> Iterator[tuple[str, Fraction | None]]:
-    """The energies of the pairs, and those of the user's own curves, unless their scheduler denies the set."""
-    denied = set[str]()
-    found = (_recounted(case.machine, comparison.runs(engine, case, comparison.PAIRS)) if name.number == 1
-             else comparison.totals(engine, case, comparison.PAIRS))
-    for curve, energy in _energies(engine, case, found):
-        if energy is None:
-            denied.add(curve.split(" ")[0])
-        yield curve, energy
+def _energies(engine: Engine, sweep: Sweep, name: SetName, case: comparison.Case,
+              kind: str) -> Iterator[tuple[str, Fraction | None]]:
+    """The bound for the units that all pairs share, the energies of the pairs, and those of the user's own curves.
+
+    Where the scheduler of these denies the set, they have none.
+    """
+    if name.number == 1:
+        found = [_recounted(case.machine, text) for text in comparison.runs(engine, case, comparison.PAIRS)]
+    else:
+        found = [*comparison.totals(engine, case, comparison.PAIRS)]
+    denied = {scheduler: each for (scheduler, _), each in zip(comparison.PAIRS, found) if isinstance(each, Denied)}
+    if "edf" in denied and not case.machine.charge:
+        raise denied["edf"]
+    if isinstance(found[0], Denied):
+        yield "bound", None
+    else:
+        least = engine.least(case.machine, units_at_top(case.machine, found[0]), case.ticks)
+        yield "bound", Fraction(least.energy, least.rounds)
+    yield from zip(CURVES, (None if isinstance(each, Denied) else Fraction(each.energy) for each in found))
     if sweep.own.scheduler in denied:
         yield from ((curve, None) for curve in sweep.own.curves())
     else:
         yield from sweep.own.energies(case, kind, name)
 
 
-def _recounted(machine: Machine, texts: Iterable[str | Denied]) -> Iterator[RunTotals | Denied]:
-    """The totals of whole traces, each of which is recounted."""
-    for text in texts:
-        if isinstance(text, Denied):
-            yield text
-        else:
-            recount(machine, text)
-            yield parse_totals(text)
-
-
-def _energies(engine: Engine, case: comparison.Case,
-              found: Iterable[RunTotals | Denied]) -> Iterator[tuple[str, Fraction | None]]:
-    """The energy of each curve: the seven pairs, by their totals, and the bound for their units, which all share."""
-    for (scheduler, governor), each in zip(comparison.PAIRS, found):
-        if isinstance(each, Denied):
-            if scheduler == "edf" and not case.machine.charge:
-                raise each
-            yield from ((("bound", None),) if (scheduler, governor) == comparison.PAIRS[0] else ())
-            yield f"{scheduler} {governor}", None
-            continue
-        if (scheduler, governor) == comparison.PAIRS[0]:
-            least = engine.least(case.machine, units_at_top(case.machine, each), case.ticks)
-            yield "bound", Fraction(least.energy, least.rounds)
-        yield f"{scheduler} {governor}", Fraction(each.energy)
+def _recounted(machine: Machine, text: str | Denied) -> RunTotals | Denied:
+    """The totals of a whole trace, which is recounted."""
+    if isinstance(text, Denied):
+        return text
+    recount(machine, text)
+    return parse_totals(text)
 
 
 def units_at_top(machine: Machine, found: RunTotals) -> int:
@@ -390,8 +379,7 @@ def finished(folder: Path, sweep: Sweep = PUBLISHED_SWEEP) -> list[SetName]:
     >>> finished(Path("absent"))
     []
     """
-    named = (_name_of(file) for file in _files(folder))
-    return sorted(name for name in named if name is not None and result_of(folder, name, sweep) is not None)
+    return sorted(name for name in _named(folder, sweep).values() if name is not None)
 
 
 def broken(folder: Path, sweep: Sweep = PUBLISHED_SWEEP) -> list[str]:
@@ -400,21 +388,18 @@ def broken(folder: Path, sweep: Sweep = PUBLISHED_SWEEP) -> list[str]:
     >>> broken(Path("absent"))
     []
     """
-    named = ((file, _name_of(file)) for file in _files(folder))
-    return [f"{file}: {NOT_WHOLE}" for file, name in named if name is None or result_of(folder, name, sweep) is None]
+    return [f"{file}: {NOT_WHOLE}" for file, name in _named(folder, sweep).items() if name is None]
 
 
-def _files(folder: Path) -> list[Path]:
-    return sorted((folder / "results").glob("*.tsv"))
-
-
-def _name_of(file: Path) -> SetName | None:
-    """The set that a file is named after, if there is one."""
-    try:
-        name = SetName.parse(file.stem)
-    except ValueError:
-        return None
-    return name if str(name) == file.stem else None
+def _named(folder: Path, sweep: Sweep) -> dict[Path, SetName | None]:
+    """The files of results, in order, each with the set whose whole result it is, and that it is named after."""
+    found: dict[Path, SetName | None] = dict.fromkeys(sorted((folder / "results").glob("*.tsv")))
+    for file in found:
+        with suppress(ValueError):
+            name = SetName.parse(file.stem)
+            if str(name) == file.stem and result_of(folder, name, sweep) is not None:
+                found[file] = name
+    return found
 
 
 # Tables
@@ -431,15 +416,21 @@ def shares(records: Iterable[Record]) -> dict[Place, list[Fraction]]:
     >>> shares(records)[8, "table1_idle0", "1", "edf cc", 7]
     [Fraction(3, 4)]
     """
-    rows = list(records)
-    base = {(row.name, row.machine, row.take): row.energy for row in rows if row.curve == CURVES[0]}
     found: defaultdict[Place, list[Fraction]] = defaultdict(list)
-    for row in rows:
-        whole = base.get((row.name, row.machine, row.take))
-        if row.energy is not None and whole:
-            name = row.name
-            found[name.count, row.machine, row.take, row.curve, name.tenths].append(row.energy / whole)
+    for (name, kind, take), by_curve in _groups(records).items():
+        whole = by_curve.get(CURVES[0])
+        for curve, energy in by_curve.items():
+            if whole and energy is not None:
+                found[name.count, kind, take, curve, name.tenths].append(energy / whole)
     return {point: sorted(energies) for point, energies in found.items()}
+
+
+def _groups(records: Iterable[Record]) -> Mapping[tuple[SetName, str, str], Mapping[str, Fraction | None]]:
+    """The energies of each set on a machine for a share, by curve."""
+    groups: defaultdict[tuple[SetName, str, str], dict[str, Fraction | None]] = defaultdict(dict)
+    for record in records:
+        groups[record.name, record.machine, record.take][record.curve] = record.energy
+    return groups
 
 
 def figure_table(panels: Iterable[Panel], found: Mapping[Place, list[Fraction]], curves: Iterable[str] = CURVES) -> str:
@@ -483,10 +474,7 @@ def faults(records: Iterable[Record], sweep: Sweep = PUBLISHED_SWEEP) -> Iterato
     >>> list(faults([Record(SetName(8, 7, 1), "table1_idle0", "1", "bound", Fraction(7, 2))]))
     ['8_7_1 table1_idle0 1: runs are missing']
     """
-    groups: defaultdict[tuple[SetName, str, str], dict[str, Fraction | None]] = defaultdict(dict)
-    for record in records:
-        groups[record.name, record.machine, record.take][record.curve] = record.energy
-    for (name, kind, take), by_curve in groups.items():
+    for (name, kind, take), by_curve in _groups(records).items():
         place = f"{name} {kind} {take}"
         board = sweep.machine(kind)
         if sorted(by_curve) != sorted(sweep.curves()):
@@ -509,6 +497,5 @@ def summary(records: Collection[Record], wrong: Collection[str]) -> str:
     >>> summary([Record(SetName(8, 7, 1), "table1_idle0", "1", "rm cc", None)], ["runs are missing"])
     '1 lines, 1 groups, 1 denied under RM, 1 faults'
     """
-    groups = {(record.name, record.machine, record.take) for record in records}
     denied = sum(record.energy is None for record in records)
-    return f"{len(records)} lines, {len(groups)} groups, {denied} denied under RM, {len(wrong)} faults"
+    return f"{len(records)} lines, {len(_groups(records))} groups, {denied} denied under RM, {len(wrong)} faults"

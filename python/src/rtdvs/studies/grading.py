@@ -68,8 +68,7 @@ def mended(content: bytes) -> tuple[list[str], tuple[str, ...]]:
         said.append(f"tabs or blanks in line{'s'[:len(changed) > 1]} {_listed(changed)}")
     if clean[-1]:
         said.append("no line feed at the end")
-        clean.append("")
-    if clean[-2:] == ["", ""]:
+    elif clean[-2:] == ["", ""]:
         said.append("empty lines at the end")
     while clean and not clean[-1]:
         clean.pop()
@@ -287,11 +286,10 @@ def common(wanted: Sequence[str], lines: Sequence[str]) -> list[str]:
     places = {line: place for place, line in enumerate(wanted)}
     ends: list[int] = []      # the least end of a chain of each length
     found: list[tuple[int, int]] = []  # each place with the length of the longest chain up to it
-    for line in lines:
-        if (place := places.get(line)) is not None:
-            length = bisect_left(ends, place)
-            ends[length:length + 1] = [place]
-            found.append((place, length))
+    for place in (places[line] for line in lines if line in places):
+        length = bisect_left(ends, place)
+        ends[length:length + 1] = [place]
+        found.append((place, length))
     chain: list[int] = []
     for place, length in reversed(found):
         if length == len(ends) - 1 - len(chain) and (not chain or place < chain[-1]):

@@ -6,7 +6,7 @@ A limit is computed, and then the program is asked for it and for the next numbe
 from collections.abc import Callable, Collection, Iterable, Iterator, Mapping, Sequence
 from concurrent.futures import Executor
 from dataclasses import dataclass, replace
-from functools import partial, reduce
+from functools import lru_cache, partial, reduce
 from math import lcm
 from operator import mul
 from typing import Self
@@ -100,13 +100,14 @@ class Demand:
         return cls(time, tuple(-(-time // period) * (place in level) for place, period in enumerate(periods)))
 
 
-def demands_by_level(periods: Sequence[int], test: str) -> list[list[Demand]]:
+@lru_cache(maxsize=1)  # all limits of a set have the same
+def demands_by_level(periods: tuple[int, ...], test: str) -> list[list[Demand]]:
     """The demands of a test, level by level; a set is admitted if one of each level fits into its time.
 
     For `response` these are some, by which a limit can be too low: those up to the last release of each task
     before the period of the level (Bini, Di Natale and Buttazzo 2008).
 
-    >>> [[demand.time for demand in level] for level in demands_by_level([8, 10, 14], "response")]
+    >>> [[demand.time for demand in level] for level in demands_by_level((8, 10, 14), "response")]
     [[8], [8, 10], [8, 10, 14]]
     """
     if test == "edf":
@@ -125,34 +126,36 @@ class Guess:
     """A limit by formula: for each level the best of its demands, and of these the one that decides.
 
     `of` gives the last number that a demand allows. Without `within` and `across` it is the greatest that is allowed
-    by one demand of each level. `learn` takes the responses of a set that was admitted, by which a limit that was too
-    low rises.
+    by one demand of each level.
 
     >>> from rtdvs import Point, Task, find_engine
     >>> tasks = TaskSet((Task("a", 8, 12), Task("b", 10, 12), Task("c", 14, 4)))
     >>> question = Question(find_engine(), tasks, Machine((Point(4, 1000),)), "response")
-    >>> Guess(question, demands_by_level([8, 10, 14], "response"), partial(worst_within, question, 0)).number()
+    >>> Guess(question, partial(worst_within, question, 0)).number()
     16
     """
 
-    def __init__(self, question: Question, levels: Sequence[Sequence[Demand]], of: Callable[[Demand], int | None],
+    def __init__(self, question: Question, of: Callable[[Demand], int | None],
                  within: Callable[[int, int], int] = max, across: Callable[[int, int], int] = min) -> None:
         self.of, self.within, self.across = of, within, across
-        self.periods = [task.period for task in question.tasks]
+        self.periods = tuple(task.period for task in question.tasks)
         self.order = sorted(range(len(self.periods)), key=self.periods.__getitem__)
         self.ranks = {question.tasks[place].name: rank for rank, place in enumerate(self.order)}
+        levels = demands_by_level(self.periods, question.test)
         self.best = [_joined(within, map(of, level)) for level in levels]  # None if each demand allows any number
 
     def number(self) -> int:
         """The last number that all levels allow."""
         return _joined(self.across, self.best) or 0
 
-    def learn(self, responses: Mapping[str, int]) -> None:
-        """Takes the demands up to the responses of a set that was admitted."""
-        for task, time in responses.items():
+    def admits(self, question: Question) -> bool:
+        """Whether the set of a question is admitted; by the demands up to its responses a limit too low rises."""
+        responses = question.answer()
+        for task, time in (responses or {}).items():
             rank = self.ranks[task]
             found = self.of(Demand.by(time, self.periods, self.order[:rank + 1]))
             self.best[rank] = _joined(self.within, (self.best[rank], found))
+        return responses is not None
 
 
 def _joined(of_two: Callable[[int, int], int], numbers: Iterable[int | None]) -> int | None:
@@ -269,7 +272,7 @@ def confirmed(above: int, holds: Callable[[int], bool], guess: Callable[[], int]
     return last(min(number for number, does in seen.items() if not does), known, held)
 
 
-def most_thousandths(question: Question, levels: Sequence[Sequence[Demand]] | None = None) -> int | None:
+def most_thousandths(question: Question) -> int | None:
     """The most thousandths that all worst cases can be multiplied by; raises as `admits`.
 
     >>> from rtdvs import Task, find_engine
@@ -278,17 +281,13 @@ def most_thousandths(question: Question, levels: Sequence[Sequence[Demand]] | No
     >>> most_thousandths(question)
     3333
     """
-    guess = Guess(question, levels or levels_of(question), partial(thousandths_within, question))
-
-    def holds(thousandths: int) -> bool:
-        return _asked(question.with_worsts(scaled([task.worst for task in question.tasks], thousandths)), guess)
-
+    guess, worsts = Guess(question, partial(thousandths_within, question)), [task.worst for task in question.tasks]
     # A task that needs more than the highest speed does in its period is admitted by no test.
     room = min(question.machine.top_speed * task.period * 1000 // task.worst for task in question.tasks)
-    return confirmed(room + 1, holds, guess.number)
+    return confirmed(room + 1, lambda number: guess.admits(question.with_worsts(scaled(worsts, number))), guess.number)
 
 
-def most_worst(question: Question, place: int, levels: Sequence[Sequence[Demand]] | None = None) -> int | None:
+def most_worst(question: Question, place: int) -> int | None:
     """The most work units that the task at this place, from 0, can have; raises as `admits`.
 
     >>> from rtdvs import Task, find_engine
@@ -297,16 +296,15 @@ def most_worst(question: Question, place: int, levels: Sequence[Sequence[Demand]
     >>> most_worst(question, 0)
     20
     """
-    guess = Guess(question, levels or levels_of(question), partial(worst_within, question, place))
-    worsts = [task.worst for task in question.tasks]
+    guess, worsts = Guess(question, partial(worst_within, question, place)), [task.worst for task in question.tasks]
 
     def holds(units: int) -> bool:
-        return _asked(question.with_worsts([*worsts[:place], units, *worsts[place + 1:]]), guess)
+        return guess.admits(question.with_worsts([*worsts[:place], units, *worsts[place + 1:]]))
 
     return confirmed(question.machine.top_speed * question.tasks[place].period + 1, holds, guess.number)
 
 
-def least_speed(question: Question, levels: Sequence[Sequence[Demand]] | None = None) -> int | None:
+def least_speed(question: Question) -> int | None:
     """The lowest whole speed, in work units per tick, with which the set is admitted if it is the only one.
 
     Raises as `admits`.
@@ -317,31 +315,13 @@ def least_speed(question: Question, levels: Sequence[Sequence[Demand]] | None = 
     >>> least_speed(question)
     1
     """
-    guess = Guess(question, levels or levels_of(question), partial(slow_within, question), min, max)
+    guess = Guess(question, partial(slow_within, question), min, max)
 
     def too_slow(speed: int) -> bool:
-        alone = Machine((Point(speed, 1),), 0, question.machine.charge)
-        return not _asked(replace(question, machine=alone), guess)
+        return not guess.admits(replace(question, machine=Machine((Point(speed, 1),), 0, question.machine.charge)))
 
     slowest = (confirmed(MOST_SPEED + 1, too_slow, guess.number) or 0) + 1
     return slowest if slowest <= MOST_SPEED else None
-
-
-def levels_of(question: Question) -> list[list[Demand]]:
-    """The demands of a question's test.
-
-    >>> from rtdvs import Task, find_engine
-    >>> levels_of(Question(find_engine(), TaskSet((Task("a", 10, 6),)), Machine((Point(2, 1000),)), "rm"))
-    [[Demand(time=10, jobs=(1,))]]
-    """
-    return demands_by_level([task.period for task in question.tasks], question.test)
-
-
-def _asked(question: Question, guess: Guess) -> bool:
-    """Whether the set is admitted; the guess learns from its responses."""
-    found = question.answer()
-    guess.learn(found or {})
-    return found is not None
 
 
 def limits_of(question: Question, executor: Executor | None = None) -> Iterator[int | None]:
@@ -356,10 +336,9 @@ def limits_of(question: Question, executor: Executor | None = None) -> Iterator[
     [3333, 1, 20]
     """
     question.admits()
-    levels = levels_of(question)
     searches: list[Callable[[], int | None]] = [
-        partial(most_thousandths, question, levels), partial(least_speed, question, levels),
-        *(partial(most_worst, question, place, levels) for place in range(len(question.tasks)))]
+        partial(most_thousandths, question), partial(least_speed, question),
+        *(partial(most_worst, question, place) for place in range(len(question.tasks)))]
     return map(_found, searches) if executor is None else executor.map(_found, searches)
 
 

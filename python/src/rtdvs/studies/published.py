@@ -107,3 +107,7 @@ def uunifast_sets(most: int, seed: int = PUBLISHED_SEED,
     periods = random_sets.LogUniform(PUBLISHED_MILLISECOND, 1000 * PUBLISHED_MILLISECOND, random_sets.PUBLISHED_TICKS)
     return ((name, random_sets.uunifast(name.count, Fraction(name.tenths, 10), OWN_SEEDS + name.seed(seed), periods,
                             PUBLISHED_TOP)) for name in set_names(most, sorted({*counts})))
+
+
+DRAWS = {"published": published_sets, "uunifast": uunifast_sets}
+"""How the sets of an evaluation are drawn."""
