@@ -13,7 +13,6 @@ from typing import Any
 from rtdvs.engine import CRATE, Call
 from rtdvs.errors import BadRequest, FileRefused
 from rtdvs.model import Demands, Machine, TaskSet
-from rtdvs.web.menu import MENU
 
 LONGEST_FIELD = 1000    # characters
 TABLES = {"tasks": ("name", "period", "worst", "offset"), "points": ("speed", "millivolts"),
@@ -24,6 +23,13 @@ MORE = ("beside", "admission", "page")
 page that asks, whose newer call ends an older one."""
 EXAMPLE_DATA = ("crates", "example_runs", "data")
 Rows = Sequence[Mapping[str, str]]
+MENU = {
+    "paper": "Three tasks on three speeds, from the paper of Pillai and Shin (2001), with demands.",
+    "controller": "A controller on a battery: six tasks, four speeds, an idle share and a charge for switches.",
+    "ahead": "Three tasks for which look-ahead (la) asks for more than the highest speed.",
+    "offsets": "Two tasks, the second of which is released for the first time at tick 2.",
+}
+"""The examples of the menu: their folders, the first one first, and a sentence for each."""
 START: dict[str, object] = {
     "name": "late", "about": "Two tasks that EDF admits. Under RM, which denies them, b misses its deadline.",
     "example": {

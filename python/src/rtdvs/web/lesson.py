@@ -22,21 +22,20 @@ Its file is TOML, and names the files of its examples; their names begin at its 
 """
 
 from collections.abc import Callable, Iterator, Mapping
-from contextlib import contextmanager
 from dataclasses import MISSING, dataclass
 from functools import partial
-from itertools import combinations
+from itertools import combinations, permutations
 from pathlib import Path
 from typing import Any, TypeVar
 
 from rtdvs.engine import Engine, run_call
-from rtdvs.errors import BadValue, Denied, FileRefused, Refused
+from rtdvs.errors import BadValue, FileRefused, Refused
 from rtdvs.model import (
     Demands, Governor, Machine, Pair, Scheduler, Table, TaskSet, checked_name, checked_number, document, load, pair_of,
 )
 from rtdvs.rules import simulate
 from rtdvs.trace import Trace
-from rtdvs.web import data, unadmitted
+from rtdvs.web import data
 
 MOST_EXAMPLES = 100
 MOST_LESSON_TEXT = 1    # mebibytes of explanations of a run
@@ -164,27 +163,12 @@ def _pair(entry: Mapping[str, Any]) -> LessonPair:
 
 # Runs
 
-@contextmanager
-def _placed(example: int, pair: int) -> Iterator[None]:
-    """A refusal of a run has its place in the lesson."""
-    try:
-        yield
-    except Refused as fault:
-        raise FileRefused("lesson", f"pair {pair}: {fault}", example) from None
-
-
 def run_of(example: LessonExample, chosen: LessonPair, engine: Engine) -> tuple[str, str]:
     """The text of a run's trace, and a note if it is the package's; raises EngineError and Refused."""
-    files = example.tasks, example.machine
-    try:
-        call = run_call(*files, *chosen.pair, example.ticks, example.demands)
-        return engine.answer(call).text(), ""
-    except Denied as denied:
-        if chosen.missed == "stop":
-            raise
-        scheduler, governor = chosen.pair
-        trace = simulate(*files, scheduler, example.ticks, governor, example.demands, missed=chosen.missed)
-        return trace.text(), unadmitted.not_the_programs(denied)
+    files, (scheduler, governor) = (example.tasks, example.machine), chosen.pair
+    own = partial(simulate, *files, scheduler, example.ticks, governor, example.demands, missed=chosen.missed)
+    call = run_call(*files, scheduler, governor, example.ticks, example.demands)
+    return data.run_text(engine, call, None if chosen.missed == "stop" else own)
 
 
 def lesson_data(lesson: Lesson, engine: Engine) -> dict[str, object]:
@@ -199,20 +183,21 @@ def example_data(example: LessonExample, place: int, engine: Engine) -> dict[str
 
     Raises as `lesson_data`; `place` is that of the example.
     """
-    pages: list[dict[str, Any]] = []
-    traces: list[Trace] = []
+    pages, traces = list[dict[str, Any]](), list[Trace]()
+    shown = data.Shown(example.tasks, example.machine, example.demands, MOST_LESSON_TEXT)
     for number, chosen in enumerate(example.pairs, 1):
-        with _placed(place, number):
+        try:
             text, note = run_of(example, chosen, engine)
-            shown = data.Shown(example.tasks, example.machine, example.demands, MOST_LESSON_TEXT)
             pages.append(data.page_data({"": text}, shown, {"": note}))
-            traces.append(Trace.parse(text))
+        except Refused as fault:  # a refusal of a run has its place in the lesson
+            raise FileRefused("lesson", f"pair {number}: {fault}", place) from None
+        traces.append(Trace.parse(text))
     return {
         "name": example.name, "title": example.title, "text": example.text,
         "pairs": [{"name": chosen.name, "title": " ".join(chosen.pair), "text": chosen.text}
                   for chosen in example.pairs],
         "page": {key: value for key, value in pages[0].items() if key not in ("sheets", "apart")},
         "sheets": [page["sheets"][0] for page in pages],
-        "apart": {f"{one} {two}": data.apart(traces[one], traces[two]) for one in range(len(traces))
-                  for two in range(len(traces)) if one != two},
+        "apart": {f"{one} {two}": data.apart(traces[one], traces[two])
+                  for one, two in permutations(range(len(traces)), 2)},
     }
