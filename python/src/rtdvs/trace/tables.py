@@ -4,7 +4,7 @@ Times are exact decimals of ticks with six places, rounded half to even, and who
 Energies are whole numbers.
 """
 
-from collections.abc import Callable, Iterator
+from collections.abc import Iterator
 from fractions import Fraction
 
 from rtdvs import _display, _numbers
@@ -43,10 +43,9 @@ def rows(trace: Noted, table: str = "segments", charge: int = 0) -> Iterator[tup
     >>> [row[2:7] for row in rows(Trace.parse(SAMPLE), "jobs")]
     [(0, 2, Fraction(3, 2), Fraction(3, 2), Fraction(1, 2))]
     """
-    makers: dict[str, Callable[[], Iterator[tuple[_display.Cell, ...]]]] = {
-        "segments": lambda: _segments(trace), "jobs": lambda: _jobs(trace, charge),
-        "decisions": lambda: _decisions(trace)}
-    return makers[table]()
+    if table == "jobs":
+        return _jobs(trace, charge)
+    return {"segments": _segments, "decisions": _decisions}[table](trace)
 
 
 def _decisions(trace: Noted) -> Iterator[tuple[_display.Cell, ...]]:
