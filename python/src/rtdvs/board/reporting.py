@@ -6,9 +6,9 @@ from fractions import Fraction
 from math import ceil, floor
 
 from rtdvs._numbers import aligned, plain, rounded
-from rtdvs.board import description, energy
+from rtdvs.board.description import Board
 from rtdvs.board.scale import Design, usual_demands
-from rtdvs.board.units import Units
+from rtdvs.board.units import Spent, Units
 from rtdvs.errors import Denied
 from rtdvs.model import PAIRS, Demands
 from rtdvs.rules import simulate
@@ -45,7 +45,7 @@ class Asked:
     switches: Fraction = Fraction(0)
 
     @classmethod
-    def by(cls, board: description.Board) -> "Asked":
+    def by(cls, board: Board) -> "Asked":
         """Before rounding."""
         speed = board.rising[-1].megahertz * 1000
         switches = 2 * board.switch / 1000 * speed
@@ -113,7 +113,7 @@ def run_ticks(made: Design, milliseconds: Fraction | None = None) -> int:
 
     >>> from rtdvs.board.scale import Scale, design
     >>> text = 'task = [{name = "a", period_ms = 5, worst_cycles = 1}]\\npoint = [{mhz = 1, volts = 1}]'
-    >>> run_ticks(design(description.Board.parse(text), Scale(Fraction(1), Fraction(1))))
+    >>> run_ticks(design(Board.parse(text), Scale(Fraction(1), Fraction(1))))
     5
     """
     if milliseconds is not None:
@@ -123,7 +123,7 @@ def run_ticks(made: Design, milliseconds: Fraction | None = None) -> int:
     return max(1, min(made.tasks.hyperperiod, max(longest, FEW_JOBS // jobs), MOST_JOBS // jobs))
 
 
-def report(board: description.Board, made: Design, ticks: int) -> Iterator[str]:
+def report(board: Board, made: Design, ticks: int) -> Iterator[str]:
     """The report's tables; the runs of pairs have these ticks. Raises BadValue."""
     asked = Asked.by(board), Asked.by_files(made)
     yield aligned([("at the highest speed", "exact", "rounded"), *_admission(asked), *_responses(asked), *_most(asked)])
@@ -136,7 +136,7 @@ def report(board: description.Board, made: Design, ticks: int) -> Iterator[str]:
     yield aligned([*_cost_rows(board, made.milliseconds(ticks), pair_costs(board, made, ticks))])
 
 
-def unserved(board: description.Board, made: Design) -> str:
+def unserved(board: Board, made: Design) -> str:
     """A line if even the highest speed is too slow, for the board or for its files; empty if it isn't."""
     for asked, what in ((Asked.by(board), "board"), (Asked.by_files(made), "board in this tick and unit")):
         if asked.utilisation > 1:
@@ -175,10 +175,10 @@ class PairCost:
 
     scheduler: str
     governor: str
-    spent: Mapping[str, energy.Spent]
+    spent: Mapping[str, Spent]
 
 
-def pair_costs(board: description.Board, made: Design, ticks: int) -> tuple[PairCost, ...]:
+def pair_costs(board: Board, made: Design, ticks: int) -> tuple[PairCost, ...]:
     """What each pair costs in a run of these ticks; with `usual` only if the board says what jobs usually take.
 
     Raises BadValue if no power was measured.
@@ -197,7 +197,7 @@ def pair_costs(board: description.Board, made: Design, ticks: int) -> tuple[Pair
     return tuple(found)
 
 
-def _cost_rows(board: description.Board, time: Fraction, costs: Sequence[PairCost]) -> Iterator[tuple[str, ...]]:
+def _cost_rows(board: Board, time: Fraction, costs: Sequence[PairCost]) -> Iterator[tuple[str, ...]]:
     cases = dict.fromkeys(case for cost in costs for case in cost.spent)
     hours = () if board.battery is None else ("hours",)
     yield f"{plain(time)} ms", *(word for case in cases for word in (f"{case} mW", *hours))

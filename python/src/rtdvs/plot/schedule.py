@@ -5,7 +5,7 @@ background, and colours that can be read on white and on dark.
 """
 
 import math
-from collections.abc import Iterable, Iterator, Sequence
+from collections.abc import Iterable, Sequence
 from dataclasses import dataclass, field, replace
 from fractions import Fraction
 from functools import cached_property, partial
@@ -111,6 +111,8 @@ class _Frame:
     first: int
     last: int
     top: int
+    names: tuple[str, ...]
+    labels: _labels.Labels
     left_out: set[str] = field(default_factory=set)  # what the legend has to say of what isn't drawn
 
     def thinned(self, places: Iterable[float]) -> list[float]:
@@ -124,17 +126,14 @@ class _Frame:
     @cached_property
     def near(self) -> int:
         """The pixels between two marks of a kind in a row, at least NEAR, for at most MOST_MARKS in the picture."""
-        rows = [list(filter(self.is_shown, places)) for places in self._places()]
+        jobs = [*self.jobs.values()]
+        places: Iterable[Iterable[float]] = chain(
+            ((job.release for job in row) for row in jobs),
+            ((job.deadline for job in row if job.deadline is not None) for row in jobs),
+            ((done.at for done in row) for row in self.complete.values()))
+        rows = [list(filter(self.is_shown, of_kind)) for of_kind in places]
         return next(near for near in count(NEAR, NEAR)
                     if sum(len(_thinning.thin(row, near / self.scale)) for row in rows) <= MOST_MARKS)
-
-    def _places(self) -> Iterator[Iterable[float]]:
-        """The ticks of the marks of each kind in each row."""
-        for row in self.jobs.values():
-            yield (job.release for job in row)
-            yield (job.deadline for job in row if job.deadline is not None)
-        for complete in self.complete.values():
-            yield (done.at for done in complete)
 
     def coarse(self, pixels: float) -> float:
         """Pixels, as many times more as marks that are drawn apart are farther from each other than usual."""
@@ -155,14 +154,6 @@ class _Frame:
     @cached_property
     def complete(self) -> dict[str, list[_thinning.Completion]]:
         return _thinning.completions(self.trace, self.jobs)
-
-    @cached_property
-    def names(self) -> tuple[str, ...]:
-        return self.trace.names
-
-    @cached_property
-    def labels(self) -> _labels.Labels:
-        return _labels.labels_of(self.view.units)
 
     @cached_property
     def misses(self) -> tuple[Miss, ...]:
@@ -212,7 +203,8 @@ class _Frame:
 def _frame(trace: Trace, axes: Any, view: View) -> _Frame:
     view = settled(trace, view)
     assert view.last is not None and view.top is not None
-    return _Frame(trace, axes, view, view.first, view.last, view.top)
+    labels = _labels.labels_of(view.units)
+    return _Frame(trace, axes, view, view.first, view.last, view.top, trace.names, labels)
 
 
 def plot_trace(trace: Trace, axes: _style.Axes, view: View = View()) -> None:
