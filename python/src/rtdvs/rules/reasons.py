@@ -3,7 +3,7 @@
 from collections.abc import Callable, Mapping
 from typing import Any
 
-from rtdvs.model import Point, Task
+from rtdvs.model import Task
 from rtdvs.rules.state import Latest, State
 from rtdvs.rules.step import DECISION, Step
 from rtdvs.rules.terms import TERMS, speeds
@@ -113,19 +113,20 @@ class Reasons:
             return f"the decision at tick {state.now} is missing"
         return ""
 
-    def _segment(self, note: Run | Idle, point: Point) -> str:
+    def _segment(self, note: Run | Idle) -> str:
         """Why the place or the energy of a segment is wrong, or an empty text."""
-        state, units, speed = self.state, note.units, point.speed
+        state, units, point = self.state, note.units, self.state.point
+        assert point is not None
         if note.begin != (state.now, state.behind):
             return f"the trace is at {state.position}"
         room, end = self.step.room()
         if not 1 <= units <= room:
             events = {state.last.seen: "a decision", self.ticks: "the end", state.first_deadline: "a release"}
             event = events.get(end, "another job's turn")
-            return f"{units} units: at speed {speed} there are {room} up to {event} at tick {end}"
-        after = state.after(units, speed)
+            return f"{units} units: at speed {point.speed} there are {room} up to {event} at tick {end}"
+        after = state.after(units, point.speed)
         if note.end != after:
-            return f"{units} units at speed {speed} end at {after}"
+            return f"{units} units at speed {point.speed} end at {after}"
         factor = 1000 if isinstance(note, Run) else state.plan.machine.idle
         return wrong_energy(note, point.millivolts, factor)
 
@@ -153,18 +154,14 @@ class Reasons:
             return self._not_next(note, job)
         if note.units > job.need - job.used:
             return f"{job} has {job.need - job.used} units left"
-        assert self.state.point is not None
-        if fault := self._segment(note, self.state.point):
-            return fault
-        return f"{job} gets {self.step.whole} units here"
+        return self._segment(note) or f"{job} gets {self.step.whole} units here"
 
     def _idle(self, note: Idle) -> str:
         if fault := self._not_running():
             return fault
         if job := self.state.first:
             return f"{job} is not complete: it has had {job.used} units"
-        assert self.state.point is not None
-        return self._segment(note, self.state.point) or f"{self.step.whole} units are idle here"
+        return self._segment(note) or f"{self.step.whole} units are idle here"
 
     def _done(self, note: Done) -> str:
         if fault := self._unknown(note.task):
@@ -190,6 +187,5 @@ class Reasons:
         self.state.all_met()
         if note.ticks != self.ticks:
             return f"the run has {self.ticks} ticks"
-        if fault := wrong_sums(note, self.step.summary.run_energy, self.step.summary.idle_energy):
-            return fault
-        return closing_fault(note, self.version, next(iter(self.step.closing), ""), 0)
+        return (wrong_sums(note, self.step.summary.run_energy, self.step.summary.idle_energy)
+                or closing_fault(note, self.version, next(iter(self.step.closing), ""), 0))

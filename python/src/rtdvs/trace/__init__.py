@@ -7,8 +7,7 @@ have passed; as a time it is an exact fraction of ticks, the units over the spee
 
 from rtdvs.trace._belongs import wrong_energy, wrong_sums
 from rtdvs.trace._noted import Noted
-from rtdvs.trace.jobs import Job, Ran, ran_at
-from rtdvs.trace.misses import Miss, Missed, is_late, late_jobs, split_governor
+from rtdvs.trace.jobs import Job, Miss, Missed, Ran, is_late, late_jobs, ran_at, split_governor
 from rtdvs.trace.notes import Decision, Done, End, Head, Idle, Line, Note, Position, Release, Run, TaskEnergy, task_text
 from rtdvs.trace.reader import NO_FRACTION, Reader, closing_fault, lines_of, parse_lines
 from rtdvs.trace.per_task import COLUMNS, Statistics, TaskStatistics, task_statistics

@@ -6,7 +6,7 @@ from itertools import takewhile
 from rtdvs.errors import TraceFault
 from rtdvs.model import Machine, Task, TaskSet
 from rtdvs.trace import _belongs, jobs
-from rtdvs.trace.misses import Miss, Missed, late_jobs, split_governor
+from rtdvs.trace.jobs import Miss, Missed, late_jobs, split_governor
 from rtdvs.trace.notes import Decision, Done, Note, Release, Run
 
 

@@ -8,8 +8,7 @@ from rtdvs._display import Cell, Shown
 from rtdvs._numbers import decimal
 from rtdvs.model import TaskSet
 from rtdvs.trace._noted import Noted
-from rtdvs.trace.jobs import Job
-from rtdvs.trace.misses import is_late
+from rtdvs.trace.jobs import Job, is_late
 
 
 @dataclass(frozen=True, slots=True)

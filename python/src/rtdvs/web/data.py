@@ -166,17 +166,12 @@ def parting(first: Trace, second: Trace) -> tuple[Fraction, str, str] | None:
     (True, (Fraction(3, 2), 'idle at speed 2', 't 1 at speed 2'))
     """
     for one, two in zip(segments(first), segments(second), strict=False):
-        if one[2] != two[2]:
-            return max(one[0], two[0]), one[2], two[2]
-        if one[1] != two[1]:
-            return _after(first, second, min(one[1], two[1]))
+        if one != two:
+            time = one[0] if one[2] != two[2] else min(one[1], two[1])
+            does = [next((words for _, end, words in segments(trace) if end > time), "nothing")
+                    for trace in (first, second)]
+            return time, does[0], does[1]
     return None
-
-
-def _after(first: Trace, second: Trace, time: Fraction) -> tuple[Fraction, str, str]:
-    """What two schedules do from a time on."""
-    does = [next((words for _, end, words in segments(trace) if end > time), "nothing") for trace in (first, second)]
-    return time, does[0], does[1]
 
 
 def apart(first: Trace, second: Trace, units: Units | None = None) -> dict[str, object]:
