@@ -3,6 +3,7 @@
 from collections.abc import Iterator, Mapping, Sequence
 from dataclasses import dataclass
 from fractions import Fraction
+from itertools import product
 from math import ceil, floor
 
 from rtdvs._numbers import aligned, plain, rounded
@@ -126,7 +127,7 @@ def run_ticks(made: Design, milliseconds: Fraction | None = None) -> int:
 def report(board: Board, made: Design, ticks: int) -> Iterator[str]:
     """The report's tables; the runs of pairs have these ticks. Raises BadValue."""
     asked = Asked.by(board), Asked.by_files(made)
-    yield aligned([("at the highest speed", "exact", "rounded"), *_admission(asked), *_responses(asked), *_most(asked)])
+    yield aligned([("at the highest speed", "exact", "rounded"), *_asked_rows(asked)])
     if line := unserved(board, made):
         yield f"{line}\n"
         return
@@ -144,25 +145,19 @@ def unserved(board: Board, made: Design) -> str:
     return ""
 
 
-def _admission(asked: tuple[Asked, Asked]) -> Iterator[tuple[str, ...]]:
+def _asked_rows(asked: tuple[Asked, Asked]) -> Iterator[tuple[str, ...]]:
+    """What tasks ask before rounding, and after it: utilisation, admission, responses, and the most cycles of each."""
     yield "utilisation", *(rounded(each.utilisation) for each in asked)
     yield "EDF", *("admitted" if each.utilisation <= 1 else "denied" for each in asked)
     late = [each.late_under_rm() for each in asked]
     yield "RM", *(f"denied {name}" if name else "admitted" for name in late)
-
-
-def _responses(asked: tuple[Asked, Asked]) -> Iterator[tuple[str, ...]]:
     for place, load in enumerate(asked[0].loads):
         times = [each.response(place) for each in asked]
         yield f"response under RM: {load.name}", *("late" if time is None else f"{rounded(time)} ms" for time in times)
-
-
-def _most(asked: tuple[Asked, Asked]) -> Iterator[tuple[str, ...]]:
-    for place, load in enumerate(asked[0].loads):
-        for scheduler in ("edf", "rm"):
-            most = [each.most(place, scheduler) for each in asked]
-            yield (f"most cycles under {scheduler.upper()}: {load.name}",
-                   *("-" if cycles is None else str(floor(cycles)) for cycles in most))
+    for (place, load), scheduler in product(enumerate(asked[0].loads), ("edf", "rm")):
+        most = [each.most(place, scheduler) for each in asked]
+        yield (f"most cycles under {scheduler.upper()}: {load.name}",
+               *("-" if cycles is None else str(floor(cycles)) for cycles in most))
 
 
 @dataclass(frozen=True, slots=True)

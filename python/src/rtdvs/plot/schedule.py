@@ -17,7 +17,7 @@ from rtdvs.board import Units
 from rtdvs.errors import BadValue
 from rtdvs.plot import _labels, _style, _thinning
 from rtdvs.plot._style import INK, POINT, SMALL, TEXT, save, words
-from rtdvs.trace import Decision, Job, Miss, Trace, late_jobs
+from rtdvs.trace import Decision, Job, Trace, is_late
 
 # Lengths are in pixels, 96 to the inch.
 ROW = 58            # a task's row
@@ -149,15 +149,12 @@ class _Frame:
 
     @cached_property
     def jobs(self) -> dict[str, list[Job]]:
-        return _thinning.by_task(self.names, self.trace.jobs())
+        jobs = self.trace.jobs()
+        return {name: [job for job in jobs if job.task == name] for name in self.names}
 
     @cached_property
     def complete(self) -> dict[str, list[_thinning.Completion]]:
         return _thinning.completions(self.trace, self.jobs)
-
-    @cached_property
-    def misses(self) -> tuple[Miss, ...]:
-        return late_jobs(self.trace.numbered(), chain.from_iterable(self.jobs.values()), self.trace.ticks)
 
     @cached_property
     def width(self) -> float:
@@ -350,7 +347,7 @@ def _draw_rows(frame: _Frame) -> None:
         _beside(frame, floor + 10, facts)
         _draw_arrows(frame, row, RELEASES, [job.release for job in jobs[name]])
         _draw_arrows(frame, row, DEADLINES, [job.deadline for job in jobs[name] if job.deadline is not None])
-        _draw_misses(frame, row, [miss.due for miss in frame.misses if miss.task == name])
+        _draw_misses(frame, row, [job for job in jobs[name] if is_late(job, trace.ticks)])
         places = set(frame.thinned(done.at for done in complete[name]))
         kept = [done for done in complete[name] if done.at in places]
         _draw_completions(frame, row, kept)
@@ -367,8 +364,9 @@ def _draw_arrows(frame: _Frame, row: int, arrow: _Arrow, ticks: Sequence[int]) -
                     markersize=6 * POINT, markeredgewidth=1.6 * POINT, gid=f"{arrow.kind}-{frame.names[row]}", **style)
 
 
-def _draw_misses(frame: _Frame, row: int, ticks: Sequence[int]) -> None:
+def _draw_misses(frame: _Frame, row: int, late: Sequence[Job]) -> None:
     """Draws a cross at each deadline that a task's jobs miss, at the height of a deadline's arrow."""
+    ticks = (job.deadline for job in late if job.deadline is not None)
     kept = _thinning.thin(filter(frame.is_shown, ticks), NEAR / frame.scale)
     if kept:
         frame.axes.plot(kept, [frame.floor(row) + DUE] * len(kept), linestyle="none", marker="X", color=MISS,
@@ -471,7 +469,7 @@ def _draw_legend(frame: _Frame, has_idle: bool) -> None:
         _sign(f"done: {what}" + (", with the charge" if frame.view.charge else ""), "white", "o",
               markeredgecolor=RIM),
         _sign("speed", INK, "", linestyle="-"), _sign("demand (dot: decision)", DEMAND, "o", linestyle=DOTS)]
-    if frame.misses:
+    if any(is_late(job, frame.trace.ticks) for job in chain.from_iterable(frame.jobs.values())):
         handles.append(_sign("missed deadline", MISS, "X", fillstyle="full", markersize=9 * POINT, markeredgewidth=0))
     if has_idle:
         handles.append(_style.patch("idle", INK, 0.3))

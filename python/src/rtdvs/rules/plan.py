@@ -197,10 +197,8 @@ class Plan:
         >>> EXAMPLE.lowest(4, 2), EXAMPLE.lowest(9, 2)
         (Point(speed=2, millivolts=3000), Point(speed=4, millivolts=5000))
         """
-        for point in self.machine.points:
-            if num <= point.speed * den:
-                return point
-        return self.machine.points[-1]
+        points = self.machine.points
+        return next((point for point in points if num <= point.speed * den), points[-1])
 
     def needs(self, demands: Demands) -> Needs:
         """What the named jobs need.

@@ -1,6 +1,5 @@
 """What the server answers to an example: its run, its comparison, or a refusal with its field and its meaning."""
 
-import json
 import sys
 import traceback
 from collections.abc import Callable, Mapping
@@ -22,19 +21,6 @@ MOST_SERVED_TEXT = 2    # mebibytes of explanations
 LONGEST_LINE = 300      # characters of a fault of the server
 Found = dict[str, object]
 """An answer, which is sent as JSON."""
-
-
-def example_of(body: bytes) -> Example:
-    """The example of a request; raises BadRequest.
-
-    >>> example_of(b"{")
-    Traceback (most recent call last):
-    rtdvs.errors.BadRequest: not an example
-    """
-    try:
-        return Example.of(json.loads(body))
-    except (ValueError, RecursionError):
-        raise errors.BadRequest("not an example") from None
 
 
 def run_answer(example: Example, engine: Engine) -> Found:

@@ -48,22 +48,6 @@ class Example:
     demands: Rows
     single: Mapping[str, str]
 
-    @classmethod
-    def of(cls, found: Any) -> "Example":
-        """The example of a JSON value; raises BadRequest.
-
-        >>> Example.of({"tasks": []})
-        Traceback (most recent call last):
-        rtdvs.errors.BadRequest: not an example
-        """
-        try:
-            tables = {kind: [{name: field_text(row.get(name, "")) for name in names} for row in found[kind]]
-                      for kind, names in TABLES.items()}
-            more = {name: field_text(found.get(name, "")) for name in MORE}
-            return cls(**tables, single={name: field_text(found[name]) for name in SINGLE} | more)
-        except (AttributeError, KeyError, TypeError, ValueError):
-            raise BadRequest("not an example") from None
-
     def files(self) -> dict[str, str]:
         """The files, in which a field that isn't a whole number stays a text, so that it is refused there."""
         settings = [f"{name} = {_value(self.single[name])}" for name in ("idle", "charge") if self.single[name]]
@@ -114,6 +98,23 @@ class Example:
             return sum(ticks // int(task["period"]) + 1 for task in self.tasks)
         except (ValueError, ZeroDivisionError):
             return 0
+
+
+def example_of(body: bytes) -> Example:
+    """The example of a request; raises BadRequest.
+
+    >>> example_of(b'{"tasks": []}')
+    Traceback (most recent call last):
+    rtdvs.errors.BadRequest: not an example
+    """
+    try:
+        found = json.loads(body)
+        tables = {kind: [{name: field_text(row.get(name, "")) for name in names} for row in found[kind]]
+                  for kind, names in TABLES.items()}
+        more = {name: field_text(found.get(name, "")) for name in MORE}
+        return Example(**tables, single={name: field_text(found[name]) for name in SINGLE} | more)
+    except (AttributeError, KeyError, RecursionError, TypeError, ValueError):
+        raise BadRequest("not an example") from None
 
 
 def field_text(value: Any) -> str:

@@ -28,11 +28,9 @@ from itertools import combinations, permutations
 from pathlib import Path
 from typing import Any, TypeVar
 
+from rtdvs import model
 from rtdvs.engine import Engine, run_call
 from rtdvs.errors import BadValue, FileRefused, Refused
-from rtdvs.model import (
-    Demands, Governor, Machine, Pair, Scheduler, Table, TaskSet, checked_name, checked_number, document, load, pair_of,
-)
 from rtdvs.rules import simulate
 from rtdvs.trace import Trace
 from rtdvs.web import data
@@ -46,11 +44,11 @@ T = TypeVar("T")
 class LessonPair:
     """A pair of an example, and what is said of its run. With "drop" for `missed` the set may be denied.
 
-    >>> LessonPair((Scheduler.EDF, Governor.CC), "Watch tick 3.").name
+    >>> LessonPair((model.Scheduler.EDF, model.Governor.CC), "Watch tick 3.").name
     'edf-cc'
     """
 
-    pair: Pair
+    pair: model.Pair
     text: str
     missed: str = "stop"
 
@@ -67,9 +65,9 @@ class LessonExample:
     name: str
     title: str
     text: str
-    tasks: TaskSet
-    machine: Machine
-    demands: Demands | None
+    tasks: model.TaskSet
+    machine: model.Machine
+    demands: model.Demands | None
     ticks: int
     pairs: tuple[LessonPair, ...]
 
@@ -90,7 +88,7 @@ class Lesson:
         Traceback (most recent call last):
         rtdvs.errors.FileRefused: lesson: missing title
         """
-        top = document(load(path), "lesson", "title", "text", "example")
+        top = model.document(model.load(path), "lesson", "title", "text", "example")
         found = (_text(top.values, "title", top.fault), _text(top.values, "text", top.fault, ""))
         examples = tuple(_example(table, path.parent) for table in top.array(MOST_EXAMPLES))
         _check_different("examples", [example.name for example in examples], top.fault)
@@ -112,23 +110,23 @@ def _check_different(of: str, names: list[str], fault: Callable[[str], Refused])
             raise fault(f"{of} {first} and {second} have one name")
 
 
-def _example(table: Table, folder: Path) -> LessonExample:
+def _example(table: model.Table, folder: Path) -> LessonExample:
     table.refuse_others("name", "title", "text", "tasks", "machine", "demands", "ticks", "pair")
     values, text = table.values, partial(_text, table.values, fault=table.fault)
-    name = checked_name(values.get("name", MISSING), table.fault)
+    name = model.checked_name(values.get("name", MISSING), table.fault)
     title, about = text("title"), text("text", default="")
-    tasks = _read(TaskSet.read, folder / text("tasks"), table)
-    machine = _read(Machine.read, folder / text("machine"), table)
+    tasks = _read(model.TaskSet.read, folder / text("tasks"), table)
+    machine = _read(model.Machine.read, folder / text("machine"), table)
     demands = None
     if "demands" in values:
-        demands = _read(lambda path: Demands.read(path, tasks), folder / text("demands"), table)
-    ticks = checked_number("ticks", values.get("ticks", MISSING), table.fault)
+        demands = _read(lambda path: model.Demands.read(path, tasks), folder / text("demands"), table)
+    ticks = model.checked_number("ticks", values.get("ticks", MISSING), table.fault)
     pairs = tuple(_pairs(table))
     _check_different("pairs", [pair.name for pair in pairs], table.fault)
     return LessonExample(name, title, about, tasks, machine, demands, ticks, pairs)
 
 
-def _read(read: Callable[[Path], T], path: Path, table: Table) -> T:
+def _read(read: Callable[[Path], T], path: Path, table: model.Table) -> T:
     """What is in a file; a refusal has its name and the place of the example."""
     try:
         return read(path)
@@ -137,7 +135,7 @@ def _read(read: Callable[[Path], T], path: Path, table: Table) -> T:
         raise table.fault(f"{path}: {reason}") from None
 
 
-def _pairs(table: Table) -> Iterator[LessonPair]:
+def _pairs(table: model.Table) -> Iterator[LessonPair]:
     found = table.values.get("pair", [])
     if not isinstance(found, list) or not all(isinstance(entry, dict) for entry in found):
         raise table.fault("wrong kind of pair")
@@ -158,7 +156,7 @@ def _pair(entry: Mapping[str, Any]) -> LessonPair:
     missed = _text(entry, "missed", BadValue, "stop")
     if missed not in ("stop", "drop"):
         raise BadValue(f"missed is stop or drop, not {missed}")
-    return LessonPair(pair_of(*words), _text(entry, "text", BadValue, ""), missed)
+    return LessonPair(model.pair_of(*words), _text(entry, "text", BadValue, ""), missed)
 
 
 # Runs

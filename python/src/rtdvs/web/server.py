@@ -22,8 +22,8 @@ from typing import Any
 from rtdvs.engine import Engine, Stop
 from rtdvs.errors import BadRequest
 from rtdvs.web import answers, data
-from rtdvs.web.answers import example_of, failed
-from rtdvs.web.example import Example, examples
+from rtdvs.web.answers import failed
+from rtdvs.web.example import Example, example_of, examples
 
 HOST = "127.0.0.1"
 PORT = 8017
@@ -37,6 +37,8 @@ LONGEST_CALL = 10.0     # seconds
 LONGEST_TRY = 300.0     # seconds, where `rt try` has to compile first
 POLICY = ("default-src 'none'; script-src 'self'; style-src 'self'; connect-src 'self'; base-uri 'none'; "
           "form-action 'none'; frame-ancestors 'none'")
+UNAVAILABLE = b"HTTP/1.0 503 Service Unavailable\r\nContent-Length: 0\r\nConnection: close\r\n\r\n"
+"""An answer without a body."""
 
 
 @dataclass(eq=False, slots=True)
@@ -52,7 +54,7 @@ class Visit:
         """Ends its calls, and its connection: its thread then waits for no more bytes. It waits for nothing."""
         self.stop.end()
         with suppress(OSError):
-            self.connection.send(_bare(HTTPStatus.SERVICE_UNAVAILABLE), socket.MSG_DONTWAIT)
+            self.connection.send(UNAVAILABLE, socket.MSG_DONTWAIT)
         with suppress(OSError):
             self.connection.shutdown(socket.SHUT_RDWR)
 
@@ -185,12 +187,7 @@ def _refuse_at_once(connection: socket.socket) -> None:
     with suppress(OSError):
         connection.recv(2**16)
     with suppress(OSError):
-        connection.sendall(_bare(HTTPStatus.SERVICE_UNAVAILABLE))
-
-
-def _bare(status: HTTPStatus) -> bytes:
-    """An answer without a body."""
-    return f"HTTP/1.0 {status.value} {status.phrase}\r\nContent-Length: 0\r\nConnection: close\r\n\r\n".encode()
+        connection.sendall(UNAVAILABLE)
 
 
 class _Late(Exception):
