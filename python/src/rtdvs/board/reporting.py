@@ -130,11 +130,10 @@ def report(board: Board, made: Design, ticks: int) -> Iterator[str]:
     yield aligned([("at the highest speed", "exact", "rounded"), *_asked_rows(asked)])
     if line := unserved(board, made):
         yield f"{line}\n"
-        return
-    if reason := Units(board, made).no_power():
+    elif reason := Units(board, made).no_power():
         yield f"no power: {reason}\n"
-        return
-    yield aligned([*_cost_rows(board, made.milliseconds(ticks), pair_costs(board, made, ticks))])
+    else:
+        yield aligned([*_cost_rows(board, made.milliseconds(ticks), pair_costs(board, made, ticks))])
 
 
 def unserved(board: Board, made: Design) -> str:

@@ -10,8 +10,9 @@ from rtdvs.trace._noted import Noted
 from rtdvs.trace.jobs import Job, Miss, Missed, Ran, is_late, late_jobs, ran_at, split_governor
 from rtdvs.trace.notes import Decision, Done, End, Head, Idle, Line, Note, Position, Release, Run, TaskEnergy, task_text
 from rtdvs.trace.reader import NO_FRACTION, Reader, closing_fault, lines_of, parse_lines
-from rtdvs.trace.per_task import COLUMNS, Statistics, TaskStatistics, task_statistics
-from rtdvs.trace.tables import REALS, TABLES, csv_lines, csv_text, frame, rows, ticks
+from rtdvs.trace.tables import (
+    COLUMNS, REALS, TABLES, Statistics, TaskStatistics, csv_lines, csv_text, frame, rows, task_statistics, ticks,
+)
 from rtdvs.trace.whole import SAMPLE, Trace, TraceFile
 
 __all__ = [

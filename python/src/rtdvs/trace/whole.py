@@ -4,7 +4,7 @@ import io
 from collections.abc import Callable, Iterator
 from dataclasses import asdict, dataclass
 from fractions import Fraction
-from itertools import islice, pairwise
+from itertools import islice, pairwise, takewhile
 from pathlib import Path
 from typing import Self, TextIO
 
@@ -209,13 +209,8 @@ class TraceFile(Head, _noted.Noted):
     @classmethod
     def of(cls, lines: Callable[[], Iterator[str]]) -> Self:
         """The trace of some lines, of which only the first ones are read; raises TraceFault for these, OSError."""
-        source, tasks = reader.Reader(lines()), list[Task]()
-        for line in source.lines():
-            item = source.read(line)
-            if not isinstance(item, Task):
-                break
-            tasks.append(item)
-        return cls(**asdict(source.head), tasks=tuple(tasks), lines=lines)
+        head, *items = takewhile(lambda item: isinstance(item, Head | Task), reader.parse_lines(lines()))
+        return cls(**asdict(head), tasks=tuple(item for item in items if isinstance(item, Task)), lines=lines)
 
     @property
     def notes(self) -> Iterator[Note]:

@@ -22,7 +22,6 @@ from typing import Any
 from rtdvs.engine import Engine, Stop
 from rtdvs.errors import BadRequest
 from rtdvs.web import answers, data
-from rtdvs.web.answers import failed
 from rtdvs.web.example import Example, example_of, examples
 
 HOST = "127.0.0.1"
@@ -148,7 +147,7 @@ class PageServer(HTTPServer):
         """Says why a request has no thread, or no answer, but not that a browser has left."""
         fault = sys.exc_info()[1]
         if isinstance(fault, Exception) and not isinstance(fault, (ConnectionError, TimeoutError)):
-            failed(fault)
+            answers.failed(fault)
 
     def has_turn(self, visit: Visit, page: str) -> bool:
         """Waits until a call may be made; False if it isn't the visit's turn within the patience.
@@ -244,7 +243,7 @@ class _Handler(BaseHTTPRequestHandler):
         except Exception as fault:
             if self.has_answered:
                 raise
-            self._answer(HTTPStatus.INTERNAL_SERVER_ERROR, failed(fault))
+            self._answer(HTTPStatus.INTERNAL_SERVER_ERROR, answers.failed(fault))
 
     def do_GET(self) -> None:
         self.visit.has_come = True
