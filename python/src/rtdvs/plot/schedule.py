@@ -189,9 +189,6 @@ class _Frame:
     def is_shown(self, tick: float) -> bool:
         return self.first <= tick <= self.last
 
-    def overlaps(self, bar: _thinning.Bar) -> bool:
-        return bar.begin < self.last and bar.end > self.first
-
     def room(self, begin: float, end: float) -> float:
         """The pixels between two ticks, of which only those in the view count."""
         return (min(end, self.last) - max(begin, self.first)) * self.scale
@@ -220,17 +217,15 @@ def plot_trace(trace: Trace, axes: _style.Axes, view: View = View()) -> None:
     'edf, mine: 2 ticks'
     """
     frame, runs = _frame(trace, axes, view), _thinning.bars(trace)
-    idle = list(filter(frame.overlaps, runs.get("", [])))
     for draw in (_draw_axes, _draw_head, _draw_rows):
         draw(frame)
     for row, name in enumerate(frame.names):
-        shown = filter(frame.overlaps, runs.get(name, []))
-        _draw_bars(frame, shown, frame.floor(row), BAR / frame.top, f"run-{name}",
+        _draw_bars(frame, runs.get(name, []), frame.floor(row), BAR / frame.top, f"run-{name}",
                    facecolor=COLOURS[row % len(COLOURS)])
-    _draw_bars(frame, idle, 0, SPEED / frame.top, "idle", facecolor=INK, alpha=0.3)
+    has_idle = _draw_bars(frame, runs.get("", []), 0, SPEED / frame.top, "idle", facecolor=INK, alpha=0.3)
     for draw in (_draw_scale, _draw_speeds, _draw_decisions):
         draw(frame)
-    _draw_legend(frame, has_idle=bool(idle))
+    _draw_legend(frame, has_idle)
 
 
 def trace_height(trace: Trace, view: View = View()) -> float:
@@ -367,19 +362,22 @@ def _draw_arrows(frame: _Frame, row: int, arrow: _Arrow, ticks: Sequence[int]) -
 def _draw_misses(frame: _Frame, row: int, late: Sequence[Job]) -> None:
     """Draws a cross at each deadline that a task's jobs miss, at the height of a deadline's arrow."""
     ticks = (job.deadline for job in late if job.deadline is not None)
-    kept = _thinning.thin(filter(frame.is_shown, ticks), NEAR / frame.scale)
-    if kept:
+    if kept := _thinning.thin(filter(frame.is_shown, ticks), NEAR / frame.scale):
         frame.axes.plot(kept, [frame.floor(row) + DUE] * len(kept), linestyle="none", marker="X", color=MISS,
                         markersize=10 * POINT, markeredgecolor="white", markeredgewidth=0.8 * POINT, zorder=2.8,
                         clip_on=False, gid=f"miss-{frame.names[row]}")
 
 
-def _draw_bars(frame: _Frame, shown: Iterable[_thinning.Bar], floor: float, unit: float, name: str,
-               **style: Any) -> None:
-    """Draws bars on a floor, so high for each unit of speed; narrow ones over the arrows, others below."""
+def _draw_bars(frame: _Frame, every: Iterable[_thinning.Bar], floor: float, unit: float, name: str,
+               **style: Any) -> bool:
+    """Draws bars on a floor, so high for each unit of speed; narrow ones over the arrows, others below.
+
+    Gives whether any bar is in view.
+    """
     from matplotlib.collections import PolyCollection
 
-    cut = [_thinning.Bar(max(bar.begin, frame.first), min(bar.end, frame.last), bar.speed) for bar in shown]
+    cut = [_thinning.Bar(max(bar.begin, frame.first), min(bar.end, frame.last), bar.speed)
+           for bar in every if bar.begin < frame.last and bar.end > frame.first]
     corners: dict[bool, list[list[tuple[float, float]]]] = {False: [], True: []}
     for bar in _thinning.join_narrow(cut, frame.coarse(NARROW) / frame.scale, frame.coarse(GAP) / frame.scale):
         is_narrow = (bar.end - bar.begin) * frame.scale < NARROW
@@ -393,6 +391,7 @@ def _draw_bars(frame: _Frame, shown: Iterable[_thinning.Bar], floor: float, unit
             made = PolyCollection(polygons, linewidth=0, zorder=2.4 if is_narrow else 2,
                                   gid=f"{name}-narrow" if is_narrow else name, **style)
             frame.axes.add_collection(made, autolim=False)
+    return bool(cut)
 
 
 def _draw_completions(frame: _Frame, row: int, kept: Sequence[_thinning.Completion]) -> None:

@@ -44,8 +44,7 @@ def cause(tick: int, events: Sequence[Release | Done]) -> str:
     if released:
         words = [f"{task} job {job}" + " (it needs nothing)" * ((task, job) in done) for task, job in released]
         causes.append(f"release of {_listed(words)}")
-    words = [f"{task} job {job}" for task, job in done if (task, job) not in released]
-    if words:
+    if words := [f"{task} job {job}" for task, job in done if (task, job) not in released]:
         verb = "was" if len(words) == 1 else "were"
         causes.append(f"since {_listed(words)} {verb} complete in tick {tick - 1}")
     return ", ".join(causes)

@@ -5,8 +5,7 @@ Energies and work units are whole numbers of any size. A position is a tick and 
 have passed; as a time it is an exact fraction of ticks, the units over the speed in force.
 """
 
-from rtdvs.trace._belongs import wrong_energy, wrong_sums
-from rtdvs.trace._noted import Noted
+from rtdvs.trace._noted import Noted, wrong_energy, wrong_sums
 from rtdvs.trace.jobs import Job, Miss, Missed, Ran, is_late, late_jobs, ran_at, split_governor
 from rtdvs.trace.notes import Decision, Done, End, Head, Idle, Line, Note, Position, Release, Run, TaskEnergy, task_text
 from rtdvs.trace.reader import NO_FRACTION, Reader, closing_fault, lines_of, parse_lines

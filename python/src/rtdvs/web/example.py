@@ -185,8 +185,7 @@ def field_of(fault: Exception, example: Example) -> str:
     """
     line = str(fault)
     for pattern, place in _FIELDS:
-        found = re.match(pattern, line)
-        if found:
+        if found := re.match(pattern, line):
             return place(found, example)
     return ""
 

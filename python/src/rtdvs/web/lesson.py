@@ -149,9 +149,8 @@ def _pairs(table: model.Table) -> Iterator[LessonPair]:
 
 
 def _pair(entry: Mapping[str, Any]) -> LessonPair:
-    others = sorted(entry.keys() - {"scheduler", "governor", "text", "missed"})
-    if others:
-        raise BadValue(f"unknown key {others[0]}")
+    if others := entry.keys() - {"scheduler", "governor", "text", "missed"}:
+        raise BadValue(f"unknown key {min(others)}")
     words = [_text(entry, key, BadValue) for key in ("scheduler", "governor")]
     missed = _text(entry, "missed", BadValue, "stop")
     if missed not in ("stop", "drop"):
