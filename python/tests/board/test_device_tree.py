@@ -10,7 +10,7 @@ import pytest
 from hypothesis import given, settings
 from hypothesis import strategies as st
 
-from rtdvs.board import Choice, _blob, operating_points
+from rtdvs.board import Choice, _tree, operating_points
 from rtdvs.cli.main import main
 from rtdvs.errors import BadValue
 from rtdvs.model import Machine, Point
@@ -305,7 +305,7 @@ def test_blobs_by_another_reader(text: str) -> None:
         return found
 
     assert walk(0, "/") == {str(node.path): {key: value() for key, value in node.properties.items()}
-                            for node in _blob.nodes_of(made)}
+                            for node in _tree.blob_nodes(made)}
 
 
 # The command

@@ -27,7 +27,7 @@ from rtdvs.errors import BadRequest
 from rtdvs.model import Machine, TaskSet
 from rtdvs.studies import PAIRS
 from rtdvs.web import (
-    SCRIPTS, Example, PageServer, answer_of, answers, example, example_of, examples, field_of, read_example,
+    SCRIPTS, PageServer, answer_of, answers, example, example_of, examples, field_of, read_example,
     server as serve,
 )
 from tests.shared.examples import DATA, SOURCE, WORKED, Captured, rows, fake, files, refusal, serving
@@ -162,7 +162,7 @@ def test_a_run_has_at_most_10000_jobs(ticks: str, line: str, tmp_path: Path) -> 
 
 
 def test_field_of_an_unknown_line() -> None:
-    assert field_of(ValueError("anything"), Example.of(paper())) == ""
+    assert field_of(ValueError("anything"), example_of(json.dumps(paper()).encode())) == ""
 
 
 # A set that isn't admitted

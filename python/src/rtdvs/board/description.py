@@ -139,9 +139,8 @@ def _tables(table: Mapping[str, Any], key: str) -> list[Mapping[str, Any]]:
 
 
 def _check_keys(where: str, table: Mapping[str, Any], known: set[str]) -> None:
-    unknown = min((key for key in table if key not in known), default=None)
-    if unknown is not None:
-        raise board_fault(f"{where}unknown key {unknown}")
+    if unknown := table.keys() - known:
+        raise board_fault(f"{where}unknown key {min(unknown)}")
 
 
 def _quantity(where: str, table: Mapping[str, Any], key: str, least: Fraction | None = None) -> Fraction | None:

@@ -9,8 +9,8 @@ from collections.abc import Iterable, Iterator, Sequence
 from dataclasses import dataclass
 from operator import and_
 
-from rtdvs.board import _blob, _source
-from rtdvs.board._tree import Node, tree_fault
+from rtdvs.board import _source
+from rtdvs.board._tree import MAGIC, Node, blob_nodes, tree_fault
 
 
 @dataclass(frozen=True, slots=True)
@@ -89,8 +89,8 @@ def operating_points(source: str | bytes, choice: Choice = Choice()) -> Operatin
 
 def _nodes(source: str | bytes) -> list[Node]:
     """The nodes; a blob's have labels if it was made with them."""
-    if isinstance(source, bytes) and source.startswith(_blob.MAGIC):
-        nodes = _blob.nodes_of(source)
+    if isinstance(source, bytes) and source.startswith(MAGIC):
+        nodes = blob_nodes(source)
     else:
         nodes = _source.nodes_of(source if isinstance(source, str) else _text(source))
     of_path = {str(node.path): node for node in nodes}

@@ -3,12 +3,13 @@
 from collections.abc import Iterator, Mapping, Sequence
 from dataclasses import dataclass
 from fractions import Fraction
+from itertools import product
 from math import ceil, floor
 
 from rtdvs._numbers import aligned, plain, rounded
-from rtdvs.board import description, energy
+from rtdvs.board.description import Board
 from rtdvs.board.scale import Design, usual_demands
-from rtdvs.board.units import Units
+from rtdvs.board.units import Spent, Units
 from rtdvs.errors import Denied
 from rtdvs.model import PAIRS, Demands
 from rtdvs.rules import simulate
@@ -45,7 +46,7 @@ class Asked:
     switches: Fraction = Fraction(0)
 
     @classmethod
-    def by(cls, board: description.Board) -> "Asked":
+    def by(cls, board: Board) -> "Asked":
         """Before rounding."""
         speed = board.rising[-1].megahertz * 1000
         switches = 2 * board.switch / 1000 * speed
@@ -113,7 +114,7 @@ def run_ticks(made: Design, milliseconds: Fraction | None = None) -> int:
 
     >>> from rtdvs.board.scale import Scale, design
     >>> text = 'task = [{name = "a", period_ms = 5, worst_cycles = 1}]\\npoint = [{mhz = 1, volts = 1}]'
-    >>> run_ticks(design(description.Board.parse(text), Scale(Fraction(1), Fraction(1))))
+    >>> run_ticks(design(Board.parse(text), Scale(Fraction(1), Fraction(1))))
     5
     """
     if milliseconds is not None:
@@ -123,20 +124,19 @@ def run_ticks(made: Design, milliseconds: Fraction | None = None) -> int:
     return max(1, min(made.tasks.hyperperiod, max(longest, FEW_JOBS // jobs), MOST_JOBS // jobs))
 
 
-def report(board: description.Board, made: Design, ticks: int) -> Iterator[str]:
+def report(board: Board, made: Design, ticks: int) -> Iterator[str]:
     """The report's tables; the runs of pairs have these ticks. Raises BadValue."""
     asked = Asked.by(board), Asked.by_files(made)
-    yield aligned([("at the highest speed", "exact", "rounded"), *_admission(asked), *_responses(asked), *_most(asked)])
+    yield aligned([("at the highest speed", "exact", "rounded"), *_asked_rows(asked)])
     if line := unserved(board, made):
         yield f"{line}\n"
-        return
-    if reason := Units(board, made).no_power():
+    elif reason := Units(board, made).no_power():
         yield f"no power: {reason}\n"
-        return
-    yield aligned([*_cost_rows(board, made.milliseconds(ticks), pair_costs(board, made, ticks))])
+    else:
+        yield aligned([*_cost_rows(board, made.milliseconds(ticks), pair_costs(board, made, ticks))])
 
 
-def unserved(board: description.Board, made: Design) -> str:
+def unserved(board: Board, made: Design) -> str:
     """A line if even the highest speed is too slow, for the board or for its files; empty if it isn't."""
     for asked, what in ((Asked.by(board), "board"), (Asked.by_files(made), "board in this tick and unit")):
         if asked.utilisation > 1:
@@ -144,25 +144,19 @@ def unserved(board: description.Board, made: Design) -> str:
     return ""
 
 
-def _admission(asked: tuple[Asked, Asked]) -> Iterator[tuple[str, ...]]:
+def _asked_rows(asked: tuple[Asked, Asked]) -> Iterator[tuple[str, ...]]:
+    """What tasks ask before rounding, and after it: utilisation, admission, responses, and the most cycles of each."""
     yield "utilisation", *(rounded(each.utilisation) for each in asked)
     yield "EDF", *("admitted" if each.utilisation <= 1 else "denied" for each in asked)
     late = [each.late_under_rm() for each in asked]
     yield "RM", *(f"denied {name}" if name else "admitted" for name in late)
-
-
-def _responses(asked: tuple[Asked, Asked]) -> Iterator[tuple[str, ...]]:
     for place, load in enumerate(asked[0].loads):
         times = [each.response(place) for each in asked]
         yield f"response under RM: {load.name}", *("late" if time is None else f"{rounded(time)} ms" for time in times)
-
-
-def _most(asked: tuple[Asked, Asked]) -> Iterator[tuple[str, ...]]:
-    for place, load in enumerate(asked[0].loads):
-        for scheduler in ("edf", "rm"):
-            most = [each.most(place, scheduler) for each in asked]
-            yield (f"most cycles under {scheduler.upper()}: {load.name}",
-                   *("-" if cycles is None else str(floor(cycles)) for cycles in most))
+    for (place, load), scheduler in product(enumerate(asked[0].loads), ("edf", "rm")):
+        most = [each.most(place, scheduler) for each in asked]
+        yield (f"most cycles under {scheduler.upper()}: {load.name}",
+               *("-" if cycles is None else str(floor(cycles)) for cycles in most))
 
 
 @dataclass(frozen=True, slots=True)
@@ -175,10 +169,10 @@ class PairCost:
 
     scheduler: str
     governor: str
-    spent: Mapping[str, energy.Spent]
+    spent: Mapping[str, Spent]
 
 
-def pair_costs(board: description.Board, made: Design, ticks: int) -> tuple[PairCost, ...]:
+def pair_costs(board: Board, made: Design, ticks: int) -> tuple[PairCost, ...]:
     """What each pair costs in a run of these ticks; with `usual` only if the board says what jobs usually take.
 
     Raises BadValue if no power was measured.
@@ -197,7 +191,7 @@ def pair_costs(board: description.Board, made: Design, ticks: int) -> tuple[Pair
     return tuple(found)
 
 
-def _cost_rows(board: description.Board, time: Fraction, costs: Sequence[PairCost]) -> Iterator[tuple[str, ...]]:
+def _cost_rows(board: Board, time: Fraction, costs: Sequence[PairCost]) -> Iterator[tuple[str, ...]]:
     cases = dict.fromkeys(case for cost in costs for case in cost.spent)
     hours = () if board.battery is None else ("hours",)
     yield f"{plain(time)} ms", *(word for case in cases for word in (f"{case} mW", *hours))

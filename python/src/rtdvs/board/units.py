@@ -1,4 +1,7 @@
-"""A board's units for its files and their traces: milliseconds, megahertz, cycles and joules. The one place for it."""
+"""A board's units for its files and their traces: milliseconds, megahertz, cycles and joules. The one place for it.
+
+What a run takes of a board's battery is exact: joules, mean milliwatts and hours.
+"""
 
 from collections import defaultdict
 from collections.abc import Iterator, Mapping
@@ -7,9 +10,53 @@ from fractions import Fraction
 from functools import cached_property
 
 from rtdvs._numbers import plain, rounded
-from rtdvs.board import description, energy, scale
+from rtdvs.board import scale
+from rtdvs.board.description import Board, board_fault, is_measured
 from rtdvs.errors import BadValue, TraceFault
 from rtdvs.trace import Ran, Run, Trace, ran_at, task_statistics
+
+
+@dataclass(frozen=True, slots=True)
+class Spent:
+    """The joules of a run, and how many milliseconds it takes.
+
+    >>> spent = Spent(Fraction(1, 100), Fraction(50))
+    >>> spent.milliwatts, spent.hours(Fraction(3700))
+    (Fraction(200, 1), Fraction(37, 2))
+    """
+
+    joules: Fraction
+    milliseconds: Fraction
+
+    @property
+    def milliwatts(self) -> Fraction:
+        """The mean power."""
+        return self.joules * 10**6 / self.milliseconds
+
+    def hours(self, battery: Fraction | None) -> Fraction | None:
+        """How long a battery, in milliwatt hours, lasts; None without one, or if no energy is used."""
+        return battery / self.milliwatts if battery is not None and self.joules else None
+
+
+def nanojoules(board: Board) -> tuple[Fraction, ...]:
+    """The nanojoules of a running cycle at each point, by rising frequency; raises BadValue.
+
+    They are measured, or in proportion to the square of the voltage, from the milliwatts of the highest point.
+
+    >>> board = Board.parse('''
+    ... task = [{name = "a", period_ms = 1, worst_cycles = 1}]
+    ... point = [{mhz = 500, volts = 1}, {mhz = 1000, volts = 2, milliwatts = 800}]''')
+    >>> nanojoules(board)
+    (Fraction(1, 5), Fraction(4, 5))
+    """
+    top = board.rising[-1]
+    if top.milliwatts is None:
+        raise board_fault("joules need milliwatts at the highest point")
+    if is_measured(board.points):
+        return tuple((point.milliwatts or Fraction(0)) / point.megahertz for point in board.rising)
+    if top.volts is None or not all(point.volts for point in board.points):
+        raise board_fault("joules need volts at each point, or milliwatts at each")
+    return tuple(((point.volts or 0) / top.volts)**2 * top.milliwatts / top.megahertz for point in board.rising)
 
 
 @dataclass(frozen=True)
@@ -17,7 +64,7 @@ class Units:
     """The units of a board whose files are made.
 
     >>> from rtdvs.board.scale import Scale, design
-    >>> board = description.Board.parse('''
+    >>> board = Board.parse('''
     ... task = [{name = "a", period_ms = 2, worst_cycles = 4000}]
     ... point = [{mhz = 4, volts = 1, milliwatts = 8}]''')
     >>> units = Units(board, design(board, Scale(Fraction(1, 2), Fraction(1000))))
@@ -25,7 +72,7 @@ class Units:
     (Fraction(3, 2), Fraction(1, 1), Fraction(4000, 1))
     """
 
-    board: description.Board
+    board: Board
     made: scale.Design
 
     def milliseconds(self, ticks: Fraction | int) -> Fraction:
@@ -43,7 +90,7 @@ class Units:
     @cached_property
     def _costs(self) -> Mapping[int, Fraction]:
         """The nanojoules of a running cycle at each speed."""
-        points = zip(self.made.machine.points, energy.nanojoules(self.board), strict=True)
+        points = zip(self.made.machine.points, nanojoules(self.board), strict=True)
         return {point.speed: cost for point, cost in points}
 
     def joules(self, ran: Mapping[int, Ran]) -> Fraction:
@@ -55,16 +102,16 @@ class Units:
                     for speed, each in ran.items()), Fraction(0))
         return self.cycles(cost) / 10**9
 
-    def spent_at(self, ran: Mapping[int, Ran]) -> energy.Spent:
+    def spent_at(self, ran: Mapping[int, Ran]) -> Spent:
         """What these units take at their speeds, and how long; raises BadValue as `joules` does."""
         ticks = sum((Fraction(each.units + each.idle, speed) for speed, each in ran.items()), Fraction(0))
-        return energy.Spent(self.joules(ran), self.milliseconds(ticks))
+        return Spent(self.joules(ran), self.milliseconds(ticks))
 
-    def spent(self, trace: Trace) -> energy.Spent:
+    def spent(self, trace: Trace) -> Spent:
         """What a run of the board's files takes; the trace isn't checked. Raises BadValue as `joules` does.
 
         >>> from rtdvs.board.scale import Scale, design
-        >>> board = description.Board.parse('''
+        >>> board = Board.parse('''
         ... task = [{name = "a", period_ms = 2, worst_cycles = 4000}]
         ... point = [{mhz = 4, volts = 1, milliwatts = 8}]''')
         >>> run = "speed 0 4 4/1\\nrun 0:0 1:0 a 1 4 4000000\\nend 1 4000000 0\\n"
@@ -102,7 +149,7 @@ class Units:
             found = [getattr(each, name) for name in times]
             own = ran_at((note, speed) for note, speed in trace.at_speeds()
                          if isinstance(note, Run) and note.task == each.task)
-            cost = None if self.no_power() else energy.Spent(self.joules(own), self.milliseconds(trace.ticks))
+            cost = None if self.no_power() else Spent(self.joules(own), self.milliseconds(trace.ticks))
             power = ("-", "-") if cost is None else (rounded(cost.joules), rounded(cost.milliwatts))
             rows.append((each.task, str(each.jobs), str(each.complete), str(each.missed),
                          *(rounded(None if time is None else self.milliseconds(time)) for time in found),
@@ -112,7 +159,7 @@ class Units:
     def no_power(self) -> str:
         """Why there are no joules; empty if there are."""
         try:
-            energy.nanojoules(self.board)
+            nanojoules(self.board)
         except BadValue as fault:
             return str(fault).removeprefix("board: ")
         return ""
@@ -122,5 +169,5 @@ class Units:
         try:
             trace.belongs_to(self.made.tasks, self.made.machine)
         except TraceFault as fault:
-            raise description.board_fault(f"the trace isn't of this board where {self.made.scale.text()}: {fault}; "
+            raise board_fault(f"the trace isn't of this board where {self.made.scale.text()}: {fault}; "
                               "--folder names the files that were run") from None

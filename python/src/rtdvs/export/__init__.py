@@ -3,8 +3,7 @@
 A tick is a microsecond. Energies are whole numbers.
 """
 
-from rtdvs.export._time import millionths
 from rtdvs.export.chrome import event_lines, events_text
-from rtdvs.export.vcd import vcd_text, wave_lines
+from rtdvs.export.vcd import millionths, vcd_text, wave_lines
 
 __all__ = ["event_lines", "events_text", "millionths", "vcd_text", "wave_lines"]

@@ -5,8 +5,9 @@ from itertools import groupby
 from operator import itemgetter
 
 from rtdvs._numbers import significant
-from rtdvs.export._time import MILLION, millionths
-from rtdvs.trace import REALS, Decision, Done, Idle, Noted, Release, Run
+from rtdvs.trace import REALS, Decision, Done, Idle, Noted, Position, Release, Run
+
+MILLION = 10**6
 
 
 def vcd_text(trace: Noted) -> str:
@@ -73,3 +74,12 @@ def _changes(trace: Noted) -> Iterator[tuple[int, str]]:
             running, spent = wire, spent + note.energy
             yield from ((millionths(note.begin, speed), line) for line in (f"r{job} j", *switch))
             yield millionths(note.end, speed), f"r{significant(spent, 1, 15)} e"
+
+
+def millionths(position: Position, speed: int) -> int:
+    """A position in millionths of a tick, at a speed in work units per tick.
+
+    >>> millionths(Position(9, 1), 3)
+    9333333
+    """
+    return round(position.time(speed) * MILLION)

@@ -8,8 +8,7 @@ both, not always with the same line.
 """
 
 from rtdvs.model._checks import Table, checked_name, checked_number
-from rtdvs.model._file import load
-from rtdvs.model._toml import document
+from rtdvs.model._formats import document, load
 from rtdvs.model.demands import Deadlines, Demands, Request, Requests
 from rtdvs.model.limits import (
     GREATEST, LONGEST_FILE, LONGEST_HYPERPERIOD, LONGEST_LINE, LONGEST_TIME, LONGEST_TRACE, MOST_JOBS,

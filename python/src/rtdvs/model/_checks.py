@@ -132,8 +132,7 @@ class Table:
     def refuse_others(self, *known: str) -> None:
         if not isinstance(self.values, Mapping):
             raise self.fault("wrong kind of entry")
-        others = [str(key).encode(errors="replace") for key in self.values if key not in known]
-        if others:
+        if others := [str(key).encode(errors="replace") for key in self.values if key not in known]:
             raise self.fault(f"unknown key {shown(min(others))}")
 
     def read(self, of: type[Entry]) -> Entry:

@@ -1,20 +1,51 @@
 """The files of single jobs: demands, deadlines and requests."""
 
 from collections.abc import Iterable, Iterator, Mapping, Sequence
-from dataclasses import astuple, dataclass
+from dataclasses import dataclass
 from functools import partial
 from pathlib import Path
-from typing import Any, Self
+from typing import Any, Self, TypeVar
 
 from rtdvs import _display, errors
-from rtdvs.model import _checks, _csv_text, _file, _frozen, limits
+from rtdvs.model import _checks, _formats, limits
 from rtdvs.model.tasks import TaskSet
 
+Key = TypeVar("Key")
+Value = TypeVar("Value", covariant=True)
 DEMANDS, DEADLINES, REQUESTS = ("task", "job", "units"), ("task", "deadline"), ("arrival", "units")
 
 
+class Frozen(Mapping[Key, Value]):
+    """The values of another mapping as they are now; it has a hash.
+
+    >>> frozen = Frozen({"a": 1})
+    >>> frozen, frozen["a"], hash(frozen) == hash(Frozen({"a": 1}))
+    ({'a': 1}, 1, True)
+    """
+
+    __slots__ = ("_values",)
+
+    def __init__(self, values: Mapping[Key, Value]) -> None:
+        self._values = dict(values)
+
+    def __getitem__(self, key: Key) -> Value:
+        return self._values[key]
+
+    def __iter__(self) -> Iterator[Key]:
+        return iter(self._values)
+
+    def __len__(self) -> int:
+        return len(self._values)
+
+    def __hash__(self) -> int:
+        return hash(frozenset(self._values.items()))
+
+    def __repr__(self) -> str:
+        return repr(self._values)
+
+
 @dataclass(frozen=True, slots=True)
-class Demands(_file.File):
+class Demands(_formats.File):
     """The work units, without the charge, of named jobs: (task, job) to units. Jobs count from 1.
 
     Raises FileRefused for what no demand file can have; `belong_to` compares with the tasks.
@@ -33,7 +64,7 @@ class Demands(_file.File):
     def __post_init__(self) -> None:
         if not isinstance(self.units, Mapping):
             raise errors.FileRefused("demands", "wrong kind of units")
-        object.__setattr__(self, "units", _frozen.Frozen(_units(_csv_text.rows("demands", DEMANDS, self._records()))))
+        object.__setattr__(self, "units", Frozen(_units(_formats.rows("demands", DEMANDS, self._records()))))
 
     def _records(self) -> Iterator[tuple[object, ...]]:
         return ((*job, units) if isinstance(job, tuple) else (job, units) for job, units in self.units.items())
@@ -46,7 +77,7 @@ class Demands(_file.File):
         Traceback (most recent call last):
         rtdvs.errors.OverWorst: over worst: a 1 3 2
         """
-        _units(_csv_text.rows("demands", DEMANDS, self._records()), tasks)
+        _units(_formats.rows("demands", DEMANDS, self._records()), tasks)
 
     @classmethod
     def parse(cls, text: str | bytes, tasks: TaskSet) -> Self:
@@ -60,7 +91,7 @@ class Demands(_file.File):
         >>> Demands.parse(text, TaskSet([Task("a", 4, 2)])).units
         {('a', 1): 2, ('a', 7): 0}
         """
-        return cls(_units(_csv_text.read_rows(text, "demands", DEMANDS), tasks))
+        return cls(_units(_formats.read_rows(text, "demands", DEMANDS), tasks))
 
     @classmethod
     def read(cls, path: Path, tasks: TaskSet) -> Self:
@@ -71,7 +102,7 @@ class Demands(_file.File):
         Traceback (most recent call last):
         IsADirectoryError: [Errno 21] Is a directory: '/'
         """
-        return cls.parse(_file.load(path), tasks)
+        return cls.parse(_formats.load(path), tasks)
 
     def text(self) -> str:
         """The demand file.
@@ -79,13 +110,13 @@ class Demands(_file.File):
         >>> Demands({("a", 1): 2}).text()
         'task,job,units\\na,1,2\\n'
         """
-        return _csv_text.table_text([DEMANDS, *((task, job, units) for (task, job), units in self.units.items())])
+        return _formats.table_text([DEMANDS, *((task, job, units) for (task, job), units in self.units.items())])
 
     def _rows(self) -> Iterable[Sequence[_display.Cell]]:
         return ((*job, units) for job, units in self.units.items())
 
 
-def _units(found: Iterable[_csv_text.Row], tasks: TaskSet | None = None) -> dict[tuple[str, int], int]:
+def _units(found: Iterable[_formats.Row], tasks: TaskSet | None = None) -> dict[tuple[str, int], int]:
     """The units of each row's job; without tasks any name is one, with any worst case."""
     worsts = {task.name: task.worst for task in tasks} if tasks else None
     demands: dict[tuple[str, int], int] = {}
@@ -103,7 +134,7 @@ def _units(found: Iterable[_csv_text.Row], tasks: TaskSet | None = None) -> dict
 
 
 @dataclass(frozen=True, slots=True)
-class Deadlines(_file.File):
+class Deadlines(_formats.File):
     """Relative deadlines in ticks from the release, for the tasks whose deadline isn't their period.
 
     Raises FileRefused for what no deadline file can have; `belong_to` compares with the tasks.
@@ -119,8 +150,8 @@ class Deadlines(_file.File):
     def __post_init__(self) -> None:
         if not isinstance(self.ticks, Mapping):
             raise errors.FileRefused("deadlines", "wrong kind of ticks")
-        found = _ticks(_csv_text.rows("deadlines", DEADLINES, [*self.ticks.items()]))
-        object.__setattr__(self, "ticks", _frozen.Frozen(found))
+        found = _ticks(_formats.rows("deadlines", DEADLINES, [*self.ticks.items()]))
+        object.__setattr__(self, "ticks", Frozen(found))
 
     def belong_to(self, tasks: TaskSet) -> None:
         """Raises FileRefused, as the program does, if the deadlines aren't of these tasks.
@@ -130,7 +161,7 @@ class Deadlines(_file.File):
         Traceback (most recent call last):
         rtdvs.errors.FileRefused: deadlines: row 1: deadline out of range
         """
-        _ticks(_csv_text.rows("deadlines", DEADLINES, [*self.ticks.items()]), tasks)
+        _ticks(_formats.rows("deadlines", DEADLINES, [*self.ticks.items()]), tasks)
 
     @classmethod
     def parse(cls, text: str | bytes, tasks: TaskSet) -> Self:
@@ -140,7 +171,7 @@ class Deadlines(_file.File):
         >>> Deadlines.parse("task,deadline\\na,3\\n", TaskSet([Task("a", 4, 2)]))
         Deadlines(ticks={'a': 3})
         """
-        return cls(_ticks(_csv_text.read_rows(text, "deadlines", DEADLINES), tasks))
+        return cls(_ticks(_formats.read_rows(text, "deadlines", DEADLINES), tasks))
 
     @classmethod
     def read(cls, path: Path, tasks: TaskSet) -> Self:
@@ -151,7 +182,7 @@ class Deadlines(_file.File):
         Traceback (most recent call last):
         IsADirectoryError: [Errno 21] Is a directory: '/'
         """
-        return cls.parse(_file.load(path), tasks)
+        return cls.parse(_formats.load(path), tasks)
 
     def text(self) -> str:
         """The deadline file.
@@ -159,13 +190,13 @@ class Deadlines(_file.File):
         >>> Deadlines({"a": 3}).text()
         'task,deadline\\na,3\\n'
         """
-        return _csv_text.table_text([DEADLINES, *self.ticks.items()])
+        return _formats.table_text([DEADLINES, *self.ticks.items()])
 
     def _rows(self) -> Iterable[Sequence[_display.Cell]]:
         return self.ticks.items()
 
 
-def _ticks(found: Iterable[_csv_text.Row], tasks: TaskSet | None = None) -> dict[str, int]:
+def _ticks(found: Iterable[_formats.Row], tasks: TaskSet | None = None) -> dict[str, int]:
     """The deadline of each row's task; without tasks any name is one, with the longest period."""
     periods = {task.name: task.period for task in tasks} if tasks else None
     deadlines: dict[str, int] = {}
@@ -202,7 +233,7 @@ class Request:
 
 
 @dataclass(frozen=True, slots=True, init=False)
-class Requests(_file.File):
+class Requests(_formats.Listed[Request]):
     """The requests of a request file, no arrival before the one above it; raises FileRefused.
 
     Iteration gives the requests.
@@ -214,19 +245,13 @@ class Requests(_file.File):
     rtdvs.errors.FileRefused: requests: row 2: too early
     """
 
-    _kinds = {"arrival": "int64", "units": "int64"}
+    _field, _kinds = "requests", {"arrival": "int64", "units": "int64"}
 
     requests: tuple[Request, ...]
 
     def __init__(self, requests: Iterable[Request]) -> None:
         found = _checks.entries("requests", requests, Request, limits.MOST_REQUESTS, least=0)
         object.__setattr__(self, "requests", tuple(_in_order(found)))
-
-    def __iter__(self) -> Iterator[Request]:
-        return iter(self.requests)
-
-    def __len__(self) -> int:
-        return len(self.requests)
 
     @classmethod
     def of(cls, rows: Iterable[Request | Iterable[object] | Mapping[str, object]]) -> Self:
@@ -247,18 +272,8 @@ class Requests(_file.File):
         Traceback (most recent call last):
         rtdvs.errors.FileRefused: requests: row 1: bad units
         """
-        rows = _csv_text.read_rows(text, "requests", REQUESTS, limits.MOST_REQUESTS)
+        rows = _formats.read_rows(text, "requests", REQUESTS, limits.MOST_REQUESTS)
         return cls(_in_order(_request(*row) for row in rows))
-
-    @classmethod
-    def read(cls, path: Path) -> Self:
-        """The requests of a file; raises FileRefused and OSError.
-
-        >>> Requests.read(Path("/"))
-        Traceback (most recent call last):
-        IsADirectoryError: [Errno 21] Is a directory: '/'
-        """
-        return cls.parse(_file.load(path))
 
     def text(self) -> str:
         """The request file.
@@ -266,10 +281,7 @@ class Requests(_file.File):
         >>> Requests([Request(0, 3)]).text()
         'arrival,units\\n0,3\\n'
         """
-        return _csv_text.table_text([REQUESTS, *((each.arrival, each.units) for each in self.requests)])
-
-    def _rows(self) -> Iterable[Sequence[_display.Cell]]:
-        return (astuple(request) for request in self.requests)
+        return _formats.table_text([REQUESTS, *((each.arrival, each.units) for each in self.requests)])
 
 
 def _request(fault: _checks.Fault, record: Sequence[Any]) -> Request:

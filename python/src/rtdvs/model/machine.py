@@ -1,13 +1,12 @@
 """Operating points, and the files of machines."""
 
-from collections.abc import Iterable, Iterator, Mapping, Sequence
-from dataclasses import astuple, dataclass
+from collections.abc import Iterable, Iterator, Mapping
+from dataclasses import dataclass
 from functools import partial
-from pathlib import Path
 from typing import Self
 
-from rtdvs import _display, errors
-from rtdvs.model import _checks, _file, _toml, limits
+from rtdvs import errors
+from rtdvs.model import _checks, _formats, limits
 
 
 @dataclass(frozen=True, slots=True)
@@ -29,7 +28,7 @@ class Point:
 
 
 @dataclass(frozen=True, slots=True, init=False)
-class Machine(_file.File):
+class Machine(_formats.Listed[Point]):
     """The points, the slowest first; idle in thousandths, charge in work units for a switch.
 
     Iteration gives the points. Raises FileRefused for what a machine file can't have.
@@ -44,7 +43,7 @@ class Machine(_file.File):
     rtdvs.errors.FileRefused: machine: point 2: not rising
     """
 
-    _kinds = {"speed": "int64", "millivolts": "int64"}
+    _field, _kinds = "points", {"speed": "int64", "millivolts": "int64"}
 
     points: tuple[Point, ...]
     idle: int
@@ -56,12 +55,6 @@ class Machine(_file.File):
         object.__setattr__(self, "charge", _checks.checked_number("charge", charge, fault))
         found = _checks.entries("machine", points, Point, limits.MOST_POINTS)
         object.__setattr__(self, "points", tuple(_rising(found)))
-
-    def __iter__(self) -> Iterator[Point]:
-        return iter(self.points)
-
-    def __len__(self) -> int:
-        return len(self.points)
 
     @property
     def top_speed(self) -> int:
@@ -91,19 +84,9 @@ class Machine(_file.File):
         >>> Machine.parse("idle = 100\\n[[point]]\\nspeed = 2\\nmillivolts = 3000")
         Machine(points=(Point(speed=2, millivolts=3000),), idle=100, charge=0)
         """
-        top = _toml.document(text, "machine", "idle", "charge", "point")
+        top = _formats.document(text, "machine", "idle", "charge", "point")
         points = _rising(entry.read(Point) for entry in top.array(limits.MOST_POINTS))
         return cls(points, top.values.get("idle", 0), top.values.get("charge", 0))
-
-    @classmethod
-    def read(cls, path: Path) -> Self:
-        """The machine of a file; raises FileRefused and OSError.
-
-        >>> Machine.read(Path("absent/machine.toml"))
-        Traceback (most recent call last):
-        FileNotFoundError: [Errno 2] No such file or directory: 'absent/machine.toml'
-        """
-        return cls.parse(_file.load(path))
 
     def text(self) -> str:
         """The machine file.
@@ -112,10 +95,7 @@ class Machine(_file.File):
         'idle = 0\\ncharge = 1\\n\\n[[point]]\\nspeed = 2\\nmillivolts = 3000\\n'
         """
         settings = f"idle = {self.idle}\ncharge = {self.charge}\n"
-        return "\n".join([settings, *(_toml.entry_text("point", point) for point in self.points)])
-
-    def _rows(self) -> Iterable[Sequence[_display.Cell]]:
-        return (astuple(point) for point in self.points)
+        return "\n".join([settings, *(_formats.entry_text("point", point) for point in self.points)])
 
     def _caption(self) -> str:
         return f"idle {self.idle}, charge {self.charge}"

@@ -1,14 +1,13 @@
 """Tasks, and the files of task sets."""
 
 from collections.abc import Iterable, Iterator, Mapping, Sequence
-from dataclasses import astuple, dataclass
+from dataclasses import dataclass
 from fractions import Fraction
 from math import lcm
-from pathlib import Path
 from typing import Self, SupportsIndex, overload
 
-from rtdvs import _display, errors
-from rtdvs.model import _checks, _file, _toml, limits
+from rtdvs import errors
+from rtdvs.model import _checks, _formats, limits
 
 
 @dataclass(frozen=True, slots=True)
@@ -34,7 +33,7 @@ class Task:
 
 
 @dataclass(frozen=True, slots=True, init=False)
-class TaskSet(_file.File, Sequence[Task]):
+class TaskSet(_formats.Listed[Task], Sequence[Task]):
     """The tasks of a task file, in its order: a sequence, in which a name is as good as a place.
 
     A slice is a task set too. Raises FileRefused for what a task file can't have.
@@ -47,7 +46,7 @@ class TaskSet(_file.File, Sequence[Task]):
     rtdvs.errors.FileRefused: tasks: tasks 1 and 2 have one name
     """
 
-    _kinds = {"name": "object", "period": "int64", "worst": "int64", "offset": "int64"}
+    _field, _kinds = "tasks", {"name": "object", "period": "int64", "worst": "int64", "offset": "int64"}
 
     tasks: tuple[Task, ...]
 
@@ -55,9 +54,6 @@ class TaskSet(_file.File, Sequence[Task]):
         object.__setattr__(self, "tasks", tuple(_different(_checks.entries("tasks", tasks, Task, limits.MOST_TASKS))))
         if self.hyperperiod > limits.LONGEST_HYPERPERIOD:
             raise errors.FileRefused("tasks", f"periods have no common multiple up to {limits.LONGEST_HYPERPERIOD}")
-
-    def __len__(self) -> int:
-        return len(self.tasks)
 
     @overload
     def __getitem__(self, place: SupportsIndex | str) -> Task: ...
@@ -72,9 +68,6 @@ class TaskSet(_file.File, Sequence[Task]):
 
     def __contains__(self, value: object) -> bool:
         return value in self.tasks or value in self.names
-
-    def __iter__(self) -> Iterator[Task]:
-        return iter(self.tasks)
 
     @property
     def names(self) -> tuple[str, ...]:
@@ -139,18 +132,8 @@ class TaskSet(_file.File, Sequence[Task]):
         >>> TaskSet.parse(text) == TaskSet.parse(text.decode())
         True
         """
-        found = _toml.document(text, "tasks", "task").array(limits.MOST_TASKS)
+        found = _formats.document(text, "tasks", "task").array(limits.MOST_TASKS)
         return cls(_different(entry.read(Task) for entry in found))
-
-    @classmethod
-    def read(cls, path: Path) -> Self:
-        """The task set of a file; raises FileRefused and OSError.
-
-        >>> TaskSet.read(Path("/dev/zero"))
-        Traceback (most recent call last):
-        rtdvs.errors.FileRefused: tasks: too long
-        """
-        return cls.parse(_file.load(path))
 
     def text(self) -> str:
         """The task file.
@@ -162,10 +145,7 @@ class TaskSet(_file.File, Sequence[Task]):
         worst = 2
         offset = 1
         """
-        return "\n".join(_toml.entry_text("task", task) for task in self.tasks)
-
-    def _rows(self) -> Iterable[Sequence[_display.Cell]]:
-        return (astuple(task) for task in self)
+        return "\n".join(_formats.entry_text("task", task) for task in self.tasks)
 
 
 def _different(tasks: Iterable[Task]) -> Iterator[Task]:

@@ -35,19 +35,6 @@ class Completion:
     highest: int
 
 
-def by_task(names: Iterable[str], jobs: Iterable[Job]) -> dict[str, list[Job]]:
-    """The jobs of each task.
-
-    >>> from rtdvs.trace import SAMPLE
-    >>> [job.release for job in by_task(["t", "u"], Trace.parse(SAMPLE).jobs())["t"]]
-    [0]
-    """
-    found: dict[str, list[Job]] = {name: [] for name in names}
-    for job in jobs:
-        found[job.task].append(job)
-    return found
-
-
 def bars(trace: Trace) -> dict[str, list[Bar]]:
     """The runs of each task, and idle time under the empty name. Segments that meet at one speed are one bar.
 

@@ -5,7 +5,7 @@ background, and colours that can be read on white and on dark.
 """
 
 import math
-from collections.abc import Iterable, Iterator, Sequence
+from collections.abc import Iterable, Sequence
 from dataclasses import dataclass, field, replace
 from fractions import Fraction
 from functools import cached_property, partial
@@ -17,7 +17,7 @@ from rtdvs.board import Units
 from rtdvs.errors import BadValue
 from rtdvs.plot import _labels, _style, _thinning
 from rtdvs.plot._style import INK, POINT, SMALL, TEXT, save, words
-from rtdvs.trace import Decision, Job, Miss, Trace, late_jobs
+from rtdvs.trace import Decision, Job, Trace, is_late
 
 # Lengths are in pixels, 96 to the inch.
 ROW = 58            # a task's row
@@ -111,6 +111,8 @@ class _Frame:
     first: int
     last: int
     top: int
+    names: tuple[str, ...]
+    labels: _labels.Labels
     left_out: set[str] = field(default_factory=set)  # what the legend has to say of what isn't drawn
 
     def thinned(self, places: Iterable[float]) -> list[float]:
@@ -124,17 +126,14 @@ class _Frame:
     @cached_property
     def near(self) -> int:
         """The pixels between two marks of a kind in a row, at least NEAR, for at most MOST_MARKS in the picture."""
-        rows = [list(filter(self.is_shown, places)) for places in self._places()]
+        jobs = [*self.jobs.values()]
+        places: Iterable[Iterable[float]] = chain(
+            ((job.release for job in row) for row in jobs),
+            ((job.deadline for job in row if job.deadline is not None) for row in jobs),
+            ((done.at for done in row) for row in self.complete.values()))
+        rows = [list(filter(self.is_shown, of_kind)) for of_kind in places]
         return next(near for near in count(NEAR, NEAR)
                     if sum(len(_thinning.thin(row, near / self.scale)) for row in rows) <= MOST_MARKS)
-
-    def _places(self) -> Iterator[Iterable[float]]:
-        """The ticks of the marks of each kind in each row."""
-        for row in self.jobs.values():
-            yield (job.release for job in row)
-            yield (job.deadline for job in row if job.deadline is not None)
-        for complete in self.complete.values():
-            yield (done.at for done in complete)
 
     def coarse(self, pixels: float) -> float:
         """Pixels, as many times more as marks that are drawn apart are farther from each other than usual."""
@@ -150,23 +149,12 @@ class _Frame:
 
     @cached_property
     def jobs(self) -> dict[str, list[Job]]:
-        return _thinning.by_task(self.names, self.trace.jobs())
+        jobs = self.trace.jobs()
+        return {name: [job for job in jobs if job.task == name] for name in self.names}
 
     @cached_property
     def complete(self) -> dict[str, list[_thinning.Completion]]:
         return _thinning.completions(self.trace, self.jobs)
-
-    @cached_property
-    def names(self) -> tuple[str, ...]:
-        return self.trace.names
-
-    @cached_property
-    def labels(self) -> _labels.Labels:
-        return _labels.labels_of(self.view.units)
-
-    @cached_property
-    def misses(self) -> tuple[Miss, ...]:
-        return late_jobs(self.trace.numbered(), chain.from_iterable(self.jobs.values()), self.trace.ticks)
 
     @cached_property
     def width(self) -> float:
@@ -201,9 +189,6 @@ class _Frame:
     def is_shown(self, tick: float) -> bool:
         return self.first <= tick <= self.last
 
-    def overlaps(self, bar: _thinning.Bar) -> bool:
-        return bar.begin < self.last and bar.end > self.first
-
     def room(self, begin: float, end: float) -> float:
         """The pixels between two ticks, of which only those in the view count."""
         return (min(end, self.last) - max(begin, self.first)) * self.scale
@@ -212,7 +197,8 @@ class _Frame:
 def _frame(trace: Trace, axes: Any, view: View) -> _Frame:
     view = settled(trace, view)
     assert view.last is not None and view.top is not None
-    return _Frame(trace, axes, view, view.first, view.last, view.top)
+    labels = _labels.labels_of(view.units)
+    return _Frame(trace, axes, view, view.first, view.last, view.top, trace.names, labels)
 
 
 def plot_trace(trace: Trace, axes: _style.Axes, view: View = View()) -> None:
@@ -231,17 +217,15 @@ def plot_trace(trace: Trace, axes: _style.Axes, view: View = View()) -> None:
     'edf, mine: 2 ticks'
     """
     frame, runs = _frame(trace, axes, view), _thinning.bars(trace)
-    idle = list(filter(frame.overlaps, runs.get("", [])))
     for draw in (_draw_axes, _draw_head, _draw_rows):
         draw(frame)
     for row, name in enumerate(frame.names):
-        shown = filter(frame.overlaps, runs.get(name, []))
-        _draw_bars(frame, shown, frame.floor(row), BAR / frame.top, f"run-{name}",
+        _draw_bars(frame, runs.get(name, []), frame.floor(row), BAR / frame.top, f"run-{name}",
                    facecolor=COLOURS[row % len(COLOURS)])
-    _draw_bars(frame, idle, 0, SPEED / frame.top, "idle", facecolor=INK, alpha=0.3)
+    has_idle = _draw_bars(frame, runs.get("", []), 0, SPEED / frame.top, "idle", facecolor=INK, alpha=0.3)
     for draw in (_draw_scale, _draw_speeds, _draw_decisions):
         draw(frame)
-    _draw_legend(frame, has_idle=bool(idle))
+    _draw_legend(frame, has_idle)
 
 
 def trace_height(trace: Trace, view: View = View()) -> float:
@@ -358,7 +342,7 @@ def _draw_rows(frame: _Frame) -> None:
         _beside(frame, floor + 10, facts)
         _draw_arrows(frame, row, RELEASES, [job.release for job in jobs[name]])
         _draw_arrows(frame, row, DEADLINES, [job.deadline for job in jobs[name] if job.deadline is not None])
-        _draw_misses(frame, row, [miss.due for miss in frame.misses if miss.task == name])
+        _draw_misses(frame, row, [job for job in jobs[name] if is_late(job, trace.ticks)])
         places = set(frame.thinned(done.at for done in complete[name]))
         kept = [done for done in complete[name] if done.at in places]
         _draw_completions(frame, row, kept)
@@ -375,21 +359,25 @@ def _draw_arrows(frame: _Frame, row: int, arrow: _Arrow, ticks: Sequence[int]) -
                     markersize=6 * POINT, markeredgewidth=1.6 * POINT, gid=f"{arrow.kind}-{frame.names[row]}", **style)
 
 
-def _draw_misses(frame: _Frame, row: int, ticks: Sequence[int]) -> None:
+def _draw_misses(frame: _Frame, row: int, late: Sequence[Job]) -> None:
     """Draws a cross at each deadline that a task's jobs miss, at the height of a deadline's arrow."""
-    kept = _thinning.thin(filter(frame.is_shown, ticks), NEAR / frame.scale)
-    if kept:
+    ticks = (job.deadline for job in late if job.deadline is not None)
+    if kept := _thinning.thin(filter(frame.is_shown, ticks), NEAR / frame.scale):
         frame.axes.plot(kept, [frame.floor(row) + DUE] * len(kept), linestyle="none", marker="X", color=MISS,
                         markersize=10 * POINT, markeredgecolor="white", markeredgewidth=0.8 * POINT, zorder=2.8,
                         clip_on=False, gid=f"miss-{frame.names[row]}")
 
 
-def _draw_bars(frame: _Frame, shown: Iterable[_thinning.Bar], floor: float, unit: float, name: str,
-               **style: Any) -> None:
-    """Draws bars on a floor, so high for each unit of speed; narrow ones over the arrows, others below."""
+def _draw_bars(frame: _Frame, every: Iterable[_thinning.Bar], floor: float, unit: float, name: str,
+               **style: Any) -> bool:
+    """Draws bars on a floor, so high for each unit of speed; narrow ones over the arrows, others below.
+
+    Gives whether any bar is in view.
+    """
     from matplotlib.collections import PolyCollection
 
-    cut = [_thinning.Bar(max(bar.begin, frame.first), min(bar.end, frame.last), bar.speed) for bar in shown]
+    cut = [_thinning.Bar(max(bar.begin, frame.first), min(bar.end, frame.last), bar.speed)
+           for bar in every if bar.begin < frame.last and bar.end > frame.first]
     corners: dict[bool, list[list[tuple[float, float]]]] = {False: [], True: []}
     for bar in _thinning.join_narrow(cut, frame.coarse(NARROW) / frame.scale, frame.coarse(GAP) / frame.scale):
         is_narrow = (bar.end - bar.begin) * frame.scale < NARROW
@@ -403,6 +391,7 @@ def _draw_bars(frame: _Frame, shown: Iterable[_thinning.Bar], floor: float, unit
             made = PolyCollection(polygons, linewidth=0, zorder=2.4 if is_narrow else 2,
                                   gid=f"{name}-narrow" if is_narrow else name, **style)
             frame.axes.add_collection(made, autolim=False)
+    return bool(cut)
 
 
 def _draw_completions(frame: _Frame, row: int, kept: Sequence[_thinning.Completion]) -> None:
@@ -479,7 +468,7 @@ def _draw_legend(frame: _Frame, has_idle: bool) -> None:
         _sign(f"done: {what}" + (", with the charge" if frame.view.charge else ""), "white", "o",
               markeredgecolor=RIM),
         _sign("speed", INK, "", linestyle="-"), _sign("demand (dot: decision)", DEMAND, "o", linestyle=DOTS)]
-    if frame.misses:
+    if any(is_late(job, frame.trace.ticks) for job in chain.from_iterable(frame.jobs.values())):
         handles.append(_sign("missed deadline", MISS, "X", fillstyle="full", markersize=9 * POINT, markeredgewidth=0))
     if has_idle:
         handles.append(_style.patch("idle", INK, 0.3))

@@ -44,8 +44,7 @@ def cause(tick: int, events: Sequence[Release | Done]) -> str:
     if released:
         words = [f"{task} job {job}" + " (it needs nothing)" * ((task, job) in done) for task, job in released]
         causes.append(f"release of {_listed(words)}")
-    words = [f"{task} job {job}" for task, job in done if (task, job) not in released]
-    if words:
+    if words := [f"{task} job {job}" for task, job in done if (task, job) not in released]:
         verb = "was" if len(words) == 1 else "were"
         causes.append(f"since {_listed(words)} {verb} complete in tick {tick - 1}")
     return ", ".join(causes)
@@ -85,6 +84,8 @@ def board(number: int, decision: Decision, events: Sequence[Release | Done], ste
 def explain(walk: Walk, show: Callable[[str], object] | None = None) -> Summary:
     """Checks a trace, and gives the text for each decision to `show`; without `show` no text is made.
 
+    It ends early, after a decision for which `show` gives False.
+
     Raises WrongTrace for the first wrong line, and Denied if the scheduler's test fails.
 
     >>> from rtdvs.model import Point, Task
@@ -105,7 +106,8 @@ def explain(walk: Walk, show: Callable[[str], object] | None = None) -> Summary:
         if checker.form in (RELEASE, DONE, DECISION):
             note = note_of(checker.form, checker.fields)
             if isinstance(note, Decision):
-                show(board(number, note, events, checker.step))
+                if show(board(number, note, events, checker.step)) is False:
+                    break
                 events.clear()
             elif isinstance(note, Release | Done):
                 events.append(note)

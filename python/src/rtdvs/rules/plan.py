@@ -157,6 +157,18 @@ class Plan:
         task, jobs = tasks[self.by_period[rank]], self.by_period[:rank + 1]
         return task, sum(ceiling(task.period, tasks[place].period) * self.worsts[place] for place in jobs)
 
+    def levels(self) -> list[tuple[int, int, str | None]]:
+        """What the scheduler's test adds up: some work, the ticks that there are for it, and under RM the last task.
+
+        >>> EXAMPLE.levels()
+        [(30, 12, None)]
+        >>> Plan(EXAMPLE.tasks, EXAMPLE.machine, "rm").levels()
+        [(4, 4, 'a'), (17, 6, 'b')]
+        """
+        if self.ruled() == "edf":
+            return [(sum(self.rates), self.hyperperiod, None)]
+        return [(work, task.period, task.name) for task, work in map(self.level, range(len(self.tasks)))]
+
     @cached_property
     def static(self) -> Demand:
         """The demand of `static`: under RM that of the first level with the most work per tick.
@@ -167,11 +179,8 @@ class Plan:
         >>> Plan(tie, EXAMPLE.machine, "rm").static  # of 4/4, (2 * 4 + 2)/5 and (2 * 4 + 2 * 2 + 4)/8
         (10, 5)
         """
-        if self.ruled() == "edf":
-            return sum(self.rates), self.hyperperiod
-        levels = map(self.level, range(len(self.tasks)))
-        task, work = max(levels, key=lambda level: Fraction(level[1], level[0].period))
-        return work, task.period
+        work, ticks, _ = max(self.levels(), key=lambda level: Fraction(*level[:2]))
+        return work, ticks
 
     @cached_property
     def static_speed(self) -> int:
@@ -188,10 +197,8 @@ class Plan:
         >>> EXAMPLE.lowest(4, 2), EXAMPLE.lowest(9, 2)
         (Point(speed=2, millivolts=3000), Point(speed=4, millivolts=5000))
         """
-        for point in self.machine.points:
-            if num <= point.speed * den:
-                return point
-        return self.machine.points[-1]
+        points = self.machine.points
+        return next((point for point in points if num <= point.speed * den), points[-1])
 
     def needs(self, demands: Demands) -> Needs:
         """What the named jobs need.
@@ -209,14 +216,9 @@ class Plan:
         Traceback (most recent call last):
         rtdvs.errors.Denied: denied rm a 9 8
         """
-        top = self.machine.top_speed
-        if self.ruled() == "edf":
-            if sum(self.rates) > top * self.hyperperiod:
-                raise Denied("edf", sum(self.rates), top * self.hyperperiod)
-            return
-        for task, work in map(self.level, range(len(self.tasks))):
-            if work > top * task.period:
-                raise Denied("rm", work, top * task.period, task.name)
+        for work, ticks, task in self.levels():
+            if work > self.machine.top_speed * ticks:
+                raise Denied(self.ruled().value, work, self.machine.top_speed * ticks, task)
 
 
 EXAMPLE = Plan(TaskSet((Task("a", 4, 4), Task("b", 6, 9))), Machine((Point(2, 3000), Point(4, 5000))), "edf")

@@ -3,14 +3,11 @@
 from collections.abc import Callable, Mapping
 from typing import Any
 
-from rtdvs.model import Point, Task
+from rtdvs import trace
+from rtdvs.model import Task
 from rtdvs.rules.state import Latest, State
 from rtdvs.rules.step import DECISION, Step
 from rtdvs.rules.terms import TERMS, speeds
-from rtdvs.trace import (
-    NO_FRACTION, Decision, Done, End, Idle, Line, Missed, Release, Run, TaskEnergy, closing_fault, wrong_energy,
-    wrong_sums,
-)
 
 
 class Reasons:
@@ -18,7 +15,7 @@ class Reasons:
 
     >>> from rtdvs.rules.governors import full
     >>> from rtdvs.rules.plan import EXAMPLE
-    >>> Reasons(Step(State.begin(EXAMPLE), 4, full, None), version=1).of(Release(0, "a", 2))
+    >>> Reasons(Step(State.begin(EXAMPLE), 4, full, None), version=1).of(trace.Release(0, "a", 2))
     'wanted job 1'
     """
 
@@ -26,14 +23,14 @@ class Reasons:
         self.step, self.state, self.version, self.ticks = step, step.state, version, step.summary.ticks
         self.named = {job.task.name: job for job in step.state.jobs}
         self.points = {point.speed: point for point in step.state.plan.machine.points}
-        self.of_kind: Mapping[type[Line], Callable[[Any], str]] = {
-            Task: self._task, Release: self._release, Decision: self._decision, Run: self._run,
-            Idle: self._idle, Done: self._done, TaskEnergy: self._energy, End: self._end}
+        self.of_kind: Mapping[type[trace.Line], Callable[[Any], str]] = {
+            Task: self._task, trace.Release: self._release, trace.Decision: self._decision, trace.Run: self._run,
+            trace.Idle: self._idle, trace.Done: self._done, trace.TaskEnergy: self._energy, trace.End: self._end}
 
-    def of(self, item: Line) -> str:
+    def of(self, item: trace.Line) -> str:
         """The reason; empty for a decision that is free, and for a line that is wrong by its place only."""
         job = self.step.last
-        if job and job.used == job.need and not isinstance(item, Done):
+        if job and job.used == job.need and not isinstance(item, trace.Done):
             return self._must(job)
         return self.of_kind[type(item)](item)
 
@@ -60,7 +57,7 @@ class Reasons:
         job = self.state.jobs[place]
         return f"the release of {job.task.name} job {job.number + 1} at tick {due} is missing"
 
-    def _job(self, note: Run | Done) -> Latest:
+    def _job(self, note: trace.Run | trace.Done) -> Latest:
         """The job of a note if it is late and goes on; otherwise the latest of its task."""
         latest = self.named[note.task]
         late = self.state.late.jobs.get(latest.place, [])
@@ -72,7 +69,7 @@ class Reasons:
     def _task(self, task: Task) -> str:
         return f"the task {task.name} is not in the task file"
 
-    def _release(self, note: Release) -> str:
+    def _release(self, note: trace.Release) -> str:
         if fault := self._unknown(note.task) or self._is_elsewhere(note.tick):
             return fault
         state, job = self.state, self.named[note.task]
@@ -83,14 +80,14 @@ class Reasons:
             return f"the release of {first.task.name} comes first, by its place in the file"
         return f"wanted job {job.number + 1}"
 
-    def _decision(self, note: Decision) -> str:
+    def _decision(self, note: trace.Decision) -> str:
         state = self.state
         if fault := self._is_elsewhere(note.tick) or self._missing_release():
             return fault
         if state.now >= self.ticks or state.last.decided == state.now:
             return "no decision is made here"
         if note.speed not in self.points or not note.den:
-            return f"the machine has no speed {note.speed}" if note.speed and note.den else NO_FRACTION
+            return f"the machine has no speed {note.speed}" if note.speed and note.den else trace.NO_FRACTION
         if self.step.rule is None:
             return ""
         form, fields = self.step.next()
@@ -105,31 +102,29 @@ class Reasons:
     def _not_running(self) -> str:
         """Why no segment can begin, or an empty text."""
         state = self.state
-        if fault := self._missing_release():
-            return fault
-        if state.now >= self.ticks:
-            return f"the run ends at tick {self.ticks}"
-        if state.point is None or self.step.rule and state.is_decision:
-            return f"the decision at tick {state.now} is missing"
-        return ""
+        if (fault := self._missing_release()) or state.now >= self.ticks:
+            return fault or f"the run ends at tick {self.ticks}"
+        is_decided = state.point is not None and not (self.step.rule and state.is_decision)
+        return "" if is_decided else f"the decision at tick {state.now} is missing"
 
-    def _segment(self, note: Run | Idle, point: Point) -> str:
+    def _segment(self, note: trace.Run | trace.Idle) -> str:
         """Why the place or the energy of a segment is wrong, or an empty text."""
-        state, units, speed = self.state, note.units, point.speed
+        state, units, point = self.state, note.units, self.state.point
+        assert point is not None
         if note.begin != (state.now, state.behind):
             return f"the trace is at {state.position}"
         room, end = self.step.room()
         if not 1 <= units <= room:
             events = {state.last.seen: "a decision", self.ticks: "the end", state.first_deadline: "a release"}
             event = events.get(end, "another job's turn")
-            return f"{units} units: at speed {speed} there are {room} up to {event} at tick {end}"
-        after = state.after(units, speed)
+            return f"{units} units: at speed {point.speed} there are {room} up to {event} at tick {end}"
+        after = state.after(units, point.speed)
         if note.end != after:
-            return f"{units} units at speed {speed} end at {after}"
-        factor = 1000 if isinstance(note, Run) else state.plan.machine.idle
-        return wrong_energy(note, point.millivolts, factor)
+            return f"{units} units at speed {point.speed} end at {after}"
+        factor = 1000 if isinstance(note, trace.Run) else state.plan.machine.idle
+        return trace.wrong_energy(note, point.millivolts, factor)
 
-    def _not_next(self, note: Run, job: Latest) -> str:
+    def _not_next(self, note: trace.Run, job: Latest) -> str:
         """Why the job of a run isn't the open one of the highest priority."""
         first, scheduler = self.state.first, self.state.plan.scheduler
         if note.job > job.number:
@@ -137,7 +132,7 @@ class Reasons:
             return f"{note.task} job {note.job} is released at tick {tick}"
         late = self.state.late
         if dropped := [miss for miss in late.misses if (miss.task, miss.job) == (note.task, note.job)]:
-            if late.missed is Missed.DROP:
+            if late.missed is trace.Missed.DROP:
                 return f"{note.task} job {note.job} was dropped at {dropped[0].due}"
         if note.job < job.number or job.complete or first is None:
             return f"{note.task} job {note.job} is complete"
@@ -145,7 +140,7 @@ class Reasons:
         why = f"its priority is {self.state.open[0][0]}" if callable(scheduler) else why
         return f"{first} comes first: it is not complete, and {why}"
 
-    def _run(self, note: Run) -> str:
+    def _run(self, note: trace.Run) -> str:
         if fault := self._not_running() or self._unknown(note.task):
             return fault
         job = self._job(note)
@@ -153,20 +148,16 @@ class Reasons:
             return self._not_next(note, job)
         if note.units > job.need - job.used:
             return f"{job} has {job.need - job.used} units left"
-        assert self.state.point is not None
-        if fault := self._segment(note, self.state.point):
-            return fault
-        return f"{job} gets {self.step.whole} units here"
+        return self._segment(note) or f"{job} gets {self.step.whole} units here"
 
-    def _idle(self, note: Idle) -> str:
+    def _idle(self, note: trace.Idle) -> str:
         if fault := self._not_running():
             return fault
         if job := self.state.first:
             return f"{job} is not complete: it has had {job.used} units"
-        assert self.state.point is not None
-        return self._segment(note, self.state.point) or f"{self.step.whole} units are idle here"
+        return self._segment(note) or f"{self.step.whole} units are idle here"
 
-    def _done(self, note: Done) -> str:
+    def _done(self, note: trace.Done) -> str:
         if fault := self._unknown(note.task):
             return fault
         state, job = self.state, self._job(note)
@@ -178,18 +169,17 @@ class Reasons:
             return f"{job} needs {job.need} units"
         return f"{job} needs at least {2 * self.state.plan.machine.charge} units"
 
-    def _energy(self, note: TaskEnergy) -> str:
+    def _energy(self, note: trace.TaskEnergy) -> str:
         if self.state.now < self.ticks:
             return f"the energy lines are after the last tick, and the trace is at {self.state.position}"
         name = next(iter(self.step.closing), "")
-        return closing_fault(note, self.version, name, self.step.energies.get(name, 0))
+        return trace.closing_fault(note, self.version, name, self.step.energies.get(name, 0))
 
-    def _end(self, note: End) -> str:
+    def _end(self, note: trace.End) -> str:
         if fault := self._is_elsewhere(self.ticks):
             return fault
         self.state.all_met()
         if note.ticks != self.ticks:
             return f"the run has {self.ticks} ticks"
-        if fault := wrong_sums(note, self.step.summary.run_energy, self.step.summary.idle_energy):
-            return fault
-        return closing_fault(note, self.version, next(iter(self.step.closing), ""), 0)
+        return (trace.wrong_sums(note, self.step.summary.run_energy, self.step.summary.idle_energy)
+                or trace.closing_fault(note, self.version, next(iter(self.step.closing), ""), 0))

@@ -78,8 +78,7 @@ def notes(step: Step) -> tuple[Note, ...]:
     >>> [note.text() for note in notes(Step(State.begin(EXAMPLE), 4, full, {}))][-3:]
     ['energy a 100000000000', 'energy b 225000000000', 'end 4 325000000000 0']
     """
-    found: list[Note] = []
-    form = ""
+    found, form = list[Note](), ""
     while form is not END:
         form, fields = step.next()
         step.take(form, fields)

@@ -47,15 +47,13 @@ def _static(state: State) -> list[str]:
     plan, lines = state.plan, []
     if plan.scheduler == "edf":
         return [*_rates(plan), f"{total(plan.rates)}, over the hyperperiod {plan.hyperperiod}"]
-    names = dict[tuple[int, int], str]()
     for rank in range(len(plan.tasks)):
         task, work = plan.level(rank)
         terms = [f"{ceiling(task.period, plan.tasks[place].period)} * {plan.worsts[place]}"
                  for place in plan.by_period[:rank + 1]]
         lines.append(f"{task.name} and those before it in {task.period} ticks: {' + '.join(terms)} = {work}")
-        names.setdefault((work, task.period), task.name)
-    num, den = plan.static
-    return [*lines, f"the most work per tick is that of {names[num, den]}: {num}/{den}"]
+    first = next(name for work, ticks, name in plan.levels() if (work, ticks) == plan.static)
+    return [*lines, f"the most work per tick is that of {first}: {plan.static[0]}/{plan.static[1]}"]
 
 
 def _edf_cycle(state: State) -> list[str]:

@@ -5,16 +5,14 @@ Energies and work units are whole numbers of any size. A position is a tick and 
 have passed; as a time it is an exact fraction of ticks, the units over the speed in force.
 """
 
-from rtdvs.trace._belongs import wrong_energy, wrong_sums
-from rtdvs.trace._noted import Noted
-from rtdvs.trace.file import TraceFile
-from rtdvs.trace.jobs import Job, Ran, ran_at
-from rtdvs.trace.misses import Miss, Missed, is_late, late_jobs, split_governor
+from rtdvs.trace._noted import Noted, wrong_energy, wrong_sums
+from rtdvs.trace.jobs import Job, Miss, Missed, Ran, is_late, late_jobs, ran_at, split_governor
 from rtdvs.trace.notes import Decision, Done, End, Head, Idle, Line, Note, Position, Release, Run, TaskEnergy, task_text
 from rtdvs.trace.reader import NO_FRACTION, Reader, closing_fault, lines_of, parse_lines
-from rtdvs.trace.per_task import COLUMNS, Statistics, TaskStatistics, task_statistics
-from rtdvs.trace.tables import REALS, TABLES, csv_lines, csv_text, frame, rows, ticks
-from rtdvs.trace.whole import SAMPLE, Trace
+from rtdvs.trace.tables import (
+    COLUMNS, REALS, TABLES, Statistics, TaskStatistics, csv_lines, csv_text, frame, rows, task_statistics, ticks,
+)
+from rtdvs.trace.whole import SAMPLE, Trace, TraceFile
 
 __all__ = [
     "COLUMNS", "Decision", "Done", "End", "Head", "Idle", "Job", "Line", "Miss", "Missed", "NO_FRACTION", "Note",

@@ -2,7 +2,7 @@
 
 import re
 from collections.abc import Callable, Iterable, Iterator
-from functools import cache, lru_cache, partial
+from functools import lru_cache, partial
 from typing import TextIO
 
 from rtdvs.errors import TraceFault
@@ -38,43 +38,21 @@ def _at(place: str) -> Position:
     return Position(int(tick), int(offset))
 
 
-@cache
-def _plan() -> re.Pattern[str]:
-    return re.compile(f"plan {_NAME} {_NAME} ({_up_to(MOST_TICKS)})\n")
-
-
-_FORMS: dict[str, Callable[..., Line]] = {
-    TASK_FORM: lambda name, period, offset, worst: Task(name, int(period), int(worst), int(offset)),
-    Release.form: lambda tick, task, job: Release(int(tick), task, int(job)),
-    Decision.form: lambda *numbers: Decision(*map(int, numbers)),
-    Run.form: lambda begin, end, task, job, units, energy: Run(
-        _at(begin), _at(end), task, int(job), int(units), int(energy)),
-    Idle.form: lambda begin, end, units, energy: Idle(_at(begin), _at(end), int(units), int(energy)),
-    Done.form: lambda at, task, job, used: Done(_at(at), task, int(job), int(used)),
-    TaskEnergy.form: lambda task, energy: TaskEnergy(task, int(energy)),
-    End.form: lambda *numbers: End(*map(int, numbers)),
+_KINDS: dict[str, Callable[..., Line]] = {
+    TASK_FORM: lambda name, period, offset, worst: Task(name, period, worst, offset),
+    Release.form: Release, Decision.form: Decision, Run.form: Run, Idle.form: Idle, Done.form: Done,
+    TaskEnergy.form: TaskEnergy, End.form: End,
 }
+_VALUES: dict[str, Callable[[str], object]] = {"name": str, "task": str, "begin": _at, "end": _at, "at": _at}
 
 
-@cache  # made for the first line of the form: to make all of them takes 50 ms
-def _shape(form: str) -> re.Pattern[str]:
-    """A pattern for a line of that form, with its line feed."""
-    return re.compile(re.sub(r"{0\.(\w+)}", lambda field: _SHAPES.get(str(field[1]), _NUMBER), form) + "\n")
-
-
-_STARTS = {form[:3]: form for form in _FORMS}
-
-
-@lru_cache(maxsize=32)  # it takes long to compile a pattern, and a command may need none
-def _line(start: str) -> tuple[Callable[[str], re.Match[str] | None], Callable[..., Line]]:
-    """What reads a line that begins so, and what makes a value of its fields."""
-    if form := _STARTS.get(start):
-        return _shape(form).fullmatch, _FORMS[form]
-    return _no_line, End
-
-
-def _no_line(line: str) -> None:
-    return None
+@lru_cache(maxsize=32)  # to compile all patterns takes 50 ms, and a command may need none
+def _line(start: str) -> tuple[re.Pattern[str], list[Callable[[str], object]], Callable[..., Line]]:
+    """The pattern of a line that begins so, what makes the values of its fields, and what makes the line of these."""
+    form = next((form for form in _KINDS if form.startswith(start)), "(?!)")
+    values = [_VALUES.get(field, int) for field in re.findall(r"{0\.(\w+)}", form)]
+    shape = re.sub(r"{0\.(\w+)}", lambda field: _SHAPES.get(str(field[1]), _NUMBER), form)
+    return re.compile(f"{shape}\n"), values, _KINDS.get(form, End)
 
 
 def read_head(lines: Iterator[str]) -> Head:
@@ -87,7 +65,7 @@ def read_head(lines: Iterator[str]) -> Head:
     if line not in ("trace 1\n", "trace 2\n"):
         raise TraceFault(1, "neither trace 1 nor trace 2")
     plan = next(lines, "")
-    found = _plan().fullmatch(plan)
+    found = re.fullmatch(f"plan {_NAME} {_NAME} ({_up_to(MOST_TICKS)})\n", plan)
     if not found:
         raise TraceFault(2, _misspelled(plan, "not a plan line"))
     return Head(int(line[6]), found[1], found[2], int(found[3]))
@@ -132,12 +110,12 @@ class Reader:
 
     def spelled(self, line: str) -> Line:
         """What the line says that `lines` gave last, wherever it is."""
-        shape, make = _line(line[:3])
-        found = shape(line)
+        shape, values, kind = _line(line[:3])
+        found = shape.fullmatch(line)
         if not found or self.number > MOST_LINES:
             more = f"a trace has at most {MOST_LINES} lines"
             raise TraceFault(self.number, more if found else _misspelled(line, "not a line of a trace"))
-        return make(*found.groups())
+        return kind(*[value(text) for value, text in zip(values, found.groups())])
 
     def read(self, line: str) -> Line:
         """What the line says that `lines` gave last; its order is checked, and in version 2 the energies."""

@@ -1,10 +1,10 @@
-"""Traces of runs, read strictly, and what they say of the jobs."""
+"""Traces of runs, read strictly, in memory or from their files, and what they say of the jobs."""
 
 import io
-from collections.abc import Iterator
+from collections.abc import Callable, Iterator
 from dataclasses import asdict, dataclass
 from fractions import Fraction
-from itertools import pairwise
+from itertools import islice, pairwise, takewhile
 from pathlib import Path
 from typing import Self, TextIO
 
@@ -189,6 +189,34 @@ class Trace(Head, _noted.Noted):
 
     def _repr_html_(self) -> str:
         return picture(self) or html_of(tables.TABLES["segments"], tables.rows(self), repr(self))
+
+
+@dataclass(frozen=True, slots=True)
+class TraceFile(Head, _noted.Noted):
+    r"""A trace whose lines are read anew, and strictly, for each pass over its notes: in little memory.
+
+    `lines` gives them, each with its line feed.
+
+    >>> from rtdvs.trace import SAMPLE
+    >>> trace = TraceFile.of(lambda: iter(SAMPLE.splitlines(keepends=True)))
+    >>> trace.governor, trace.names, [job.units for job in trace.each_job()]
+    ('mine', ('t',), [4])
+    """
+
+    tasks: tuple[Task, ...]
+    lines: Callable[[], Iterator[str]]
+
+    @classmethod
+    def of(cls, lines: Callable[[], Iterator[str]]) -> Self:
+        """The trace of some lines, of which only the first ones are read; raises TraceFault for these, OSError."""
+        head, *items = takewhile(lambda item: isinstance(item, Head | Task), reader.parse_lines(lines()))
+        return cls(**asdict(head), tasks=tuple(item for item in items if isinstance(item, Task)), lines=lines)
+
+    @property
+    def notes(self) -> Iterator[Note]:
+        """The notes, by a pass over the lines; raises TraceFault and OSError."""
+        items = islice(reader.parse_lines(self.lines()), 1, None)
+        return (item for item in items if not isinstance(item, Head | Task))
 
 
 SAMPLE = """trace 2

@@ -1,11 +1,11 @@
 """Pages for a browser: in one file, or served."""
 
-from rtdvs.web.answers import answer_of, example_of
+from rtdvs.web.answers import answer_of
 from rtdvs.web.data import (
     MOST_TEXT, SCRIPTS, Shown, apart, boards_of, chunks, first_window, in_one_file, modules, page_data, safe_json,
     with_data,
 )
-from rtdvs.web.example import Example, examples, field_of, read_example
+from rtdvs.web.example import Example, example_of, examples, field_of, read_example
 from rtdvs.web.lesson import Lesson, LessonExample, LessonPair, lesson_data
 from rtdvs.web.marks import mark_pieces
 from rtdvs.web.measures import residency

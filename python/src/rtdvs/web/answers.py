@@ -1,10 +1,10 @@
 """What the server answers to an example: its run, its comparison, or a refusal with its field and its meaning."""
 
-import json
 import sys
 import traceback
 from collections.abc import Callable, Mapping
 from contextlib import suppress
+from functools import partial
 from http import HTTPStatus
 
 from rtdvs import _numbers, errors
@@ -12,9 +12,9 @@ from rtdvs.engine import Engine, is_stopped
 from rtdvs.hints import second_line
 from rtdvs.rules import simulate
 from rtdvs.studies import HEADING, cells, compare
-from rtdvs.web.data import Shown, page_data
+from rtdvs.trace import Trace
+from rtdvs.web.data import Shown, page_data, run_text
 from rtdvs.web.example import Example, field_of
-from rtdvs.web.unadmitted import not_the_programs
 
 MOST_JOBS = 10_000      # of a run
 MOST_SERVED_TEXT = 2    # mebibytes of explanations
@@ -23,41 +23,24 @@ Found = dict[str, object]
 """An answer, which is sent as JSON."""
 
 
-def example_of(body: bytes) -> Example:
-    """The example of a request; raises BadRequest.
-
-    >>> example_of(b"{")
-    Traceback (most recent call last):
-    rtdvs.errors.BadRequest: not an example
-    """
-    try:
-        return Example.of(json.loads(body))
-    except (ValueError, RecursionError):
-        raise errors.BadRequest("not an example") from None
-
-
 def run_answer(example: Example, engine: Engine) -> Found:
     """The page's data of a run, or of two, and the files; raises EngineError and Refused."""
     texts, notes = dict[str, str](), dict[str, str]()
     for label, pair in example.pairs().items():
-        try:
-            texts[label] = engine.answer(example.call(pair)).text()
-        except errors.Denied as fault:
-            if example.single["admission"] != "none":
-                raise
-            texts[label], notes[label] = own_run(example, pair), not_the_programs(fault)
+        own = partial(own_run, example, pair) if example.single["admission"] == "none" else None
+        texts[label], notes[label] = run_text(engine, example.call(pair), own)
     if is_stopped():
         return {}
     data = page_data(texts, Shown(*example.parsed(), MOST_SERVED_TEXT), notes)
     return {"data": data, "files": {**example.files(), "trace": next(iter(texts.values()))}}
 
 
-def own_run(example: Example, pair: tuple[str, str]) -> str:
+def own_run(example: Example, pair: tuple[str, str]) -> Trace:
     """The package's run of a set that isn't admitted, whose jobs are given up at their deadlines; raises Refused."""
     tasks, machine, demands = example.parsed()
     scheduler, governor = pair
     ticks = _numbers.whole(example.single["ticks"], 1)
-    return simulate(tasks, machine, scheduler, ticks, governor, demands, missed="drop").text()
+    return simulate(tasks, machine, scheduler, ticks, governor, demands, missed="drop")
 
 
 def compare_answer(example: Example, engine: Engine) -> Found:

@@ -10,13 +10,16 @@ import hashlib
 import json
 import re
 import zlib
-from collections.abc import Iterator, Mapping, Sequence
+from collections.abc import Callable, Iterator, Mapping, Sequence
 from dataclasses import dataclass, replace
 from fractions import Fraction
-from itertools import islice
+from itertools import groupby, islice
+from operator import itemgetter
 from pathlib import Path
 
 from rtdvs.board import Units
+from rtdvs.engine import Call, Engine
+from rtdvs.errors import Denied
 from rtdvs.model import Demands, Machine, TaskSet
 from rtdvs.rules import GOVERNORS, Walk, explain
 from rtdvs.trace import Idle, Release, Run, Trace, split_governor
@@ -51,8 +54,18 @@ class Shown:
     units: Units | None = None
 
 
-class _Full(Exception):
-    """There is no room for more explanations."""
+def run_text(engine: Engine, call: Call[object], own: Callable[[], Trace] | None) -> tuple[str, str]:
+    """The text of the program's run; of a set that it denies that of the package's own, and a note that says so.
+
+    Raises EngineError and Refused; also Denied if there is no own run.
+    """
+    try:
+        return engine.answer(call).text(), ""
+    except Denied as denied:
+        if own is None:
+            raise
+        return own().text(), (f"This run is the package's, not the program's, which says: {denied}. A job that isn't "
+                              "complete at its deadline is given up there.")
 
 
 # The data of a page
@@ -72,21 +85,17 @@ def boards_of(walk: Walk, most: int) -> tuple[list[str], bool]:
 
     Raises WrongTrace for the first wrong line before the last explanation.
     """
-    boards: list[str] = []
-    left = most
+    boards, left = list[str](), most
 
-    def keep(board: str) -> None:
+    def keep(board: str) -> bool:
         nonlocal left
         left -= len(board)
-        if left < 0:
-            raise _Full
-        boards.append(board)
+        if left >= 0:
+            boards.append(board)
+        return left >= 0
 
-    try:
-        explain(walk, keep)
-    except _Full:
-        return boards, False
-    return boards, True
+    explain(walk, keep)
+    return boards, left >= 0
 
 
 def chunks(boards: Sequence[str], size: int = CHUNK) -> Iterator[dict[str, object]]:
@@ -138,17 +147,14 @@ def segments(trace: Trace) -> Iterator[tuple[Fraction, Fraction, str]]:
     >>> [words for _, _, words in segments(Trace.parse(SAMPLE))]
     ['t 1 at speed 3', 't 1 at speed 2', 'idle at speed 2']
     """
-    begin, end, last = Fraction(0), Fraction(0), ""
-    for note, speed in trace.at_speeds():
-        if not isinstance(note, Run | Idle):
-            continue
-        words = f"{f'{note.task} {note.job}' if isinstance(note, Run) else 'idle'} at speed {speed}"
-        if words != last and last:
-            yield begin, end, last
-            begin = end
-        end, last = Fraction(note.end.time(speed)), words
-    if last:
-        yield begin, end, last
+    begin = Fraction(0)
+    pieces = ((f"{note.task} {note.job}" if isinstance(note, Run) else "idle", speed, note.end)
+              for note, speed in trace.at_speeds() if isinstance(note, Run | Idle))
+    for (who, speed), alike in groupby(pieces, itemgetter(0, 1)):
+        *_, (_, _, last) = alike
+        end = last.time(speed)
+        yield begin, end, f"{who} at speed {speed}"
+        begin = end
 
 
 def parting(first: Trace, second: Trace) -> tuple[Fraction, str, str] | None:
@@ -160,17 +166,12 @@ def parting(first: Trace, second: Trace) -> tuple[Fraction, str, str] | None:
     (True, (Fraction(3, 2), 'idle at speed 2', 't 1 at speed 2'))
     """
     for one, two in zip(segments(first), segments(second), strict=False):
-        if one[2] != two[2]:
-            return max(one[0], two[0]), one[2], two[2]
-        if one[1] != two[1]:
-            return _after(first, second, min(one[1], two[1]))
+        if one != two:
+            time = one[0] if one[2] != two[2] else min(one[1], two[1])
+            does = [next((words for _, end, words in segments(trace) if end > time), "nothing")
+                    for trace in (first, second)]
+            return time, does[0], does[1]
     return None
-
-
-def _after(first: Trace, second: Trace, time: Fraction) -> tuple[Fraction, str, str]:
-    """What two schedules do from a time on."""
-    does = [next((words for _, end, words in segments(trace) if end > time), "nothing") for trace in (first, second)]
-    return time, does[0], does[1]
 
 
 def apart(first: Trace, second: Trace, units: Units | None = None) -> dict[str, object]:

@@ -13,7 +13,6 @@ from typing import Any
 from rtdvs.engine import CRATE, Call
 from rtdvs.errors import BadRequest, FileRefused
 from rtdvs.model import Demands, Machine, TaskSet
-from rtdvs.web.menu import MENU
 
 LONGEST_FIELD = 1000    # characters
 TABLES = {"tasks": ("name", "period", "worst", "offset"), "points": ("speed", "millivolts"),
@@ -24,6 +23,13 @@ MORE = ("beside", "admission", "page")
 page that asks, whose newer call ends an older one."""
 EXAMPLE_DATA = ("crates", "example_runs", "data")
 Rows = Sequence[Mapping[str, str]]
+MENU = {
+    "paper": "Three tasks on three speeds, from the paper of Pillai and Shin (2001), with demands.",
+    "controller": "A controller on a battery: six tasks, four speeds, an idle share and a charge for switches.",
+    "ahead": "Three tasks for which look-ahead (la) asks for more than the highest speed.",
+    "offsets": "Two tasks, the second of which is released for the first time at tick 2.",
+}
+"""The examples of the menu: their folders, the first one first, and a sentence for each."""
 START: dict[str, object] = {
     "name": "late", "about": "Two tasks that EDF admits. Under RM, which denies them, b misses its deadline.",
     "example": {
@@ -41,22 +47,6 @@ class Example:
     points: Rows
     demands: Rows
     single: Mapping[str, str]
-
-    @classmethod
-    def of(cls, found: Any) -> "Example":
-        """The example of a JSON value; raises BadRequest.
-
-        >>> Example.of({"tasks": []})
-        Traceback (most recent call last):
-        rtdvs.errors.BadRequest: not an example
-        """
-        try:
-            tables = {kind: [{name: field_text(row.get(name, "")) for name in names} for row in found[kind]]
-                      for kind, names in TABLES.items()}
-            more = {name: field_text(found.get(name, "")) for name in MORE}
-            return cls(**tables, single={name: field_text(found[name]) for name in SINGLE} | more)
-        except (AttributeError, KeyError, TypeError, ValueError):
-            raise BadRequest("not an example") from None
 
     def files(self) -> dict[str, str]:
         """The files, in which a field that isn't a whole number stays a text, so that it is refused there."""
@@ -108,6 +98,23 @@ class Example:
             return sum(ticks // int(task["period"]) + 1 for task in self.tasks)
         except (ValueError, ZeroDivisionError):
             return 0
+
+
+def example_of(body: bytes) -> Example:
+    """The example of a request; raises BadRequest.
+
+    >>> example_of(b'{"tasks": []}')
+    Traceback (most recent call last):
+    rtdvs.errors.BadRequest: not an example
+    """
+    try:
+        found = json.loads(body)
+        tables = {kind: [{name: field_text(row.get(name, "")) for name in names} for row in found[kind]]
+                  for kind, names in TABLES.items()}
+        more = {name: field_text(found.get(name, "")) for name in MORE}
+        return Example(**tables, single={name: field_text(found[name]) for name in SINGLE} | more)
+    except (AttributeError, KeyError, RecursionError, TypeError, ValueError):
+        raise BadRequest("not an example") from None
 
 
 def field_text(value: Any) -> str:
@@ -178,8 +185,7 @@ def field_of(fault: Exception, example: Example) -> str:
     """
     line = str(fault)
     for pattern, place in _FIELDS:
-        found = re.match(pattern, line)
-        if found:
+        if found := re.match(pattern, line):
             return place(found, example)
     return ""
 

@@ -22,21 +22,18 @@ Its file is TOML, and names the files of its examples; their names begin at its 
 """
 
 from collections.abc import Callable, Iterator, Mapping
-from contextlib import contextmanager
 from dataclasses import MISSING, dataclass
 from functools import partial
-from itertools import combinations
+from itertools import combinations, permutations
 from pathlib import Path
 from typing import Any, TypeVar
 
+from rtdvs import model
 from rtdvs.engine import Engine, run_call
-from rtdvs.errors import BadValue, Denied, FileRefused, Refused
-from rtdvs.model import (
-    Demands, Governor, Machine, Pair, Scheduler, Table, TaskSet, checked_name, checked_number, document, load, pair_of,
-)
+from rtdvs.errors import BadValue, FileRefused, Refused
 from rtdvs.rules import simulate
 from rtdvs.trace import Trace
-from rtdvs.web import data, unadmitted
+from rtdvs.web import data
 
 MOST_EXAMPLES = 100
 MOST_LESSON_TEXT = 1    # mebibytes of explanations of a run
@@ -47,11 +44,11 @@ T = TypeVar("T")
 class LessonPair:
     """A pair of an example, and what is said of its run. With "drop" for `missed` the set may be denied.
 
-    >>> LessonPair((Scheduler.EDF, Governor.CC), "Watch tick 3.").name
+    >>> LessonPair((model.Scheduler.EDF, model.Governor.CC), "Watch tick 3.").name
     'edf-cc'
     """
 
-    pair: Pair
+    pair: model.Pair
     text: str
     missed: str = "stop"
 
@@ -68,9 +65,9 @@ class LessonExample:
     name: str
     title: str
     text: str
-    tasks: TaskSet
-    machine: Machine
-    demands: Demands | None
+    tasks: model.TaskSet
+    machine: model.Machine
+    demands: model.Demands | None
     ticks: int
     pairs: tuple[LessonPair, ...]
 
@@ -91,7 +88,7 @@ class Lesson:
         Traceback (most recent call last):
         rtdvs.errors.FileRefused: lesson: missing title
         """
-        top = document(load(path), "lesson", "title", "text", "example")
+        top = model.document(model.load(path), "lesson", "title", "text", "example")
         found = (_text(top.values, "title", top.fault), _text(top.values, "text", top.fault, ""))
         examples = tuple(_example(table, path.parent) for table in top.array(MOST_EXAMPLES))
         _check_different("examples", [example.name for example in examples], top.fault)
@@ -113,23 +110,23 @@ def _check_different(of: str, names: list[str], fault: Callable[[str], Refused])
             raise fault(f"{of} {first} and {second} have one name")
 
 
-def _example(table: Table, folder: Path) -> LessonExample:
+def _example(table: model.Table, folder: Path) -> LessonExample:
     table.refuse_others("name", "title", "text", "tasks", "machine", "demands", "ticks", "pair")
     values, text = table.values, partial(_text, table.values, fault=table.fault)
-    name = checked_name(values.get("name", MISSING), table.fault)
+    name = model.checked_name(values.get("name", MISSING), table.fault)
     title, about = text("title"), text("text", default="")
-    tasks = _read(TaskSet.read, folder / text("tasks"), table)
-    machine = _read(Machine.read, folder / text("machine"), table)
+    tasks = _read(model.TaskSet.read, folder / text("tasks"), table)
+    machine = _read(model.Machine.read, folder / text("machine"), table)
     demands = None
     if "demands" in values:
-        demands = _read(lambda path: Demands.read(path, tasks), folder / text("demands"), table)
-    ticks = checked_number("ticks", values.get("ticks", MISSING), table.fault)
+        demands = _read(lambda path: model.Demands.read(path, tasks), folder / text("demands"), table)
+    ticks = model.checked_number("ticks", values.get("ticks", MISSING), table.fault)
     pairs = tuple(_pairs(table))
     _check_different("pairs", [pair.name for pair in pairs], table.fault)
     return LessonExample(name, title, about, tasks, machine, demands, ticks, pairs)
 
 
-def _read(read: Callable[[Path], T], path: Path, table: Table) -> T:
+def _read(read: Callable[[Path], T], path: Path, table: model.Table) -> T:
     """What is in a file; a refusal has its name and the place of the example."""
     try:
         return read(path)
@@ -138,7 +135,7 @@ def _read(read: Callable[[Path], T], path: Path, table: Table) -> T:
         raise table.fault(f"{path}: {reason}") from None
 
 
-def _pairs(table: Table) -> Iterator[LessonPair]:
+def _pairs(table: model.Table) -> Iterator[LessonPair]:
     found = table.values.get("pair", [])
     if not isinstance(found, list) or not all(isinstance(entry, dict) for entry in found):
         raise table.fault("wrong kind of pair")
@@ -152,39 +149,23 @@ def _pairs(table: Table) -> Iterator[LessonPair]:
 
 
 def _pair(entry: Mapping[str, Any]) -> LessonPair:
-    others = sorted(entry.keys() - {"scheduler", "governor", "text", "missed"})
-    if others:
-        raise BadValue(f"unknown key {others[0]}")
+    if others := entry.keys() - {"scheduler", "governor", "text", "missed"}:
+        raise BadValue(f"unknown key {min(others)}")
     words = [_text(entry, key, BadValue) for key in ("scheduler", "governor")]
     missed = _text(entry, "missed", BadValue, "stop")
     if missed not in ("stop", "drop"):
         raise BadValue(f"missed is stop or drop, not {missed}")
-    return LessonPair(pair_of(*words), _text(entry, "text", BadValue, ""), missed)
+    return LessonPair(model.pair_of(*words), _text(entry, "text", BadValue, ""), missed)
 
 
 # Runs
 
-@contextmanager
-def _placed(example: int, pair: int) -> Iterator[None]:
-    """A refusal of a run has its place in the lesson."""
-    try:
-        yield
-    except Refused as fault:
-        raise FileRefused("lesson", f"pair {pair}: {fault}", example) from None
-
-
 def run_of(example: LessonExample, chosen: LessonPair, engine: Engine) -> tuple[str, str]:
     """The text of a run's trace, and a note if it is the package's; raises EngineError and Refused."""
-    files = example.tasks, example.machine
-    try:
-        call = run_call(*files, *chosen.pair, example.ticks, example.demands)
-        return engine.answer(call).text(), ""
-    except Denied as denied:
-        if chosen.missed == "stop":
-            raise
-        scheduler, governor = chosen.pair
-        trace = simulate(*files, scheduler, example.ticks, governor, example.demands, missed=chosen.missed)
-        return trace.text(), unadmitted.not_the_programs(denied)
+    files, (scheduler, governor) = (example.tasks, example.machine), chosen.pair
+    own = partial(simulate, *files, scheduler, example.ticks, governor, example.demands, missed=chosen.missed)
+    call = run_call(*files, scheduler, governor, example.ticks, example.demands)
+    return data.run_text(engine, call, None if chosen.missed == "stop" else own)
 
 
 def lesson_data(lesson: Lesson, engine: Engine) -> dict[str, object]:
@@ -199,20 +180,21 @@ def example_data(example: LessonExample, place: int, engine: Engine) -> dict[str
 
     Raises as `lesson_data`; `place` is that of the example.
     """
-    pages: list[dict[str, Any]] = []
-    traces: list[Trace] = []
+    pages, traces = list[dict[str, Any]](), list[Trace]()
+    shown = data.Shown(example.tasks, example.machine, example.demands, MOST_LESSON_TEXT)
     for number, chosen in enumerate(example.pairs, 1):
-        with _placed(place, number):
+        try:
             text, note = run_of(example, chosen, engine)
-            shown = data.Shown(example.tasks, example.machine, example.demands, MOST_LESSON_TEXT)
             pages.append(data.page_data({"": text}, shown, {"": note}))
-            traces.append(Trace.parse(text))
+        except Refused as fault:  # a refusal of a run has its place in the lesson
+            raise FileRefused("lesson", f"pair {number}: {fault}", place) from None
+        traces.append(Trace.parse(text))
     return {
         "name": example.name, "title": example.title, "text": example.text,
         "pairs": [{"name": chosen.name, "title": " ".join(chosen.pair), "text": chosen.text}
                   for chosen in example.pairs],
         "page": {key: value for key, value in pages[0].items() if key not in ("sheets", "apart")},
         "sheets": [page["sheets"][0] for page in pages],
-        "apart": {f"{one} {two}": data.apart(traces[one], traces[two]) for one in range(len(traces))
-                  for two in range(len(traces)) if one != two},
+        "apart": {f"{one} {two}": data.apart(traces[one], traces[two])
+                  for one, two in permutations(range(len(traces)), 2)},
     }

@@ -6,10 +6,9 @@ The facts are worked out here; the page only writes them. A time is a whole numb
 
 from collections.abc import Callable, Iterator, Mapping
 from fractions import Fraction
-from math import gcd
 
 from rtdvs.model import TaskSet
-from rtdvs.trace import Decision, Done, Idle, Job, Position, Release, Run, Trace, is_late
+from rtdvs.trace import Decision, Done, Idle, Job, Release, Run, Trace, is_late
 
 PIECE = 4000        # marks that are read together
 Row = list[object]
@@ -26,18 +25,6 @@ def time_of(time: Fraction | None) -> int | str | None:
         return None
     whole, rest = divmod(time.numerator, time.denominator)
     return f"{whole or ''} {rest}/{time.denominator}".strip() if rest else whole
-
-
-def place_of(at: Position, speed: int) -> int | str:
-    """A position as a time, at the speed in force.
-
-    >>> place_of(Position(2, 2), 3), place_of(Position(0, 2), 4), place_of(Position(9, 0), 4)
-    ('2 2/3', '1/2', 9)
-    """
-    if not at.offset:
-        return at.tick
-    common = gcd(at.offset, speed)
-    return f"{at.tick or ''} {at.offset // common}/{speed // common}".strip()
 
 
 def empty_piece() -> dict[str, list[Row]]:
@@ -108,4 +95,4 @@ def mark_pieces(trace: Trace, tasks: TaskSet, size: int = PIECE,
 def _segment(note: Run | Idle, speed: int, places: Mapping[Name, int]) -> Row:
     """A run, with the place of its job, or idle time: begin, end, speed and units."""
     job = [places[note.task, note.job]] if isinstance(note, Run) else []
-    return [*job, place_of(note.begin, speed), place_of(note.end, speed), speed, note.units]
+    return [*job, time_of(note.begin.time(speed)), time_of(note.end.time(speed)), speed, note.units]

@@ -70,26 +70,19 @@ def residency(trace: Trace, units: Units | None = None) -> list[tuple[str, str, 
     >>> residency(Trace.parse(SAMPLE))
     [('2', '1', '0.5000'), ('3', '1', '0.5000'), ('idle', '0.5000', '0.2500')]
     """
-    times, idle = sorted(trace.residency().items()), trace.idle_time
-    shares = [decimal(time / trace.ticks, 4) for _, time in times] + [decimal(idle / trace.ticks, 4)]
-    if units is None:
-        rows = [(str(speed), str(ticks)) for speed, ticks in times] + [("idle", decimal(idle, 4))]
-    else:
-        rows = [(plain(units.megahertz(speed)), rounded(units.milliseconds(ticks))) for speed, ticks in times]
-        rows.append(("idle", rounded(units.milliseconds(idle))))
-    return [(*row, share) for row, share in zip(rows, shares, strict=True)]
+    times = [(str(speed) if units is None else plain(units.megahertz(speed)), time, str(time))
+             for speed, time in sorted(trace.residency().items())]
+    times.append(("idle", trace.idle_time, decimal(trace.idle_time, 4)))
+    return [(name, text if units is None else rounded(units.milliseconds(time)), decimal(time / trace.ticks, 4))
+            for name, time, text in times]
 
 
 def trace_tables(label: str, trace: Trace, tasks: TaskSet, units: Units | None = None) -> list[Table]:
     """The tables below a trace: the time at each speed, and the statistics of each task."""
-    if units is None:
-        speeds, ticks, heading = "speed", "ticks", COLUMNS
-        rows = [each.row() for each in task_statistics(trace, tasks)]
-        captions = "ticks at each speed", "tasks, in ticks"
-    else:
-        speeds, ticks = "MHz", "ms"
-        heading, *rows = units.table(trace)
-        captions = "time at each speed", "tasks"
+    speeds, ticks, *captions = (("speed", "ticks", "ticks at each speed", "tasks, in ticks") if units is None
+                                else ("MHz", "ms", "time at each speed", "tasks"))
+    heading, *rows = ([COLUMNS, *(each.row() for each in task_statistics(trace, tasks))] if units is None
+                      else units.table(trace))
     return [
         {"caption": f"{label}: {captions[0]}", "heading": [speeds, ticks, "share"], "rows": residency(trace, units)},
         {"caption": f"{label}: {captions[1]}", "heading": [name.replace("_", " ") for name in heading], "rows": rows},

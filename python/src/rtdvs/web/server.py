@@ -22,8 +22,7 @@ from typing import Any
 from rtdvs.engine import Engine, Stop
 from rtdvs.errors import BadRequest
 from rtdvs.web import answers, data
-from rtdvs.web.answers import example_of, failed
-from rtdvs.web.example import Example, examples
+from rtdvs.web.example import Example, example_of, examples
 
 HOST = "127.0.0.1"
 PORT = 8017
@@ -37,6 +36,8 @@ LONGEST_CALL = 10.0     # seconds
 LONGEST_TRY = 300.0     # seconds, where `rt try` has to compile first
 POLICY = ("default-src 'none'; script-src 'self'; style-src 'self'; connect-src 'self'; base-uri 'none'; "
           "form-action 'none'; frame-ancestors 'none'")
+UNAVAILABLE = b"HTTP/1.0 503 Service Unavailable\r\nContent-Length: 0\r\nConnection: close\r\n\r\n"
+"""An answer without a body."""
 
 
 @dataclass(eq=False, slots=True)
@@ -47,13 +48,12 @@ class Visit:
     stop: Stop = field(default_factory=Stop)
     has_come: bool = False
     page: str = ""
-    thread: Thread | None = None
 
     def give_up(self) -> None:
         """Ends its calls, and its connection: its thread then waits for no more bytes. It waits for nothing."""
         self.stop.end()
         with suppress(OSError):
-            self.connection.send(_bare(HTTPStatus.SERVICE_UNAVAILABLE), socket.MSG_DONTWAIT)
+            self.connection.send(UNAVAILABLE, socket.MSG_DONTWAIT)
         with suppress(OSError):
             self.connection.shutdown(socket.SHUT_RDWR)
 
@@ -106,7 +106,6 @@ class PageServer(HTTPServer):
     def process_request(self, request: Any, client_address: Any) -> None:
         """Hands a request to a thread of its own. If there are too many, one that hasn't come whole is refused."""
         visit = Visit(request)
-        visit.thread = Thread(target=self._visited, args=(visit, client_address), daemon=True)
         refused = self._placed(visit)
         if refused is visit:
             _refuse_at_once(request)
@@ -115,7 +114,7 @@ class PageServer(HTTPServer):
         if refused:
             refused.give_up()
         try:
-            visit.thread.start()
+            Thread(target=self._visited, args=(visit, client_address), daemon=True).start()
         except RuntimeError:
             self._forget(visit)
             raise
@@ -132,27 +131,23 @@ class PageServer(HTTPServer):
     def _forget(self, visit: Visit) -> None:
         with self.change:
             self.visits = [each for each in self.visits if each is not visit]
+            self.change.notify_all()
 
     def _visited(self, visit: Visit, client_address: Any) -> None:
         """Answers a request, in its thread."""
         try:
             _Handler(visit, client_address, self)
-        except Exception as fault:
-            self.fault(fault)
+        except Exception:
+            self.handle_error(visit.connection, client_address)
         finally:
             self.shutdown_request(visit.connection)
             self._forget(visit)
 
-    def fault(self, fault: Exception) -> None:
-        """Says a fault, but not that a browser has left."""
-        if not isinstance(fault, (ConnectionError, TimeoutError)):
-            failed(fault)
-
     def handle_error(self, request: Any, client_address: Any) -> None:
-        """Says why a request has no thread."""
+        """Says why a request has no thread, or no answer, but not that a browser has left."""
         fault = sys.exc_info()[1]
-        if isinstance(fault, Exception):
-            self.fault(fault)
+        if isinstance(fault, Exception) and not isinstance(fault, (ConnectionError, TimeoutError)):
+            answers.failed(fault)
 
     def has_turn(self, visit: Visit, page: str) -> bool:
         """Waits until a call may be made; False if it isn't the visit's turn within the patience.
@@ -179,14 +174,10 @@ class PageServer(HTTPServer):
         """Ends all requests and their programs, whatever they wait for."""
         super().server_close()
         with self.change:
-            visits = [*self.visits]
-            for visit in visits:
+            for visit in self.visits:
                 visit.give_up()
             self.change.notify_all()
-        end = monotonic() + CLOSING
-        for visit in visits:
-            if visit.thread:
-                visit.thread.join(max(0.0, end - monotonic()))
+            self.change.wait_for(lambda: not self.visits, CLOSING)
 
 
 def _refuse_at_once(connection: socket.socket) -> None:
@@ -195,12 +186,7 @@ def _refuse_at_once(connection: socket.socket) -> None:
     with suppress(OSError):
         connection.recv(2**16)
     with suppress(OSError):
-        connection.sendall(_bare(HTTPStatus.SERVICE_UNAVAILABLE))
-
-
-def _bare(status: HTTPStatus) -> bytes:
-    """An answer without a body."""
-    return f"HTTP/1.0 {status.value} {status.phrase}\r\nContent-Length: 0\r\nConnection: close\r\n\r\n".encode()
+        connection.sendall(UNAVAILABLE)
 
 
 class _Late(Exception):
@@ -257,30 +243,19 @@ class _Handler(BaseHTTPRequestHandler):
         except Exception as fault:
             if self.has_answered:
                 raise
-            self._answer(HTTPStatus.INTERNAL_SERVER_ERROR, failed(fault))
+            self._answer(HTTPStatus.INTERNAL_SERVER_ERROR, answers.failed(fault))
 
     def do_GET(self) -> None:
-        if not self._is_own():
-            return
         self.visit.has_come = True
-        if self.path in self.server.files:
+        if not self._is_refused(0, (self.path not in self.server.files, HTTPStatus.NOT_FOUND)):
             self._send(HTTPStatus.OK, *self.server.files[self.path])
-        else:
-            self._refuse(HTTPStatus.NOT_FOUND)
 
     def do_POST(self) -> None:
         length = self._length()
-        if not self._is_own(length):
-            return
-        if self.path not in answers.ANSWERS:
-            self._refuse(HTTPStatus.NOT_FOUND, length)
-        elif self.headers.get_content_type() != "application/json":
-            self._refuse(HTTPStatus.UNSUPPORTED_MEDIA_TYPE, length)
-        elif length < 0:
-            self._refuse(HTTPStatus.LENGTH_REQUIRED)
-        elif length > MOST_BODY:
-            self._refuse(HTTPStatus.REQUEST_ENTITY_TOO_LARGE, length)
-        else:
+        if not self._is_refused(
+                length, (self.path not in answers.ANSWERS, HTTPStatus.NOT_FOUND),
+                (self.headers.get_content_type() != "application/json", HTTPStatus.UNSUPPORTED_MEDIA_TYPE),
+                (length < 0, HTTPStatus.LENGTH_REQUIRED), (length > MOST_BODY, HTTPStatus.REQUEST_ENTITY_TOO_LARGE)):
             self._take(length)
 
     def _take(self, length: int) -> None:
@@ -312,16 +287,17 @@ class _Handler(BaseHTTPRequestHandler):
             return HTTPStatus.CONFLICT, {"refused": "a newer call of the page ended this one", "field": ""}
         return found
 
-    def _is_own(self, length: int = 0) -> bool:
-        """Whether the request is for this host, and from a page of it or from none; any other is refused."""
+    def _is_refused(self, length: int, *wrong: tuple[bool, HTTPStatus]) -> bool:
+        """Refuses a request for another host or from a page of one, and by the first other thing that is wrong."""
         hosts = self.server.hosts()
-        if self.headers.get_all("Host", []) not in [[host] for host in hosts]:
-            self._refuse(HTTPStatus.MISDIRECTED_REQUEST, length, f"open {self.server.address} instead")
-        elif self.headers.get("Origin", f"http://{hosts[0]}") not in [f"http://{host}" for host in hosts]:
-            self._refuse(HTTPStatus.FORBIDDEN, length)
-        else:
-            return True
-        return False
+        checks = (
+            (self.headers.get_all("Host", []) not in [[host] for host in hosts], HTTPStatus.MISDIRECTED_REQUEST),
+            (self.headers.get("Origin", f"http://{hosts[0]}") not in [f"http://{host}" for host in hosts],
+             HTTPStatus.FORBIDDEN), *wrong)
+        if refused := next((status for is_wrong, status in checks if is_wrong), None):
+            is_elsewhere = refused is HTTPStatus.MISDIRECTED_REQUEST
+            self._refuse(refused, length, f"open {self.server.address} instead" if is_elsewhere else "")
+        return refused is not None
 
     def _length(self) -> int:
         """The bytes of the body; -1 if they aren't given."""
