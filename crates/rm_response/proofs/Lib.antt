@@ -2,6 +2,7 @@ pub mod OrderPlaces
 pub mod KnownResponses
 pub mod Examples
 pub mod LoadFits
+pub mod Searches
 pub mod LoadsBefore
 pub mod RelaxedLoads
 pub mod RelaxedNodes

@@ -12,10 +12,11 @@ use Rattle.grid_fraction.proofs.Ceilings.{ceil-mono, div_ceil_is}
 use Rattle.governor.proofs.RmLevels.{ceil_covers}
 use Rattle.rm_response_laws.proofs.Ceilings.{ceil-after, ceil-least, ceil-sum}
 use Rattle.rm_response.specs.declared.inputs.Load.{Load}
+use Rattle.rm_response.specs.declared.inputs.Search.{Search}
 use Rattle.rm_response.specs.declared.inputs.Supply.{Supply}
 use Rattle.rm_response.specs.Supplies.{IsDone, IsMore}
-use Rattle.rm_response.specs.Loads.{held, work_of, rates_of, HasRate, AreInTurn, AreLoads}
-use Rattle.rm_response.specs.Fits.{Fits, NoneFits, NoneBefore, FindsFit, IsFrom}
+use Rattle.rm_response.specs.Loads.{held, work_of, rates_of, HasRate, AreServedWithin, AreInTurn}
+use Rattle.rm_response.specs.Fits.{Fits, NoneFits, NoneBefore, SearchesFit, IsFrom}
 
 -- of fewer units all are done too, and more units are too many too
 pub done-fewer : (s : Supply) (m n t : ℕ) → m ≤ n → IsDone s n t → IsDone s m t
@@ -142,27 +143,23 @@ before-later s xs rest low most first later one two = record {
 }
 
 -- what is found from the least ticks on is found of all
-pub found-from : (s : Supply) (xs : List Load) (rest low most least : ℕ) (found : Option ℕ) → IsFrom s xs rest low most least
-    → FindsFit s xs rest least most found → FindsFit s xs rest low most found
-found-from s xs rest low most least None is none = λ t from lt.
+pub found-from : (q : Search) (xs : List Load) (rest low most least : ℕ) (found : Option ℕ) → IsFrom q.low xs rest low most least
+    → SearchesFit q xs rest least most found → SearchesFit q xs rest low most found
+found-from q xs rest low most least None is none = λ t from lt.
     elim (cases_lt t least) [ inl before ↦ is.none t from before | inr after ↦ none t after lt ]
-found-from s xs rest low most least (Some t) is fit = record {
-  from = (let g = fit.from in let h = is.from in omega arith);
-  within = fit.within;
-  done = fit.done;
+found-from q xs rest low most least (Some t) is fit = λ e. record {
+  from = (let g = (fit e).from in let h = is.from in omega arith);
+  within = (fit e).within;
+  done = (fit e).done;
 }
 
 -- the first load and the others
-module _ (s : Supply) (x : Load) (xs : List Load) (loads : AreLoads s (x ∷ xs)) where
+module _ (q : Search) (x : Load) (xs : List Load) (served : AreServedWithin q.low (x ∷ xs) x.period) where
+  abbrev s : Supply
+  s = q.low
+
   abbrev d : ℕ
   d = x.period
-
-  pub others-loads : AreLoads s xs
-  others-loads = record {
-    few = (let n = loads.few in omega arith);
-    rates = All-tail (HasRate s.hyper) x xs loads.rates;
-    in_turn = loads.in_turn.1;
-  }
 
   split : (t : ℕ) → work_of (x ∷ xs) t ≡ held t x + work_of xs t
   split t = sum_by-cons (held t) x xs
@@ -190,7 +187,7 @@ module _ (s : Supply) (x : Load) (xs : List Load) (loads : AreLoads s (x ∷ xs)
   -- first that has the last of the ticks, or in the one before it.
   none-first : (rest low most q : ℕ) → 1 ≤ low → q * d < most → most ≤ q * d + d
       → NoneFits s xs (rest + held most x) (max low (q * d + 1)) (most + 1)
-      → (low ≤ q * d → NoneFits s xs (rest + held (q * d) x) low (q * d + 1))
+      → (low ≤ q * d → NoneFits s xs (rest + held (q * d) x) (max low (q * d + 1 - d)) (q * d + 1))
       → NoneFits s (x ∷ xs) rest low (most + 1)
   none-first rest low most q some below high none-in none-before t from lt =
       elim (cases_done s (rest + work_of (x ∷ xs) t) t) [
@@ -206,10 +203,9 @@ module _ (s : Supply) (x : Load) (xs : List Load) (loads : AreLoads s (x ∷ xs)
       ]
     where
       early : (q : ℕ) → t ≤ q * d → IsDone s (rest + work_of (x ∷ xs) t) t
-          → NoneFits s xs (rest + held (q * d) x) low (q * d + 1) → ⊥
+          → NoneFits s xs (rest + held (q * d) x) (max low (q * d + 1 - d)) (q * d + 1) → ⊥
       early zero within done none = omega (arith, within, some, from)
       early (suc q) within done none =
-          let served = loads.in_turn.0 in
           let n = served.ticks in
           let later : (u : ℕ) → IsDone s (rest + work_of (x ∷ xs) u) u → IsDone s (rest + work_of (x ∷ xs) (u + n)) (u + n) =
           λ u fit.
@@ -233,7 +229,7 @@ module _ (s : Supply) (x : Load) (xs : List Load) (loads : AreLoads s (x ∷ xs)
     below = omega (arith, div-mul-le_self (most - 1) d, some, in_span)
 
     neither : NoneFits s xs (rest + held most x) (max low (release + 1)) (most + 1)
-        → (low ≤ release → NoneFits s xs (rest + held release x) low (release + 1))
+        → (low ≤ release → NoneFits s xs (rest + held release x) (max low (release + 1 - d)) (release + 1))
         → NoneFits s (x ∷ xs) rest low (most + 1)
     neither none-in none-before =
         let split = div-add-mod' (most - 1) d in
@@ -242,31 +238,36 @@ module _ (s : Supply) (x : Load) (xs : List Load) (loads : AreLoads s (x ∷ xs)
 
     -- what is found beside the jobs that begin before `most` ticks are over, and no less than `after` ticks
     abbrev FindsIn : ℕ → ℕ → Option ℕ → Type 0
-    FindsIn begun after found = (begun ≡ held most x) × (after ≡ max low (release + 1)) × FindsFit s xs (rest + begun) after most found
+    FindsIn begun after found = (begun ≡ held most x) × (after ≡ max low (release + 1)) × SearchesFit q xs (rest + begun) after most found
 
     in-period : (begun after : ℕ) (found : Option ℕ) → FindsIn begun after found
-        → FindsFit s xs (rest + held most x) (max low (release + 1)) most found
+        → SearchesFit q xs (rest + held most x) (max low (release + 1)) most found
     in-period begun after found is =
-        subst (λ b. FindsFit s xs (rest + b) (max low (release + 1)) most found) is.0
-        (subst (λ a. FindsFit s xs (rest + begun) a most found) is.1 is.2)
+        subst (λ b. SearchesFit q xs (rest + b) (max low (release + 1)) most found) is.0
+        (subst (λ a. SearchesFit q xs (rest + begun) a most found) is.1 is.2)
 
     -- these jobs decide, or there are no earlier ticks
     pub found-in : (begun after : ℕ) (found : Option ℕ) → FindsIn begun after found
-        → (is_some found ≡ true) ⊎ (release < low) → FindsFit s (x ∷ xs) rest low most found
-    found-in begun after (Some t) is why =
-        fits-fewer rest (max low (release + 1)) most low most t (omega arith) (omega arith) (in-period begun after (Some t) is)
+        → (is_some found ≡ true) ⊎ (release < low) → SearchesFit q (x ∷ xs) rest low most found
+    found-in begun after (Some t) is why = λ e.
+        fits-fewer rest (max low (release + 1)) most low most t (omega arith) (omega arith) (in-period begun after (Some t) is e)
     found-in begun after None is (inl some') = absurd cc
     found-in begun after None is (inr early) = neither (in-period begun after None is) (λ le. absurd (omega (arith, early, le)))
 
-    -- if they find none, the jobs that begin before the last release decide
-    pub found-before : (begun after ended : ℕ) (first found : Option ℕ) → FindsIn begun after first → is_some first ≡ false
-        → ended ≡ held release x → FindsFit s xs (rest + ended) low release found → FindsFit s (x ∷ xs) rest low most found
-    found-before begun after ended (Some t) found is e jobs later = absurd cc
-    found-before begun after ended None found is e jobs later =
-        go found (subst (λ b. FindsFit s xs (rest + b) low release found) jobs later)
+    -- if they find none, the jobs that begin before the last release decide, in the period before it
+    pub found-before : (begun after ended from last : ℕ) (first found : Option ℕ) → FindsIn begun after first
+        → is_some first ≡ false → last ≡ release → from ≡ max low (release + 1 - d) → ended ≡ held last x
+        → SearchesFit q xs (rest + ended) from last found → SearchesFit q (x ∷ xs) rest low most found
+    found-before begun after ended from last (Some t) found is e l f jobs later = absurd cc
+    found-before begun after ended from last None found is e l f jobs later =
+        go found (subst (λ (n : ℕ). SearchesFit q xs (rest + held n x) (max low (release + 1 - d)) n found) l
+        (subst (λ (a : ℕ). SearchesFit q xs (rest + held last x) a last found) f
+        (subst (λ (b : ℕ). SearchesFit q xs (rest + b) from last found) jobs later)))
       where
-        go : (found : Option ℕ) → FindsFit s xs (rest + held release x) low release found → FindsFit s (x ∷ xs) rest low most found
-        go (Some t) fit = fits-fewer rest low release low most t (omega arith) (omega (arith, below)) fit
+        go : (found : Option ℕ) → SearchesFit q xs (rest + held release x) (max low (release + 1 - d)) release found
+            → SearchesFit q (x ∷ xs) rest low most found
+        go (Some t) fit = λ e'.
+            fits-fewer rest (max low (release + 1 - d)) release low most t (omega arith) (omega (arith, below)) (fit e')
         go None none = neither (in-period begun after None is) (λ le. none)
 
 -- a load y that is served in n ticks can be put into others after some whose periods are at least n

@@ -6,10 +6,12 @@ use Rattle.std.proofs.Math.Nat.{mul-le-mul_right}
 use Rattle.std.proofs.lemmas.List.Elements.{All-append, All-cons, All-get_or, All-nil}
 use Rattle.std.proofs.lemmas.List.Sums.{sum_by-cons, sum_by_push}
 use Rattle.rm_response.specs.declared.inputs.Load.{Load}
+use Rattle.rm_response.specs.declared.inputs.Search.{Search}
 use Rattle.rm_response.specs.declared.inputs.Supply.{Supply}
 use Rattle.rm_response.specs.Loads.{held, work_of, HasRate, AreInTurn}
-use Rattle.rm_response.specs.Fits.{FindsFit, IsFrom, NoneFits, IsRelaxed}
+use Rattle.rm_response.specs.Fits.{FindsFit, SearchesFit, IsFrom, NoneFits, IsRelaxed}
 use Rattle.rm_response.proofs.LoadFits.{held-once, done-fewer, found-from, rate-held}
+use Rattle.rm_response.proofs.Searches.{low-more}
 
 -- the load x is at place k
 module _ (s : Supply) (x : Load) (xs ys : List Load) (k n : ℕ) (below : k < length xs) (at : x ≡ slice_index_or xs k x)
@@ -67,9 +69,11 @@ relaxed-none s xs lower ys rest low end same is none t from lt =
     omega (arith, more, is.work t)
 
 -- a search beside relaxed loads that finds nothing decides
-pub none-found : (s : Supply) (xs : List Load) (lower : Supply) (ys : List Load) (rest low most least : ℕ) (found : Option ℕ)
-    → IsFrom s xs rest low most least → lower.hyper ≡ s.hyper → IsRelaxed s xs lower.units ys
-    → FindsFit lower ys rest least most found → is_some found ≡ false → NoneFits s xs rest low (most + 1)
-none-found s xs lower ys rest low most least None from same is none none' =
-    found-from s xs rest low most least None from (relaxed-none s xs lower ys rest least (most + 1) same is none)
-none-found s xs lower ys rest low most least (Some t) from same is fit none' = absurd cc
+pub none-found : (q : Search) (xs : List Load) (r : Search) (ys zs : List Load) (rest low most least : ℕ) (found : Option ℕ)
+    → IsFrom q.low xs rest low most least → r.low.hyper ≡ q.whole.hyper → IsRelaxed q.whole xs r.low.units ys → zs ≡ ys
+    → SearchesFit r zs rest least most found → is_some found ≡ false → NoneFits q.low xs rest low (most + 1)
+none-found q xs r ys zs rest low most least None from same is equal none none' =
+    let whole = relaxed-none q.whole xs r.low ys rest least (most + 1) same is
+    (subst (λ (ls : List Load). NoneFits r.low ls rest least (most + 1)) equal none) in
+    found-from q xs rest low most least None from (λ t after lt. low-more q (rest + work_of xs t) t (whole t after lt))
+none-found q xs r ys zs rest low most least (Some t) from same is equal fit none' = absurd cc

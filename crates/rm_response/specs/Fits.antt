@@ -1,12 +1,13 @@
 -- Work that fits into some ticks beside loads (after Bini and Buttazzo 2004).
 use Rattle.std.specs.Prelude.{ℕ, List, [], ◌∷◌, All, IfSome, slice_get, length, take, ◌+◌, ◌*◌, ◌≡◌, ◌<◌, ◌≤◌, Option, MatchOption}
 use Rattle.rm_response.specs.declared.inputs.Load.{Load}
+use Rattle.rm_response.specs.declared.inputs.Search.{Search}
 use Rattle.rm_response.specs.declared.inputs.Supply.{Supply}
 use Rattle.rm_response.specs.declared.relaxed.Relaxed.{Relaxed}
 use Rattle.rm_response.specs.declared.search.Ends.{Ends}
 use Rattle.rm_response.specs.declared.search.Ends.TheVariants.{Fit, NoFit, From}
 use Rattle.rm_response.specs.Supplies.{IsDone, IsMore}
-use Rattle.rm_response.specs.Loads.{HasRate, AreLoads, work_of}
+use Rattle.rm_response.specs.Loads.{AreInTurnTo, AreLoads, HasRate, work_of}
 
 -- `rest` units fit into t of the ticks `low` to `most`: in t ticks a supply does them and the work of the loads
 pub record Fits (s : Supply) (xs : List Load) (rest low most t : ℕ) : Type 0 where
@@ -21,6 +22,11 @@ NoneFits s xs rest low end = (t : ℕ) → low ≤ t → t < end → IsMore s (r
 -- `found` is one of the ticks `low` to `most` into which `rest` units fit, or there is none
 abbrev pub FindsFit : Supply → List Load → ℕ → ℕ → ℕ → Option ℕ → Type 0
 FindsFit s xs rest low most found = MatchOption found (NoneFits s xs rest low (most + 1)) (Fits s xs rest low most)
+
+-- a search with two supplies finds none of the ticks only if none fits with the low one; what it finds with one supply fits
+abbrev pub SearchesFit : Search → List Load → ℕ → ℕ → ℕ → Option ℕ → Type 0
+SearchesFit q xs rest low most found =
+    MatchOption found (NoneFits q.low xs rest low (most + 1)) (λ t. q.tail ≡ 0 → Fits q.low xs rest low most t)
 
 -- `least` is one of the ticks `low` to `most`, and `rest` units fit into none before it
 pub record IsFrom (s : Supply) (xs : List Load) (rest low most least : ℕ) : Type 0 where
@@ -60,7 +66,8 @@ pub record IsRelaxedSearch (s : Supply) (xs : List Load) (r : Relaxed) : Type 0 
   pub within : r.count ≤ length r.loads
   pub fewer : r.count < length xs
   pub same_hyper : r.supply.hyper ≡ s.hyper
-  pub loads : AreLoads r.supply (take r.count r.loads)
+  pub turn : AreInTurnTo r.tail r.supply (take r.count r.loads)
+  pub whole : AreLoads s (take r.count r.loads)
   pub relaxed : IsRelaxed s xs r.supply.units (take r.count r.loads)
 
 -- if some loads of r count with their jobs, they are for a relaxed search

@@ -1,11 +1,12 @@
 -- Loads: tasks whose jobs count beside other work, in the order in which the search takes them away.
-use Rattle.std.specs.Prelude.{ℕ, List, [], ◌∷◌, length, take, insert, sum_by, All, ◌≡◌, ◌+◌, ◌*◌, ◌≤◌}
+use Rattle.std.specs.Prelude.{ℕ, List, [], ◌∷◌, length, take, insert, sum_by, All, ◌≡◌, ◌+◌, ◌-◌, ◌*◌, ◌/◌, ◌<◌, ◌≤◌}
 use Rattle.grid_fraction.specs.Numbers.{ceil_div}
 use Rattle.dvs_base.specs.declared.limits.TheConstants.{MOST_TASKS}
 use Rattle.sched_model.specs.Plan.{Plan, count, period, worst, rate}
 use Rattle.sched_model.specs.Priority.{sum_before}
 use Rattle.rm_response_laws.specs.HeldWork.{held_work}
 use Rattle.rm_response.specs.declared.inputs.Load.{Load}
+use Rattle.rm_response.specs.declared.inputs.Search.{Search}
 use Rattle.rm_response.specs.declared.inputs.Supply.{Supply}
 use Rattle.rm_response.specs.Supplies.{IsDone, IsFull}
 
@@ -43,11 +44,28 @@ abbrev pub AreInTurn : Supply → List Load → Type 0
 AreInTurn s [] = Unit {0}
 AreInTurn s (x ∷ xs) = AreServedWithin s (x ∷ xs) x.period × AreInTurn s xs
 
+-- all loads but the last `tail` can be taken away in turn
+abbrev pub AreInTurnTo : ℕ → Supply → List Load → Type 0
+AreInTurnTo tail s [] = Unit {0}
+AreInTurnTo tail s (x ∷ xs) = (tail < length (x ∷ xs) → AreServedWithin s (x ∷ xs) x.period) × AreInTurnTo tail s xs
+
 -- at most as many loads as a set has tasks, which can be taken away in turn with a supply
 pub record AreLoads (s : Supply) (xs : List Load) : Type 0 where
   pub few : length xs ≤ MOST_TASKS
   pub rates : All (HasRate s.hyper) xs
   pub in_turn : AreInTurn s xs
+
+-- at most as many loads as a set has tasks: all but the last can be taken away in turn with the low supply of a search,
+-- and all with the whole one
+pub record AreSearched (q : Search) (xs : List Load) : Type 0 where
+  pub few : length xs ≤ MOST_TASKS
+  pub rates : All (HasRate q.low.hyper) xs
+  pub turn : AreInTurnTo q.tail q.low xs
+  pub whole : AreInTurn q.whole xs
+
+-- the last release of a load before tick t
+abbrev pub release_before : ℕ → Load → ℕ
+release_before t x = (t - 1) / x.period * x.period
 
 -- the loads are the tasks before task i in RM order
 pub record AreBefore (p : Plan) (i : ℕ) (xs : List Load) : Type 0 where

@@ -1,5 +1,5 @@
 // The inputs of a search, within their limits.
-ghost use Rattle.std.specs.Prelude.{◌≤◌, ◌*◌, ◌^◌};
+ghost use Rattle.std.specs.Prelude.{◌≡◌, ◌≤◌, ◌*◌, ◌^◌};
 ghost use Rattle.task_model.specs.declared.limits.TheConstants.{LONGEST_PERIOD, LONGEST_HYPERPERIOD};
 ghost use Rattle.freq_table.specs.declared.limits.TheConstants.{TOP_SPEED};
 
@@ -37,4 +37,14 @@ pub(crate) struct Span {
     ghost some: { 1 ≤ first },
     ghost ordered: { first ≤ last },
     ghost low: { last ≤ LONGEST_PERIOD },
+}
+
+/// The supplies of a search: it has the low one while more than `tail` loads are left, and then the whole one.
+#[derive(Clone, Copy)]
+pub(crate) struct Search {
+    pub(crate) whole: Supply,
+    pub(crate) low: Supply,
+    pub(crate) tail: usize,
+    ghost same_hyper: { low.hyper ≡ whole.hyper },
+    ghost less: { low.units ≤ whole.units },
 }

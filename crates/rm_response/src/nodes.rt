@@ -2,16 +2,13 @@
 ghost use Rattle.std.specs.Prelude.{◌≡◌, ◌≤◌, ◌<◌, IsTrue, IfSome, length, All};
 ghost use Rattle.dvs_base.specs.declared.limits.TheConstants.{MOST_TASKS};
 ghost use Rattle.rm_response.specs.declared.relaxed.TheConstants.{MOST_HEAVY};
-ghost use Rattle.rm_response.specs.Loads.{AreInTurn, HasRate};
+ghost use Rattle.rm_response.specs.Loads.{AreInTurn, AreInTurnTo, AreLoads, HasRate};
 ghost use Rattle.rm_response.specs.Fits.{IsNode};
 
-use crate::inputs::{Load, Span, Supply};
+use crate::inputs::{Load, Search, Span, Supply};
 use crate::relaxed::{MOST_HEAVY, Relaxed, relaxed_by};
 use crate::search::fitting;
 use dvs_base::MOST_TASKS;
-
-// The most loads that are tried for one node.
-const MOST_TRIES: u32 = 12;
 
 // Whether loads can be taken away in turn.
 fn are_in_turn(supply: Supply, loads: &[Load]) -> bool
@@ -60,50 +57,47 @@ fn marked(loads: &[Load]) -> [bool; MOST_TASKS]
     marks
 }
 
-// A node whose marked loads count with their jobs, unless these can't be taken away in turn.
+// The number of the last loads from the first that the low supply doesn't serve within its period, if the whole one does
+// all that the low one lacks of it in that period.
+fn tail_of(search: Search, loads: &[Load]) -> usize
+    requires loads { AreLoads search.whole loads.now }
+    ensures { AreInTurnTo result search.low loads.now }
+{
+    let Some((load, others)) = loads.split_first() else {
+        return 0;
+    };
+    let period = Span {
+        first: 1,
+        last: load.period,
+    };
+    let rest = u128::from(load.worst) + search.lack(load.period) + 1;
+    if fitting(search.whole, others, rest, period, &[]).is_none() {
+        return loads.len();
+    }
+    tail_of(search, others)
+}
+
+// A node whose marked loads count with their jobs, unless the rates of the others leave nothing.
 fn node_by(supply: Supply, loads: &[Load], marks: &[bool]) -> Option<Relaxed>
     requires many { MOST_HEAVY < length loads.now }
     requires marked { length loads.now ≤ length marks.now }
     requires rates { All (HasRate supply.hyper) loads.now }
     ensures { IfSome result (IsNode supply loads.now) }
 {
-    let node = relaxed_by(supply, loads, marks)?;
-    if !are_in_turn(node.supply, node.heavy()) {
+    let relaxed = relaxed_by(supply, loads, marks)?;
+    if !are_in_turn(supply, relaxed.heavy()) {
         return None;
     }
-    Some(node)
+    let search = Search {
+        whole: supply,
+        low: relaxed.supply,
+        tail: 0,
+    };
+    let tail = tail_of(search, relaxed.heavy());
+    Some(Relaxed { tail, ..relaxed })
 }
 
-// A node whose loads are put in one by one, those of greatest worst case first. One with which they can't be taken away
-// in turn is left out.
-fn node_one_by_one(supply: Supply, loads: &[Load]) -> Relaxed
-    requires many { MOST_HEAVY < length loads.now }
-    requires few { length loads.now ≤ MOST_TASKS }
-    requires rates { All (HasRate supply.hyper) loads.now }
-    ensures { IsNode supply loads.now result }
-{
-    let mut node = Relaxed::empty(supply);
-    let mut tried = [false; MOST_TASKS];
-    let mut counted = [false; MOST_TASKS];
-    for _ in 0..MOST_TRIES {
-        let Some(k) = heaviest(loads, &tried) else {
-            return node;
-        };
-        tried[k] = true;
-        counted[k] = true;
-        match node_by(supply, loads, &counted) {
-            Some(next) => node = next,
-            None => counted[k] = false,
-        }
-        if node.count == MOST_HEAVY {
-            return node;
-        }
-    }
-    node
-}
-
-// The node for loads: those of greatest worst case count with their jobs, as far as they can be taken away in turn. Loads
-// that are `MOST_HEAVY` or fewer have none.
+// The node for loads: those of greatest worst case count with their jobs. Loads that are `MOST_HEAVY` or fewer have none.
 pub(crate) fn node_of(supply: Supply, loads: &[Load]) -> Relaxed
     requires few { length loads.now ≤ MOST_TASKS }
     requires rates { All (HasRate supply.hyper) loads.now }
@@ -114,6 +108,6 @@ pub(crate) fn node_of(supply: Supply, loads: &[Load]) -> Relaxed
     }
     match node_by(supply, loads, &marked(loads)) {
         Some(node) => node,
-        None => node_one_by_one(supply, loads),
+        None => Relaxed::empty(supply),
     }
 }

@@ -10,12 +10,13 @@ use crate::inputs::{Load, Supply};
 pub(crate) const MOST_HEAVY: usize = 8;
 
 /// The loads that count with their jobs, the first `count` of `loads`, and what the rates of the others leave of a
-/// supply.
+/// supply. Beside these rates, all but the last `tail` of the loads can be taken away in turn.
 #[derive(Clone, Copy)]
 pub(crate) struct Relaxed {
     pub(crate) supply: Supply,
     pub(crate) loads: [Load; MOST_HEAVY],
     pub(crate) count: usize,
+    pub(crate) tail: usize,
 }
 
 impl Relaxed {
@@ -34,6 +35,7 @@ impl Relaxed {
             supply,
             loads,
             count: 0,
+            tail: 0,
         }
     }
 

@@ -1,13 +1,13 @@
 // The search for ticks into which work fits beside loads (after Bini and Buttazzo 2004).
-ghost use Rattle.std.specs.Prelude.{◌≡◌, ◌≤◌, ◌+◌, ◌^◌, IsTrue, IsFalse, length, All};
+ghost use Rattle.std.specs.Prelude.{◌≡◌, ◌≤◌, ◌<◌, ◌+◌, ◌-◌, ◌^◌, IsTrue, IsFalse, MatchOption, length, max, All};
 ghost use Rattle.dvs_base.specs.Widths.{u64_end};
 ghost use Rattle.dvs_base.specs.declared.limits.TheConstants.{MOST_TASKS};
 ghost use Rattle.task_model.specs.declared.limits.TheConstants.{LONGEST_PERIOD};
 ghost use Rattle.rm_response.specs.Supplies.{IsDone, IsMore};
-ghost use Rattle.rm_response.specs.Loads.{AreLoads, HasRate, work_of};
-ghost use Rattle.rm_response.specs.Fits.{NoneFits, FindsFit, EndsDecide, NoneBefore, IsFirstFit, AreNodes};
+ghost use Rattle.rm_response.specs.Loads.{AreLoads, AreSearched, HasRate, release_before, work_of};
+ghost use Rattle.rm_response.specs.Fits.{NoneFits, FindsFit, SearchesFit, EndsDecide, NoneBefore, IsFirstFit, AreNodes};
 
-use crate::inputs::{Load, Span, Supply};
+use crate::inputs::{Load, Search, Span, Supply};
 use crate::loads::{held, rates_of, work_of};
 use crate::relaxed::Relaxed;
 use crate::supply::most_in;
@@ -101,9 +101,86 @@ fn ends_of(supply: Supply, loads: &[Load], rest: u128, span: Span) -> Ends
     Ends::From(first)
 }
 
-// One of the ticks of the span into which `rest` units fit beside the work of the loads, if any. Unless the ends of the
-// span decide, the first load is taken away: as many of its jobs count as begin in the last of the ticks or, up to its
-// release before that, as begin up to there. If it has a release in the span, the node for the loads can refuse first.
+// The ticks of a span after the last release of a load before the last of them and, if that is in the span, those of the
+// period before it.
+fn periods(load: Load, span: Span) -> (Span, Option<Span>)
+    ensures after { result.0.first ≡ max span.first (release_before span.last load + 1) }
+    ensures last { result.0.last ≡ span.last }
+    ensures before { MatchOption result.1 (release_before span.last load < span.first)
+        (λ e. (e.first ≡ max span.first (release_before span.last load + 1 - load.period))
+        × (e.last ≡ release_before span.last load)) }
+{
+    let release = (span.last - 1) / load.period * load.period;
+    if release < span.first {
+        return (span, None);
+    }
+    let begun = Span {
+        first: release + 1,
+        last: span.last,
+    };
+    let ended = Span {
+        first: span.first.max((release + 1).saturating_sub(load.period)),
+        last: release,
+    };
+    (begun, Some(ended))
+}
+
+// One of the ticks of the span into which `rest` units fit beside the work of the loads, if any. If at most `tail` loads
+// are left, what the low supply lacks of the whole one in the first of the ticks counts as work. Otherwise, unless the
+// ends of the span decide, the first load is taken away: in the period that has the last of the ticks, and in the one
+// before it. If it has a release in the span, the node for the loads can refuse first.
+pub(crate) fn fitting_by(
+    search: Search,
+    loads: &[Load],
+    rest: u128,
+    span: Span,
+    nodes: &[Relaxed],
+) -> Option<u64>
+    requires loads { AreSearched search loads.now }
+    requires low_rest { rest ≤ 2 ^ 102 }
+    requires nodes { AreNodes search.whole loads.now nodes.now }
+    ensures { SearchesFit search loads.now rest span.first span.last result }
+{
+    if is_beyond(search.low, loads, rest, span.last) {
+        return None;
+    }
+    let Some((load, others)) = loads.split_first() else {
+        return Some(span.last);
+    };
+    if loads.len() <= search.tail {
+        let lack = search.lack(span.first);
+        return fitting_by(Search::by(search.whole), loads, rest + lack, span, &[]);
+    }
+    let first = match ends_of(search.low, loads, rest, span) {
+        Ends::Fit(ticks) => return Some(ticks),
+        Ends::NoFit => return None,
+        Ends::From(first) => first,
+    };
+    let last = span.last;
+    let left = Span { first, last };
+    let (begun, ended) = periods(*load, left);
+    if ended.is_some()
+        && let Some(node) = nodes.get(loads.len())
+        && node.count > 0
+    {
+        let relaxed = Search {
+            whole: search.whole,
+            low: node.supply,
+            tail: node.tail,
+        };
+        if fitting_by(relaxed, node.heavy(), rest, left, &[]).is_none() {
+            return None;
+        }
+    }
+    let found = fitting_by(search, others, rest + held(*load, last), begun, nodes);
+    if found.is_some() {
+        return found;
+    }
+    let ended = ended?;
+    fitting_by(search, others, rest + held(*load, ended.last), ended, nodes)
+}
+
+// One of the ticks of the span into which `rest` units fit beside the work of the loads, if any.
 pub(crate) fn fitting(
     supply: Supply,
     loads: &[Load],
@@ -116,40 +193,7 @@ pub(crate) fn fitting(
     requires nodes { AreNodes supply loads.now nodes.now }
     ensures { FindsFit supply loads.now rest span.first span.last result }
 {
-    if is_beyond(supply, loads, rest, span.last) {
-        return None;
-    }
-    let Some((load, others)) = loads.split_first() else {
-        return Some(span.last);
-    };
-    let first = match ends_of(supply, loads, rest, span) {
-        Ends::Fit(ticks) => return Some(ticks),
-        Ends::NoFit => return None,
-        Ends::From(first) => first,
-    };
-    let last = span.last;
-    let left = Span { first, last };
-    let release = (last - 1) / load.period * load.period;
-    if release >= first
-        && let Some(node) = nodes.get(loads.len())
-        && node.count > 0
-        && fitting(node.supply, node.heavy(), rest, left, &[]).is_none()
-    {
-        return None;
-    }
-    let begun = Span {
-        first: first.max(release + 1),
-        last,
-    };
-    let found = fitting(supply, others, rest + held(*load, last), begun, nodes);
-    if found.is_some() || release < first {
-        return found;
-    }
-    let ended = Span {
-        first,
-        last: release,
-    };
-    fitting(supply, others, rest + held(*load, release), ended, nodes)
+    fitting_by(Search::by(supply), loads, rest, span, nodes)
 }
 
 // The first of the ticks of the span into which `rest` units fit beside the work of the loads; one more than the last

@@ -1,0 +1,6 @@
+-- Each call is for fewer loads, or for the same with one supply.
+use Rattle.std.proofs.Common.{length, ◌+◌, ◌-◌}
+use Rattle.rm_response.proofs.search.+fitting_by.Given as goal
+
+abbrev pub decreases-fitting_by : goal.decreases-fitting_by
+decreases-fitting_by l = length l.loads.now + length l.loads.now + (1 - (1 - l.search.tail))
