@@ -1,8 +1,7 @@
-use Rattle.std.proofs.Common.{◌≡◌, List, [], ◌∷◌, ◌++◌, ap}
-use Rattle.dvs_base.specs.declared.note.Note.{Note}
+use Rattle.std.proofs.Common.{[], ◌∷◌, ◌++◌, ap}
 use Rattle.dvs_base.specs.declared.note.Note.TheVariants.{End}
 use Rattle.sched_model.specs.Plan.{names}
-use Rattle.trace_text.specs.TraceText.{NotedLine, line_of_note}
+use Rattle.trace_text.specs.TraceText.{line_of_note}
 use Rattle.trace_writer.specs.UnnotedLines.{sum_lines}
 use Rattle.trace_writer.proofs.WrittenLines.{lines-then, lines-then-some, lines-some-more, stopped-exit, all-as, some-as}
 use Rattle.event_kernel.proofs.teller.tell_tail.Goals as goal
