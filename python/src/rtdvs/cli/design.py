@@ -35,7 +35,6 @@ from rtdvs.board import (
     points_of, report, run_ticks, settle, unserved, usual_demands, write_design,
 )
 from rtdvs.cli import boards, options, plot
-from rtdvs.cli.options import engine_of
 from rtdvs.plot import save_report
 from rtdvs.trace import Trace
 
@@ -123,7 +122,7 @@ def _run(board: Board, made: Design, args: argparse.Namespace) -> Spent:
     """What a run over the time of `--settle-ms` takes, in whole ticks of the design."""
     ticks = made.ticks_of(args.settle_ms)
     demands = usual_demands(board, made, ticks)
-    trace = engine_of(args).run(made.tasks, made.machine, args.scheduler, args.governor, ticks, demands)
+    trace = options.engine_of(args).run(made.tasks, made.machine, args.scheduler, args.governor, ticks, demands)
     return Units(board, made).spent(trace)
 
 
