@@ -331,8 +331,9 @@ def calls(tmp_path: Path, monkeypatch: pytest.MonkeyPatch) -> Path:
 
 
 def assert_nothing_left(folder: Path) -> None:
-    """No file of a call, and no process of a program in the folder above."""
-    assert [*folder.iterdir()] == [] and processes(str(folder.parent)) == []
+    """No file of a call, and no process of a program in the folder above; a killed one ends in a moment."""
+    assert [*folder.iterdir()] == []
+    until(lambda: processes(str(folder.parent)) == [], seconds=2)
 
 
 def processes(word: str) -> list[str]:
@@ -563,12 +564,12 @@ def of_page(name: str) -> bytes:
     return json.dumps(paper() | {"page": name}).encode()
 
 
-def until(condition: Callable[[], bool]) -> None:
-    for _ in range(1200):
+def until(condition: Callable[[], bool], seconds: int = 60) -> None:
+    for _ in range(20 * seconds):
         if condition():
             return
         sleep(0.05)
-    raise AssertionError("nothing in a minute")
+    raise AssertionError(f"nothing in {seconds} seconds")
 
 
 def test_a_newer_call_ends_the_older_one_s_program(tmp_path: Path, calls: Path, capsys: Captured) -> None:
