@@ -102,7 +102,7 @@ def _design_lines(board: Board, table: OperatingTable, args: argparse.Namespace)
     made = design(board, scale)
     if args.settle_ms is not None:
         for made, joules in settle(board, scale, lambda made: _run(board, made, args).joules):
-            time = _numbers.plain(made.milliseconds(made.ticks_of(args.settle_ms)))
+            time = _numbers.plain(Units(board, made).milliseconds(made.ticks_of(args.settle_ms)))
             yield f"tick {_numbers.plain(made.scale.tick)} ms: {_numbers.rounded(joules)} joules in {time} ms"
     yield made.scale.text()
     yield from (rounding.text() for rounding in made.roundings)
@@ -115,7 +115,7 @@ def _design_lines(board: Board, table: OperatingTable, args: argparse.Namespace)
         demands = usual_demands(board, made, ticks) if any(task.usual is not None for task in board.tasks) else None
         write_design(args.folder, made, table.note(), demands)
         if demands is not None:
-            yield f"demands.csv is for {ticks} ticks, {_numbers.plain(made.milliseconds(ticks))} ms"
+            yield f"demands.csv is for {ticks} ticks, {_numbers.plain(Units(board, made).milliseconds(ticks))} ms"
 
 
 def _run(board: Board, made: Design, args: argparse.Namespace) -> Spent:
