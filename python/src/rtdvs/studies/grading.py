@@ -228,9 +228,7 @@ def grade(asked: Asked, name: str, content: bytes) -> Grade:
     """
     lines, said = mended(content)
     head = asked.head_of(lines)
-    demands = asked.demands
-    if demands is None and head is not None:
-        demands = said_demands(asked.tasks, asked.machine, head.ticks, lines)
+    demands = asked.demands or (said_demands(asked.tasks, asked.machine, head.ticks, lines) if head else None)
     line, reason = _first_fault(asked, demands, lines)
     wanted = _right_lines(asked, demands, head)
     kept = common(wanted, lines)
