@@ -114,7 +114,7 @@ def test_all_digits_of_three_boards(board: str, words: list[str], milliseconds: 
                                     joules: list[Fraction], tmp_path: Path, capsys: Captured,
                                     monkeypatch: pytest.MonkeyPatch) -> None:
     """Joules, milliwatts and hours of `compare`, of `statistics` and of `design --trace`."""
-    monkeypatch.setattr("rtdvs.cli.compare.engine_of", lambda args: Simulated(tmp_path))
+    monkeypatch.setattr("rtdvs.cli.options.engine_of", lambda args: Simulated(tmp_path))
     (tmp_path / "board.toml").write_text(board)
     given, folder = ["--board", tmp_path / "board.toml", *words], tmp_path / "made"
     rows = [line.split() for line in made(["compare", *given, "--ms", milliseconds], capsys).splitlines()[1:3]]
@@ -286,7 +286,7 @@ class Simulator:
 def test_settled_time_is_in_whole_ticks(tmp_path: Path, capsys: Captured, monkeypatch: pytest.MonkeyPatch) -> None:
     """33.3333 ms are 33 ticks of 1 ms, and 66 of 0.5 ms."""
     (tmp_path / "board.toml").write_text(MEASURED)
-    monkeypatch.setattr("rtdvs.cli.design.engine_of", lambda args: Simulator(tmp_path, capsys))
+    monkeypatch.setattr("rtdvs.cli.options.engine_of", lambda args: Simulator(tmp_path, capsys))
     words = ["--settle-ms", "33.3333", "--tick-ms", "1", "--governor", "static"]
     lines = printed(capsys, ["design", "--board", tmp_path / "board.toml", *words]).splitlines()
     assert [line.split(": ")[0] for line in lines[:2]] == ["tick 1 ms", "tick 0.5 ms"]

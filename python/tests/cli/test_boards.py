@@ -30,8 +30,7 @@ NONE = 2 * JOB * TOP + 2 * 2_500 * 1000 * TOP / 10        # 2 times 2.5 ms idle 
 
 @pytest.fixture(autouse=True)
 def simulated(monkeypatch: pytest.MonkeyPatch) -> None:
-    for module in ("compare", "plot", "design", "response", "sensitivity"):
-        monkeypatch.setattr(f"rtdvs.cli.{module}.engine_of", lambda args: Simulated(Path("simulated")))
+    monkeypatch.setattr("rtdvs.cli.options.engine_of", lambda args: Simulated(Path("simulated")))
 
 
 @pytest.fixture

@@ -111,7 +111,12 @@ def test_what_is_run_of_a_set() -> None:
 def test_the_first_set_is_recounted(number: int, times: int, engine: Engine, monkeypatch: pytest.MonkeyPatch) -> None:
     """The trace of each of the seven pairs, on the one machine that the figures have for five tasks."""
     counted: list[str] = []
-    monkeypatch.setattr("rtdvs.studies.evaluation.recount", lambda machine, text: counted.append(text))
+
+    def counting(machine: Machine, text: str) -> RunTotals:
+        counted.append(text)
+        return recount(machine, text)
+
+    monkeypatch.setattr("rtdvs.studies.evaluation.recount", counting)
     measure(engine, SMALL, (SetName(5, 1, number), TaskSet((Task("a", 10010, 10**8),))))
     assert len(counted) == times
 

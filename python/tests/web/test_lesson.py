@@ -187,7 +187,7 @@ def test_the_runs_are_the_program_s(engine: Engine) -> None:
 
 def test_the_command(tmp_path: Path, capsys: Captured, monkeypatch: pytest.MonkeyPatch) -> None:
     """One file, which is that of the data."""
-    monkeypatch.setattr("rtdvs.cli.page.engine_of", lambda args: SIMULATED)
+    monkeypatch.setattr("rtdvs.cli.options.engine_of", lambda args: SIMULATED)
     page = tmp_path / "lesson.html"
     assert printed(capsys, ["page", "--lesson", FILE, "-o", page]) == ""
     assert page.read_text(encoding="utf-8") == in_one_file(lesson_data(Lesson.read(FILE), SIMULATED))

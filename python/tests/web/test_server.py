@@ -331,8 +331,9 @@ def calls(tmp_path: Path, monkeypatch: pytest.MonkeyPatch) -> Path:
 
 
 def assert_nothing_left(folder: Path) -> None:
-    """No file of a call, and no process of a program in the folder above."""
-    assert [*folder.iterdir()] == [] and processes(str(folder.parent)) == []
+    """No file of a call, and no process of a program in the folder above; a killed one ends in a moment."""
+    assert [*folder.iterdir()] == []
+    until(lambda: processes(str(folder.parent)) == [], seconds=2)
 
 
 def processes(word: str) -> list[str]:
@@ -563,12 +564,12 @@ def of_page(name: str) -> bytes:
     return json.dumps(paper() | {"page": name}).encode()
 
 
-def until(condition: Callable[[], bool]) -> None:
-    for _ in range(1200):
+def until(condition: Callable[[], bool], seconds: int = 60) -> None:
+    for _ in range(20 * seconds):
         if condition():
             return
         sleep(0.05)
-    raise AssertionError("nothing in a minute")
+    raise AssertionError(f"nothing in {seconds} seconds")
 
 
 def test_a_newer_call_ends_the_older_one_s_program(tmp_path: Path, calls: Path, capsys: Captured) -> None:
@@ -697,12 +698,14 @@ def ending(process: subprocess.Popen[str]) -> Iterator[None]:
 @pytest.mark.parametrize("number", [signal.SIGINT, signal.SIGTERM])
 def test_command_ends_with_its_calls(number: int, tmp_path: Path, calls: Path) -> None:
     """It says where it listens; a signal ends it, and no process and no file of a call is left. Neither its program
-    nor the others that are connected are waited for: their time would be over in a quarter of an hour."""
+    nor the others that are connected are waited for: their time would be over in a quarter of an hour. It says nothing
+    of the calls that it ended."""
     program = stand_in(tmp_path, "sleep 900").program
     words = [sys.executable, "-m", "rtdvs", "serve", "--port", "0", "--program", str(program), "--timeout", "900"]
     environment = {**os.environ, "PYTHONPATH": SOURCE, "TMPDIR": str(calls)}
-    with subprocess.Popen(words, stdout=subprocess.PIPE, env=environment, text=True) as process, ending(process):
-        assert process.stdout is not None
+    with subprocess.Popen(words, stdout=subprocess.PIPE, stderr=subprocess.PIPE, env=environment,
+                          text=True) as process, ending(process):
+        assert process.stdout is not None and process.stderr is not None
         line = process.stdout.readline()
         assert line.startswith("http://127.0.0.1:") and "this machine only" in line
         port = int(line.split(":")[2].split("/")[0])
@@ -714,6 +717,7 @@ def test_command_ends_with_its_calls(number: int, tmp_path: Path, calls: Path) -
         until(lambda: len([*calls.iterdir()]) == 4)
         process.send_signal(number)
         assert process.wait(timeout=60) == 128 + number
+        assert process.stderr.read() == ""
         for connection in connections:
             connection.close()
     assert_nothing_left(calls)

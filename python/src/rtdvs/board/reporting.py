@@ -126,14 +126,14 @@ def run_ticks(made: Design, milliseconds: Fraction | None = None) -> int:
 
 def report(board: Board, made: Design, ticks: int) -> Iterator[str]:
     """The report's tables; the runs of pairs have these ticks. Raises BadValue."""
-    asked = Asked.by(board), Asked.by_files(made)
+    asked, units = (Asked.by(board), Asked.by_files(made)), Units(board, made)
     yield aligned([("at the highest speed", "exact", "rounded"), *_asked_rows(asked)])
     if line := unserved(board, made):
         yield f"{line}\n"
-    elif reason := Units(board, made).no_power():
+    elif reason := units.no_power():
         yield f"no power: {reason}\n"
     else:
-        yield aligned([*_cost_rows(board, made.milliseconds(ticks), pair_costs(board, made, ticks))])
+        yield aligned([*_cost_rows(board, units.milliseconds(ticks), pair_costs(board, made, ticks))])
 
 
 def unserved(board: Board, made: Design) -> str:

@@ -94,10 +94,6 @@ class Design:
         """The whole ticks of a time, at least one."""
         return max(1, milliseconds // self.scale.tick)
 
-    def milliseconds(self, ticks: int) -> Fraction:
-        """The time of these ticks."""
-        return ticks * self.scale.tick
-
 
 def choose_tick(board: Board) -> Fraction:
     """A tick in milliseconds: from a tenth to a thousandth of the shortest period.

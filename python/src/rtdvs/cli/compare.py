@@ -22,7 +22,6 @@ from fractions import Fraction
 
 from rtdvs._numbers import aligned, decimal, plain, rounded
 from rtdvs.cli import boards, options
-from rtdvs.cli.options import engine_of
 from rtdvs.errors import BadValue, TraceFault
 from rtdvs.studies import PAIRS, Case, Comparison, Row, cells, compare, finer_energies, finer_table, table
 from rtdvs.trace import Trace
@@ -51,7 +50,7 @@ def add_command(commands: options.Commands) -> None:
 
 
 def _handle(args: argparse.Namespace) -> None:
-    engine, given = engine_of(args), boards.read_given(args)
+    engine, given = options.engine_of(args), boards.read_given(args)
     assert given.tasks and given.machine
     case = Case(given.tasks, given.machine, boards.ticks_of(args, given), given.demands)
     traces = [read_trace(source, case, args) for source in args.trace]

@@ -35,7 +35,6 @@ from rtdvs.board import (
     points_of, report, run_ticks, settle, unserved, usual_demands, write_design,
 )
 from rtdvs.cli import boards, options, plot
-from rtdvs.cli.options import engine_of
 from rtdvs.plot import save_report
 from rtdvs.trace import Trace
 
@@ -103,7 +102,7 @@ def _design_lines(board: Board, table: OperatingTable, args: argparse.Namespace)
     made = design(board, scale)
     if args.settle_ms is not None:
         for made, joules in settle(board, scale, lambda made: _run(board, made, args).joules):
-            time = _numbers.plain(made.milliseconds(made.ticks_of(args.settle_ms)))
+            time = _numbers.plain(Units(board, made).milliseconds(made.ticks_of(args.settle_ms)))
             yield f"tick {_numbers.plain(made.scale.tick)} ms: {_numbers.rounded(joules)} joules in {time} ms"
     yield made.scale.text()
     yield from (rounding.text() for rounding in made.roundings)
@@ -116,14 +115,14 @@ def _design_lines(board: Board, table: OperatingTable, args: argparse.Namespace)
         demands = usual_demands(board, made, ticks) if any(task.usual is not None for task in board.tasks) else None
         write_design(args.folder, made, table.note(), demands)
         if demands is not None:
-            yield f"demands.csv is for {ticks} ticks, {_numbers.plain(made.milliseconds(ticks))} ms"
+            yield f"demands.csv is for {ticks} ticks, {_numbers.plain(Units(board, made).milliseconds(ticks))} ms"
 
 
 def _run(board: Board, made: Design, args: argparse.Namespace) -> Spent:
     """What a run over the time of `--settle-ms` takes, in whole ticks of the design."""
     ticks = made.ticks_of(args.settle_ms)
     demands = usual_demands(board, made, ticks)
-    trace = engine_of(args).run(made.tasks, made.machine, args.scheduler, args.governor, ticks, demands)
+    trace = options.engine_of(args).run(made.tasks, made.machine, args.scheduler, args.governor, ticks, demands)
     return Units(board, made).spent(trace)
 
 

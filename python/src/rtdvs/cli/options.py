@@ -307,10 +307,6 @@ def input_lines(source: Input) -> Iterator[str]:
         yield from lines_of(io.TextIOWrapper(file, "latin-1", newline="\n"))
 
 
-def _all_lines(trace: Trace | TraceFile) -> Iterable[str]:
-    return trace.lines() if isinstance(trace, TraceFile) else trace.text().splitlines(keepends=True)
-
-
 def _believed(args: argparse.Namespace, trace: Trace | TraceFile) -> int:
     """Checks a trace by the files that are given, and returns the charge."""
     machine = None if args.machine is None else read_machine(args)
@@ -349,9 +345,9 @@ def check_first(args: argparse.Namespace, trace: Trace | TraceFile, tasks: TaskS
     is_known = (trace.scheduler, split_governor(trace.governor)[0]) in GOVERNORS
     try:
         with suppress(Denied):
-            check(tasks, machine, _all_lines(trace), any_governor=not is_known)
+            check(tasks, machine, trace.lines(), any_governor=not is_known)
             return
-        check(tasks, machine, _all_lines(trace), any_governor=True)
+        check(tasks, machine, trace.lines(), any_governor=True)
     except TraceFault:
         trace.belongs_to(tasks, machine)
         raise

@@ -22,7 +22,6 @@ import sys
 from pathlib import Path
 
 from rtdvs.cli import boards, options
-from rtdvs.cli.options import engine_of
 from rtdvs.errors import BadValue, WrongTrace
 from rtdvs.trace import Trace
 from rtdvs.web import MOST_TEXT, Lesson, Shown, in_one_file, lesson_data, page_data
@@ -59,7 +58,7 @@ def _lesson_data(args: argparse.Namespace) -> dict[str, object]:
                                              if getattr(args, kind) is not None]
     if others:
         raise BadValue(f"--lesson names its files, so {others[0]} has no place beside it")
-    return lesson_data(Lesson.read(args.lesson), engine_of(args))
+    return lesson_data(Lesson.read(args.lesson), options.engine_of(args))
 
 
 def add_command(commands: options.Commands) -> None:

@@ -15,7 +15,6 @@ from pathlib import Path
 from rtdvs._numbers import plain
 from rtdvs.board import Units
 from rtdvs.cli import boards, options
-from rtdvs.cli.options import engine_of
 from rtdvs.errors import BadValue
 from rtdvs.plot import View, parse_means, save_compare, save_means, save_trace
 from rtdvs.studies import compare
@@ -120,7 +119,7 @@ def _window(args: argparse.Namespace, units: Units | None) -> tuple[int, int | N
 
 
 def _run_compare(args: argparse.Namespace) -> None:
-    engine, given = engine_of(args), boards.read_given(args)
+    engine, given = options.engine_of(args), boards.read_given(args)
     assert given.tasks and given.machine
     rows = compare(engine, given.tasks, given.machine, boards.ticks_of(args, given), given.demands)
     save_compare(rows, args.output, args.background, given.units)

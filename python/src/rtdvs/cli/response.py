@@ -12,7 +12,6 @@ import argparse
 
 from rtdvs._numbers import aligned, rounded
 from rtdvs.cli import boards, options
-from rtdvs.cli.options import engine_of
 
 
 def add_command(commands: options.Commands) -> None:
@@ -34,7 +33,7 @@ def _handle(args: argparse.Namespace) -> None:
     given = boards.read_given(args)
     assert given.units
     made = given.units.made
-    print(response_table(engine_of(args).respond(made.tasks, made.machine), given.units), end="")
+    print(response_table(options.engine_of(args).respond(made.tasks, made.machine), given.units), end="")
 
 
 def response_table(responses: dict[str, int], units: "boards.Units") -> str:

@@ -17,7 +17,6 @@ from fractions import Fraction
 
 from rtdvs._numbers import aligned, plain, rounded
 from rtdvs.cli import boards, options
-from rtdvs.cli.options import engine_of
 from rtdvs.studies import TESTS, Limits, Question, limits_of, limits_table
 
 
@@ -39,7 +38,7 @@ def add_command(commands: options.Commands) -> None:
 
 
 def _handle(args: argparse.Namespace) -> None:
-    engine, given = engine_of(args), boards.read_given(args)
+    engine, given = options.engine_of(args), boards.read_given(args)
     assert given.tasks and given.machine
     question = Question(engine, given.tasks, given.machine, args.test)
     with options.executor_of(args) as executor:

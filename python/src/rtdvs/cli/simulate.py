@@ -8,32 +8,20 @@ With --missed the set needn't be admitted. Standard error then has a note for ea
 
 import argparse
 import sys
-from dataclasses import replace
 
 from rtdvs.cli.options import Commands, add_files, add_pair, add_parser, add_ticks, read_files
 from rtdvs.rules import simulate
-from rtdvs.trace import Missed, TaskEnergy, Trace
+from rtdvs.trace import Missed
 
 
 def _handle(args: argparse.Namespace) -> None:
     tasks, machine, demands = read_files(args)
     trace = simulate(tasks, machine, args.scheduler, args.ticks, args.governor, demands,
                      admitted=args.missed is None, missed=args.missed)
-    print((trace if args.format == 2 else first_version(trace)).text(), end="", flush=True)
+    print((trace if args.format == 2 else trace.first_version()).text(), end="", flush=True)
     if args.missed is not None:
         print("\n".join(["note: not a run of the program", *(f"note: {miss.text()}" for miss in trace.misses())]),
               file=sys.stderr)
-
-
-def first_version(trace: Trace) -> Trace:
-    """The same run in version 1, which doesn't have the tasks and the energy of each.
-
-    >>> from rtdvs.trace import SAMPLE
-    >>> first_version(Trace.parse(SAMPLE)).text().splitlines()[:3]
-    ['trace 1', 'plan edf mine 2', 'release 0 t 1']
-    """
-    notes = tuple(note for note in trace.notes if not isinstance(note, TaskEnergy))
-    return replace(trace, version=1, tasks=(), notes=notes)
 
 
 def add_command(commands: Commands) -> None:

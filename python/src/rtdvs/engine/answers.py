@@ -7,7 +7,7 @@ from dataclasses import dataclass
 
 from rtdvs.errors import NAME, NUMBER, Crashed, TraceFault, groups
 from rtdvs.model import Governor
-from rtdvs.trace import Trace
+from rtdvs.trace import End, Trace
 
 
 @dataclass(frozen=True, slots=True)
@@ -40,16 +40,12 @@ class Constrained:
 
 
 @dataclass(frozen=True, slots=True)
-class RunTotals:
-    """The ticks of a run, and the energies of its `run` and of its `idle` lines.
+class RunTotals(End):
+    """The end line of a run: its ticks, and the energies of its `run` and of its `idle` lines.
 
     >>> parse_totals("trace 2\\n..\\nend 16 364000000000 1000\\n").energy
     364000001000
     """
-
-    ticks: int
-    run_energy: int
-    idle_energy: int
 
     @property
     def energy(self) -> int:

@@ -163,12 +163,8 @@ def raise_denial(refusal: Refusal, tasks: TaskSet | None = None) -> None:
     """
     if refusal.cause == JOBS:
         raise TooManyJobs(number(refusal.num), number(refusal.cap))
-    test = TESTS.get(refusal.cause)
-    if test is None:
-        return
-    if test == "demand":
-        raise Denied(test, number(refusal.num), number(refusal.cap), ticks=refusal.place)
-    name = tasks[refusal.place - 1].name if tasks is not None and refusal.place else None
-    if test == "offset":
-        raise Denied(test, task=name)
-    raise Denied(test, number(refusal.num), number(refusal.cap), name)
+    if test := TESTS.get(refusal.cause):
+        ticks = refusal.place if test == "demand" else None
+        name = tasks[refusal.place - 1].name if tasks is not None and refusal.place and ticks is None else None
+        numbers = (None, None) if test == "offset" else (number(refusal.num), number(refusal.cap))
+        raise Denied(test, *numbers, name, ticks)

@@ -110,13 +110,13 @@ _STOP: ContextVar[Stop | None] = ContextVar("stop", default=None)
 
 
 def is_stopped() -> bool:
-    """Whether this is in a block whose calls have been ended, so that its answer isn't wanted any more.
+    """Whether the calls of this block, or of the whole process, have been ended: their answers aren't wanted any more.
 
     >>> is_stopped()
     False
     """
     stop = _STOP.get()
-    return stop is not None and stop.is_ended
+    return bool(ENDED) or stop is not None and stop.is_ended
 
 
 @contextmanager

@@ -49,10 +49,8 @@ def _definitions(names: Sequence[str]) -> Iterator[str]:
 
 def _initial(tasks: int) -> Iterator[str]:
     """Each wire's value at tick 0, which is idle."""
-    yield from ("$dumpvars", "1r0", *(f"r0 {letter}" for letter in REALS))
-    for number in range(1, tasks + 1):
-        yield from (f"0r{number}", f"0o{number}")
-    yield "$end"
+    wires = (f"0{letter}{number}" for number in range(1, tasks + 1) for letter in "ro")
+    yield from ("$dumpvars", "1r0", *(f"r0 {letter}" for letter in REALS), *wires, "$end")
 
 
 def _changes(trace: Noted) -> Iterator[tuple[int, str]]:

@@ -8,7 +8,7 @@ both, not always with the same line.
 """
 
 from rtdvs.model._checks import Table, checked_name, checked_number
-from rtdvs.model._formats import document, load
+from rtdvs.model._formats import document, load, table_text
 from rtdvs.model.demands import Deadlines, Demands, Request, Requests
 from rtdvs.model.limits import (
     GREATEST, LONGEST_FILE, LONGEST_HYPERPERIOD, LONGEST_LINE, LONGEST_TIME, LONGEST_TRACE, MOST_JOBS,
@@ -23,5 +23,5 @@ __all__ = [
     "LONGEST_TIME", "LONGEST_TRACE", "MOST_CHARGE", "MOST_IDLE", "MOST_JOBS", "MOST_LINES", "MOST_MILLIVOLTS",
     "MOST_SPEED", "MOST_TASKS", "MOST_TICKS", "MOST_WORK", "Machine", "PAIRS", "Pair", "Point", "RANGES", "Request",
     "Requests", "Scheduler", "Table", "Task", "TaskSet", "checked_name", "checked_number", "document", "jobs_of",
-    "load", "pair_of",
+    "load", "pair_of", "table_text",
 ]

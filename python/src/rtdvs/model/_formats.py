@@ -151,7 +151,12 @@ def _value(field: str) -> int | str:
     return int(field) if _SPELLED.fullmatch(field) else field
 
 
-def table_text(rows: Iterable[Sequence[str | int]]) -> str:
+def table_text(rows: Iterable[Sequence[str | int | None]]) -> str:
+    r"""The rows as a CSV file, in which None is an empty field.
+
+    >>> table_text([("task", "job"), ("a,b", None)])
+    'task,job\n"a,b",\n'
+    """
     text = io.StringIO()
     csv.writer(text, lineterminator="\n").writerows(rows)
     return text.getvalue()

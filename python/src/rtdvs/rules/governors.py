@@ -107,11 +107,11 @@ def rule_of(plan: Plan, governor: str | Chooser, name: str) -> Rule:
     """
     if callable(governor):
         return asked_of(governor, name)
-    if callable(plan.scheduler):
-        if governor != "none":
-            raise BadValue(f"a scheduler that is a function has no governor {governor}")
-        return full
-    return GOVERNORS[pair_of(plan.scheduler, governor)]
+    if not callable(plan.scheduler):
+        return GOVERNORS[pair_of(plan.scheduler, governor)]
+    if governor != "none":
+        raise BadValue(f"a scheduler that is a function has no governor {governor}")
+    return full
 
 
 def asked_of(governor: Chooser, name: str) -> Rule:

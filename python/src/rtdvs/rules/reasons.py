@@ -24,8 +24,9 @@ class Reasons:
         self.named = {job.task.name: job for job in step.state.jobs}
         self.points = {point.speed: point for point in step.state.plan.machine.points}
         self.of_kind: Mapping[type[trace.Line], Callable[[Any], str]] = {
-            Task: self._task, trace.Release: self._release, trace.Decision: self._decision, trace.Run: self._run,
-            trace.Idle: self._idle, trace.Done: self._done, trace.TaskEnergy: self._energy, trace.End: self._end}
+            Task: lambda task: f"the task {task.name} is not in the task file", trace.Release: self._release,
+            trace.Decision: self._decision, trace.Run: self._run, trace.Idle: self._idle, trace.Done: self._done,
+            trace.TaskEnergy: self._energy, trace.End: self._end}
 
     def of(self, item: trace.Line) -> str:
         """The reason; empty for a decision that is free, and for a line that is wrong by its place only."""
@@ -65,9 +66,6 @@ class Reasons:
 
     def _unknown(self, task: str) -> str:
         return "" if task in self.named else f"no task {task}"
-
-    def _task(self, task: Task) -> str:
-        return f"the task {task.name} is not in the task file"
 
     def _release(self, note: trace.Release) -> str:
         if fault := self._unknown(note.task) or self._is_elsewhere(note.tick):

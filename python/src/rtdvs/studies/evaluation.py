@@ -198,8 +198,8 @@ def panels_of(name: SetName, sweep: Sweep = PUBLISHED_SWEEP) -> tuple[tuple[str,
     return tuple(dict.fromkeys((panel.machine, panel.take) for panel in panels if panel.count == name.count))
 
 
-def recount(board: Machine, text: str) -> None:
-    """AssertionError unless a trace's energies and units follow from its speeds, and all its jobs are done.
+def recount(board: Machine, text: str) -> RunTotals:
+    """A trace's totals; AssertionError unless its energies and units follow from its speeds, and all its jobs are done.
 
     >>> from rtdvs.trace import SAMPLE
     >>> recount(Machine((Point(2, 1000), Point(3, 1000))), SAMPLE)
@@ -221,6 +221,7 @@ def recount(board: Machine, text: str) -> None:
     for what, (found, wanted) in counted.items():
         if found != wanted:
             raise AssertionError(f"{what} {found}, counted {wanted}")
+    return parse_totals(text)
 
 
 def measure(engine: Engine, sweep: Sweep, named: tuple[SetName, TaskSet]) -> list[Record]:
@@ -246,7 +247,8 @@ def _energies(engine: Engine, sweep: Sweep, name: SetName, case: comparison.Case
     Where the scheduler of these denies the set, they have none.
     """
     if name.number == 1:
-        found = [_recounted(case.machine, text) for text in comparison.runs(engine, case, comparison.PAIRS)]
+        found: list[RunTotals | Denied] = [text if isinstance(text, Denied) else recount(case.machine, text)
+                                           for text in comparison.runs(engine, case, comparison.PAIRS)]
     else:
         found = [*comparison.totals(engine, case, comparison.PAIRS)]
     denied = {scheduler: each for (scheduler, _), each in zip(comparison.PAIRS, found) if isinstance(each, Denied)}
@@ -262,14 +264,6 @@ def _energies(engine: Engine, sweep: Sweep, name: SetName, case: comparison.Case
         yield from ((curve, None) for curve in sweep.own.curves())
     else:
         yield from sweep.own.energies(case, kind, name)
-
-
-def _recounted(machine: Machine, text: str | Denied) -> RunTotals | Denied:
-    """The totals of a whole trace, which is recounted."""
-    if isinstance(text, Denied):
-        return text
-    recount(machine, text)
-    return parse_totals(text)
 
 
 def units_at_top(machine: Machine, found: RunTotals) -> int:

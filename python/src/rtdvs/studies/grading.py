@@ -13,7 +13,7 @@ from pathlib import Path
 
 from rtdvs import _display, _numbers
 from rtdvs.errors import BadValue, RtdvsError, TraceFault
-from rtdvs.model import Demands, Machine, TaskSet, jobs_of
+from rtdvs.model import Demands, Machine, TaskSet, jobs_of, table_text
 from rtdvs.rules import Plan, check, simulate
 from rtdvs.trace import Decision, Done, End, Head, Idle, Reader, Release, Run, TaskEnergy, Trace
 
@@ -105,7 +105,7 @@ class Asked:
         """What a right trace asks for: its plan, and its demands if there is no demand file; raises WrongTrace."""
         if solution is None:
             return cls(tasks, machine, demands)
-        lines = solution.text().splitlines(keepends=True)
+        lines = solution.lines()
         check(tasks, machine, lines, demands)
         head = Head(solution.version, solution.scheduler, solution.governor, solution.ticks)
         return cls(tasks, machine, demands or said_demands(tasks, machine, head.ticks, lines), head)
@@ -197,8 +197,9 @@ class Grades(tuple[Grade, ...], _display.Shown):
 
     def csv(self) -> str:
         """The table in CSV; shares have four decimal places."""
-        rows = ([_field(cell) for cell in row] for row in self._rows())
-        return "".join(f"{','.join(row)}\n" for row in (COLUMNS, *rows))
+        rows = ([_numbers.decimal(cell, 4) if isinstance(cell, Fraction) else cell for cell in row]
+                for row in self._rows())
+        return table_text([[*COLUMNS], *rows])
 
     def text(self) -> str:
         """The table for a terminal: shares are percent, and the fault and what was mended are at the end."""
@@ -206,11 +207,6 @@ class Grades(tuple[Grade, ...], _display.Shown):
         rows += [(each.name, *_of(each.lines, each.of_lines), *_of(each.decisions, each.of_decisions)) for each in self]
         ends = ["first fault", *(_end(each) for each in self)]
         return "".join(f"{row}  {end}\n" for row, end in zip(_numbers.aligned(rows).splitlines(), ends, strict=True))
-
-
-def _field(cell: _display.Cell) -> str:
-    text = "" if cell is None else _numbers.decimal(cell, 4) if isinstance(cell, Fraction) else str(cell)
-    return '"{}"'.format(text.replace('"', '""')) if re.search('[",\n]', text) else text
 
 
 def _of(right: int, wanted: int) -> tuple[str, str]:
@@ -232,9 +228,7 @@ def grade(asked: Asked, name: str, content: bytes) -> Grade:
     """
     lines, said = mended(content)
     head = asked.head_of(lines)
-    demands = asked.demands
-    if demands is None and head is not None:
-        demands = said_demands(asked.tasks, asked.machine, head.ticks, lines)
+    demands = asked.demands or (said_demands(asked.tasks, asked.machine, head.ticks, lines) if head else None)
     line, reason = _first_fault(asked, demands, lines)
     wanted = _right_lines(asked, demands, head)
     kept = common(wanted, lines)
@@ -271,10 +265,7 @@ def _right_lines(asked: Asked, demands: Demands | None, head: Head | None) -> li
         trace = simulate(asked.tasks, asked.machine, head.scheduler, head.ticks, head.governor, demands)
     except RtdvsError:
         return []
-    lines = trace.text().splitlines(keepends=True)
-    if head.version == 2:
-        return lines
-    return ["trace 1\n", *(line for line in lines[1:] if not line.startswith(("task ", "energy ")))]
+    return (trace if head.version == 2 else trace.first_version()).lines()
 
 
 def common(wanted: Sequence[str], lines: Sequence[str]) -> list[str]:

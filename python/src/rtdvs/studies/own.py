@@ -106,10 +106,9 @@ class OwnTraces:
         file = self.file(machine, name)
         try:
             trace = Trace.read(file)
-            lines = trace.text().splitlines(keepends=True)
             if (trace.scheduler, trace.ticks) != (scheduler, case.ticks):
                 raise TraceFault(2, f"it is no run of {case.ticks} ticks under {scheduler}")
-            check(case.tasks, case.machine, lines, case.demands, any_governor=True)
+            check(case.tasks, case.machine, trace.lines(), case.demands, any_governor=True)
         except TraceFault as fault:
             raise BadValue(f"{file}: {fault}") from None
         return Fraction(trace.energy)

@@ -2,7 +2,7 @@
 
 import io
 from collections.abc import Callable, Iterator
-from dataclasses import asdict, dataclass
+from dataclasses import asdict, dataclass, replace
 from fractions import Fraction
 from itertools import islice, pairwise, takewhile
 from pathlib import Path
@@ -12,7 +12,7 @@ from rtdvs._display import Frame, html_of, picture
 from rtdvs.model import Task, TaskSet
 from rtdvs.trace import _noted, reader, tables
 from rtdvs.trace.jobs import Job
-from rtdvs.trace.notes import Decision, End, Head, Idle, Note, Release, task_text
+from rtdvs.trace.notes import Decision, End, Head, Idle, Note, Release, TaskEnergy, task_text
 
 
 @dataclass(frozen=True, slots=True, repr=False)
@@ -65,6 +65,23 @@ class Trace(Head, _noted.Noted):
         """
         notes = (note.text() for note in self.notes)
         return "\n".join([Head.text(self), *map(task_text, self.tasks), *notes, ""])
+
+    def lines(self) -> list[str]:
+        r"""The lines of the text, each with its line feed.
+
+        >>> Trace.parse(SAMPLE).lines()[-1]
+        'end 2 6000 0\n'
+        """
+        return self.text().splitlines(keepends=True)
+
+    def first_version(self) -> Self:
+        """The same run in version 1, which doesn't have the tasks and the energy of each.
+
+        >>> Trace.parse(SAMPLE).first_version().text().splitlines()[:3]
+        ['trace 1', 'plan edf mine 2', 'release 0 t 1']
+        """
+        notes = tuple(note for note in self.notes if not isinstance(note, TaskEnergy))
+        return replace(self, version=1, tasks=(), notes=notes)
 
     @property
     def end(self) -> End:
