@@ -16,7 +16,7 @@ use Rattle.rm_response.specs.declared.inputs.Search.{Search}
 use Rattle.rm_response.specs.declared.inputs.Supply.{Supply}
 use Rattle.rm_response.specs.Supplies.{IsDone, IsMore}
 use Rattle.rm_response.specs.Loads.{held, work_of, rates_of, HasRate, AreServedWithin, AreInTurn}
-use Rattle.rm_response.specs.Fits.{Fits, NoneFits, NoneBefore, SearchesFit, IsFrom}
+use Rattle.rm_response.specs.Fits.{Fits, NoneFits, NoneBefore, SearchesFit}
 
 -- of fewer units all are done too, and more units are too many too
 pub done-fewer : (s : Supply) (m n t : ℕ) → m ≤ n → IsDone s n t → IsDone s m t
@@ -140,17 +140,6 @@ before-later s xs rest low most first later one two = record {
   from = (let f = one.from in let g = two.from in omega arith);
   within = two.within;
   none = λ t from lt. elim (cases_lt t first) [ inl before ↦ one.none t from before | inr after ↦ two.none t after lt ];
-}
-
--- what is found from the least ticks on is found of all
-pub found-from : (q : Search) (xs : List Load) (rest low most least : ℕ) (found : Option ℕ) → IsFrom q.low xs rest low most least
-    → SearchesFit q xs rest least most found → SearchesFit q xs rest low most found
-found-from q xs rest low most least None is none = λ t from lt.
-    elim (cases_lt t least) [ inl before ↦ is.none t from before | inr after ↦ none t after lt ]
-found-from q xs rest low most least (Some t) is fit = λ e. record {
-  from = (let g = (fit e).from in let h = is.from in omega arith);
-  within = (fit e).within;
-  done = (fit e).done;
 }
 
 -- the first load and the others

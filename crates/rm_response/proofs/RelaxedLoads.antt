@@ -9,8 +9,8 @@ use Rattle.rm_response.specs.declared.inputs.Load.{Load}
 use Rattle.rm_response.specs.declared.inputs.Search.{Search}
 use Rattle.rm_response.specs.declared.inputs.Supply.{Supply}
 use Rattle.rm_response.specs.Loads.{held, work_of, HasRate, AreInTurn}
-use Rattle.rm_response.specs.Fits.{FindsFit, SearchesFit, IsFrom, NoneFits, IsRelaxed}
-use Rattle.rm_response.proofs.LoadFits.{held-once, done-fewer, found-from, rate-held}
+use Rattle.rm_response.specs.Fits.{FindsFit, SearchesFit, NoneFits, IsRelaxed}
+use Rattle.rm_response.proofs.LoadFits.{held-once, done-fewer, rate-held}
 use Rattle.rm_response.proofs.Searches.{low-more}
 
 -- the load x is at place k
@@ -61,19 +61,17 @@ turn-found s x xs job (Some t) own fit some turn =
     (record { ticks = t; some = fit.from; within = fit.within; done = done }, turn)
 
 -- what does not fit beside relaxed loads does not fit beside all
-relaxed-none : (s : Supply) (xs : List Load) (lower : Supply) (ys : List Load) (rest low end : ℕ) → lower.hyper ≡ s.hyper
-    → IsRelaxed s xs lower.units ys → NoneFits lower ys rest low end → NoneFits s xs rest low end
-relaxed-none s xs lower ys rest low end same is none t from lt =
-    let more : lower.units * t < (rest + work_of ys t) * s.hyper =
-    subst (λ h. lower.units * t < (rest + work_of ys t) * h) same (none t from lt) in
-    omega (arith, more, is.work t)
+relaxed-none : (q r : Search) (xs ys : List Load) (rest low end : ℕ) → r.whole ≡ q.whole → IsRelaxed q.whole xs r.low.units ys
+    → NoneFits r.low ys rest low end → NoneFits q.low xs rest low end
+relaxed-none q r xs ys rest low end whole is none t from lt =
+    let same : r.low.hyper ≡ q.whole.hyper = r.same_hyper ∙ ap (λ (s : Supply). s.hyper) whole in
+    let more : r.low.units * t < (rest + work_of ys t) * q.whole.hyper =
+    subst (λ h. r.low.units * t < (rest + work_of ys t) * h) same (none t from lt) in
+    low-more q (rest + work_of xs t) t (omega (arith, more, is.work t))
 
 -- a search beside relaxed loads that finds nothing decides
-pub none-found : (q : Search) (xs : List Load) (r : Search) (ys zs : List Load) (rest low most least : ℕ) (found : Option ℕ)
-    → IsFrom q.low xs rest low most least → r.low.hyper ≡ q.whole.hyper → IsRelaxed q.whole xs r.low.units ys → zs ≡ ys
-    → SearchesFit r zs rest least most found → is_some found ≡ false → NoneFits q.low xs rest low (most + 1)
-none-found q xs r ys zs rest low most least None from same is equal none none' =
-    let whole = relaxed-none q.whole xs r.low ys rest least (most + 1) same is
-    (subst (λ (ls : List Load). NoneFits r.low ls rest least (most + 1)) equal none) in
-    found-from q xs rest low most least None from (λ t after lt. low-more q (rest + work_of xs t) t (whole t after lt))
-none-found q xs r ys zs rest low most least (Some t) from same is equal fit none' = absurd cc
+pub none-found : (q : Search) (xs : List Load) (r : Search) (ys : List Load) (rest low most : ℕ) (found : Option ℕ)
+    → r.whole ≡ q.whole → IsRelaxed q.whole xs r.low.units ys → SearchesFit r ys rest low most found
+    → is_some found ≡ false → NoneFits q.low xs rest low (most + 1)
+none-found q xs r ys rest low most None whole is none not = relaxed-none q r xs ys rest low (most + 1) whole is none
+none-found q xs r ys rest low most (Some t) whole is fit not = absurd cc

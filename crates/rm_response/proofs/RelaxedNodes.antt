@@ -1,10 +1,11 @@
 -- The nodes of a search as loads come and go.
-use Rattle.std.proofs.Common.{◌≡◌, ℕ, zero, suc, ◌+◌, ◌<◌, ◌≤◌, List, [], ◌∷◌, ◌++◌, length, take, drop, arith, refl, subst}
+use Rattle.std.proofs.Common.{◌≡◌, ℕ, zero, suc, ◌+◌, ◌<◌, ◌≤◌, List, [], ◌∷◌, ◌++◌, length, take, drop, arith, refl, sym, subst}
 use Rattle.std.specs.Prelude.{IfSome, insert, remove, slice_get, slice_index_or}
 use Rattle.std.proofs.lemmas.Option.{slice_get_read}
 use Rattle.std.proofs.lemmas.List.Edits.{length-insert, length-remove}
 use Rattle.rm_response.specs.declared.inputs.Load.{Load}
 use Rattle.rm_response.specs.declared.inputs.Supply.{Supply}
+use Rattle.rm_response.specs.declared.left.Left.{Left}
 use Rattle.rm_response.specs.declared.relaxed.Relaxed.{Relaxed}
 use Rattle.rm_response.specs.Fits.{IsNode, AreNodes}
 
@@ -39,6 +40,10 @@ nodes-first s (x ∷ xs) rs n are = (first-get (IsNode s (x ∷ xs)) rs n (lengt
 pub nodes-none : (s : Supply) (xs : List Load) → AreNodes s xs []
 nodes-none s [] = tt
 nodes-none s (x ∷ xs) = (tt, nodes-none s xs)
+
+-- the nodes of loads that are left without nodes
+pub left-none : (s : Supply) (left : Left) → left.nodes.now ≡ [] → AreNodes s left.loads.now left.nodes.now
+left-none s left none = subst (AreNodes s left.loads.now) (sym none) (nodes-none s left.loads.now)
 
 -- the node at the number of the loads is for them
 pub node-at : (s : Supply) (xs : List Load) (rs : List Relaxed) (r : Relaxed) → 1 ≤ length xs → length xs < length rs

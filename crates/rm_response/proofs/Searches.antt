@@ -1,5 +1,5 @@
 -- Searches with two supplies: which loads they are for, and what the whole supply says of the low one.
-use Rattle.std.proofs.Common.{◌≡◌, inl, inr, ℕ, ◌+◌, ◌-◌, ◌*◌, ◌<◌, ◌≤◌, List, [], ◌∷◌, Option, Some, None, is_some, true, false, refl, length, sym, ap, ◌∙◌, subst, arith}
+use Rattle.std.proofs.Common.{◌≡◌, ◌⊎◌, inl, inr, max, ℕ, ◌+◌, ◌-◌, ◌*◌, ◌<◌, ◌≤◌, List, [], ◌∷◌, Option, Some, None, is_some, true, false, refl, length, sym, ap, ◌∙◌, subst, arith}
 use Rattle.std.specs.Prelude.{All}
 use Rattle.std.proofs.Math.Nat.{mul-le-mul_left, mul-le-mul_right}
 use Rattle.std.proofs.lemmas.List.Elements.{All-tail}
@@ -8,9 +8,9 @@ use Rattle.rm_response.specs.declared.inputs.Load.{Load}
 use Rattle.rm_response.specs.declared.inputs.Search.{Search}
 use Rattle.rm_response.specs.declared.inputs.Supply.{Supply}
 use Rattle.rm_response.specs.Supplies.{IsDone, IsMore}
-use Rattle.rm_response.specs.Loads.{held, work_of, HasRate, AreServedWithin, AreInTurn, AreInTurnTo, AreLoads, AreSearched}
+use Rattle.rm_response.specs.Loads.{held, work_of, HasRate, AreServedWithin, AreInTurn, AreInTurnTo, AreLoads, AreSearched, release_before}
 use Rattle.rm_response.specs.Fits.{Fits, NoneFits, FindsFit, SearchesFit}
-use Rattle.rm_response.proofs.LoadFits.{cases_done, held-once}
+use Rattle.rm_response.proofs.LoadFits.{cases_done, held-once, found-in, found-before}
 
 -- what is not there is None
 pub none-of : (found : Option ℕ) → is_some found ≡ false → found ≡ None
@@ -137,3 +137,31 @@ pub served-found : (q : Search) (x : Load) (xs : List Load) (rest lack : ℕ) (f
     → FindsFit q.whole xs rest 1 x.period found → is_some found ≡ true → AreServedWithin q.low (x ∷ xs) x.period
 served-found q x xs rest lack None is above none some = absurd cc
 served-found q x xs rest lack (Some t) is above fit some = low-served q x xs rest lack t is above fit
+
+-- The first load x of a search is taken away.
+module _ (q : Search) (x : Load) (xs all : List Load) (parts : all ≡ x ∷ xs) (loads : AreSearched q all) (more : q.tail < length all)
+    (rest low most : ℕ) (some : 1 ≤ low) (in_span : low ≤ most) where
+  served : AreServedWithin q.low (x ∷ xs) x.period
+  served = (subst (AreSearched q) parts loads).turn.0 (omega (arith, more, ap (length {A = Load}) parts))
+
+  all-found : (found : Option ℕ) → SearchesFit q (x ∷ xs) rest low most found → SearchesFit q all rest low most found
+  all-found found = subst (λ (ys : List Load). SearchesFit q ys rest low most found) (sym parts)
+
+  -- a search beside its jobs that begin before `most` ticks are over
+  module _ (begun after last : ℕ) (first : Option ℕ) (jobs : begun ≡ held most x) (begins : after ≡ max low (release_before most x + 1))
+      (ends : last ≡ most) (fit : SearchesFit q xs (rest + begun) after last first) where
+    in-period : SearchesFit q xs (rest + begun) after most first
+    in-period = subst (λ m. SearchesFit q xs (rest + begun) after m first) ends fit
+
+    -- it decides if it finds some, or if there are no earlier ticks
+    pub taken-in : (is_some first ≡ true) ⊎ (release_before most x < low) → SearchesFit q all rest low most first
+    taken-in why =
+        all-found first (found-in q x xs served rest low most some in_span begun after first (jobs, begins, in-period) why)
+
+    -- otherwise the period before it decides
+    pub taken-before : (ended low' last' : ℕ) (found : Option ℕ) → is_some first ≡ false
+        → (low' ≡ max low (release_before most x + 1 - x.period)) × (last' ≡ release_before most x) → ended ≡ held last' x
+        → SearchesFit q xs (rest + ended) low' last' found → SearchesFit q all rest low most found
+    taken-before ended low' last' found none before jobs' fit' =
+        all-found found (found-before q x xs served rest low most some in_span begun after ended low' last' first found
+        (jobs, begins, in-period) none before.1 before.0 jobs' fit')

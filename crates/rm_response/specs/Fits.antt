@@ -3,11 +3,10 @@ use Rattle.std.specs.Prelude.{ℕ, List, [], ◌∷◌, All, IfSome, slice_get, 
 use Rattle.rm_response.specs.declared.inputs.Load.{Load}
 use Rattle.rm_response.specs.declared.inputs.Search.{Search}
 use Rattle.rm_response.specs.declared.inputs.Supply.{Supply}
+use Rattle.rm_response.specs.declared.left.Left.{Left}
 use Rattle.rm_response.specs.declared.relaxed.Relaxed.{Relaxed}
-use Rattle.rm_response.specs.declared.search.Ends.{Ends}
-use Rattle.rm_response.specs.declared.search.Ends.TheVariants.{Fit, NoFit, From}
 use Rattle.rm_response.specs.Supplies.{IsDone, IsMore}
-use Rattle.rm_response.specs.Loads.{AreInTurnTo, AreLoads, HasRate, work_of}
+use Rattle.rm_response.specs.Loads.{AreInTurnTo, AreLoads, AreSearched, HasRate, work_of}
 
 -- `rest` units fit into t of the ticks `low` to `most`: in t ticks a supply does them and the work of the loads
 pub record Fits (s : Supply) (xs : List Load) (rest low most t : ℕ) : Type 0 where
@@ -27,18 +26,6 @@ FindsFit s xs rest low most found = MatchOption found (NoneFits s xs rest low (m
 abbrev pub SearchesFit : Search → List Load → ℕ → ℕ → ℕ → Option ℕ → Type 0
 SearchesFit q xs rest low most found =
     MatchOption found (NoneFits q.low xs rest low (most + 1)) (λ t. q.tail ≡ 0 → Fits q.low xs rest low most t)
-
--- `least` is one of the ticks `low` to `most`, and `rest` units fit into none before it
-pub record IsFrom (s : Supply) (xs : List Load) (rest low most least : ℕ) : Type 0 where
-  pub from : low ≤ least
-  pub within : least ≤ most
-  pub none : NoneFits s xs rest low least
-
--- what the ends of the ticks `low` to `most` decide: a fit, none, or the ticks that are left
-abbrev pub EndsDecide : Supply → List Load → ℕ → ℕ → ℕ → Ends → Type 0
-EndsDecide s xs rest low most (Fit t) = Fits s xs rest low most t
-EndsDecide s xs rest low most NoFit = NoneFits s xs rest low (most + 1)
-EndsDecide s xs rest low most (From least) = IsFrom s xs rest low most least
 
 -- `first` is one of the ticks `low` to `most`, or one more than the last, and `rest` units fit into none before it
 pub record NoneBefore (s : Supply) (xs : List Load) (rest low most first : ℕ) : Type 0 where
@@ -63,12 +50,20 @@ pub record IsRelaxed (s : Supply) (xs : List Load) (units : ℕ) (ys : List Load
 -- The loads of r that count with their jobs, fewer than the loads xs, can be searched with the supply of r, and what
 -- does not fit beside them does not fit beside xs.
 pub record IsRelaxedSearch (s : Supply) (xs : List Load) (r : Relaxed) : Type 0 where
-  pub within : r.count ≤ length r.loads
   pub fewer : r.count < length xs
   pub same_hyper : r.supply.hyper ≡ s.hyper
   pub turn : AreInTurnTo r.tail r.supply (take r.count r.loads)
   pub whole : AreLoads s (take r.count r.loads)
   pub relaxed : IsRelaxed s xs r.supply.units (take r.count r.loads)
+
+-- The loads that are left in a relaxed search are fewer than the loads xs, and for it, and what does not fit beside them
+-- does not fit beside xs.
+pub record IsRelaxedBy (s : Supply) (xs : List Load) (q : Search) (left : Left) : Type 0 where
+  pub fewer : length left.loads.now < length xs
+  pub whole : q.whole ≡ s
+  pub searched : AreSearched q left.loads.now
+  pub none : left.nodes.now ≡ []
+  pub relaxed : IsRelaxed s xs q.low.units left.loads.now
 
 -- if some loads of r count with their jobs, they are for a relaxed search
 abbrev pub IsNode : Supply → List Load → Relaxed → Type 0

@@ -9,6 +9,7 @@
 
 mod earlier;
 mod inputs;
+mod left;
 mod loads;
 mod nodes;
 mod relaxed;

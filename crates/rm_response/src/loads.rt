@@ -9,7 +9,6 @@ ghost use Rattle.rm_response.specs.Loads.{held, work_of, rates_of, IsLoadOf};
 
 use crate::inputs::Load;
 use freq_table::Machine;
-use grid_fraction::up;
 use sched_model::{rate, worst};
 use task_model::TaskSet;
 
@@ -32,7 +31,7 @@ pub(crate) fn held(load: Load, ticks: u64) -> u128
     ensures value { result ≡ held ticks load }
     ensures low { result ≤ 2 ^ 101 }
 {
-    up(u128::from(ticks), load.period) * u128::from(load.worst)
+    u128::from(ticks.div_ceil(load.period)) * u128::from(load.worst)
 }
 
 // The work that the loads can ask for in `ticks` ticks, in work units.

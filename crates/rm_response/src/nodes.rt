@@ -1,14 +1,27 @@
 // The node of a search for some loads: relaxed loads that count before the first load is taken away.
-ghost use Rattle.std.specs.Prelude.{◌≡◌, ◌≤◌, ◌<◌, IsTrue, IfSome, length, All};
+ghost use Rattle.std.specs.Prelude.{◌≡◌, ◌≤◌, ◌<◌, IsTrue, IfSome, length, take, All};
 ghost use Rattle.dvs_base.specs.declared.limits.TheConstants.{MOST_TASKS};
 ghost use Rattle.rm_response.specs.declared.relaxed.TheConstants.{MOST_HEAVY};
 ghost use Rattle.rm_response.specs.Loads.{AreInTurn, AreInTurnTo, AreLoads, HasRate};
-ghost use Rattle.rm_response.specs.Fits.{IsNode};
+ghost use Rattle.rm_response.specs.Fits.{FindsFit, IsNode, IsRelaxed};
 
 use crate::inputs::{Load, Search, Span, Supply};
-use crate::relaxed::{MOST_HEAVY, Relaxed, relaxed_by};
+use crate::left::Left;
+use crate::relaxed::{MOST_HEAVY, Relaxed};
 use crate::search::fitting;
 use dvs_base::MOST_TASKS;
+
+// One of the ticks of a load's period into which `rest` units fit beside the work of other loads, if any.
+fn fitting_period(supply: Supply, load: &Load, others: &[Load], rest: u128) -> Option<u64>
+    requires { AreLoads supply others.now }
+    ensures { FindsFit supply others.now rest 1 load.now.period result }
+{
+    let period = Span {
+        first: 1,
+        last: load.period,
+    };
+    fitting(supply, Left::of(others, &[]), rest, period)
+}
 
 // Whether loads can be taken away in turn.
 fn are_in_turn(supply: Supply, loads: &[Load]) -> bool
@@ -19,12 +32,8 @@ fn are_in_turn(supply: Supply, loads: &[Load]) -> bool
     let Some((load, others)) = loads.split_first() else {
         return true;
     };
-    let period = Span {
-        first: 1,
-        last: load.period,
-    };
-    are_in_turn(supply, others)
-        && fitting(supply, others, u128::from(load.worst), period, &[]).is_some()
+    let job = u128::from(load.worst);
+    are_in_turn(supply, others) && fitting_period(supply, load, others, job).is_some()
 }
 
 // The place of the greatest worst case among the loads that are not marked, the first of equal ones.
@@ -66,15 +75,47 @@ fn tail_of(search: Search, loads: &[Load]) -> usize
     let Some((load, others)) = loads.split_first() else {
         return 0;
     };
-    let period = Span {
-        first: 1,
-        last: load.period,
-    };
     let rest = u128::from(load.worst) + search.lack(load.period) + 1;
-    if fitting(search.whole, others, rest, period, &[]).is_none() {
+    if fitting_period(search.whole, load, others, rest).is_none() {
         return loads.len();
     }
     tail_of(search, others)
+}
+
+// Relaxed loads: those that are marked count with their jobs, at most `MOST_HEAVY` of them, in their order. There are
+// none if the rates of the others leave nothing.
+fn relaxed_by(supply: Supply, loads: &[Load], marks: &[bool]) -> Option<Relaxed>
+    requires marked { length loads.now ≤ length marks.now }
+    requires rates { All (HasRate supply.hyper) loads.now }
+    ensures few { IfSome result (λ r. r.count ≤ MOST_HEAVY) }
+    ensures hyper { IfSome result (λ r. r.supply.hyper ≡ supply.hyper) }
+    ensures relaxed { IfSome result (λ r. IsRelaxed supply loads.now r.supply.units (take r.count r.loads)) }
+{
+    let mut heavy = Relaxed::empty(supply).loads;
+    let mut count = 0;
+    let mut units = supply.units;
+    for (k, load) in loads.iter().enumerate() {
+        if count < MOST_HEAVY && marks[k] {
+            heavy[count] = *load;
+            count += 1;
+            continue;
+        }
+        units = units.saturating_sub(load.rate);
+    }
+    if units == 0 {
+        return None;
+    }
+    let left = Supply {
+        speed: supply.speed,
+        hyper: supply.hyper,
+        units,
+    };
+    Some(Relaxed {
+        supply: left,
+        loads: heavy,
+        count,
+        tail: 0,
+    })
 }
 
 // A node whose marked loads count with their jobs, unless the rates of the others leave nothing.
@@ -94,7 +135,12 @@ fn node_by(supply: Supply, loads: &[Load], marks: &[bool]) -> Option<Relaxed>
         tail: 0,
     };
     let tail = tail_of(search, relaxed.heavy());
-    Some(Relaxed { tail, ..relaxed })
+    Some(Relaxed {
+        supply: relaxed.supply,
+        loads: relaxed.loads,
+        count: relaxed.count,
+        tail,
+    })
 }
 
 // The node for loads: those of greatest worst case count with their jobs. Loads that are `MOST_HEAVY` or fewer have none.
@@ -106,8 +152,5 @@ pub(crate) fn node_of(supply: Supply, loads: &[Load]) -> Relaxed
     if loads.len() <= MOST_HEAVY {
         return Relaxed::empty(supply);
     }
-    match node_by(supply, loads, &marked(loads)) {
-        Some(node) => node,
-        None => Relaxed::empty(supply),
-    }
+    node_by(supply, loads, &marked(loads)).unwrap_or(Relaxed::empty(supply))
 }

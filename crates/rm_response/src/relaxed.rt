@@ -1,8 +1,6 @@
 // Relaxed loads: a few loads count with their jobs, and the others with their rates. What does not fit beside these does
 // not fit beside all jobs either.
-ghost use Rattle.std.specs.Prelude.{◌≡◌, ◌≤◌, IfSome, length, take, All};
-ghost use Rattle.rm_response.specs.Loads.{HasRate};
-ghost use Rattle.rm_response.specs.Fits.{IsRelaxed};
+ghost use Rattle.std.specs.Prelude.{◌≡◌, ◌≤◌, length, take};
 
 use crate::inputs::{Load, Supply};
 
@@ -17,6 +15,7 @@ pub(crate) struct Relaxed {
     pub(crate) loads: [Load; MOST_HEAVY],
     pub(crate) count: usize,
     pub(crate) tail: usize,
+    ghost within: { count ≤ length loads },
 }
 
 impl Relaxed {
@@ -41,36 +40,9 @@ impl Relaxed {
 
     // The loads that count with their jobs.
     pub(crate) fn heavy(&self) -> &[Load]
-        requires { self.now.count ≤ length self.now.loads }
-        ensures { result.now ≡ take self.now.count self.now.loads }
+        ensures few { length result.now ≤ length self.now.loads }
+        ensures loads { result.now ≡ take self.now.count self.now.loads }
     {
         &self.loads[..self.count]
     }
-}
-
-// Relaxed loads: those that are marked count with their jobs, at most `MOST_HEAVY` of them, in their order. There are
-// none if the rates of the others leave nothing.
-pub(crate) fn relaxed_by(supply: Supply, loads: &[Load], marks: &[bool]) -> Option<Relaxed>
-    requires marked { length loads.now ≤ length marks.now }
-    requires rates { All (HasRate supply.hyper) loads.now }
-    ensures within { IfSome result (λ r. r.count ≤ length r.loads) }
-    ensures few { IfSome result (λ r. r.count ≤ MOST_HEAVY) }
-    ensures hyper { IfSome result (λ r. r.supply.hyper ≡ supply.hyper) }
-    ensures relaxed { IfSome result (λ r. IsRelaxed supply loads.now r.supply.units (take r.count r.loads)) }
-{
-    let mut relaxed = Relaxed::empty(supply);
-    let mut units = supply.units;
-    for (k, load) in loads.iter().enumerate() {
-        if relaxed.count < MOST_HEAVY && marks[k] {
-            relaxed.loads[relaxed.count] = *load;
-            relaxed.count += 1;
-            continue;
-        }
-        units = units.saturating_sub(load.rate);
-    }
-    if units == 0 {
-        return None;
-    }
-    relaxed.supply.units = units;
-    Some(relaxed)
 }

@@ -15,6 +15,7 @@ ghost use Rattle.rm_response.specs.Known.{AreAllKnown, late_task};
 
 use crate::earlier::Earlier;
 use crate::inputs::{Span, Supply};
+use crate::left::Left;
 use crate::loads::{load_of, work_of};
 use crate::search::{first_fitting, fits, raised};
 use crate::supply::full_supply;
@@ -82,13 +83,12 @@ struct Late {
 fn searched(supply: Supply, earlier: &mut Earlier, rest: u128, span: Span) -> u64
     requires loads { AreLoads supply earlier.old.loads.items }
     requires nodes { HasNodes supply earlier.old }
-    requires low_rest { rest ≤ 2 ^ 102 }
     ensures first { IsFirstFit supply earlier.old.loads.items rest span.first span.last result }
     ensures loads { earlier.new.loads ≡ earlier.old.loads }
     ensures nodes { HasNodes supply earlier.new }
 {
     let _made = earlier.make_nodes(supply);
-    first_fitting(supply, &earlier.loads, rest, span, &earlier.nodes)
+    first_fitting(supply, Left::of(&earlier.loads, &earlier.nodes), rest, span)
 }
 
 // The response of task i in ticks; one more than its period if it has none. `from` is a number of ticks, and fewer

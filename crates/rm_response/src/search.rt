@@ -1,40 +1,27 @@
 // The search for ticks into which work fits beside loads (after Bini and Buttazzo 2004).
-ghost use Rattle.std.specs.Prelude.{◌≡◌, ◌≤◌, ◌<◌, ◌+◌, ◌-◌, ◌^◌, IsTrue, IsFalse, MatchOption, length, max, All};
+ghost use Rattle.std.specs.Prelude.{◌≡◌, ◌≤◌, ◌<◌, ◌+◌, ◌-◌, ◌^◌, IsTrue, IsFalse, IfSome, MatchOption, length, max, All};
 ghost use Rattle.dvs_base.specs.Widths.{u64_end};
 ghost use Rattle.dvs_base.specs.declared.limits.TheConstants.{MOST_TASKS};
 ghost use Rattle.task_model.specs.declared.limits.TheConstants.{LONGEST_PERIOD};
 ghost use Rattle.rm_response.specs.Supplies.{IsDone, IsMore};
 ghost use Rattle.rm_response.specs.Loads.{AreLoads, AreSearched, HasRate, release_before, work_of};
-ghost use Rattle.rm_response.specs.Fits.{NoneFits, FindsFit, SearchesFit, EndsDecide, NoneBefore, IsFirstFit, AreNodes};
+ghost use Rattle.rm_response.specs.Fits.{NoneFits, FindsFit, SearchesFit, NoneBefore, IsFirstFit, IsRelaxedBy, AreNodes};
 
 use crate::inputs::{Load, Search, Span, Supply};
-use crate::loads::{held, rates_of, work_of};
-use crate::relaxed::Relaxed;
+use crate::left::Left;
+use crate::loads::{held, work_of};
 use crate::supply::most_in;
-
-// The most times that the first of the ticks is raised in one call of `fitting`.
-const MOST_RAISES: u32 = 1;
-
-// What the ends of a span decide: that `Fit(t)` is a fit, that there is none, or that there is none before
-// `From(first)`.
-#[derive(Clone, Copy)]
-enum Ends {
-    Fit(u64),
-    NoFit,
-    From(u64),
-}
 
 // Whether `rest` units are too many for `most` ticks at the speed, or for what the rates of the loads leave of the
 // supply.
-fn is_beyond(supply: Supply, loads: &[Load], rest: u128, most: u64) -> bool
-    requires few { length loads.now ≤ MOST_TASKS }
-    requires rates { All (HasRate supply.hyper) loads.now }
+fn is_beyond(supply: Supply, left: Left<'_>, rest: u128, most: u64) -> bool
+    requires rates { All (HasRate supply.hyper) left.loads.now }
     requires low_ticks { most ≤ LONGEST_PERIOD }
-    ensures none { IsTrue result → NoneFits supply loads.now rest 0 (most + 1) }
+    ensures none { IsTrue result → NoneFits supply left.entry.loads.now rest 0 (most + 1) }
     ensures within { IsFalse result → IsDone supply rest most }
     ensures low { IsFalse result → rest ≤ u64_end }
 {
-    let spare = supply.units.saturating_sub(rates_of(loads));
+    let spare = supply.units.saturating_sub(left.rates);
     rest > most_in(supply, most) || spare * u128::from(most) < rest * u128::from(supply.hyper)
 }
 
@@ -76,31 +63,6 @@ pub(crate) fn raised(supply: Supply, loads: &[Load], rest: u128, span: Span, ste
     first
 }
 
-// What the ends of the span decide. They are looked at only if the first load has a release in the span: otherwise it can
-// be taken away in one way only, at less cost.
-fn ends_of(supply: Supply, loads: &[Load], rest: u128, span: Span) -> Ends
-    requires few { length loads.now ≤ MOST_TASKS }
-    requires low_rest { rest ≤ u64_end }
-    ensures { EndsDecide supply loads.now rest span.first span.last result }
-{
-    if let Some((load, _)) = loads.split_first()
-        && (span.last - 1) / load.period * load.period < span.first
-    {
-        return Ends::From(span.first);
-    }
-    if fits(supply, loads, rest, span.last) {
-        return Ends::Fit(span.last);
-    }
-    let first = raised(supply, loads, rest, span, MOST_RAISES);
-    if first > span.last {
-        return Ends::NoFit;
-    }
-    if fits(supply, loads, rest, first) {
-        return Ends::Fit(first);
-    }
-    Ends::From(first)
-}
-
 // The ticks of a span after the last release of a load before the last of them and, if that is in the span, those of the
 // period before it.
 fn periods(load: Load, span: Span) -> (Span, Option<Span>)
@@ -125,92 +87,78 @@ fn periods(load: Load, span: Span) -> (Span, Option<Span>)
     (begun, Some(ended))
 }
 
-// One of the ticks of the span into which `rest` units fit beside the work of the loads, if any. If at most `tail` loads
-// are left, what the low supply lacks of the whole one in the first of the ticks counts as work. Otherwise, unless the
-// ends of the span decide, the first load is taken away: in the period that has the last of the ticks, and in the one
-// before it. If it has a release in the span, the node for the loads can refuse first.
-pub(crate) fn fitting_by(
-    search: Search,
-    loads: &[Load],
-    rest: u128,
-    span: Span,
-    nodes: &[Relaxed],
-) -> Option<u64>
-    requires loads { AreSearched search loads.now }
-    requires low_rest { rest ≤ 2 ^ 102 }
-    requires nodes { AreNodes search.whole loads.now nodes.now }
-    ensures { SearchesFit search loads.now rest span.first span.last result }
+// The relaxed search of the node for the loads that are left, if there is one, and the loads that count there with their
+// jobs.
+fn relaxed_search<'a>(whole: Supply, left: Left<'a>) -> Option<(Search, Left<'a>)>
+    requires some { 1 ≤ length left.loads.now }
+    requires nodes { AreNodes whole left.loads.now left.nodes.now }
+    ensures { IfSome result (λ r. IsRelaxedBy whole left.entry.loads.now r.0 r.1) }
 {
-    if is_beyond(search.low, loads, rest, span.last) {
+    let node = left.nodes.get(left.loads.len())?;
+    if node.count == 0 {
         return None;
     }
-    let Some((load, others)) = loads.split_first() else {
+    let search = Search {
+        whole,
+        low: node.supply,
+        tail: node.tail,
+    };
+    Some((search, Left::of(node.heavy(), &[])))
+}
+
+// One of the ticks of the span into which `rest` units fit beside the work of the loads, if any. If at most `tail` loads
+// are left, what the low supply lacks of the whole one in the first of the ticks counts as work. Otherwise the first
+// load is taken away: in the period that has the last of the ticks, and in the one before it. If it has a release in the
+// span, the node for the loads can refuse first.
+pub(crate) fn fitting_by(search: Search, left: Left<'_>, rest: u128, span: Span) -> Option<u64>
+    requires loads { AreSearched search left.loads.now }
+    requires nodes { AreNodes search.whole left.loads.now left.nodes.now }
+    ensures { SearchesFit search left.entry.loads.now rest span.first span.last result }
+{
+    if is_beyond(search.low, left, rest, span.last) {
+        return None;
+    }
+    let Some((load, others)) = left.split_first() else {
         return Some(span.last);
     };
-    if loads.len() <= search.tail {
+    if left.loads.len() <= search.tail {
+        let whole = Search::by(search.whole);
         let lack = search.lack(span.first);
-        return fitting_by(Search::by(search.whole), loads, rest + lack, span, &[]);
+        return fitting_by(whole, left.without_nodes(), rest + lack, span);
     }
-    let first = match ends_of(search.low, loads, rest, span) {
-        Ends::Fit(ticks) => return Some(ticks),
-        Ends::NoFit => return None,
-        Ends::From(first) => first,
+    let (begun, ended) = periods(load, span);
+    let Some(ended) = ended else {
+        return fitting_by(search, others, rest + held(load, span.last), begun);
     };
-    let last = span.last;
-    let left = Span { first, last };
-    let (begun, ended) = periods(*load, left);
-    if ended.is_some()
-        && let Some(node) = nodes.get(loads.len())
-        && node.count > 0
+    if let Some((relaxed, heavy)) = relaxed_search(search.whole, left)
+        && fitting_by(relaxed, heavy, rest, span).is_none()
     {
-        let relaxed = Search {
-            whole: search.whole,
-            low: node.supply,
-            tail: node.tail,
-        };
-        if fitting_by(relaxed, node.heavy(), rest, left, &[]).is_none() {
-            return None;
-        }
+        return None;
     }
-    let found = fitting_by(search, others, rest + held(*load, last), begun, nodes);
+    let found = fitting_by(search, others, rest + held(load, span.last), begun);
     if found.is_some() {
         return found;
     }
-    let ended = ended?;
-    fitting_by(search, others, rest + held(*load, ended.last), ended, nodes)
+    fitting_by(search, others, rest + held(load, ended.last), ended)
 }
 
 // One of the ticks of the span into which `rest` units fit beside the work of the loads, if any.
-pub(crate) fn fitting(
-    supply: Supply,
-    loads: &[Load],
-    rest: u128,
-    span: Span,
-    nodes: &[Relaxed],
-) -> Option<u64>
-    requires loads { AreLoads supply loads.now }
-    requires low_rest { rest ≤ 2 ^ 102 }
-    requires nodes { AreNodes supply loads.now nodes.now }
-    ensures { FindsFit supply loads.now rest span.first span.last result }
+pub(crate) fn fitting(supply: Supply, left: Left<'_>, rest: u128, span: Span) -> Option<u64>
+    requires loads { AreLoads supply left.loads.now }
+    requires nodes { AreNodes supply left.loads.now left.nodes.now }
+    ensures { FindsFit supply left.entry.loads.now rest span.first span.last result }
 {
-    fitting_by(Search::by(supply), loads, rest, span, nodes)
+    fitting_by(Search::by(supply), left, rest, span)
 }
 
 // The first of the ticks of the span into which `rest` units fit beside the work of the loads; one more than the last
 // if there is none.
-pub(crate) fn first_fitting(
-    supply: Supply,
-    loads: &[Load],
-    rest: u128,
-    span: Span,
-    nodes: &[Relaxed],
-) -> u64
-    requires loads { AreLoads supply loads.now }
-    requires low_rest { rest ≤ 2 ^ 102 }
-    requires nodes { AreNodes supply loads.now nodes.now }
-    ensures { IsFirstFit supply loads.now rest span.first span.last result }
+pub(crate) fn first_fitting(supply: Supply, left: Left<'_>, rest: u128, span: Span) -> u64
+    requires loads { AreLoads supply left.loads.now }
+    requires nodes { AreNodes supply left.loads.now left.nodes.now }
+    ensures { IsFirstFit supply left.entry.loads.now rest span.first span.last result }
 {
-    let Some(mut high) = fitting(supply, loads, rest, span, nodes) else {
+    let Some(mut high) = fitting(supply, left, rest, span) else {
         return span.last + 1;
     };
     let mut low = span.first;
@@ -220,7 +168,7 @@ pub(crate) fn first_fitting(
             first: low,
             last: middle,
         };
-        match fitting(supply, loads, rest, half, nodes) {
+        match fitting(supply, left, rest, half) {
             Some(ticks) => high = ticks,
             None => low = middle + 1,
         }

@@ -3,4 +3,4 @@ use Rattle.std.proofs.Common.{length, ◌+◌, ◌-◌}
 use Rattle.rm_response.proofs.search.+fitting_by.Given as goal
 
 abbrev pub decreases-fitting_by : goal.decreases-fitting_by
-decreases-fitting_by l = length l.loads.now + length l.loads.now + (1 - (1 - l.search.tail))
+decreases-fitting_by l = length l.left.loads.now + length l.left.loads.now + (1 - (1 - l.search.tail))

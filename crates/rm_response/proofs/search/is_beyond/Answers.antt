@@ -7,17 +7,17 @@ use Rattle.rm_response.proofs.search.is_beyond.Goals as goal
 
 pub returns-then-rest-most_in-clause-none : goal.returns-then-rest-most_in-clause-none
 returns-then-rest-most_in-clause-none c = λ on t from lt.
-    more-within c.args.supply (c.args.rest + work_of c.args.loads.now t) c.args.most t
+    more-within c.args.supply (c.args.rest + work_of c.args.left.loads.now t) c.args.most t
     (omega (arith, c.if-rest-most_in.true, c.most_in.ensures.value)) lt
 
 pub returns-else-rest-most_in-clause-none : goal.returns-else-rest-most_in-clause-none
 returns-else-rest-most_in-clause-none c = λ on.
     let s = c.args.supply in
-    let xs = c.args.loads.now in
+    let xs = c.args.left.loads.now in
     let over : c.saturating_sub-spare.result * c.from.result < c.args.rest * c.from-else-rest-most_in.result =
     grind (arith, nat_tests, on) in
     let spare : c.saturating_sub-spare.result ≡ s.units - rates_of xs =
-    c.saturating_sub-spare.ensures ∙ ap (λ (r : ℕ). s.units - r) c.rates_of.ensures.value in
+    c.saturating_sub-spare.ensures ∙ ap (λ (r : ℕ). s.units - r) c.args.left.sum in
     let left : c.saturating_sub-spare.result * c.from.result ≡ (s.units - rates_of xs) * c.args.most =
     ap₂ (λ (w m : ℕ). w * m) spare c.from.ensures in
     let right : c.args.rest * c.from-else-rest-most_in.result ≡ c.args.rest * s.hyper =
