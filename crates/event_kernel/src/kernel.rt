@@ -47,7 +47,6 @@ pub struct Kernel<'a, G: Governor> {
     pub(crate) set: Setting<'a>,
     pub(crate) progress: Progress<G>,
     account: Account,
-    walk: Walk,
 }
 
 impl<'a, G: Governor> Model for Kernel<'a, G> {
@@ -112,7 +111,6 @@ impl<'a, G: Governor> Kernel<'a, G> {
             set,
             progress,
             account,
-            walk: Walk::Events,
         })
     }
 
@@ -122,22 +120,27 @@ impl<'a, G: Governor> Kernel<'a, G> {
     pub fn drive<L: Listener>(self, to: &mut L) -> Result<Totals, Stopped>
         ensures { Drives L.heard L.balked L.stops G.the_kind G.demand self.entry to.old to.new result }
     {
-        let ticks = self.set.ticks;
-        let account = self.spans(to)?;
-        finish(ticks, &account, to)
+        self.drive_by(Walk::Events, to)
     }
 
     /// Hands the listener the notes that `drive` hands it, with the same results, but goes tick by tick, not by events.
     pub fn tick_drive<L: Listener>(self, to: &mut L) -> Result<Totals, Stopped>
         ensures { Drives L.heard L.balked L.stops G.the_kind G.demand self.entry to.old to.new result }
     {
-        let mut kernel = self;
-        kernel.walk = Walk::Ticks;
-        kernel.drive(to)
+        self.drive_by(Walk::Ticks, to)
     }
 
-    // Runs the spans and hands the listener every note before the `End`; the account of those notes.
-    pub(crate) fn spans<L: Listener>(self, to: &mut L) -> Result<Account, Stopped>
+    // Runs the spans by this walk and hands the listener all notes, in order; the sums and counts over them.
+    fn drive_by<L: Listener>(self, walk: Walk, to: &mut L) -> Result<Totals, Stopped>
+        ensures { Drives L.heard L.balked L.stops G.the_kind G.demand self.entry to.old to.new result }
+    {
+        let ticks = self.set.ticks;
+        let account = self.spans(walk, to)?;
+        finish(ticks, &account, to)
+    }
+
+    // Runs the spans by this walk and hands the listener every note before the `End`; the account of those notes.
+    pub(crate) fn spans<L: Listener>(self, walk: Walk, to: &mut L) -> Result<Account, Stopped>
         ensures booked { IfOk result (λ a. HasBooked self.entry.plan a (notes_before_end_of G.demand self.entry)) }
         ensures account_totals { IfOk result (λ a. a.totals ≡ totals_of (notes_of_run G.demand self.entry)) }
         ensures few { IfOk result (λ a. AreFew a.totals) }
@@ -149,7 +152,6 @@ impl<'a, G: Governor> Kernel<'a, G> {
             set,
             mut progress,
             mut account,
-            walk,
         } = self;
         while progress.now() < set.ticks {
             let point = progress.span(walk, &set);

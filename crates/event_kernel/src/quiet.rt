@@ -68,8 +68,8 @@ impl<G: Governor> Progress<G> {
         let state = &self.state;
         let units = quiet * force.speed;
         let holder = holder_of(state, first);
-        let at = Moment { plan, state, force };
-        self.trace.enter(at, holder, units);
+        let moment = Moment { plan, state, force };
+        self.trace.enter(moment, holder, units);
         self.serve_first(set, first, units);
         self.advance(now + quiet);
     }

@@ -25,8 +25,8 @@ impl<G: Governor> Progress<G> {
     {
         let release = self.agenda.next_release(set.plan, &self.state);
         let event = set.ticks.min(release);
+        self.stay(walk, set, force, event);
         loop {
-            self.stay(walk, set, force, event);
             let completed = self.work(set, force);
             if completed || self.now() == event {
                 return;

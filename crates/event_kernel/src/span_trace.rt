@@ -51,30 +51,30 @@ impl SpanTrace {
     }
 
     // Adds the note of an idle segment.
-    fn add_idle(&mut self, at: Moment<'_>)
-        requires can { CanAdd at.plan.now at.state.now at.force self.old }
+    fn add_idle(&mut self, moment: Moment<'_>)
+        requires can { CanAdd moment.plan.now moment.state.now moment.force self.old }
         requires idle { self.old.segment.holder ≡ Nobody }
-        ensures { self.new ≡ with_notes self.old (written_notes at.entry.plan.now
-            at.entry.state.now at.entry.force self.old) }
+        ensures { self.new ≡ with_notes self.old (written_notes moment.entry.plan.now
+            moment.entry.state.now moment.entry.force self.old) }
     {
-        let force = at.force;
+        let force = moment.force;
         let Segment { start, units, .. } = self.segment;
         self.notes.push(Note::Idle {
             from: force.position(start),
             to: force.position(start + units),
             units,
-            energy: energy_of(at.plan.machine(), force.index, units, true),
+            energy: energy_of(moment.plan.machine(), force.index, units, true),
         });
     }
 
     // Adds the note of a job's segment, and that of the job's completion if its row is done.
-    fn add_run(&mut self, at: Moment<'_>, task: u32, job: u64)
-        requires can { CanAdd at.plan.now at.state.now at.force self.old }
+    fn add_run(&mut self, moment: Moment<'_>, task: u32, job: u64)
+        requires can { CanAdd moment.plan.now moment.state.now moment.force self.old }
         requires held { self.old.segment.holder ≡ Held task job }
-        ensures { self.new ≡ with_notes self.old (written_notes at.entry.plan.now
-            at.entry.state.now at.entry.force self.old) }
+        ensures { self.new ≡ with_notes self.old (written_notes moment.entry.plan.now
+            moment.entry.state.now moment.entry.force self.old) }
     {
-        let force = at.force;
+        let force = moment.force;
         let Segment { start, units, .. } = self.segment;
         let end = force.position(start + units);
         self.notes.push(Note::Run {
@@ -83,9 +83,9 @@ impl SpanTrace {
             task,
             job,
             units,
-            energy: energy_of(at.plan.machine(), force.index, units, false),
+            energy: energy_of(moment.plan.machine(), force.index, units, false),
         });
-        let state = at.state;
+        let state = moment.state;
         let row = state.rows[task as usize];
         if row.done {
             self.notes.push(Note::Done {
@@ -98,46 +98,47 @@ impl SpanTrace {
     }
 
     // Adds the notes of the open segment, and begins the holder's next one.
-    fn add_segment(&mut self, at: Moment<'_>)
-        requires { CanAdd at.plan.now at.state.now at.force self.old }
-        ensures { self.new ≡ after_segment at.entry.plan.now at.entry.state.now at.entry.force self.old }
+    fn add_segment(&mut self, moment: Moment<'_>)
+        requires { CanAdd moment.plan.now moment.state.now moment.force self.old }
+        ensures { self.new ≡ after_segment moment.entry.plan.now moment.entry.state.now moment.entry.force self.old }
     {
         match self.segment.holder {
-            Holder::Nobody => self.add_idle(at),
-            Holder::Held(task, job) => self.add_run(at, task, job),
+            Holder::Nobody => self.add_idle(moment),
+            Holder::Held(task, job) => self.add_run(moment, task, job),
         }
         self.segment.pass();
     }
 
     /// Adds units of a holder. If another holder's segment is open, its notes are added first.
-    pub(crate) fn enter(&mut self, at: Moment<'_>, holder: Holder, units: u64)
-        requires { CanEnter at.plan.now at.state.now at.force units self.old }
-        ensures { self.new ≡ after_units at.entry.plan.now at.entry.state.now at.entry.force holder units self.old }
+    pub(crate) fn enter(&mut self, moment: Moment<'_>, holder: Holder, units: u64)
+        requires { CanEnter moment.plan.now moment.state.now moment.force units self.old }
+        ensures { self.new ≡ after_units moment.entry.plan.now moment.entry.state.now
+            moment.entry.force holder units self.old }
     {
         if turns(self, holder) {
-            self.add_segment(at);
+            self.add_segment(moment);
         }
         self.segment.holder = holder;
         self.segment.units += units;
     }
 
     /// Adds units in which nobody runs, if there are any.
-    pub(crate) fn idle(&mut self, at: Moment<'_>, units: u64)
-        requires { CanEnter at.plan.now at.state.now at.force units self.old }
-        ensures { self.new ≡ after_idle at.entry.plan.now at.entry.state.now at.entry.force units self.old }
+    pub(crate) fn idle(&mut self, moment: Moment<'_>, units: u64)
+        requires { CanEnter moment.plan.now moment.state.now moment.force units self.old }
+        ensures { self.new ≡ after_idle moment.entry.plan.now moment.entry.state.now moment.entry.force units self.old }
     {
         if units > 0 {
-            self.enter(at, Holder::Nobody, units);
+            self.enter(moment, Holder::Nobody, units);
         }
     }
 
     /// Adds the notes of the segment that is open at the end of a span.
-    pub(crate) fn close(&mut self, at: Moment<'_>)
-        requires { CanAdd at.plan.now at.state.now at.force self.old }
-        ensures { self.new ≡ ended_trace at.entry.plan.now at.entry.state.now at.entry.force self.old }
+    pub(crate) fn close(&mut self, moment: Moment<'_>)
+        requires { CanAdd moment.plan.now moment.state.now moment.force self.old }
+        ensures { self.new ≡ ended_trace moment.entry.plan.now moment.entry.state.now moment.entry.force self.old }
     {
         if self.segment.units > 0 {
-            self.add_segment(at);
+            self.add_segment(moment);
         }
     }
 }

@@ -15,6 +15,7 @@ ghost use Rattle.event_kernel.specs.Runs.{notes_of_run, lines_of_run, MeetsDeadl
 ghost use Rattle.event_kernel.specs.Tellers.{shown_by, HearsNote, BalksAt};
 
 use crate::ending::ending;
+use crate::span::Walk;
 use crate::{Kernel, Listener, Stopped};
 use dvs_base::{Failed, Line, Name, Note, Sink, Totals, Version};
 use energy::Account;
@@ -98,7 +99,7 @@ fn lines_into<G: Governor, W: Sink, P: Probe>(
 {
     let _admitted = head.plan.scheduler();
     put_head(head, teller.out)?;
-    let account = kernel.spans(teller)?;
+    let account = kernel.spans(Walk::Events, teller)?;
     tell_tail(head, &account, &mut teller.line, teller.out, teller.probes)
 }
 

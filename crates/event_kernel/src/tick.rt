@@ -52,8 +52,8 @@ impl<G: Governor> Progress<G> {
             let lacks = lacking(set, state, &self.needs, task);
             let share = rest.min(lacks);
             let holder = holder_of(state, Some(task));
-            let at = Moment { plan, state, force };
-            self.trace.enter(at, holder, share);
+            let moment = Moment { plan, state, force };
+            self.trace.enter(moment, holder, share);
             self.serve(set, task, share, share == lacks);
             completed |= share == lacks;
             rest -= share;

@@ -6,7 +6,7 @@ ghost use Rattle.sched_model.specs.States.{opening, IsOfPlan};
 ghost use Rattle.governor.specs.Steps.{IsAtDecision};
 ghost use Rattle.governor.specs.ServedSchedulers.{ServesEdf};
 ghost use Rattle.look_ahead_laws.specs.Ahead.{ahead_demand, AheadCalm, AheadSafe};
-ghost use Rattle.look_ahead_laws.specs.Whole.{HasSpread, IsDemandOfSpread, RatesFit};
+ghost use Rattle.look_ahead_laws.specs.SpreadEquations.{HasSpread, IsDemandOfSpread, RatesFit};
 ghost use Rattle.look_ahead.specs.Counters.{Keeps};
 ghost use Rattle.look_ahead_laws.proofs.AheadLaws.{ahead_laws};
 ghost use Rattle.look_ahead_laws.proofs.AheadPublished.{ahead_publishing};

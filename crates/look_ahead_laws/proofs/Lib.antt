@@ -1,4 +1,4 @@
 pub mod AheadLaws
-pub mod Whole
+pub mod SpreadEquations
 pub mod AheadPublished
 pub mod Examples

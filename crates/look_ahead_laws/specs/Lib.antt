@@ -1,2 +1,2 @@
 pub mod Ahead
-pub mod Whole
+pub mod SpreadEquations

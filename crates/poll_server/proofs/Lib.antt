@@ -2,6 +2,6 @@ pub mod Takings
 pub mod JobEnds
 pub mod Steps
 pub mod RequestJobs
-pub mod Whole
+pub mod PolledRun
 pub mod Examples
 pub mod ServerRuns

@@ -28,7 +28,7 @@ use std::alloc::Global;
 /// charge; all other jobs need their worst cases. A request is served if the job that takes its last unit is done.
 /// `TooManyJobs`, with their number, exactly if more than `MOST_JOBS` jobs are released below `ticks`; `NoMemory`
 /// if memory ran out.
-#[tactic(auto, using(crate::proofs::Whole::server_jobs))]
+#[tactic(auto, using(crate::proofs::PolledRun::server_jobs))]
 pub fn poll<G: Governor>(
     alloc: Global,
     plan: &Admitted,

@@ -7,7 +7,7 @@ use Rattle.ready_queue.specs.declared.entry.Entry.{Entry}
 use Rattle.ready_queue.specs.Orders.{OrderLaws}
 use Rattle.ready_queue.specs.Entries.{QueueView, IsAbsent, IsOfFirst, AreApart, with_entry, ordered_entries, ComesFirst}
 use Rattle.ready_queue.specs.Heaps.{entry_at, IsHeap, IsRising, CanSink, HoldsQueue}
-use Rattle.ready_queue.proofs.Apart.{AreApart-permutation, length-apart}
+use Rattle.ready_queue.proofs.DistinctTasks.{AreApart-permutation, length-apart}
 use Rattle.ready_queue.proofs.EntryOrder.{Has, All-at, All-of, Has-permutation, placed-first, sorted-All, Has-in_order, sorted-permutation}
 use Rattle.ready_queue.proofs.HeapSteps.{heap_first}
 

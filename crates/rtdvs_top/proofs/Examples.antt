@@ -1,5 +1,5 @@
--- Which of two refusals comes first, the lines of a difference, how many loads a command needs, and what a status says
--- of loads, puts, notes, probes, the test, its own cause and things that it leaves, by evaluation.
+-- Shown by evaluation: which of two refusals comes first, the lines of a difference, and how many loads a command needs.
+-- Also what a status says of loads, puts, notes, probes, the test, its own cause and the things that it leaves.
 use Rattle.std.proofs.Common.{IsTrue, is_ok, ◌≡◌, ◌⊎◌, inl, inr, ℕ, List, [], ◌∷◌, ◌++◌, map, Option, Some, None, true, false, Ok, Err, codes, refl, arith}
 use Rattle.std.specs.Fmt.{digits}
 use Rattle.dvs_base.specs.Outside.{Files, ShelfView, SinkView}

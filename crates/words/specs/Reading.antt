@@ -3,7 +3,7 @@ use Rattle.std.specs.Prelude.{Option, None, ℕ, List, Some, Result, Ok, Err, if
 use Rattle.dvs_base.specs.Checks.{and_then}
 use Rattle.dvs_base.specs.Text.{short_of}
 use Rattle.words.specs.declared.table.Verb.{Verb}
-use Rattle.words.specs.declared.table.Key.{Key}
+use Rattle.words.specs.declared.table.OptionKey.{OptionKey}
 use Rattle.words.specs.declared.command.WordFault.{WordFault}
 use Rattle.words.specs.declared.command.WordFault.TheVariants as fault
 use Rattle.words.specs.Table.{GivenView, nothing_given, takes_value, has, with_value, option_named, word_of, verb_of}
@@ -12,7 +12,7 @@ use Rattle.words.specs.Commands.{CommandView, command_from}
 -- the values so far, and the option whose value is the next word
 pub record ReadingView : Type 0 where
   pub given : GivenView
-  pub waits : Option Key
+  pub waits : Option OptionKey
 
 -- no word was read
 abbrev pub nothing_read : ReadingView
@@ -24,7 +24,7 @@ with_given place word None = Err (fault.BadValue place (short_of word))
 with_given place word (Some g) = Ok (record { given = g; waits = None })
 
 -- the reading after an option: it waits for the option's value, or has it at once
-abbrev pub with_option : GivenView → ℕ → List ℕ → Option Key → Result ReadingView WordFault
+abbrev pub with_option : GivenView → ℕ → List ℕ → Option OptionKey → Result ReadingView WordFault
 with_option g place word None = Err (fault.Unexpected place (short_of word))
 with_option g place word (Some k) =
     if has g k then Err (fault.Repeated place (short_of word))
@@ -32,12 +32,12 @@ with_option g place word (Some k) =
     else with_given place word (with_value g k word))
 
 -- the reading after one word: the value that an option waits for, otherwise an option
-abbrev pub word_at : Verb → ReadingView → Option Key → ℕ → List ℕ → Result ReadingView WordFault
+abbrev pub word_at : Verb → ReadingView → Option OptionKey → ℕ → List ℕ → Result ReadingView WordFault
 word_at v r (Some k) place word = with_given place word (with_value r.given k word)
 word_at v r None place word = with_option r.given place word (option_named v word)
 
 -- the command after the last word, which is at this place; an option that still waits has no value
-abbrev pub command_at_end : Verb → GivenView → Option Key → ℕ → Result CommandView WordFault
+abbrev pub command_at_end : Verb → GivenView → Option OptionKey → ℕ → Result CommandView WordFault
 command_at_end v g (Some k) place = Err (fault.NoValue place (short_of (word_of k)))
 command_at_end v g None place = command_from v g
 

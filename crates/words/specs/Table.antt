@@ -5,8 +5,8 @@ use Rattle.words.specs.declared.command.Opt.{Opt}
 use Rattle.words.specs.declared.command.Opt.TheVariants as opt
 use Rattle.words.specs.declared.table.Verb.{Verb}
 use Rattle.words.specs.declared.table.Verb.TheVariants as verb
-use Rattle.words.specs.declared.table.Key.{Key}
-use Rattle.words.specs.declared.table.Key.TheVariants as key
+use Rattle.words.specs.declared.table.OptionKey.{OptionKey}
+use Rattle.words.specs.declared.table.OptionKey.TheVariants as key
 use Rattle.dvs_base.specs.Widths.{u64_end}
 use Rattle.dvs_base.specs.Text.{number_below}
 use Rattle.dvs_base.specs.PlanWords.{scheduler_of, governor_of, ticks_of}
@@ -75,13 +75,13 @@ option_word opt.Server = codes "--server"
 option_word opt.Units = codes "--units"
 
 -- the word of an option
-abbrev pub word_of : Key → List ℕ
+abbrev pub word_of : OptionKey → List ℕ
 word_of (key.Named option) = option_word option
 word_of key.Probes = codes "--probes"
 word_of key.Format = codes "--format"
 
 -- whether the next word is the option's value
-abbrev pub takes_value : Key → Bool
+abbrev pub takes_value : OptionKey → Bool
 takes_value key.Probes = false
 takes_value _ = true
 
@@ -91,7 +91,7 @@ first_named [] word = None
 first_named (o ∷ options) word = if bytes_eq word (option_word o) then Some o else first_named options word
 
 -- the option of the command that the word names
-abbrev pub option_named : Verb → List ℕ → Option Key
+abbrev pub option_named : Verb → List ℕ → Option OptionKey
 option_named v word =
     if is_run v && bytes_eq word (codes "--probes") then Some key.Probes
     else (if is_run v && bytes_eq word (codes "--format") then Some key.Format
@@ -148,7 +148,7 @@ nothing_given = record {
 }
 
 -- whether an option was given
-abbrev pub has : GivenView → Key → Bool
+abbrev pub has : GivenView → OptionKey → Bool
 has g (key.Named opt.Tasks) = is_some g.tasks
 has g (key.Named opt.Machine) = is_some g.machine
 has g (key.Named opt.Demands) = is_some g.demands
@@ -165,7 +165,7 @@ has g key.Probes = is_some g.probes
 has g key.Format = is_some g.format
 
 -- the given values, with the one that the word gives this option; none if the word is outside the option's rule
-abbrev pub with_value : GivenView → Key → List ℕ → Option GivenView
+abbrev pub with_value : GivenView → OptionKey → List ℕ → Option GivenView
 with_value g (key.Named opt.Tasks) word = option_map (λ v. record g { tasks = Some v }) (some_text word)
 with_value g (key.Named opt.Machine) word = option_map (λ v. record g { machine = Some v }) (some_text word)
 with_value g (key.Named opt.Demands) word = option_map (λ v. record g { demands = Some v }) (some_text word)

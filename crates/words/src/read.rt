@@ -7,7 +7,7 @@ ghost use Rattle.words.specs.Shown.{shown_command, shown_given, shown_reading, r
 use crate::build::built;
 use crate::command::{Command, WordFault};
 use crate::given::Given;
-use crate::table::{Key, Verb, option_named, takes_value, verb_of, word_of};
+use crate::table::{OptionKey, Verb, option_named, takes_value, verb_of, word_of};
 use crate::value::with_value;
 use dvs_base::Short;
 
@@ -15,7 +15,7 @@ use dvs_base::Short;
 #[derive(Clone, Copy, Debug, PartialEq, Eq)]
 pub struct Reading<'a> {
     pub given: Given<'a>,
-    pub waits: Option<Key>,
+    pub waits: Option<OptionKey>,
 }
 
 // The reading with one more value; `BadValue` if the word at `place` is outside its option's rule.
@@ -38,7 +38,7 @@ fn with_option<'a>(
     given: Given<'a>,
     place: u64,
     word: &'a str,
-    named: Option<Key>,
+    named: Option<OptionKey>,
 ) -> Result<Reading<'a>, WordFault>
     ensures { reading_answer result ≡ with_option (shown_given given.entry) place word.now named }
 {

@@ -20,7 +20,7 @@ pub enum Verb {
 
 /// An option: one that a refusal can name, or one of the two others.
 #[derive(Clone, Copy, Debug, PartialEq, Eq)]
-pub enum Key {
+pub enum OptionKey {
     Named(Opt),
     Probes,
     Format,
@@ -97,21 +97,21 @@ pub fn option_word(option: Opt) -> &'static [u8]
 }
 
 /// The word of an option.
-pub fn word_of(key: Key) -> &'static [u8]
+pub fn word_of(key: OptionKey) -> &'static [u8]
     ensures { result.now ≡ word_of key }
 {
     match key {
-        Key::Named(option) => option_word(option),
-        Key::Probes => b"--probes",
-        Key::Format => b"--format",
+        OptionKey::Named(option) => option_word(option),
+        OptionKey::Probes => b"--probes",
+        OptionKey::Format => b"--format",
     }
 }
 
 /// Whether the next word is the option's value.
-pub fn takes_value(key: Key) -> bool
+pub fn takes_value(key: OptionKey) -> bool
     ensures { result ≡ takes_value key }
 {
-    !matches!(key, Key::Probes)
+    !matches!(key, OptionKey::Probes)
 }
 
 // The first of these options that the word names.
@@ -127,14 +127,14 @@ fn first_named(options: &[Opt], word: &[u8]) -> Option<Opt>
 }
 
 /// The option of the command that the word names.
-pub fn option_named(verb: Verb, word: &[u8]) -> Option<Key>
+pub fn option_named(verb: Verb, word: &[u8]) -> Option<OptionKey>
     ensures { result ≡ option_named verb word.now }
 {
-    if verb == Verb::Run && word == word_of(Key::Probes) {
-        return Some(Key::Probes);
+    if verb == Verb::Run && word == word_of(OptionKey::Probes) {
+        return Some(OptionKey::Probes);
     }
-    if verb == Verb::Run && word == word_of(Key::Format) {
-        return Some(Key::Format);
+    if verb == Verb::Run && word == word_of(OptionKey::Format) {
+        return Some(OptionKey::Format);
     }
-    first_named(options_of(verb), word).map(Key::Named)
+    first_named(options_of(verb), word).map(OptionKey::Named)
 }

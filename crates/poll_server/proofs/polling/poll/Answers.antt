@@ -5,7 +5,7 @@ use Rattle.event_kernel.specs.Runs.{notes_of_run}
 use Rattle.request_list.specs.declared.requests.Request.{Request}
 use Rattle.poll_server.specs.ServerJobs.{server_of}
 use Rattle.poll_server.proofs.JobEnds.{hears-all}
-use Rattle.poll_server.proofs.Whole.{Answered, answered, jobs-within, server_jobs}
+use Rattle.poll_server.proofs.PolledRun.{Answered, answered, jobs-within, server_jobs}
 use Rattle.poll_server.proofs.polling.poll.Goals as goal
 
 pub polled_demands-requires-clause-few : goal.polled_demands-requires-clause-few

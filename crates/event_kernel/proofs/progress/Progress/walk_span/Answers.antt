@@ -5,20 +5,21 @@ use Rattle.event_kernel.proofs.progress.Progress.walk_span.Goals.{then-completed
 
 pub returns-then-completed-clause-walked : goal.returns-then-completed-clause-walked
 returns-then-completed-clause-walked g c =
-    walked-end _ c.stay.ensures.in_span c.work-completed.ensures.worked (elim c.then-completed.branch [
+    let i = c.loop-force.invariant in
+    walked-end _ i.in_span c.work-completed.ensures.worked (elim c.then-completed.branch [
       | then-completed-via-then-completed w ↦ inl w.if-completed.true
-      | then-completed-via-else-completed+then-now-event w ↦ inr (sym w.now.ensures ∙ (w.if-now-event.true ∙ c.stay.ensures.event))
+      | then-completed-via-else-completed+then-now-event w ↦ inr (sym w.now.ensures ∙ (w.if-now-event.true ∙ i.event))
     ])
 
-pub loop-walk-smaller : goal.loop-walk-smaller
-loop-walk-smaller g c =
-    let here = c.stay.ensures.in_span in omega (arith, now-next _ here c.work-completed.ensures.worked, here.before_end, c.stay.ensures.later)
+pub loop-force-smaller : goal.loop-force-smaller
+loop-force-smaller g c =
+    let here = c.loop-force.invariant.in_span in omega (arith, now-next _ here c.work-completed.ensures.worked, here.before_end)
 
-pub loop-walk-preserved : goal.loop-walk-preserved
-loop-walk-preserved g c =
-    let here = c.stay.ensures.in_span in
+pub loop-force-preserved : goal.loop-force-preserved
+loop-force-preserved g c =
+    let i = c.loop-force.invariant in
     let worked = c.work-completed.ensures.worked in record {
-      in_span = walked-on _ here worked c.if-completed.false (λ e. c.if-now-event.false (c.now.ensures ∙ (e ∙ sym c.stay.ensures.event)));
-      event = c.stay.ensures.event ∙ same-event _ here worked;
+      in_span = walked-on _ i.in_span worked c.if-completed.false (λ e. c.if-now-event.false (c.now.ensures ∙ (e ∙ sym i.event)));
+      event = i.event ∙ same-event _ i.in_span worked;
       current = c.work-completed.ensures.current;
     }

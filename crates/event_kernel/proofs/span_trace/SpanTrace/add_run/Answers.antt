@@ -15,9 +15,9 @@ use Rattle.event_kernel.proofs.span_trace.SpanTrace.add_run.Goals as goal
 
 pub returns-then-row : goal.returns-then-row
 returns-then-row c =
-    let p = c.args.at.plan.now in
-    let s = c.args.at.state.now in
-    let force = c.args.at.force in
+    let p = c.args.moment.plan.now in
+    let s = c.args.moment.state.now in
+    let force = c.args.moment.force in
     let trace = c.args.self.now in
     let ran : Note = Run c.position.result c.position-end.result c.args.task c.args.job trace.segment.units c.energy_of.result in
     let done : Note = Done c.position-end.result c.args.task c.args.job c.index-row.result.now.used in

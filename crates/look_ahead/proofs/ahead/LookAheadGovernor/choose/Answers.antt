@@ -1,5 +1,5 @@
 use Rattle.look_ahead_laws.proofs.AheadLaws.{ahead_den}
-use Rattle.look_ahead_laws.proofs.Whole.{has_spread, is_demand, rates_are_within}
+use Rattle.look_ahead_laws.proofs.SpreadEquations.{has_spread, is_demand, rates_are_within}
 use Rattle.look_ahead.proofs.ahead.LookAheadGovernor.choose.Goals as goal
 
 pub chosen-requires : goal.chosen-requires

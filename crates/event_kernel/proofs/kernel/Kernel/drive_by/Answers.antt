@@ -1,7 +1,7 @@
 use Rattle.std.proofs.Common.{ap}
 use Rattle.event_kernel.specs.Runs.{Run}
 use Rattle.event_kernel.proofs.DrivenRuns.{drives-ended, drives-early}
-use Rattle.event_kernel.proofs.kernel.Kernel.drive.Goals as goal
+use Rattle.event_kernel.proofs.kernel.Kernel.drive_by.Goals as goal
 
 pub returns : goal.returns
 returns g c =

@@ -11,7 +11,7 @@ use Rattle.sched_model.proofs.Orders.{before-self, sum_list, sum_list-in_order, 
 use Rattle.governor.specs.Steps.{wleft_at}
 use Rattle.governor.specs.ServedSchedulers.{ServesEdf}
 use Rattle.look_ahead_laws.specs.Ahead.{deadline_at, edf_order, ahead_demand}
-use Rattle.look_ahead_laws.specs.Whole.{rates_before, rates_after, IsSpreadIn, HasSpread, IsDemandOfSpread, RatesFit}
+use Rattle.look_ahead_laws.specs.SpreadEquations.{rates_before, rates_after, IsSpreadIn, HasSpread, IsDemandOfSpread, RatesFit}
 use Rattle.sched_model.proofs.PutOffWork.{sum_after-suffix}
 use Rattle.look_ahead_laws.proofs.AheadLaws.{each_rate}
 
