@@ -1,13 +1,11 @@
 // Replays of whole traces and of changed ones, under the highest speed.
+use crate::plans::edf_plan;
 use dvs_base::{GovernorKind, Note, Pos, Totals};
-use edf_admit::edf_admit;
-use freq_table::Machine;
 use replay::{ReplayFault, replay};
 use sched_model::Admitted;
 use static_gov::Full;
 use std::alloc::Global;
 use std::test::Fail;
-use task_model::TaskSet;
 use test_inputs::example::{PAPER_MACHINE, PAPER_TASKS};
 use trace_reader::read_trace;
 
@@ -21,13 +19,6 @@ const FIRST_END: &[u8] = b"done 3:0 t1 1 12\n";
 
 const OTHERS: &[u8] =
     b"speed 3 4 4/1\nrun 3:0 6:0 t2 1 12 300000000000\ndone 6:0 t2 1 12\nspeed 6 4 4/1\nrun 6:0 7:0 t3 1 4 100000000000\ndone 7:0 t3 1 4\nspeed 7 4 4/1\nidle 7:0 8:0 4 0\nrelease 8 t1 2\nspeed 8 4 4/1\nrun 8:0 10:0 t1 2 8 200000000000\nrelease 10 t2 2\nspeed 10 4 4/1\nrun 10:0 11:0 t1 2 4 100000000000\ndone 11:0 t1 2 12\nspeed 11 4 4/1\nrun 11:0 14:0 t2 2 12 300000000000\ndone 14:0 t2 2 12\nrelease 14 t3 2\nspeed 14 4 4/1\nrun 14:0 15:0 t3 2 4 100000000000\ndone 15:0 t3 2 4\nspeed 15 4 4/1\nidle 15:0 16:0 4 0\nend 16 1400000000000 0\n";
-
-// The plan of tasks on a machine under EDF.
-fn edf_plan(alloc: Global, tasks: &[u8], machine: &[u8]) -> Result<Admitted, Fail> {
-    let tasks = TaskSet::read(alloc, tasks).ok().ok_or("tasks")?;
-    let machine = Machine::read(alloc, machine).ok().ok_or("machine")?;
-    Ok(edf_admit(alloc, &tasks, &machine).ok().ok_or("plan")?)
-}
 
 // The answer to a replay of `text`, a trace of the plan at the highest speed.
 fn replayed(
