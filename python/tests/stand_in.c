@@ -1,6 +1,7 @@
 /* stand_in.c: a library with the functions of librtdvs.so, for the tests of how the package calls it. It answers the
  * call by which a library is tried, and others by their first word:
- *     workload --seed N       "N", later for a seed up to 3, so that answers on several threads come in another order
+ *     workload --seed N       "N", later for a seed up to 3, so that answers on several threads come in another order;
+ *                             most_callers is the most that have waited at a time
  *     run --ticks N           N bytes, and as many of notes
  *     least                   what it was given: the words, a line each, and the three files with their lengths
  *     admit                   memory runs out
@@ -15,6 +16,9 @@
 #include <stdlib.h>
 #include <string.h>
 #include <unistd.h>
+
+int most_callers;
+static int callers;
 
 static size_t put(const char *text, size_t len, uint8_t *room, size_t room_len)
 {
@@ -46,7 +50,11 @@ uint8_t rtdvs_call(const uint8_t *words, size_t words_len, const uint8_t *tasks,
     if (strcmp(command, "constrain") == 0) {
         lengths->out = put("constrained 1/1 1\n", 18, out, out_len);
     } else if (strcmp(command, "workload") == 0) {
+        int now = __atomic_add_fetch(&callers, 1, __ATOMIC_SEQ_CST);
+        if (now > most_callers)
+            most_callers = now;
         usleep(atoi(value) > 3 ? 0 : 200000);
+        __atomic_sub_fetch(&callers, 1, __ATOMIC_SEQ_CST);
         lengths->out = put(line, snprintf(line, sizeof line, "%s\n", value), out, out_len);
     } else if (strcmp(command, "run") == 0) {
         lengths->out = lengths->notes = atoi(value);

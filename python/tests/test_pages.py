@@ -139,7 +139,7 @@ class Reader:
                 yield self.fault(line, f"status {status}, the page says {wanted_status}: {words}\n{printed}")
             wanted, found = call["printed"].splitlines(), printed.splitlines()
             if wanted != found:
-                same = len(os.path.commonprefix([wanted, found]))
+                same = [one == other for one, other in zip([*wanted, None], [*found, None])].index(False)
                 yield self.fault(line + 1 + same, f"printed is {[*found, 'no line'][same]!r}, "
                                                   f"the page says {[*wanted, 'no line'][same]!r}: {words}")
 

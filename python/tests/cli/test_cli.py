@@ -2,6 +2,7 @@
 
 import argparse
 import io
+import multiprocessing
 import re
 import subprocess
 import sys
@@ -286,6 +287,19 @@ def test_engine_of_options() -> None:
 def test_executor_of_options() -> None:
     with commandline.executor_of(parsed("--jobs", "3")) as executor:
         assert [*executor.map(abs, [-1, 2])] == [1, 2]
+
+
+@pytest.mark.parametrize(("default", "threads", "taken"), [
+    ("fork", 1, "fork"), ("forkserver", 1, "fork"), ("forkserver", 2, "forkserver"), ("spawn", 1, "spawn")])
+def test_how_processes_start(default: str, threads: int, taken: str, monkeypatch: pytest.MonkeyPatch) -> None:
+    """By no fork server, unless this process has other threads."""
+    monkeypatch.setattr(commandline, "active_count", lambda: threads)
+    before = multiprocessing.get_start_method()
+    multiprocessing.set_start_method(default, force=True)
+    try:
+        assert commandline._pool_context().get_start_method() == taken
+    finally:
+        multiprocessing.set_start_method(before, force=True)
 
 
 def test_progress_on_a_terminal(monkeypatch: pytest.MonkeyPatch) -> None:

@@ -65,13 +65,13 @@ def test_calls_are_made_one_by_one(tmp_path: Path) -> None:
     assert next(Engine(fake(tmp_path, PROGRAM)).map(endless())) == Admitted("edf", 2, 4, 1)
 
 
-@pytest.mark.parametrize(("body", "fault"), [
-    pytest.param("sleep 60", TimedOut, id="too late"), pytest.param("echo trace 2", Crashed, id="no trace"),
-    pytest.param("exit 42", Crashed, id="another status")])
-def test_what_is_no_refusal_is_raised(body: str, fault: type[Exception], tmp_path: Path) -> None:
+@pytest.mark.parametrize(("body", "timeout", "fault"), [
+    pytest.param("sleep 60", 0.3, TimedOut, id="too late"), pytest.param("echo trace 2", 60.0, Crashed, id="no trace"),
+    pytest.param("exit 42", 60.0, Crashed, id="another status")])
+def test_what_is_no_refusal_is_raised(body: str, timeout: float, fault: type[Exception], tmp_path: Path) -> None:
     run = run_call(Path("t.toml"), Path("m.toml"), "edf", "cc", 2)
     with pytest.raises(fault):
-        next(Engine(fake(tmp_path, body), timeout=0.3).map([run]))
+        next(Engine(fake(tmp_path, body), timeout).map([run]))
 
 
 def test_a_text_is_no_path() -> None:

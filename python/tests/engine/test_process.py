@@ -9,7 +9,7 @@ import subprocess
 import sys
 import tempfile
 import time
-from collections.abc import Callable, Iterator
+from collections.abc import Callable, Iterator, Sequence
 from concurrent.futures import ThreadPoolExecutor
 from contextlib import suppress
 from pathlib import Path
@@ -23,15 +23,17 @@ from tests.shared.examples import DATA, SOURCE, fake, options
 
 LONG = "sleep 900 & wait"
 MARK = "RTDVS_TEST_OF_WHAT_IS_LEFT"
+IGNORED = (signal.SIGINT, signal.SIGHUP, signal.SIGQUIT)
+"""What a shell lets the processes in its background ignore, or `nohup`."""
 
 
 @pytest.fixture(autouse=True)
 def calls(tmp_path: Path, monkeypatch: pytest.MonkeyPatch) -> Iterator[Path]:
     """The folder in which calls make theirs; the processes of a test have its name in their environment.
 
-    They get the signals that a shell in the background, or `nohup`, lets its processes ignore.
+    They get the signals that the process of the tests may be told to ignore.
     """
-    before = [signal.signal(number, signal.default_int_handler) for number in (signal.SIGINT, signal.SIGHUP)]
+    before = [signal.signal(number, signal.default_int_handler) for number in IGNORED]
     folder = tmp_path / "calls"
     folder.mkdir()
     monkeypatch.setattr(tempfile, "tempdir", str(folder))
@@ -39,7 +41,7 @@ def calls(tmp_path: Path, monkeypatch: pytest.MonkeyPatch) -> Iterator[Path]:
     monkeypatch.setattr(process_module, "IDLE", [])
     yield folder
     stop_calls()
-    for number, handler in zip((signal.SIGINT, signal.SIGHUP), before):
+    for number, handler in zip(IGNORED, before):
         signal.signal(number, handler)
 
 
@@ -208,12 +210,13 @@ SIGNALS = {"Ctrl-C": [signal.SIGINT], "Ctrl-C twice": [signal.SIGINT] * 2, "term
            "hung up": [signal.SIGHUP], "Ctrl-\\": [signal.SIGQUIT], "killed": [signal.SIGKILL]}
 
 
-def ended(command: str, signals: list[signal.Signals], wait: float, folder: Path) -> int:
+def ended(command: str, signals: list[signal.Signals], wait: float, folder: Path,
+          python: Sequence[str] = ("-m", "rtdvs")) -> int:
     """Starts a command, sends the signals that many seconds after its first call, and returns its status.
 
     A number of seconds below 0 is that after its start.
     """
-    words = [sys.executable, "-m", "rtdvs", command, *COMMANDS[command], "--program", str(fake(folder, LONG))]
+    words = [sys.executable, *python, command, *COMMANDS[command], "--program", str(fake(folder, LONG))]
     words += ["--folder", str(folder / "sweep")] if command == "evaluate" else []
     with subprocess.Popen(words, stdout=subprocess.PIPE, stderr=subprocess.DEVNULL, env=environment(folder),
                           text=True) as process:
@@ -266,6 +269,28 @@ def test_a_signal_at_any_moment(command: str, number: signal.Signals, tmp_path: 
     for place in range(int(os.environ.get("RTDVS_TIMES", 1))):
         ended(command, [number], -moments.random() if place % 2 == 0 else moments.random() / 4, tmp_path)
         assert left(tmp_path) == []
+
+
+@pytest.fixture
+def short() -> Iterator[Path]:
+    """A folder as `tmp_path`, with that of calls, in whose path there is room for the name of a socket."""
+    with tempfile.TemporaryDirectory(dir="/tmp") as top:
+        folder = Path(top, "test")
+        (folder / "calls").mkdir(parents=True)
+        yield folder
+
+
+FORK_SERVER = """import multiprocessing
+from rtdvs.cli.main import entry
+multiprocessing.set_start_method("forkserver")
+entry()
+"""
+
+
+def test_a_signal_leaves_no_socket(short: Path) -> None:
+    """Where a fork server is the default, its socket would be in a folder of TMPDIR."""
+    assert ended("evaluate", [signal.SIGTERM], 0.05, short, ["-c", FORK_SERVER]) == 128 + signal.SIGTERM
+    assert left(short) == []
 
 
 def test_a_command_that_is_not_to_hear_of_a_hang_up(tmp_path: Path) -> None:

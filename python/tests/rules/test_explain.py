@@ -162,7 +162,7 @@ def altered_by_hand() -> Iterator[object]:
             trace = line
 
 
-@pytest.mark.parametrize(("trace", "number", "new", "part"), altered_by_hand())
+@pytest.mark.parametrize(("trace", "number", "new", "part"), [*altered_by_hand()])
 def test_altered_by_hand(trace: str, number: int, new: str, part: str) -> None:
     lines = edited((DATA / f"{trace}.trace").read_text(), {number: new or None})
     assert_wrong(folder(trace.split("/")[0]), lines, number, part)

@@ -34,6 +34,13 @@ from tests.shared.examples import DATA, SOURCE, WORKED, Captured, rows, fake, fi
 from tests.shared.simulated import Simulated
 
 PAPER_FOLDER = DATA / "paper"
+PATIENCE = serve.PATIENCE
+
+
+@pytest.fixture(autouse=True)
+def patience(monkeypatch: pytest.MonkeyPatch) -> None:
+    """A busy machine makes no request late; a test of those that are has a short patience of its own."""
+    monkeypatch.setattr(serve, "PATIENCE", 900.0)
 
 
 def paper(**changes: str) -> dict[str, Any]:
@@ -53,7 +60,7 @@ def answered(engine: Engine, example: object, path: str = "/run") -> tuple[int, 
     return status.value, json.loads(json.dumps(answer))
 
 
-def stand_in(folder: Path, script: str, timeout: float = 1.0) -> Engine:
+def stand_in(folder: Path, script: str, timeout: float = 60.0) -> Engine:
     """A program in place of rtdvs, which a test's fault is in."""
     return Engine(fake(folder, script), timeout)
 
@@ -243,7 +250,8 @@ FAULTS = [
 def test_fault_of_the_program(script: str, line: str, status: int, tmp_path: Path, calls: Path,
                               capsys: Captured) -> None:
     """It has an answer with its words, which are on standard error, and leaves neither a process nor a file."""
-    found, answer = answered(stand_in(tmp_path, script), paper())
+    engine = stand_in(tmp_path, script, 1.0 if "sleep" in script else 60.0)
+    found, answer = answered(engine, paper())
     assert found == status and line in answer["refused"] and answer["field"] == ""
     assert capsys.readouterr().err == f"rtdvs: serve: {answer['refused']}\n"
     assert_nothing_left(calls)
@@ -333,7 +341,7 @@ def calls(tmp_path: Path, monkeypatch: pytest.MonkeyPatch) -> Path:
 def assert_nothing_left(folder: Path) -> None:
     """No file of a call, and no process of a program in the folder above; a killed one ends in a moment."""
     assert [*folder.iterdir()] == []
-    until(lambda: processes(str(folder.parent)) == [], seconds=2)
+    until(lambda: processes(str(folder.parent)) == [])
 
 
 def processes(word: str) -> list[str]:
@@ -363,7 +371,8 @@ def asked(server: PageServer, method: str, path: str, body: bytes = b"", **heade
     """The status and the body of an answer; Host is the server's own unless given."""
     connection = http.client.HTTPConnection("127.0.0.1", server.port, timeout=60)
     given = {"Content-Type": "application/json"} | {name.replace("_", "-"): text for name, text in headers.items()}
-    connection.request(method, path, body or None, given)
+    with suppress(ConnectionError):  # of a refusal that comes before all is sent
+        connection.request(method, path, body or None, given)
     answer = connection.getresponse()
     content = answer.read()
     connection.close()
@@ -496,9 +505,8 @@ def test_a_request_that_drips(part: str, server: PageServer, monkeypatch: pytest
         assert count < 90
 
 
-def test_dripping_connections_stop_no_other(server: PageServer, monkeypatch: pytest.MonkeyPatch) -> None:
+def test_dripping_connections_stop_no_other(server: PageServer) -> None:
     """However patient the server is, a request that comes takes the place of the oldest that hasn't."""
-    monkeypatch.setattr(serve, "PATIENCE", 900.0)
     connections = [socket.create_connection(("127.0.0.1", server.port), timeout=60) for _ in range(200)]
     for connection in connections:
         with suppress(ConnectionError):
@@ -510,9 +518,8 @@ def test_dripping_connections_stop_no_other(server: PageServer, monkeypatch: pyt
         connection.close()
 
 
-def test_at_most_64_requests_at_a_time(tmp_path: Path, monkeypatch: pytest.MonkeyPatch) -> None:
+def test_at_most_64_requests_at_a_time(tmp_path: Path) -> None:
     """One that has come whole keeps its place: of 70 six are refused, and the others wait for their turn."""
-    monkeypatch.setattr(serve, "PATIENCE", 900.0)
     script = f"until [ -e {tmp_path}/end ]; do sleep 0.05; done; echo 'denied edf 2 1' >&2; exit 1"
     engine = Engine(fake(tmp_path, script))
     with serving(engine) as server, ThreadPoolExecutor(70) as executor:
@@ -564,12 +571,12 @@ def of_page(name: str) -> bytes:
     return json.dumps(paper() | {"page": name}).encode()
 
 
-def until(condition: Callable[[], bool], seconds: int = 60) -> None:
-    for _ in range(20 * seconds):
+def until(condition: Callable[[], bool]) -> None:
+    for _ in range(1200):
         if condition():
             return
         sleep(0.05)
-    raise AssertionError(f"nothing in {seconds} seconds")
+    raise AssertionError("nothing in a minute")
 
 
 def test_a_newer_call_ends_the_older_one_s_program(tmp_path: Path, calls: Path, capsys: Captured) -> None:
@@ -588,7 +595,6 @@ def test_a_newer_call_ends_the_older_one_s_program(tmp_path: Path, calls: Path, 
 def test_a_newer_call_takes_the_turn_of_the_older_one(tmp_path: Path, monkeypatch: pytest.MonkeyPatch) -> None:
     """Also of one that waits still, while another page has the only turn."""
     monkeypatch.setattr(serve, "MOST_CALLS", 1)
-    monkeypatch.setattr(serve, "PATIENCE", 900.0)
     with serving(waiting(tmp_path, 1)) as server, ThreadPoolExecutor(3) as executor:
         other = executor.submit(asked, server, "POST", "/run", of_page("b"))
         until(lambda: len([*(tmp_path / "begun").iterdir()]) == 1)
@@ -605,7 +611,6 @@ def test_a_newer_call_takes_the_turn_of_the_older_one(tmp_path: Path, monkeypatc
 
 def test_closing_waits_for_nothing(tmp_path: Path, calls: Path, monkeypatch: pytest.MonkeyPatch) -> None:
     """Neither for bytes, nor for a program, nor for a turn; the programs are ended."""
-    monkeypatch.setattr(serve, "PATIENCE", 900.0)
     monkeypatch.setattr(serve, "CLOSING", 60.0)
     with serving(stand_in(tmp_path, "sleep 900", timeout=900.0)) as server:
         whole = head(server, f"Content-Length: {len(BODY)}") + BODY
@@ -644,7 +649,7 @@ def test_each_call_has_a_limit(words: list[str], seconds: float, tmp_path: Path,
 def test_the_command_says_its_limits() -> None:
     said = (f"A run has at most {answers.MOST_JOBS:,} jobs; {serve.MOST_CALLS} calls are made at a time, "
             f"each for at most {serve.LONGEST_CALL:.0f} seconds, and a newer call of a page ends the older one. "
-            f"A request has to come whole within {serve.PATIENCE:.0f} seconds.")
+            f"A request has to come whole within {PATIENCE:.0f} seconds.")
     assert said in " ".join(str(command.__doc__).split())
 
 

@@ -13,15 +13,18 @@ from contextlib import AbstractContextManager, contextmanager, suppress
 from fractions import Fraction
 from functools import partial
 from pathlib import Path
-from threading import Thread
+from threading import Thread, active_count
 from time import monotonic
-from typing import Any, BinaryIO, TypeAlias, TypeVar
+from typing import TYPE_CHECKING, Any, BinaryIO, TypeAlias, TypeVar
 
 from rtdvs import _files, _numbers
 from rtdvs.engine import Engine, TryEngine, find_engine, stop_calls
 from rtdvs.errors import BadValue, Denied, TraceFault, WordFault
 from rtdvs.model import MOST_TICKS, Demands, Governor, Machine, Scheduler, TaskSet, load
 from rtdvs.trace import Done, Noted, Trace, TraceFile, lines_of, split_governor
+
+if TYPE_CHECKING:
+    from multiprocessing.context import BaseContext
 
 Commands: TypeAlias = "argparse._SubParsersAction[argparse.ArgumentParser]"
 Item = TypeVar("Item")
@@ -418,7 +421,22 @@ def processes_of(args: argparse.Namespace) -> AbstractContextManager[Executor]:
     [1, 2]
     """
     from concurrent.futures import ProcessPoolExecutor  # here, since only `evaluate` needs it
-    return _ended(ProcessPoolExecutor(args.jobs, initializer=_follow_the_first), _kill_processes)
+    return _ended(ProcessPoolExecutor(args.jobs, _pool_context(), _follow_the_first), _kill_processes)
+
+
+def _pool_context() -> "BaseContext":
+    """How a pool starts its processes: as is the default, but by a fork where a fork server would do it.
+
+    Such a server has a folder for its socket, which stays if a signal ends this process. A pool forks before it has
+    a thread. Beside other threads, as in a notebook, a fork isn't safe, and the default stays.
+
+    >>> _pool_context().get_start_method() in ("fork", "forkserver", "spawn")
+    True
+    """
+    from multiprocessing import get_context
+    default = get_context()
+    forks = default.get_start_method() == "forkserver" and active_count() == 1
+    return get_context("fork") if forks else default
 
 
 @contextmanager

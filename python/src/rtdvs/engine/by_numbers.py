@@ -166,5 +166,5 @@ def raise_denial(refusal: Refusal, tasks: TaskSet | None = None) -> None:
     if test := TESTS.get(refusal.cause):
         ticks = refusal.place if test == "demand" else None
         name = tasks[refusal.place - 1].name if tasks is not None and refusal.place and ticks is None else None
-        numbers = (None, None) if test == "offset" else (number(refusal.num), number(refusal.cap))
-        raise Denied(test, *numbers, name, ticks)
+        asked, capacity = (None, None) if test == "offset" else (number(refusal.num), number(refusal.cap))
+        raise Denied(test, asked, capacity, name, ticks)

@@ -67,12 +67,20 @@ def ceiling(num: int, den: int) -> int:
 class Plan:
     """Tasks, a machine and a scheduler, with what follows from them.
 
-    The scheduler is a Scheduler, its word, or a function, the priority of a job; BadValue for another word.
+    The scheduler is a Scheduler, its word, or a function, the priority of a job; BadValue for another word. Examples of
+    what it keeps are here, since doctest finds none of a cached property before Python 3.13.
 
     >>> machine = Machine((Point(2, 3000), Point(4, 5000)))
     >>> plan = Plan(TaskSet((Task("a", 4, 4), Task("b", 6, 9))), machine, "edf")
-    >>> plan.hyperperiod, plan.rates, plan.static, plan.lowest(30, 12).speed
-    (12, (12, 18), (30, 12), 4)
+    >>> plan.hyperperiod, plan.weights, plan.worsts, plan.rates
+    (12, (3, 2), (4, 9), (12, 18))
+    >>> plan.static, plan.static_speed, plan.lowest(30, 12).speed, plan.spare, plan.by_period
+    ((30, 12), 4, 4, 18, (0, 1))
+    >>> Plan(TaskSet((Task("a", 4, 4),)), Machine((Point(2, 3000),), charge=3), "edf").worsts
+    (10,)
+    >>> tie = TaskSet((Task("a", 4, 4), Task("b", 5, 2), Task("c", 8, 4)))
+    >>> Plan(tie, machine, "rm").static  # of 4/4, (2 * 4 + 2)/5 and (2 * 4 + 2 * 2 + 4)/8
+    (10, 5)
     """
 
     tasks: TaskSet
@@ -95,56 +103,32 @@ class Plan:
 
     @cached_property
     def hyperperiod(self) -> int:
-        """The least common multiple of the periods, in ticks.
-
-        >>> EXAMPLE.hyperperiod
-        12
-        """
+        """The least common multiple of the periods, in ticks."""
         return self.tasks.hyperperiod
 
     @cached_property
     def worsts(self) -> tuple[int, ...]:
-        """The worst case of each task in work units, with the charge for two switches.
-
-        >>> Plan(TaskSet((Task("a", 4, 4),)), Machine((Point(2, 3000),), charge=3), "edf").worsts
-        (10,)
-        """
+        """The worst case of each task in work units, with the charge for two switches."""
         return tuple(task.worst + 2 * self.machine.charge for task in self.tasks)
 
     @cached_property
     def weights(self) -> tuple[int, ...]:
-        """The jobs of each task in a hyperperiod.
-
-        >>> EXAMPLE.weights
-        (3, 2)
-        """
+        """The jobs of each task in a hyperperiod."""
         return tuple(self.hyperperiod // task.period for task in self.tasks)
 
     @cached_property
     def rates(self) -> tuple[int, ...]:
-        """The work units of each task in a hyperperiod, all jobs at their worst cases.
-
-        >>> EXAMPLE.rates
-        (12, 18)
-        """
+        """The work units of each task in a hyperperiod, all jobs at their worst cases."""
         return tuple(map(mul, self.worsts, self.weights))
 
     @cached_property
     def spare(self) -> int:
-        """The work units that the highest speed can do in a hyperperiod beyond all rates.
-
-        >>> EXAMPLE.spare
-        18
-        """
+        """The work units that the highest speed can do in a hyperperiod beyond all rates."""
         return self.machine.top_speed * self.hyperperiod - sum(self.rates)
 
     @cached_property
     def by_period(self) -> tuple[int, ...]:
-        """The places of the tasks in RM order.
-
-        >>> EXAMPLE.by_period
-        (0, 1)
-        """
+        """The places of the tasks in RM order."""
         return tuple(sorted(range(len(self.tasks)), key=lambda place: self.tasks[place].period))
 
     def level(self, rank: int) -> tuple[Task, int]:
@@ -171,24 +155,13 @@ class Plan:
 
     @cached_property
     def static(self) -> Demand:
-        """The demand of `static`: under RM that of the first level with the most work per tick.
-
-        >>> EXAMPLE.static
-        (30, 12)
-        >>> tie = TaskSet((Task("a", 4, 4), Task("b", 5, 2), Task("c", 8, 4)))
-        >>> Plan(tie, EXAMPLE.machine, "rm").static  # of 4/4, (2 * 4 + 2)/5 and (2 * 4 + 2 * 2 + 4)/8
-        (10, 5)
-        """
+        """The demand of `static`: under RM that of the first level with the most work per tick."""
         work, ticks, _ = max(self.levels(), key=lambda level: Fraction(*level[:2]))
         return work, ticks
 
     @cached_property
     def static_speed(self) -> int:
-        """The lowest speed that meets the static demand, in work units per tick.
-
-        >>> EXAMPLE.static_speed
-        4
-        """
+        """The lowest speed that meets the static demand, in work units per tick."""
         return self.lowest(*self.static).speed
 
     def lowest(self, num: int, den: int) -> Point:
